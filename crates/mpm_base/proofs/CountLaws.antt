@@ -3,10 +3,7 @@ use Rattle.std.proofs.Common.{◌≡◌, ℕ, zero, suc, ◌+◌, ◌<◌, ◌�
 use Rattle.std.specs.Prelude.{count_by, nat_lt}
 use Rattle.std.proofs.lemmas.Bool.Decides.{nat_tests}
 use Rattle.std.proofs.lemmas.List.Sums.{sum_by-cons}
-
--- 1 where a test passes, else 0
-abbrev pub one_if : Bool → ℕ
-one_if b = if b then 1 else 0
+pub use Rattle.mpm_base.specs.Counts.{one_if}
 
 pub count_cons : {X : Type 0} (test : X → Bool) (x : X) (xs : List X) → count_by test (x ∷ xs) ≡ one_if (test x) + count_by test xs
 count_cons test x xs = sum_by-cons (λ y. if test y then 1 else 0) x xs

@@ -8,7 +8,8 @@ use Rattle.mpm_mount.specs.Drives.{FileName, PhysicalExtent, Drive, is_of, exten
 use Rattle.mpm_mount.specs.Attributes.{first_attributes}
 use Rattle.mpm_mount.specs.Files.{is_same_file, entries_named, is_entry_of, has_file}
 use Rattle.mpm_mount.proofs.Names.{one_file, same_back}
-use Rattle.mpm_requests.specs.Subjects.{attributes_in, is_there}
+use Rattle.mpm_mount.specs.Looking.{file_attributes}
+use Rattle.mpm_requests.specs.Subjects.{is_there}
 
 no_first : {K : Type 0} (found : List (K × PhysicalExtent)) → is_some (first_attributes found) ≡ false → found ≡ []
 no_first [] e = refl
@@ -30,7 +31,7 @@ any_named f g p q (x ∷ xs) same =
     ap (λ b. b || list_any p (map g (map f xs))) (same x) ∙ ap (λ b. q x || b) (any_named f g p q xs same)
 
 pub absent : (drive : Drive) (file : FileName) → is_there drive file ≡ false → has_file drive file ≡ false
-unfolding has_file entries_named attributes_in extents_of
+unfolding has_file entries_named file_attributes extents_of
 absent drive file none =
     any_named (λ entry. entry.0) (λ name. (record { user = name.user; name = name.name }, name.number)) (is_entry_of file) (is_of file) (entries drive.extents)
     (λ entry. same_back file (record { user = entry.0.user; name = entry.0.name }))

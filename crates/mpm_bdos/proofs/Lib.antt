@@ -5,6 +5,7 @@ pub mod KeptLaws
 pub mod Placed
 pub mod ServingLaws
 pub mod Fitting
+pub mod TurnedAt
 pub mod NextTurns
 pub mod Masks
 pub mod DirectLaws
@@ -20,7 +21,6 @@ pub mod Unlocking
 pub mod Filling
 pub mod Counting
 pub mod MovedLaws
-pub mod Told
 pub mod EndingLaws
 pub mod Granted
 pub mod Absent

@@ -19,7 +19,8 @@ use Rattle.mpm_files.specs.Serving.{units_done}
 use Rattle.mpm_files.proofs.TurnLaws.{all_turns}
 use Rattle.mpm_fcb.specs.declared.block.ControlBlock.{ControlBlock}
 use Rattle.mpm_fcb.specs.Opening as fcb
-use Rattle.mpm_requests.specs.Subjects.{attributes_in, shared_file, shared_by, is_shared, opened_in, data_byte, xfcb_admits, file_admits, mode_asked}
+use Rattle.mpm_mount.specs.Looking.{file_attributes, data_byte}
+use Rattle.mpm_requests.specs.Subjects.{shared_file, shared_by, is_shared, opened_in, xfcb_admits, file_admits, mode_asked}
 
 -- two drives differ in the stamps of a file's XFCB alone
 pub record Alike (file : FileName) (one other : Drive) : Type 0 where
@@ -55,7 +56,7 @@ opened_alike drive job is =
     (alike_idle drive (file_of_job job) job.stamp)
 
 still_shared : (file own : FileName) (one other : Drive) → Alike file one other → is_shared one own ≡ is_shared other own
-unfolding is_shared attributes_in extents_of
+unfolding is_shared file_attributes extents_of
 still_shared file own one other alike =
     ap (λ (extents : FinMap entry_cmp PhysicalExtent). shared_by (first_attributes (filter (is_of own) (entries extents))) (first_attributes (filter (is_of (shared_file own)) (entries extents)))) alike.extents
 

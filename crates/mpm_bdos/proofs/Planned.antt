@@ -1,11 +1,11 @@
 -- Jobs as they are made of what was looked up are those of the call.
 use Rattle.std.proofs.Common.{◌≡◌, ◌≢◌, ◌∙◌, ℕ, ◌*◌, ◌==◌, ◌&&◌, not, Bool, true, false, cond, List, Option, Some, None, take, sym, refl, ap, arith}
-use Rattle.std.specs.Prelude.{option_map, unwrap_or, if◌then◌else◌}
+use Rattle.std.specs.Prelude.{unwrap_or, if◌then◌else◌}
 use Rattle.std.specs.FinMap.{get}
 use Rattle.std.proofs.lemmas.Bool.Decides.{nat_tests}
 use Rattle.mpm_base.specs.Calls.{byte_in, eight_at}
 use Rattle.mpm_dirent.specs.Names.{plain}
-use Rattle.mpm_mount.specs.Drives.{FileName, Protection, DirectoryLabel, Drive}
+use Rattle.mpm_mount.specs.Drives.{FileName, Protection, Drive}
 use Rattle.mpm_mount.specs.Directories.{Directory}
 use Rattle.mpm_guard.specs.Passwords.{has_bit}
 use Rattle.mpm_opens.specs.declared.kinds.FileKey.{FileKey}
@@ -17,11 +17,12 @@ use Rattle.mpm_functions.specs.declared.functions.FileFunction.{FileFunction}
 use Rattle.mpm_functions.specs.declared.functions.FileFunction.TheVariants.{ResetDisks, OpenFile, CloseFile, SearchFirst, SearchNext, DeleteFile, ReadSequential, WriteSequential, MakeFile, RenameFile, ProtectDisk, SetAttributes, ReadRandom, WriteRandom, FileSize, ResetDrives, AccessDrives, FreeDrives, TestAndWrite, LockRecord, UnlockRecord, FreeSpace, FlushBuffers, SetLabel, LabelData, ReadXfcb, WriteXfcb}
 use Rattle.mpm_bdos.specs.declared.planning.About.{About}
 use Rattle.mpm_requests.specs.Filing.{Situation, block}
-use Rattle.mpm_requests.specs.Subjects.{drive_at, subject, subject_key, first_record, has_written, data_byte}
+use Rattle.mpm_mount.specs.Looking.{data_byte}
+use Rattle.mpm_requests.specs.Subjects.{drive_at, subject, subject_key, first_record, has_written}
 use Rattle.mpm_requests.specs.Refusals.{makes_xfcb}
 use Rattle.mpm_bdos.specs.Records.{is_locked_off}
 use Rattle.mpm_bdos.specs.Jobs.{job_for, stamp_where, with_records, with_stamp, with_bytes, with_one, with_new_name, with_protection, testing_bytes, where_some, is_tested_off, is_cut_at, count_until, free_count, reading_job, writing_job, testing_job, labelling_job, guarding_job, job_by}
-use Rattle.mpm_requests.specs.Protections.{no_protection, given_xfcb, with_first_stamp, label_put, xfcb_put}
+use Rattle.mpm_entries.specs.Protections.{no_protection, kept_by_label, given_xfcb, with_first_stamp, label_put, xfcb_put}
 use Rattle.mpm_bdos.specs.Ending.{is_moving}
 use Rattle.mpm_bdos.specs.Planning.{IsAbout, stamp_on, written, tested}
 use Rattle.mpm_bdos.proofs.NamedFiles.{subject_name}
@@ -29,10 +30,6 @@ use Rattle.mpm_bdos.proofs.NamedFiles.{subject_name}
 pub making_so : (makes asks : Bool) (xfcb wanted : Protection) (job : Job) → makes ≡ asks → xfcb ≡ wanted
     → cond makes (with_one (with_protection xfcb job)) job ≡ cond asks (with_one (with_protection wanted job)) job
 making_so makes asks xfcb wanted job e f = λ i. cond (e i) (with_one (with_protection (f i) job)) job
-
--- what a label keeps
-abbrev pub kept_by_label : Option DirectoryLabel → Protection
-kept_by_label label = unwrap_or (option_map (λ (l : DirectoryLabel). l.protection) label) no_protection
 
 -- a label and an XFCB that are put
 pub put_so : (asked : ℕ) (password wanted : List ℕ) (old there : Protection) → password ≡ wanted → old ≡ there → label_put asked password old ≡ label_put asked wanted there

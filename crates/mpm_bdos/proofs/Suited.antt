@@ -5,6 +5,7 @@ use Rattle.std.specs.FinMap.{get}
 use Rattle.std.proofs.lemmas.Bool.{or_parts}
 use Rattle.std.proofs.lemmas.Bool.Decides.{nat_tests}
 use Rattle.std.proofs.lemmas.Option.{same_Some}
+use Rattle.mpm_base.specs.Counts.{one_if}
 use Rattle.mpm_base.proofs.Choices.{either}
 use Rattle.mpm_dirent.specs.Names.{plain}
 use Rattle.mpm_dirent.proofs.Lengths.{part_size}
@@ -17,16 +18,16 @@ use Rattle.mpm_fcb.specs.Names.{new_name_of, is_ambiguous}
 use Rattle.mpm_fcb.specs.Positions.{sequential_record, are_beyond}
 use Rattle.mpm_files.specs.declared.jobs.JobKind.TheVariants as kinds
 use Rattle.mpm_files.specs.declared.jobs.Job.{Job}
-use Rattle.mpm_files.specs.Counting.{bit}
 use Rattle.mpm_files.specs.Turning.{SuitsKind, Suits}
 use Rattle.mpm_functions.specs.declared.functions.FileFunction.{FileFunction}
 use Rattle.mpm_functions.specs.declared.functions.FileFunction.TheVariants.{ResetDisks, OpenFile, CloseFile, SearchFirst, SearchNext, DeleteFile, ReadSequential, WriteSequential, MakeFile, RenameFile, ProtectDisk, SetAttributes, ReadRandom, WriteRandom, FileSize, ResetDrives, AccessDrives, FreeDrives, TestAndWrite, LockRecord, UnlockRecord, FreeSpace, FlushBuffers, SetLabel, LabelData, ReadXfcb, WriteXfcb}
 use Rattle.mpm_functions.specs.declared.refusals.Refusal.{Refusal}
 use Rattle.mpm_functions.specs.declared.refusals.Refusal.TheVariants.{Ambiguous, BeyondFile, NotFound, FileExists, DirectoryFull}
 use Rattle.mpm_requests.specs.Filing.{Situation, block, HaveUsers}
-use Rattle.mpm_requests.specs.Subjects.{drive_at, open_key, own_file, new_file, is_there, subject_by, subject, first_by, first_record, data_byte}
+use Rattle.mpm_mount.specs.Looking.{data_byte}
+use Rattle.mpm_requests.specs.Subjects.{drive_at, open_key, own_file, new_file, is_there, subject_by, subject, first_by, first_record}
 use Rattle.mpm_functions.specs.Refusals.{refusals_of}
-use Rattle.mpm_requests.specs.Refusals.{has_question, is_missing, makes_xfcb, one_if, lacks_xfcb, lacks_label, needed_by, existing_file, is_directory_full, applies, refusal_of}
+use Rattle.mpm_requests.specs.Refusals.{has_question, is_missing, makes_xfcb, lacks_xfcb, lacks_label, needed_by, existing_file, is_directory_full, applies, refusal_of}
 use Rattle.mpm_bdos.specs.Jobs.{filled, with_stamp, with_one, with_protection, with_new_name, made_xfcb, job_on, free_count, reading_job, writing_job, testing_job, making_job, labelling_job, guarding_job, job_by, unless_refused, job_of}
 use Rattle.mpm_bdos.specs.Ending.{is_moving}
 use Rattle.mpm_bdos.specs.Serving.{IsCaller}
@@ -124,11 +125,11 @@ has_room s function is full =
 
 -- a making
 room_for_two : (drive : Drive) (file asked : FileName) (makes : Bool) → asked ≡ file → makes ≡ true → 1 + one_if (makes && lacks_xfcb drive file) ≤ free_entries drive
-    → suc (bit (not (is_some (get drive.xfcbs asked)))) ≤ free_entries drive
+    → suc (one_if (not (is_some (get drive.xfcbs asked)))) ≤ free_entries drive
 room_for_two drive file asked makes same is room =
-    let both : 1 + bit (lacks_xfcb drive file) ≤ free_entries drive = subst (λ (b : Bool). 1 + one_if (b && lacks_xfcb drive file) ≤ free_entries drive) is room in
-    let two : suc (bit (lacks_xfcb drive file)) ≤ free_entries drive = omega (arith, both) in
-    subst (λ (f : FileName). suc (bit (not (is_some (get drive.xfcbs f)))) ≤ free_entries drive) (sym same) two
+    let both : 1 + one_if (lacks_xfcb drive file) ≤ free_entries drive = subst (λ (b : Bool). 1 + one_if (b && lacks_xfcb drive file) ≤ free_entries drive) is room in
+    let two : suc (one_if (lacks_xfcb drive file)) ≤ free_entries drive = omega (arith, both) in
+    subst (λ (f : FileName). suc (one_if (not (is_some (get drive.xfcbs f)))) ≤ free_entries drive) (sym same) two
 
 room_for_one : (drive : Drive) (file : FileName) (makes : Bool) → 1 + one_if (makes && lacks_xfcb drive file) ≤ free_entries drive → 1 ≤ free_entries drive
 room_for_one drive file makes room = omega (arith, room)
@@ -189,7 +190,7 @@ unfolding needed_by
 guarding_suits s call is full =
     let drive : Drive = drive_at s in
     built drive (guarding_job s) _ refl (user_of s call) (omega arith) (omega arith)
-    (subst (λ (f : FileName). bit (not (is_some (get drive.xfcbs f))) ≤ free_entries drive) (sym (file_is s)) (has_room s WriteXfcb is full))
+    (subst (λ (f : FileName). one_if (not (is_some (get drive.xfcbs f))) ≤ free_entries drive) (sym (file_is s)) (has_room s WriteXfcb is full))
 
 -- by the function
 some_job : (job given : Job) (b : Bool) → cond b None (Some given) ≡ Some job → given ≡ job

@@ -2,7 +2,7 @@
 use Rattle.std.proofs.Common.{◌≡◌, ◌≢◌, ◌∙◌, ℕ, suc, ◌+◌, ◌<◌, ◌≤◌, inl, inr, Bool, true, false, List, Option, Some, None, IfSome, refl, sym, ap, subst, length, get_or, take, arith}
 use Rattle.std.specs.Prelude.{is_some, if◌then◌else◌}
 use Rattle.std.proofs.lemmas.Bool.{cases_eq, false≢true}
-use Rattle.std.proofs.lemmas.List.Sums.{count_by_more_yes, sum_by-take-le}
+use Rattle.std.proofs.lemmas.List.Sums.{count_by_more_yes, sum_by_more, sum_by-take-le}
 use Rattle.mpm_mount.specs.Directories.{Directory}
 use Rattle.mpm_bdos.specs.Serving.{AreInPlace, directory_at}
 use Rattle.mpm_bdos.specs.Syncing.{StopsAtDrive, mounted_count}
@@ -83,6 +83,31 @@ still_to mounted k old now synced stay number less = still old now number (direc
 one_place : (place : Option Directory) → is_some place ≡ true → ◌≡◌ {A = ℕ} (if is_some place then 1 else 0) 1
 one_place None some = absurd (false≢true some)
 one_place (Some d) some = refl
+
+-- with the next place, one more where one is mounted in it
+counted_more : (mounted : List (Option Directory)) (k : ℕ) (place : Option Directory) → k < length mounted → place ≡ get_or mounted k place
+    → mounted_count (take (k + 1) mounted) ≡ mounted_count (take k mounted) + (if is_some place then 1 else 0)
+counted_more mounted k place within is =
+    let one : Option Directory → ℕ = λ d. if is_some d then 1 else 0 in
+    sum_by_more one mounted k place within ∙ ap (λ d. mounted_count (take k mounted) + one d) (sym is)
+
+pub steps_more : (mounted : List (Option Directory)) (k : ℕ) (place : Option Directory) (steps between behind : ℕ) → k < length mounted → place ≡ get_or mounted k place
+    → between ≡ steps + mounted_count (take k mounted) → behind ≡ between + (if is_some place then 1 else 0) → behind ≡ steps + mounted_count (take (k + 1) mounted)
+steps_more mounted k place steps between behind within is calls more = omega (arith, calls, more, counted_more mounted k place within is)
+
+nobody : (place : Option Directory) → ◌≡◌ {A = ℕ} (if is_some place then 1 else 0) 0 → place ≡ None
+nobody None none = refl
+nobody (Some d) none = absurd (omega (arith, none))
+
+pub none_more : {D : Type 0} (mounted : List (Option Directory)) (k : ℕ) (place : Option Directory) (first old now : D) → k < length mounted → place ≡ get_or mounted k place
+    → (mounted_count (take k mounted) ≡ 0 → old ≡ first) → (place ≡ None → now ≡ old) → mounted_count (take (k + 1) mounted) ≡ 0 → now ≡ first
+none_more mounted k place first old now within is before here none =
+    let more = counted_more mounted k place within is in
+    here (nobody place (omega (arith, more, none))) ∙ before (omega (arith, more, none))
+
+pub some_mounted : (mounted : List (Option Directory)) (k : ℕ) (place : Option Directory) → k < length mounted → place ≡ get_or mounted k place → is_some place ≡ true → 0 < mounted_count mounted
+some_mounted mounted k place within is some =
+    omega (arith, one_place place some, counted_more mounted k place within is, sum_by-take-le (λ (d : Option Directory). if is_some d then 1 else 0) mounted (k + 1))
 
 -- no more are mounted in the first places than in all
 pub fewer_mounted : (mounted : List (Option Directory)) (k steps steps' : ℕ) → steps' ≡ steps + mounted_count (take k mounted) → steps' ≤ steps + mounted_count mounted

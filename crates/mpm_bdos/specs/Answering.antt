@@ -1,21 +1,17 @@
 -- What a call that the disk serves may be answered, whatever is on the drives: one that is refused by a refusal of its row; another
 -- one with bytes at its DMA address, so many as its function reads or tells, and with its file control block, which keeps all but what
 -- its function tells in it. (MP/M II Programmer's Guide, "BDOS Function Calls", "BDOS Error Handling".)
-use Rattle.std.specs.Prelude.{◌≡◌, ℕ, ◌*◌, ◌<◌, ◌≤◌, Bool, List, [], Option, Some, None, IfSome, length}
+use Rattle.std.specs.Prelude.{◌≡◌, ℕ, ◌*◌, ◌<◌, ◌≤◌, List, [], Option, Some, None, IfSome, length}
 use Rattle.mpm_base.specs.Calls.{Taken, Answer, answering}
-use Rattle.mpm_opens.specs.declared.kinds.Mode.{Mode}
 use Rattle.mpm_functions.specs.declared.functions.FileFunction.{FileFunction}
 use Rattle.mpm_functions.specs.declared.functions.FileFunction.TheVariants.{OpenFile, SearchFirst, SearchNext, ReadSequential, WriteSequential, MakeFile, ReadRandom, WriteRandom, FileSize, TestAndWrite, LockRecord, FreeSpace, LabelData, ReadXfcb}
 use Rattle.mpm_functions.specs.declared.refusals.Refusal.{Refusal}
 use Rattle.mpm_functions.specs.declared.refusals.Extended.{Extended}
 use Rattle.mpm_functions.specs.Refusals.{answered, refused_value, refused_extended, IsOfRow}
-use Rattle.mpm_mount.specs.Drives.{Protection}
 use Rattle.mpm_fcb.specs.declared.block.ControlBlock.{ControlBlock}
 use Rattle.mpm_fcb.specs.Blocks.{block_of, bytes_of}
-use Rattle.mpm_fcb.specs.Opening.{opened}
-use Rattle.mpm_fcb.specs.Positions.{at_position, with_random}
 use Rattle.mpm_requests.specs.declared.caller.Caller.{Caller}
-use Rattle.mpm_requests.specs.Protections.{told_xfcb}
+use Rattle.mpm_entries.specs.Telling.{TellsOpened, TellsPosition, TellsSize, TellsXfcb}
 use Rattle.mpm_requests.specs.Subjects.{IsNamed}
 use Rattle.mpm_bdos.specs.declared.ends.RecordEnd.{RecordEnd}
 use Rattle.mpm_bdos.specs.Records.{coded, done_by}
@@ -36,31 +32,7 @@ MayPlace SearchNext multi value bytes = AreParts 128 1 bytes
 MayPlace FreeSpace multi value bytes = AreParts 3 1 bytes
 MayPlace function multi value bytes = bytes ≡ []
 
--- what is told in a file control block, which keeps all else: a file that was opened or made, the position behind records, a file's
--- size, an XFCB
-pub record TellsOpened (given block : ControlBlock) : Type 0 where
-  pub attributes : List Bool
-  pub count : ℕ
-  pub mode : Mode
-  pub item : ℕ
-  pub few : item ≤ 63
-  pub is : block ≡ opened given attributes count mode item
-
-pub record TellsPosition (given block : ControlBlock) : Type 0 where
-  pub position : ℕ
-  pub low : position ≤ 262271
-  pub count : ℕ
-  pub is : block ≡ at_position given position count
-
-pub record TellsSize (given block : ControlBlock) : Type 0 where
-  pub size : ℕ
-  pub is : block ≡ with_random given size
-
-pub record TellsXfcb (given block : ControlBlock) : Type 0 where
-  pub xfcb : Protection
-  pub is : block ≡ told_xfcb xfcb given
-
--- by its function
+-- what is told in a file control block, which keeps all else, by the call's function
 abbrev pub MayTellIn : FileFunction → ControlBlock → ControlBlock → Type 0
 MayTellIn OpenFile given block = TellsOpened given block
 MayTellIn ReadSequential given block = TellsPosition given block

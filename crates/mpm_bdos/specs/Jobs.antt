@@ -18,9 +18,10 @@ use Rattle.mpm_files.specs.declared.jobs.Job.{Job}
 use Rattle.mpm_files.specs.Plans.{read_error, turns_of}
 use Rattle.mpm_files.specs.Serving.{units_done, moved_after, error_after, records_after}
 use Rattle.mpm_requests.specs.Filing.{Situation, block}
-use Rattle.mpm_requests.specs.Subjects.{file_of, drive_at, subject, subject_key, first_record, has_written, data_byte}
+use Rattle.mpm_mount.specs.Looking.{data_byte}
+use Rattle.mpm_requests.specs.Subjects.{file_of, drive_at, subject, subject_key, first_record, has_written}
 use Rattle.mpm_requests.specs.Refusals.{makes_xfcb, refusal_of}
-use Rattle.mpm_requests.specs.Protections.{protection_bytes, no_protection, given_xfcb, with_first_stamp, label_put, xfcb_put}
+use Rattle.mpm_entries.specs.Protections.{protection_bytes, no_protection, given_xfcb, with_first_stamp, label_put, xfcb_put}
 use Rattle.mpm_bdos.specs.Records.{is_locked_off}
 
 -- the room of a job's bytes: the 4,096 that count at most, and zeros behind them

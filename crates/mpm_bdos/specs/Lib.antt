@@ -7,7 +7,6 @@ pub mod Direct
 pub mod Serving
 pub mod Answering
 pub mod Turns
-pub mod Telling
 pub mod Ending
 pub mod Planning
 pub mod Leaving

@@ -7,7 +7,8 @@ use Rattle.mpm_files.specs.declared.jobs.Job.{Job}
 use Rattle.mpm_files.specs.declared.jobs.JobKind.TheVariants as kinds
 use Rattle.mpm_bdos.specs.declared.planning.About.{About}
 use Rattle.mpm_requests.specs.Filing.{Situation}
-use Rattle.mpm_requests.specs.Subjects.{drive_at, subject_key, first_record, has_written, data_byte}
+use Rattle.mpm_mount.specs.Looking.{data_byte}
+use Rattle.mpm_requests.specs.Subjects.{drive_at, subject_key, first_record, has_written}
 use Rattle.mpm_bdos.specs.Jobs.{job_for, stamp_where, with_records, with_stamp, with_bytes, testing_bytes, where_some}
 use Rattle.mpm_bdos.specs.Ending.{is_moving}
 

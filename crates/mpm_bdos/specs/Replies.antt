@@ -1,28 +1,26 @@
 -- What a call that isn't refused answers: its value, its file control block and its bytes, by what its turns have come to.
-use Rattle.std.specs.Prelude.{ℕ, ◌+◌, ◌/◌, ◌%◌, ◌==◌, ◌&&◌, Bool, false, List, [], ◌++◌, Option, Some, None, Result, Ok, Err, is_some, unwrap_or, nat_lt, replicate, bytes_eq, if◌then◌else◌}
+use Rattle.std.specs.Prelude.{ℕ, ◌+◌, ◌%◌, ◌==◌, ◌&&◌, Bool, false, List, [], Option, Some, None, Result, Ok, Err, is_some, unwrap_or, nat_lt, bytes_eq, if◌then◌else◌}
 use Rattle.std.specs.List.{flat_map}
 use Rattle.std.specs.FinMap.{get}
 use Rattle.mpm_base.specs.Calls.{Answer}
-use Rattle.mpm_dirent.specs.declared.kinds.Entry.TheVariants.{File}
-use Rattle.mpm_dirent.specs.Entries as entry
 use Rattle.mpm_dirent.specs.Names.{plain}
 use Rattle.mpm_opens.specs.declared.kinds.Mode.{Mode}
 use Rattle.mpm_opens.specs.declared.kinds.OpenRefused.{OpenRefused}
 use Rattle.mpm_opens.specs.Items.{add_answer}
 use Rattle.mpm_functions.specs.declared.functions.FileFunction.{FileFunction}
 use Rattle.mpm_functions.specs.declared.functions.FileFunction.TheVariants.{OpenFile, SearchFirst, SearchNext, ReadSequential, WriteSequential, MakeFile, ReadRandom, WriteRandom, FileSize, TestAndWrite, LockRecord, FreeSpace, LabelData, ReadXfcb}
-use Rattle.mpm_mount.specs.Drives.{FileName, PhysicalExtent, Drive, extents_of, free_records}
+use Rattle.mpm_mount.specs.Drives.{FileName, Drive, extents_of, free_records}
 use Rattle.mpm_mount.specs.Attributes.{attributes_of}
-use Rattle.mpm_mount.specs.Files.{where_there}
 use Rattle.mpm_fcb.specs.declared.block.ControlBlock.{ControlBlock}
 use Rattle.mpm_fcb.specs.Blocks.{bytes_of}
-use Rattle.mpm_fcb.specs.Names.{with_attributes}
 use Rattle.mpm_fcb.specs.Positions.{extent_of, at_position, with_random, three_bytes}
 use Rattle.mpm_fcb.specs.Opening.{opened}
 use Rattle.mpm_requests.specs.Filing.{Situation, block}
-use Rattle.mpm_requests.specs.Subjects.{extent_count, subject, subject_key, first_record, mode_by, found, data_byte}
-use Rattle.mpm_requests.specs.Protections.{no_protection, told_xfcb}
-use Rattle.mpm_requests.specs.Sizes.{size_of}
+use Rattle.mpm_mount.specs.Looking.{data_byte}
+use Rattle.mpm_requests.specs.Subjects.{subject, subject_key, first_record, mode_by, found}
+use Rattle.mpm_entries.specs.Protections.{no_protection, told_xfcb}
+use Rattle.mpm_entries.specs.Sizes.{size_of}
+use Rattle.mpm_entries.specs.Telling.{record_count, found_bytes}
 use Rattle.mpm_bdos.specs.declared.ends.RecordEnd.{RecordEnd}
 use Rattle.mpm_bdos.specs.declared.ends.Ended.{Ended}
 use Rattle.mpm_bdos.specs.declared.granting.OpenedAs.{OpenedAs}
@@ -85,10 +83,6 @@ value_by drive g LockRecord = coded LockRecord g.ended.moved g.ended.end
 value_by drive g LabelData = data_byte drive
 value_by drive g function = 0
 
--- how many records an extent of a file has; none where it isn't there
-abbrev pub record_count : Drive → FileName → ℕ → ℕ
-record_count drive file extent = unwrap_or (extent_count drive file extent) 0
-
 -- the block of a file that was opened or made: the extent is that of EX alone
 abbrev pub opened_block : Drive → Granted → Option OpenedAs → ControlBlock
 opened_block drive g None = g.block
@@ -130,28 +124,6 @@ block_by drive g function = g.block
 -- it is written back where it changes
 abbrev pub where_changed : List ℕ → List ℕ → Option (List ℕ)
 where_changed old new = if bytes_eq new old then None else (Some new)
-
--- a directory entry as a search tells it, with S1 and map zero, and three free ones behind it
-unfoldable pub told_bytes : ℕ → List ℕ → ℕ → ℕ → List ℕ
-told_bytes user name last count =
-    entry.bytes_of (File (record {
-      user = user;
-      name = name;
-      ex = last % 32;
-      s1 = 0;
-      s2 = last / 32;
-      rc = count;
-      blocks = replicate 16 0;
-    })) false
-    ++ replicate 96 229
-
-abbrev pub told_entry : FileName → PhysicalExtent → List ℕ
-told_entry file extent = told_bytes file.user (with_attributes file.name extent.attributes) extent.last extent.count
-
-abbrev pub found_bytes : Drive → Option (FileName × ℕ) → List ℕ
-found_bytes drive None = []
-found_bytes drive (Some found) =
-    where_there (get drive.extents (record { user = found.0.user; name = found.0.name; number = found.1 })) (told_entry found.0)
 
 -- the bytes at the DMA address: records that were read, an entry that was found, how much is free
 unfoldable pub bytes_by : Drive → List (List ℕ) → Option (FileName × ℕ) → FileFunction → List ℕ

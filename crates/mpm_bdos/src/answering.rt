@@ -5,6 +5,7 @@ ghost use Rattle.mpm_mount.specs.Directories.{Stands};
 ghost use Rattle.mpm_mount.specs.Files.{where_there};
 ghost use Rattle.mpm_fcb.specs.Blocks.{block_of, bytes_of};
 ghost use Rattle.mpm_fcb.specs.Positions.{three_bytes};
+ghost use Rattle.mpm_entries.specs.Telling.{found_bytes};
 ghost use Rattle.mpm_bdos.specs.Answering.{AreParts, IsCoded, MayAmount, MayPlace, MayGrant};
 ghost use Rattle.mpm_bdos.specs.Ending as ending;
 ghost use Rattle.mpm_bdos.specs.Records.{done_by};
@@ -13,8 +14,8 @@ ghost use Rattle.mpm_bdos.specs.Replies as spec;
 use crate::ends::done_by as records_done;
 use crate::granting::{Granted, block, value};
 use crate::replies::read_bytes;
-use crate::telling::free_bytes;
 use mpm_base::Reply;
+use mpm_entries::free_bytes;
 use mpm_fcb::ControlBlock;
 use mpm_files::Work;
 use mpm_functions::FileFunction;
@@ -109,7 +110,7 @@ fn answer_bytes(
     requires few { multi ≤ 16 }
     requires amount { MayAmount function multi value }
     ensures all { (image : List ℕ) (drive : Drive) (records : List (List ℕ)) (found : Option (FileName × ℕ)) → Stands image mounted.now drive
-        → (ending.is_reading function ≡ true → ending.HasRead (done_by multi value) work.now records) → where_there told.now (λ bytes. bytes) ≡ spec.found_bytes drive found
+        → (ending.is_reading function ≡ true → ending.HasRead (done_by multi value) work.now records) → where_there told.now (λ bytes. bytes) ≡ found_bytes drive found
         → reply.new ≡ record { hl = value; fcb = None; at = at; bytes = spec.bytes_by drive records found function } }
     ensures amount { MayAmount function multi reply.new.hl }
     ensures none { reply.new.fcb ≡ None }
@@ -161,7 +162,7 @@ pub(crate) fn answer(
     ensures all { (image : List ℕ) (drive : Drive) (records : List (List ℕ)) (found : Option (FileName × ℕ)) → Stands image mounted.now drive
         → ending.FewDone multi granted.now.ended → (ending.is_moving granted.now.function ≡ true → ending.IsPlaced granted.now)
         → (ending.is_reading granted.now.function ≡ true → ending.HasRead (done_by multi (spec.value_by drive granted.now granted.now.function)) work.now records)
-        → where_there told.now (λ bytes. bytes) ≡ spec.found_bytes drive found
+        → where_there told.now (λ bytes. bytes) ≡ found_bytes drive found
         → reply.new ≡ spec.answer_by drive granted.now records found fcb.now dma }
     ensures may { MayGrant multi granted.now.function fcb.now dma reply.new }
 {

@@ -25,14 +25,14 @@ use crate::bdos::Bdos;
 use crate::directories::Directories;
 use crate::replying::reply_mounted;
 use crate::service::Service;
-use crate::starting::{block_taken, first_position};
+use crate::starting::first_position;
 use mpm_base::{Call, Reply};
 use mpm_files::Work;
 use mpm_functions::{Extended, FileFunction, Refusal};
 use mpm_marks::{Marks, Protected, leave_drives, mark_drives, protect_drives};
 use mpm_mount::Mounted;
 use mpm_opens::{FileKey, Opens};
-use mpm_requests::{Caller, Searches, word_of_call};
+use mpm_requests::{Caller, Searches, block_of_call, word_of_call};
 
 /// Whether a call is one on drives, which names none.
 fn is_on_drives(function: FileFunction) -> bool
@@ -72,7 +72,7 @@ fn position_of_call(call: &Call) -> u32
     ensures size { length call.now.fcb ≡ 36 }
     ensures low { sequential_record (block_of call.now.fcb) ≤ 262271 }
 {
-    let block = block_taken(call);
+    let block = block_of_call(call);
     first_position(&block, FileFunction::ReadSequential)
 }
 

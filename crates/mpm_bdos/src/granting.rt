@@ -3,24 +3,24 @@ ghost use Rattle.std.specs.FinMap.{get};
 ghost use Rattle.mpm_mount.specs.Drives.{Drive, extents_of};
 ghost use Rattle.mpm_mount.specs.Directories.{Stands};
 ghost use Rattle.mpm_fcb.specs.Positions.{with_random};
-ghost use Rattle.mpm_requests.specs.Protections.{no_protection};
-ghost use Rattle.mpm_bdos.specs.Answering.{TellsOpened, TellsPosition, TellsSize, TellsXfcb, MayTellIn, IsCoded, MayAmount};
+ghost use Rattle.mpm_entries.specs.Protections.{no_protection};
+ghost use Rattle.mpm_entries.specs.Telling.{TellsOpened, TellsPosition, TellsSize, TellsXfcb};
+ghost use Rattle.mpm_bdos.specs.Answering.{MayTellIn, IsCoded, MayAmount};
 ghost use Rattle.mpm_bdos.specs.Ending as ending;
 ghost use Rattle.mpm_bdos.specs.Records as records;
 ghost use Rattle.mpm_bdos.specs.Replies as spec;
-ghost use Rattle.mpm_requests.specs.Protections as protections;
-ghost use Rattle.mpm_requests.specs.Sizes as sizes;
-ghost use Rattle.mpm_bdos.specs.Telling as telling;
+ghost use Rattle.mpm_entries.specs.Protections as protections;
+ghost use Rattle.mpm_entries.specs.Sizes as sizes;
+ghost use Rattle.mpm_entries.specs.Telling as telling;
 
 use crate::ends::{Ended, RecordEnd, coded, does_stay};
 use crate::replies::position_behind;
-use crate::telling::{open_block, position_block, xfcb_block};
+use mpm_entries::{open_block, position_block, size, xfcb_block};
 use mpm_fcb::ControlBlock;
 use mpm_files::{RecordError, Work};
 use mpm_functions::FileFunction;
-use mpm_mount::Mounted;
+use mpm_mount::{Mounted, label_byte};
 use mpm_opens::Mode;
-use mpm_requests::{label_byte, size};
 
 /// How a call opened a file, or made it.
 #[derive(Clone, Copy, Debug, PartialEq, Eq)]

@@ -9,10 +9,10 @@ ghost use Rattle.mpm_bdos.specs.Jobs as spec;
 ghost use Rattle.mpm_bdos.specs.Records as records;
 
 use mpm_base::Pid;
+use mpm_entries::Protection;
 use mpm_files::{Job, JobKind, read_error};
 use mpm_mount::Mounted;
 use mpm_opens::{FileKey, Opens};
-use mpm_requests::Protection;
 
 /// The room of a job's bytes: zeros behind those that count, at most 4,096.
 fn filled(bytes: &[u8]) -> [u8; 4096]

@@ -22,7 +22,6 @@ mod replying;
 mod service;
 mod starting;
 mod syncing;
-mod telling;
 mod turning;
 
 pub use bdos::Bdos;

@@ -8,7 +8,7 @@ ghost use Rattle.mpm_guard.specs.Passwords.{has_bit};
 ghost use Rattle.mpm_fcb.specs.Names.{has_f6};
 ghost use Rattle.mpm_files.specs.declared.jobs.JobKind.TheVariants as kinds;
 ghost use Rattle.mpm_fcb.specs.Blocks.{block_of};
-ghost use Rattle.mpm_requests.specs.Subjects.{data_byte};
+ghost use Rattle.mpm_mount.specs.Looking.{data_byte};
 ghost use Rattle.mpm_requests.specs.Asking.{called};
 ghost use Rattle.mpm_requests.specs.Filing.{LastSearch};
 ghost use Rattle.mpm_bdos.specs.Planning.{IsAbout};
@@ -16,19 +16,20 @@ ghost use Rattle.mpm_bdos.specs.Planning as planning;
 ghost use Rattle.mpm_bdos.specs.Records as records;
 ghost use Rattle.mpm_requests.specs.Refusals as refusals;
 ghost use Rattle.mpm_bdos.specs.Jobs as spec;
-ghost use Rattle.mpm_requests.specs.Protections as protections;
+ghost use Rattle.mpm_entries.specs.Protections as protections;
 
 use crate::jobs::{
     count_free, count_tested, guarding_job, job_on, labelling_job, making_job, opening_job,
     reading_job, renaming_job, stamp_where, testing_job, writing_job,
 };
 use mpm_base::Call;
+use mpm_entries::{Protection, label_there, xfcb_there};
 use mpm_fcb::ControlBlock;
 use mpm_files::{Job, JobKind};
 use mpm_functions::FileFunction;
-use mpm_mount::Mounted;
+use mpm_mount::{Mounted, label_byte};
 use mpm_opens::{FileKey, Opens};
-use mpm_requests::{Caller, Protection, label, label_byte, makes_xfcb, xfcb};
+use mpm_requests::{Caller, makes_xfcb};
 
 /// In the label's data byte: files are stamped as they are made.
 const MAKING: u8 = 0x10;
@@ -129,17 +130,6 @@ fn making(mounted: &Mounted, user: u8, block: &ControlBlock, call: &Call, moment
     making_job(user, &block.name, makes_xfcb(label, block), &xfcb)
 }
 
-/// What the label of a drive keeps; nothing where there is none.
-fn label_there(mounted: &Mounted) -> Protection
-    ensures { (image : List ℕ) (drive : Drive) → Stands image mounted.now drive
-        → result ≡ unwrap_or (option_map (λ label. label.protection) drive.label) protections.no_protection }
-{
-    match label(mounted) {
-        Some(label) => Protection::of_label(&label),
-        None => Protection::none(),
-    }
-}
-
 /// The job of a labelling on a drive.
 fn labelling(mounted: &Mounted, user: u8, block: &ControlBlock, call: &Call) -> Job
     ensures { (image : List ℕ) (drive : Drive) → Stands image mounted.now drive
@@ -148,17 +138,6 @@ fn labelling(mounted: &Mounted, user: u8, block: &ControlBlock, call: &Call) -> 
     let mut label = label_there(mounted);
     label.change_label(block.ex, &call.eight(8));
     labelling_job(user, &block.name, &label)
-}
-
-/// What the XFCB of a user's file keeps; nothing where there is none.
-fn xfcb_there(mounted: &Mounted, user: u8, name: &[u8; 11]) -> Protection
-    ensures { (image : List ℕ) (drive : Drive) → Stands image mounted.now drive
-        → result ≡ unwrap_or (get drive.xfcbs (record { user = user; name = plain name.now })) protections.no_protection }
-{
-    match xfcb(mounted, user, name) {
-        Some(xfcb) => Protection::of_xfcb(&xfcb),
-        None => Protection::none(),
-    }
 }
 
 /// The job that makes or changes the XFCB of a user's file on a drive.

@@ -1,11 +1,18 @@
-ghost use Rattle.std.specs.Prelude.{◌≡◌, ◌≤◌, ◌<◌, ◌*◌, ◌/◌, ◌%◌, ℕ, List, length, replicate};
+ghost use Rattle.std.specs.Prelude.{◌≡◌, ◌≤◌, ◌*◌, ℕ, List, length, option_map};
 ghost use Rattle.std.specs.List.{flat_map};
+ghost use Rattle.mpm_mount.specs.Drives.{Drive};
+ghost use Rattle.mpm_mount.specs.Directories.{Stands};
+ghost use Rattle.mpm_mount.specs.Files.{where_there};
+ghost use Rattle.mpm_entries.specs.Telling as telling;
+ghost use Rattle.mpm_requests.specs.Asking.{found_as};
 ghost use Rattle.mpm_bdos.specs.Ending.{IsRead};
 ghost use Rattle.mpm_bdos.specs.Replies as spec;
 
-use mpm_dirent::{Entry, FileEntry, write_entry};
+use mpm_entries::found_bytes;
 use mpm_files::Work;
 use mpm_functions::FileFunction;
+use mpm_mount::Mounted;
+use mpm_requests::FoundEntry;
 
 /// The position behind a call on records from one on, of which so many were moved.
 pub(crate) fn position_behind(function: FileFunction, first: u32, moved: u8) -> u32
@@ -18,35 +25,15 @@ pub(crate) fn position_behind(function: FileFunction, first: u32, moved: u8) -> 
     }
 }
 
-/// A directory entry as a search tells it, by its last extent, at most 2,047, and that one's record count.
-fn told_entry(user: u8, name: &[u8; 11], last: u16, count: u8) -> FileEntry
-    requires { last ≤ 2047 }
-    ensures { result ≡ record { user = user; name = name.now; ex = last % 32; s1 = 0; s2 = last / 32; rc = count; blocks = replicate 16 0 } }
+/// The entry that a search found, as it tells it.
+pub(crate) fn told_found(mounted: &Mounted, found: &Option<FoundEntry>) -> Option<[u8; 128]>
+    ensures { (image : List ℕ) (drive : Drive) → Stands image mounted.now drive
+        → where_there result (λ bytes. bytes) ≡ telling.found_bytes drive (option_map (found_as mounted.now.kind) found.now) }
 {
-    FileEntry {
-        user,
-        name: *name,
-        ex: (last % 32) as u8,
-        s1: 0,
-        s2: (last / 32) as u8,
-        rc: count,
-        blocks: [0; 16],
+    match found {
+        Some(entry) => found_bytes(mounted, entry.user, &entry.found.name, entry.found.extent),
+        None => None,
     }
-}
-
-/// The 128 bytes that a search tells of a directory entry: that one, and three free ones. (MP/M II Programmer's Guide, "Function
-/// 17: Search for First".)
-#[tactic(auto, unfolding(crate::specs::Replies::told_bytes))]
-pub(crate) fn told_bytes(user: u8, name: &[u8; 11], last: u16, count: u8) -> [u8; 128]
-    requires user { user < 16 }
-    requires last { last ≤ 2047 }
-    ensures { result ≡ spec.told_bytes user name.now last count }
-{
-    let mut bytes = [0xE5; 128];
-    let file = told_entry(user, name, last, count);
-    let entry = write_entry(&Entry::File { file }, false);
-    bytes[..32].copy_from_slice(&entry);
-    bytes
 }
 
 /// The bytes of a job in service, all of them.

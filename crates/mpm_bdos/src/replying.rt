@@ -15,7 +15,7 @@ use crate::answering::answer;
 use crate::granting::moved_by;
 use crate::keeping::keep_found;
 use crate::leaving::{grant, leave};
-use crate::telling::told_found;
+use crate::replies::told_found;
 use mpm_base::{Call, Reply};
 use mpm_files::Work;
 use mpm_functions::FileFunction;

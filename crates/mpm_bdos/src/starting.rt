@@ -5,7 +5,6 @@ ghost use Rattle.mpm_mount.specs.Drives.{Drive};
 ghost use Rattle.mpm_mount.specs.Directories.{Stands};
 ghost use Rattle.mpm_opens.specs.Items.{file_named};
 ghost use Rattle.mpm_opens.specs.Opens.{item_of};
-ghost use Rattle.mpm_fcb.specs.Blocks.{block_of};
 ghost use Rattle.mpm_fcb.specs.Positions.{sequential_record};
 ghost use Rattle.mpm_files.specs.Turning.{Suits};
 ghost use Rattle.mpm_requests.specs.Filing.{Situation, block as block_in, HaveUsers};
@@ -34,29 +33,15 @@ use mpm_marks::{Marks, Protected};
 use mpm_mount::Mounted;
 use mpm_opens::{FileKey, Opens};
 use mpm_procs::Process;
-use mpm_requests::{Caller, Searches, ask, drive_of_call, item_number, refusal_of, word_of_call};
+use mpm_requests::{
+    Caller, Searches, ask, block_of_call, drive_of_call, item_number, refusal_of, word_of_call,
+};
 
 /// The last position that a block can have: record 255 of the last extent.
 const LAST_POSITION: u32 = 262_271;
 
 /// The most records of a job.
 const RECORDS: u8 = 16;
-
-/// The file control block in a call's 36 bytes.
-fn read_block(bytes: &[u8; 36]) -> ControlBlock
-    ensures block { result ≡ block_of bytes.now }
-    ensures size { length bytes.now ≡ 36 }
-{
-    ControlBlock::read(bytes)
-}
-
-/// The file control block of a call.
-pub(crate) fn block_taken(call: &Call) -> ControlBlock
-    ensures block { result ≡ block_of call.now.fcb }
-    ensures size { length call.now.fcb ≡ 36 }
-{
-    read_block(&call.fcb)
-}
 
 /// The first of a call's records, or the last position that a block can have, where it is behind that.
 pub(crate) fn first_position(block: &ControlBlock, function: FileFunction) -> u32
@@ -161,7 +146,7 @@ fn begun_call(
         → refusals.refusal_of (called drives protected.now opens.now marks searches.now caller.now function call.now moment) ≡ None
         → spec.Begins image (Some mounted.now) (called drives protected.now opens.now marks searches.now caller.now function call.now moment) result }
 {
-    let block = block_taken(call);
+    let block = block_of_call(call);
     let number = item_number(call.word(0), &block, function);
     let asked = ask(mounted, protected, opens, searches, caller, function, call);
     let about = about_of(
@@ -302,7 +287,7 @@ fn entered(
     let work = begun_unless(
         refusal, mounted, protected, opens, searches, caller, function, call, moment,
     );
-    let block = block_taken(call);
+    let block = block_of_call(call);
     let deleted = deleted_of(mounted, opens, caller, drive, &block, function);
     Service {
         caller: *caller,
@@ -339,7 +324,7 @@ fn entered_among(
 {
     let search = searches.get(caller.process);
     let word = word_of_call(call);
-    let block = block_taken(call);
+    let block = block_of_call(call);
     let drive = drive_of_call(search, caller.drive, word, &block, function);
     entered(
         drive,

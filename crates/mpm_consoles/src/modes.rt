@@ -1,5 +1,5 @@
 ghost use Rattle.std.specs.Prelude.{◌≡◌};
-ghost use Rattle.mpm_consoles.specs.Modes.{is_cooked as does_cook, is_raw as makes_raw, does_echo, writes as does_write};
+ghost use Rattle.mpm_consoles.specs.Modes.{is_cooked as makes_cooked, is_raw as makes_raw, does_echo, writes as does_write};
 
 use mpm_base::{Call, functions};
 
@@ -14,7 +14,7 @@ pub const AWAIT_KEY: u8 = 0xFD;
 
 /// Whether a function makes its console not raw.
 pub fn is_cooked(function: u8) -> bool
-    ensures { result ≡ does_cook function }
+    ensures { result ≡ makes_cooked function }
 {
     matches!(
         function,

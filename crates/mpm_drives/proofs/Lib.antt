@@ -1,4 +1,3 @@
 pub mod Telling
 pub mod Mounting
 pub mod Opening
-pub mod Syncing

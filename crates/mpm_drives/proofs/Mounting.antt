@@ -1,8 +1,9 @@
 -- The drives that are mounted, one after another.
-use Rattle.std.proofs.Common.{◌≡◌, ◌≢◌, ◌∙◌, ℕ, ◌+◌, ◌<◌, List, [], ◌∷◌, ◌++◌, length, take, drop, get_or, append_assoc, Option, Some, true, sym, ap, subst, inl, inr, arith}
+use Rattle.std.proofs.Common.{◌≡◌, ◌≢◌, ◌∙◌, ℕ, ◌+◌, ◌<◌, Bool, false, List, [], ◌∷◌, ◌++◌, length, take, drop, get_or, append_assoc, Option, Some, true, sym, ap, subst, inl, inr, arith}
 use Rattle.std.specs.Prelude.{IfSome, Err}
+use Rattle.std.proofs.lemmas.Bool.{cases_eq}
 use Rattle.std.proofs.lemmas.List.{take_more, take-append-drop}
-use Rattle.std.proofs.lemmas.List.Elements.{recursion_from_All}
+use Rattle.std.proofs.lemmas.List.Elements.{All-push, recursion_from_All}
 use Rattle.std.specs.List.{All, AllByRecursion}
 use Rattle.mpm_port.specs.Disks.{Disks, Attaches, SameDisks, Told}
 use Rattle.mpm_machine_file.specs.declared.lists.DriveSpec.{DriveSpec}
@@ -19,7 +20,7 @@ use Rattle.mpm_blocks.specs.Sectors.{told_image}
 use Rattle.mpm_mount.specs.Mounting.{IsMounted, IsImageFault, IsErrorOfSome, Counts}
 use Rattle.mpm_blocks.proofs.ToldImages.{told_image_same}
 use Rattle.mpm_drives.specs.Images.{ToldImage, Images, image_named, HasFault}
-use Rattle.mpm_drives.specs.Mounted.{number_of, IsImageOf, IsNamed, HasDirectory, IsMountedAs, AreMounted, OnlyDrive, SameBeside}
+use Rattle.mpm_drives.specs.Mounted.{number_of, IsImageOf, IsNamed, HasDirectory, IsMountedAs, AreMounted, AreSynced, OnlyDrive, SameBeside}
 use Rattle.mpm_drives.specs.Stopping.{Failures, StopsAt, IsFirst, Stops}
 use Rattle.mpm_drives.proofs.Telling.{attached_image, attached_named, same_named, attached_only, same_only, only_over, directory_told, fault_told, faultless_told}
 
@@ -195,3 +196,14 @@ pub stops_at : (a : ℕ → Option ℕ) (x : Option Disks) (images : Images) (sp
     → Stops images specs old new error
 stops_at a x images specs front ds spec rest old new error is mounted stops =
     subst (λ (s : List DriveSpec). Stops images s old new error) (sym is) (stops_behind a x images front ds spec rest old new error mounted stops)
+
+-- a drive that is synced stays so as one is, which is it or another
+pub stays : (old now : ℕ → Bool) (drive : ℕ) → now drive ≡ false → ((other : ℕ) → other ≢ drive → now other ≡ old other) → (number : ℕ) → old number ≡ false → now number ≡ false
+stays old now drive here beside number was = elim (cases_eq number drive) [ inl same ↦ ap now same ∙ here | inr other ↦ beside number other ∙ was ]
+
+-- with one more
+pub synced_more : (ds : List Directory) (d : Directory) (old now : ℕ → Bool) → AreSynced old ds → ((number : ℕ) → old number ≡ false → now number ≡ false) → now d.drive ≡ false
+    → AreSynced now (ds ++ (d ∷ []))
+synced_more ds d old now before stay here =
+    let P : Directory → Type 0 = λ one. now one.drive ≡ false in
+    All-push P ds d (λ place other less. stay _ (before place other less)) here

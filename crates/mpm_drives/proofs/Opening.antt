@@ -1,5 +1,5 @@
 -- The drives with which a machine begins: what is on each is what its image stands for.
-use Rattle.std.proofs.Common.{◌≡◌, ℕ, List, [], ◌∷◌, Option, Some, None, IsSome, refl, subst, sym, ap}
+use Rattle.std.proofs.Common.{◌≡◌, ℕ, List, [], ◌∷◌, Option, Some, None, subst, sym, ap}
 use Rattle.std.specs.Prelude.{Ok}
 use Rattle.std.specs.List.{All, AllByRecursion}
 use Rattle.std.proofs.lemmas.List.Elements.{All-from_recursion}
@@ -12,7 +12,7 @@ use Rattle.mpm_blocks.specs.Geometries.{geometry_of}
 use Rattle.mpm_blocks.specs.Sectors.{sectors_of, told_image}
 use Rattle.mpm_mount.specs.Mounting.{drive_in}
 use Rattle.mpm_drives.specs.Images.{ToldImage, Untold, Missing, Bytes, Images, HasFiles}
-use Rattle.mpm_drives.specs.Mounted.{IsImageOf, HasDirectory, AreMounted, AreAttached, AreDrivesOf, bytes_if, drives_on}
+use Rattle.mpm_drives.specs.Mounted.{IsImageOf, HasDirectory, AreMounted, AreDrivesOf, bytes_if, drives_on}
 
 files_told : (image : ToldImage) (told : Option (List ℕ)) (kind : Kind) (d : Directory) → d.kind ≡ kind → IsImageOf image told → HasDirectory image kind d
     → HasFiles image kind (drive_in (bytes_if told) d)
@@ -52,6 +52,3 @@ each_sized a x images (spec ∷ specs) (d ∷ ds) mounted = (
 pub are_sized : (a : ℕ → Option ℕ) (x : Option Disks) (images : Images) (specs : List DriveSpec) (ds : List Directory) → AreMounted a x images specs ds
     → All (λ d. a d.drive ≡ Some (geometry_of d.kind).bytes) ds
 are_sized a x images specs ds mounted = All-from_recursion (λ d. a d.drive ≡ Some (geometry_of d.kind).bytes) ds (each_sized a x images specs ds mounted)
-
-pub are_attached : (a : ℕ → Option ℕ) (x : Option Disks) (images : Images) (specs : List DriveSpec) (ds : List Directory) → AreMounted a x images specs ds → AreAttached a ds
-are_attached a x images specs ds mounted = λ k d within. subst (λ (size : Option ℕ). IsSome size) (sym (are_sized a x images specs ds mounted k d within)) refl

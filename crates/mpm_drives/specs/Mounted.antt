@@ -1,5 +1,5 @@
 -- The drives of a machine: as its machine file lists them, as they are mounted, and by what is on them.
-use Rattle.std.specs.Prelude.{◌≡◌, ◌≢◌, ℕ, ◌+◌, ◌-◌, ◌<◌, Bool, false, List, [], ◌∷◌, Option, Some, None, IsSome, IfSome, length, map, replicate, slice_set, take}
+use Rattle.std.specs.Prelude.{◌≡◌, ◌≢◌, ℕ, ◌-◌, Bool, false, List, [], ◌∷◌, Option, Some, None, IfSome, map, replicate, slice_set}
 use Rattle.std.specs.List.{All, AllByRecursion, AllZip}
 use Rattle.mpm_base.specs.declared.kind.Kind.{Kind}
 use Rattle.mpm_port.specs.Disks.{Disks}
@@ -49,22 +49,9 @@ pub record IsMountedAs (attached : ℕ → Option ℕ) (disks : Option Disks) (i
 abbrev pub AreMounted : (ℕ → Option ℕ) → Option Disks → Images → List DriveSpec → List Directory → Type 0
 AreMounted attached disks images specs mounted = AllZip (IsMountedAs attached disks images) specs mounted
 
--- the drives are attached
-abbrev pub AreAttached : (ℕ → Option ℕ) → List Directory → Type 0
-AreAttached attached mounted = All (λ d. IsSome (attached d.drive)) mounted
-
 -- they are synced: no write to them was asked for since
 abbrev pub AreSynced : (ℕ → Bool) → List Directory → Type 0
 AreSynced unsynced mounted = All (λ d. unsynced d.drive ≡ false) mounted
-
--- where a drive failed, those before it in the list are synced, and each that is none of those is synced or not as before; so many
--- calls were made as drives are listed up to that one
-pub record StopsSyncing (mounted : List Directory) (before now : ℕ → Bool) (steps steps' : ℕ) : Type 0 where
-  pub place : ℕ
-  pub there : place < length mounted
-  pub front : AreSynced now (take place mounted)
-  pub rest : (number : ℕ) → All (λ d. d.drive ≢ number) (take place mounted) → now number ≡ before number
-  pub calls : steps' ≡ steps + place + 1
 
 -- what is on a drive of a machine file is what its image stands for
 pub record IsDriveOf (images : Images) (spec : DriveSpec) (drive : NumberedDrive) : Type 0 where

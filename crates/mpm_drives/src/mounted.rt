@@ -1,20 +1,16 @@
-ghost use Rattle.std.specs.Prelude.{◌≡◌, ◌≢◌, ◌<◌, ◌≤◌, ◌+◌, true, false, [], ℕ, List, All, IfOk, IfErr, OnOk, OnErr, length};
-ghost use Rattle.mpm_port.specs.Causes.{HasCause};
+ghost use Rattle.std.specs.Prelude.{◌≡◌, ◌≢◌, true, false, [], ℕ, List, All, IfOk, IfErr, OnOk};
 ghost use Rattle.mpm_machine_file.specs.Drives.{all_differ};
 ghost use Rattle.mpm_machine_file.specs.MachineFiles.{IsDrive};
-ghost use Rattle.mpm_mount.specs.Mounting.{SameDrives};
 ghost use Rattle.mpm_drives.specs.Images.{image_named};
-ghost use Rattle.mpm_drives.specs.Mounted.{number_of, IsMountedAs, AreMounted, AreAttached, AreSynced, StopsSyncing, OnlyDrive, SameBeside};
+ghost use Rattle.mpm_drives.specs.Mounted.{number_of, IsMountedAs, AreMounted, AreSynced, OnlyDrive, SameBeside};
 ghost use Rattle.mpm_drives.specs.Stopping.{StopsAt, Stops};
 
 use crate::error::BootError;
-use mpm_base::Steps;
 use mpm_machine_file::DriveSpec;
 use mpm_mount::{MountError, Mounted, mount};
-use mpm_port::{Drives, Failed, FetchError};
+use mpm_port::{Drives, FetchError};
 use std::alloc::Global;
 use std::marker::Model;
-use std::sync::ledger::Ledger;
 
 /// The mounted drives of a machine, in order of their letters. Contracts see the list of their directories.
 #[derive(Drop)]
@@ -84,33 +80,6 @@ impl MountedDrives {
         ensures { result.items ≡ self }
     {
         self.items
-    }
-
-    /// Brings what was written to the drives to where it stays, one drive after another in order of their letters, up to the
-    /// first that fails: then those before it are synced, and the others as they were. `steps` counts the calls.
-    pub fn sync<D: Drives, L: Ledger>(
-        &self,
-        drives: &mut D,
-        steps: &mut Steps<L>,
-    ) -> Result<(), Failed>
-        requires { AreAttached (D.attached drives.old) self.now }
-        ensures cause { HasCause (D.faults drives.old) (D.faults drives.new) result }
-        ensures same { SameDrives D.attached D.disks D.failed_names drives.old drives.new }
-        ensures calls { steps.new ≤ steps.old + length self.now }
-        ensures all { OnOk result (steps.new ≡ steps.old + length self.now) }
-        ensures some { OnErr result (0 < length self.now) }
-        ensures none { self.now ≡ [] → drives.new ≡ drives.old }
-        ensures synced { OnOk result (AreSynced (D.unsynced drives.new) self.now) }
-        ensures stay { (number : ℕ) → D.unsynced drives.old number ≡ false → D.unsynced drives.new number ≡ false }
-        ensures stops { OnErr result (StopsSyncing self.now (D.unsynced drives.old) (D.unsynced drives.new) steps.old steps.new) }
-    {
-        for mounted in self.items.as_slice() {
-            steps.tick();
-            if let Err(Failed) = drives.sync(mounted.drive()) {
-                return Err(Failed);
-            }
-        }
-        Ok(())
     }
 }
 

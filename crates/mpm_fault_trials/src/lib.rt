@@ -7,6 +7,8 @@ mod calls;
 #[cfg(test)]
 mod disk;
 #[cfg(test)]
+mod order;
+#[cfg(test)]
 mod placed;
 #[cfg(test)]
 mod play;

@@ -20,7 +20,7 @@ const SCRIPTED: &[u8] =
     b"version = 1\nconsoles = 1\nscript = 'keys'\n[[segment]]\nbase = 0\npages = 192\n";
 
 /// A machine of one console with the drives A and C, of which C stands first.
-const TWO_DRIVES: &[u8] = b"version = 1
+pub(crate) const TWO_DRIVES: &[u8] = b"version = 1
 consoles = 1
 [[segment]]
 base = 0

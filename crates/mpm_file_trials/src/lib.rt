@@ -1,17 +1,11 @@
-//! Tests of calls on files and drives, each done at once as any caller does it. They stand above the crate that they try, so that it
-//! isn't proved once more for its tests.
+//! Tests of calls on files and drives, as scenes of mpm_file_scenes: what each function answers, what refuses it, and what processes
+//! leave to one another. They stand above the crate that plays them, so that it isn't proved once more for its tests.
 #![tactic(auto)]
 
-#[cfg(test)]
-mod desk;
-#[cfg(test)]
-mod floppies;
 #[cfg(test)]
 mod records;
 #[cfg(test)]
 mod refusals;
-#[cfg(test)]
-mod scene;
 #[cfg(test)]
 mod sharing;
 #[cfg(test)]

@@ -1,9 +1,7 @@
 //! What file calls answer and leave: records, positions, space, locks, passwords, and the calls that no disk serves.
-use crate::desk::Line;
-use crate::desk::Line::*;
-use crate::floppies::small_disk;
-use crate::scene::first_wrong_line;
 use mpm_base::functions::*;
+use mpm_file_scenes::Line::*;
+use mpm_file_scenes::{Line, first_wrong_line, small_disk};
 use std::alloc::Global;
 use std::test::Fail;
 

@@ -1,10 +1,8 @@
 //! What each function refuses, in which order where several refusals apply at once: a call for which one cause is there and the next
 //! one too answers by the first. (MP/M II Programmer's Guide, "BDOS Error Handling", and the functions.)
-use crate::desk::Line;
-use crate::desk::Line::*;
-use crate::floppies::{full_disk, small_disk};
-use crate::scene::first_wrong_line;
 use mpm_base::functions::*;
+use mpm_file_scenes::Line::*;
+use mpm_file_scenes::{Line, first_wrong_line, full_disk, small_disk};
 use std::alloc::Global;
 use std::test::Fail;
 

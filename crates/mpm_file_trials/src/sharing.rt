@@ -1,9 +1,7 @@
 //! Processes that share a file: the modes in which it is open, its locks, and what becomes of them where one ends.
-use crate::desk::Line;
-use crate::desk::Line::*;
-use crate::floppies::small_disk;
-use crate::scene::first_wrong_line;
 use mpm_base::functions::*;
+use mpm_file_scenes::Line::*;
+use mpm_file_scenes::{Line, first_wrong_line, small_disk};
 use std::alloc::Global;
 use std::test::Fail;
 

@@ -1,10 +1,8 @@
 //! How many turns a call takes: one for each record that it moves, and for each directory entry that it adds, changes or frees; one
 //! where there is none. And calls in one of whose turns their drive fails.
-use crate::desk::Line;
-use crate::desk::Line::*;
-use crate::floppies::small_disk;
-use crate::scene::{first_wrong_failing, first_wrong_line};
 use mpm_base::functions::*;
+use mpm_file_scenes::Line::*;
+use mpm_file_scenes::{Line, first_wrong_failing, first_wrong_line, small_disk};
 use mpm_images::{file, xfcb};
 use std::alloc::Global;
 use std::test::Fail;

@@ -6,20 +6,19 @@ use Rattle.std.proofs.lemmas.Bool.{or_from, or_left, or_right, or_parts}
 use Rattle.mpm_base.proofs.CountLaws.{one_if, count_cons}
 use Rattle.mpm_dirent.specs.declared.kinds.Entry.{Entry}
 use Rattle.mpm_dirent.specs.declared.kinds.Entry.TheVariants.{Free}
-use Rattle.mpm_files.specs.Counting.{bit}
 
-as_bit : (b : Bool) → one_if b ≡ bit b
+as_bit : (b : Bool) → one_if b ≡ one_if b
 as_bit true = refl
 as_bit false = refl
 
 pub count_more : (test : Entry → Bool) (entries : List Entry) (i : ℕ) → i < length entries
-    → count_by test (take (i + 1) entries) ≡ count_by test (take i entries) + bit (test (get_or entries i Free))
+    → count_by test (take (i + 1) entries) ≡ count_by test (take i entries) + one_if (test (get_or entries i Free))
 count_more test entries i h = ap (λ n. count_by test (take n entries)) (next i) ∙ by_place entries i h
   where
     next : (n : ℕ) → n + 1 ≡ suc n
     next n = omega arith
 
-    by_place : (es : List Entry) (n : ℕ) → n < length es → count_by test (take (suc n) es) ≡ count_by test (take n es) + bit (test (get_or es n Free))
+    by_place : (es : List Entry) (n : ℕ) → n < length es → count_by test (take (suc n) es) ≡ count_by test (take n es) + one_if (test (get_or es n Free))
     by_place [] n less = absurd (omega arith)
     by_place (e ∷ es) zero less = omega (arith, count_cons test e [], as_bit (test e))
     by_place (e ∷ es) (suc n) less = omega (arith, count_cons test e (take (suc n) es), count_cons test e (take n es), by_place es n (omega arith))

@@ -4,6 +4,7 @@ use Rattle.std.specs.Prelude.{is_some, slice_index_or}
 use Rattle.std.specs.FinMap.{get}
 use Rattle.std.proofs.lemmas.List.{drop_all}
 use Rattle.std.proofs.lemmas.Bool.{cases_lt}
+use Rattle.mpm_base.specs.Counts.{one_if}
 use Rattle.mpm_mount.specs.Drives.{Drive, free_entries}
 use Rattle.mpm_files.specs.declared.jobs.JobKind.{JobKind}
 use Rattle.mpm_files.specs.declared.jobs.JobKind.TheVariants.{Make, Label, Xfcb, Nothing}
@@ -13,7 +14,6 @@ use Rattle.mpm_files.specs.Units.{FileUnit, Idles, PutsXfcb, PutsLabel, AddsEntr
 use Rattle.mpm_files.specs.Plans.{plan_by, plan_of, file_of_job, protection_in, making, when}
 use Rattle.mpm_files.specs.Serving.{units_done, records_moved, record_read, missed_by, left_by, Follows, IsServing}
 use Rattle.mpm_files.specs.Turning.{SuitsKind, Suits, one_ended}
-use Rattle.mpm_files.specs.Counting.{bit}
 use Rattle.mpm_files.proofs.TurnLaws.{no_turn}
 use Rattle.mpm_files.proofs.NextUnits.{units_left, next_of}
 use Rattle.mpm_files.proofs.Served.{left_as, serves_quietly}
@@ -146,14 +146,14 @@ at_first before job j kind is size h =
     ∙ ap (units_done before job) (sym (one_unit (plan_of before job).units j (ap (λ k. length (plan_by before job k).units) is ∙ size) h))
 
 pub label_room : (before : Drive) (job : Job) (j : ℕ) (work : Work) → IsServing before job j work → work.job.kind ≡ Label → Suits before job → j < length (plan_of before job).units
-    → bit (not (is_some (units_done before job j).label)) ≤ free_entries (units_done before job j)
+    → one_if (not (is_some (units_done before job j).label)) ≤ free_entries (units_done before job j)
 label_room before job j work serving is suits h =
     let kind : job.kind ≡ Label = sym (ap (λ (q : Job). q.kind) serving.job_is) ∙ is in
-    subst (λ (d : Drive). bit (not (is_some d.label)) ≤ free_entries d) (at_first before job j Label kind refl h) (subst (SuitsKind before job) kind suits.kind)
+    subst (λ (d : Drive). one_if (not (is_some d.label)) ≤ free_entries d) (at_first before job j Label kind refl h) (subst (SuitsKind before job) kind suits.kind)
 
 pub xfcb_room : (before : Drive) (job : Job) (j : ℕ) (work : Work) → IsServing before job j work → work.job.kind ≡ Xfcb → Suits before job → j < length (plan_of before job).units
-    → bit (not (is_some (get (units_done before job j).xfcbs (file_of_job work.job)))) ≤ free_entries (units_done before job j)
+    → one_if (not (is_some (get (units_done before job j).xfcbs (file_of_job work.job)))) ≤ free_entries (units_done before job j)
 xfcb_room before job j work serving is suits h =
     let kind : job.kind ≡ Xfcb = sym (ap (λ (q : Job). q.kind) serving.job_is) ∙ is in
-    subst (λ (q : Job). bit (not (is_some (get (units_done before job j).xfcbs (file_of_job q)))) ≤ free_entries (units_done before job j)) (sym serving.job_is)
-    (subst (λ (d : Drive). bit (not (is_some (get d.xfcbs (file_of_job job)))) ≤ free_entries d) (at_first before job j Xfcb kind refl h) (subst (SuitsKind before job) kind suits.kind))
+    subst (λ (q : Job). one_if (not (is_some (get (units_done before job j).xfcbs (file_of_job q)))) ≤ free_entries (units_done before job j)) (sym serving.job_is)
+    (subst (λ (d : Drive). one_if (not (is_some (get d.xfcbs (file_of_job job)))) ≤ free_entries d) (at_first before job j Xfcb kind refl h) (subst (SuitsKind before job) kind suits.kind))

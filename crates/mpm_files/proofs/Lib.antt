@@ -6,6 +6,7 @@ pub mod Keeping
 pub mod Seen
 pub mod Within
 pub mod Contained
+pub mod Causing
 pub mod Sums
 pub mod Recorded
 pub mod Writes

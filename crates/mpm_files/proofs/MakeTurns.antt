@@ -2,13 +2,13 @@
 use Rattle.std.proofs.Common.{◌≡◌, ◌≢◌, ℕ, suc, ◌-◌, ◌≤◌, Bool, true, not, ◌==◌, ◌&&◌, None, refl, sym, ap, subst, ◌∙◌, arith}
 use Rattle.std.specs.Prelude.{is_some, slice_index_or}
 use Rattle.std.specs.FinMap.{get}
+use Rattle.mpm_base.specs.Counts.{one_if}
 use Rattle.mpm_mount.specs.Drives.{Drive, entry_number, entry_name, free_entries}
 use Rattle.mpm_files.specs.declared.jobs.JobKind.TheVariants.{Make}
 use Rattle.mpm_files.specs.declared.jobs.Job.{Job}
 use Rattle.mpm_files.specs.declared.work.Work.{Work}
 use Rattle.mpm_files.specs.Units.{Idles, AddsEntry, stages, last_of, applied}
 use Rattle.mpm_files.specs.Plans.{plan_of, plan_by, file_of_job, unit_at}
-use Rattle.mpm_files.specs.Counting.{bit}
 use Rattle.mpm_files.specs.Serving.{units_done, records_after, with_records, IsServing}
 use Rattle.mpm_files.specs.Turning.{MayMake, SuitsKind, Suits}
 use Rattle.mpm_files.proofs.TurnLaws.{one_turn, no_turn}
@@ -35,7 +35,7 @@ made_entry_fits before job j work serving is suits first =
     subst (λ (q : Job). EntryFits (units_done before job j) q) (sym serving.job_is)
     (subst (λ (d : Drive). EntryFits d now) at_first (record {
       none = no_entry before (file_of_job job) (entry_number before.kind 0) may.none;
-      room = some_left (free_entries before) (bit (not (job.count == 0) && not (is_some (get before.xfcbs (file_of_job job))))) may.room;
+      room = some_left (free_entries before) (one_if (not (job.count == 0) && not (is_some (get before.xfcbs (file_of_job job))))) may.room;
     }))
 
 -- its XFCB
@@ -48,7 +48,7 @@ unfolding applied stages last_of
 entry_beside before job = refl
 
 pub made_xfcb_fits : (before : Drive) (job : Job) (j : ℕ) (work : Work) → IsServing before job j work → work.job.kind ≡ Make → Suits before job → work.ended ≡ 1
-    → not (work.job.count == 0) ≡ true → bit (not (is_some (get (units_done before job j).xfcbs (file_of_job work.job)))) ≤ free_entries (units_done before job j)
+    → not (work.job.count == 0) ≡ true → one_if (not (is_some (get (units_done before job j).xfcbs (file_of_job work.job)))) ≤ free_entries (units_done before job j)
 made_xfcb_fits before job j work serving is suits second wanted =
     let may = may_make before job j work serving is suits in
     let kind : job.kind ≡ Make = sym (ap (λ (q : Job). q.kind) serving.job_is) ∙ is in
@@ -58,9 +58,9 @@ made_xfcb_fits before job j work serving is suits second wanted =
     ap free_entries added ∙ added_entries before (file_of_job job) 0 (no_entry before (file_of_job job) (entry_number before.kind 0) may.none) in
     let held : Bool = is_some (get before.xfcbs (file_of_job job)) in
     let comes : not (job.count == 0) ≡ true = ap (λ (q : Job). not (q.count == 0)) (sym serving.job_is) ∙ wanted in
-    let room : suc (bit (not held)) ≤ free_entries before = subst (λ (b : Bool). suc (bit (b && not held)) ≤ free_entries before) comes may.room in
+    let room : suc (one_if (not held)) ≤ free_entries before = subst (λ (b : Bool). suc (one_if (b && not held)) ≤ free_entries before) comes may.room in
     let still : is_some (get (units_done before job j).xfcbs (file_of_job work.job)) ≡ held =
     ap (λ (d : Drive). is_some (get d.xfcbs (file_of_job work.job))) added
     ∙ ap (λ xfcbs. is_some (get xfcbs (file_of_job work.job))) (entry_beside before job)
     ∙ ap (λ (q : Job). is_some (get before.xfcbs (file_of_job q))) serving.job_is in
-    subst (λ (b : Bool). bit (not b) ≤ free_entries (units_done before job j)) (sym still) (omega (arith, left, room))
+    subst (λ (b : Bool). one_if (not b) ≤ free_entries (units_done before job j)) (sym still) (omega (arith, left, room))

@@ -6,13 +6,14 @@ use Rattle.std.proofs.lemmas.Bool.{cases_eq, cases_lt, eq-eqb, ne_eqb}
 use Rattle.std.proofs.lemmas.List.{get_or-replicate, get_or_past, length-replicate}
 use Rattle.mpm_base.specs.declared.kind.Kind.{Kind}
 use Rattle.mpm_base.specs.declared.kind.Kind.TheVariants.{Ibm3740, Hd4, Hd8}
+use Rattle.mpm_base.specs.Counts.{one_if}
 use Rattle.mpm_blocks.specs.Geometries.{geometry_of, block_records}
 use Rattle.mpm_mount.specs.Drives.{FileName, PhysicalExtent, Drive, places, entry_number, entry_name, block_place, free_records, free_entries}
 use Rattle.mpm_mount.proofs.Replaced.{and_all}
 use Rattle.mpm_mount.proofs.UsedBlocks.{and_last}
 use Rattle.mpm_files.specs.Units.{FileUnit, AddsEntry, ClearsBlock, WritesRecord, new_entry, holds_block, stages, last_of, applied, all_applied}
 use Rattle.mpm_files.specs.Plans.{needs_entry, has_block, needs_block, clears_blocks, when, write_units}
-use Rattle.mpm_files.specs.Counting.{bit, same_entry, same_block}
+use Rattle.mpm_files.specs.Counting.{same_entry, same_block}
 use Rattle.mpm_files.proofs.Recorded.{held, Puts, put_new, puts_after, none_held}
 use Rattle.mpm_files.proofs.Writes.{Written, record_written}
 
@@ -25,7 +26,7 @@ pub record Done (file : FileName) (n : ℕ) (before after : Drive) : Type 0 wher
   pub whole : IsWhole file after
   pub entries : (m : ℕ) → needs_entry after file m ≡ (needs_entry before file m && not (same_entry before.kind m n))
   pub blocks : (m : ℕ) → needs_block after file m ≡ (needs_block before file m && not (same_block before.kind m n))
-  pub entries_left : free_entries after ≡ free_entries before - bit (needs_entry before file n)
+  pub entries_left : free_entries after ≡ free_entries before - one_if (needs_entry before file n)
   pub records_left : free_records after ≡ free_records before - (if needs_block before file n then block_records before.kind else 0)
 
 -- what is held at a place before
@@ -36,7 +37,7 @@ block_before (Some entry) place = slice_index_or entry.blocks place None
 -- the entry that the units leave
 record Leaves (file : FileName) (n : ℕ) (o : Option PhysicalExtent) (before after : Drive) : Type 0 where
   entry : PhysicalExtent
-  puts : Puts file (entry_number before.kind (n / 128)) entry (bit (not (is_some o))) (bit (not (has_block before.kind n o))) before after
+  puts : Puts file (entry_number before.kind (n / 128)) entry (one_if (not (is_some o))) (one_if (not (has_block before.kind n o))) before after
   room : length entry.blocks ≡ places before.kind
   holds : holds_block before.kind n entry ≡ true
   others : (place : ℕ) → place ≢ block_place before.kind n → slice_index_or entry.blocks place None ≡ block_before o place
@@ -52,7 +53,7 @@ none_at n i = elim (cases_lt i n) [
 
 -- records that are free, with a block less
 records_less : (kind : Kind) (h : ℕ) (b : Bool)
-    → ((geometry_of kind).dsm + 1 - (geometry_of kind).directory_blocks - (h + bit b)) * block_records kind
+    → ((geometry_of kind).dsm + 1 - (geometry_of kind).directory_blocks - (h + one_if b)) * block_records kind
     ≡ ((geometry_of kind).dsm + 1 - (geometry_of kind).directory_blocks - h) * block_records kind - (if b then block_records kind else 0)
 records_less Ibm3740 h true = omega arith
 records_less Ibm3740 h false = omega arith
@@ -100,11 +101,11 @@ left_done file n o before after is whole leaves =
       entries_left =
           ap (λ q. (geometry_of q).drm + 1 - (len after.extents + len after.xfcbs + (if is_some after.label then 1 else 0) + after.kept)) puts.kind
           ∙ ap (λ q. (geometry_of kind).drm + 1 - (q + len after.xfcbs + (if is_some after.label then 1 else 0) + after.kept)) puts.counted
-          ∙ ap (λ q. (geometry_of kind).drm + 1 - (len before.extents + bit (not (is_some o)) + q + (if is_some after.label then 1 else 0) + after.kept)) puts.xfcbs
-          ∙ ap (λ q. (geometry_of kind).drm + 1 - (len before.extents + bit (not (is_some o)) + len before.xfcbs + (if is_some q then 1 else 0) + after.kept)) puts.label
-          ∙ ap (λ q. (geometry_of kind).drm + 1 - (len before.extents + bit (not (is_some o)) + len before.xfcbs + (if is_some before.label then 1 else 0) + q)) puts.kept
-          ∙ without_one ((geometry_of kind).drm + 1) (len before.extents) (len before.xfcbs) (if is_some before.label then 1 else 0) before.kept (bit (not (is_some o)))
-          ∙ sym (ap (λ b. free_entries before - bit b) needed);
+          ∙ ap (λ q. (geometry_of kind).drm + 1 - (len before.extents + one_if (not (is_some o)) + q + (if is_some after.label then 1 else 0) + after.kept)) puts.xfcbs
+          ∙ ap (λ q. (geometry_of kind).drm + 1 - (len before.extents + one_if (not (is_some o)) + len before.xfcbs + (if is_some q then 1 else 0) + after.kept)) puts.label
+          ∙ ap (λ q. (geometry_of kind).drm + 1 - (len before.extents + one_if (not (is_some o)) + len before.xfcbs + (if is_some before.label then 1 else 0) + q)) puts.kept
+          ∙ without_one ((geometry_of kind).drm + 1) (len before.extents) (len before.xfcbs) (if is_some before.label then 1 else 0) before.kept (one_if (not (is_some o)))
+          ∙ sym (ap (λ b. free_entries before - one_if b) needed);
       records_left =
           ap (λ q. ((geometry_of q).dsm + 1 - (geometry_of q).directory_blocks - held after) * block_records q) puts.kind
           ∙ ap (λ q. ((geometry_of kind).dsm + 1 - (geometry_of kind).directory_blocks - q) * block_records kind) puts.blocks
@@ -164,7 +165,7 @@ added_too d file n bytes stamp none =
     record {
       entry = written.entry;
       puts = puts_after file number 1 0 0 1 fresh written.entry d added (applied added (WritesRecord file n bytes stamp)) put
-          (subst (λ b. Puts file number written.entry 0 (bit (not b)) added (applied added (WritesRecord file n bytes stamp))) (empty_entry d.kind n (places d.kind)) written.puts);
+          (subst (λ b. Puts file number written.entry 0 (one_if (not b)) added (applied added (WritesRecord file n bytes stamp))) (empty_entry d.kind n (places d.kind)) written.puts);
       room = written.room ∙ length-replicate (places d.kind) None;
       holds = written.holds;
       others = λ place apart. written.others place apart ∙ none_at (places d.kind) place;

@@ -11,13 +11,13 @@ use Rattle.std.specs.FinMap.Entries.{where_key, is_sorted-where_key, find-where_
 use Rattle.std.proofs.lemmas.Bool.{true≢false, false_from_ne_true, or_parts, or_from, or_right, and_parts, and_from, eq-eqb, eqb-true}
 use Rattle.std.proofs.lemmas.Option.{same_Some}
 use Rattle.std.proofs.lemmas.List.Sums.{sum_by-cons, sum_by-append}
+use Rattle.mpm_base.specs.Counts.{one_if}
 use Rattle.mpm_mount.specs.Drives.{FileName, entry_cmp, Protection, Drive, without_extent}
 use Rattle.mpm_mount.specs.Files.{is_same_file, entries_named, is_entry_of, has_file, is_fitting}
 use Rattle.mpm_mount.proofs.Orders.{entry_total, entry_same, file_total}
 use Rattle.mpm_mount.proofs.Names.{one_file, is_itself, entry_parts, files_differ, same_back, one_test}
 use Rattle.mpm_files.specs.Units.{FileUnit, RemovesEntry, RemovesXfcb, stages, last_of, applied}
 use Rattle.mpm_files.specs.Plans.{when, of_xfcb, deleting_entry, deleting}
-use Rattle.mpm_files.specs.Counting.{bit}
 use Rattle.mpm_files.specs.Serving.{Follows}
 use Rattle.mpm_files.proofs.Pairs.{sums_alike, sum_mapped, one_key}
 use Rattle.mpm_files.proofs.NextUnits.{Next, next_of}
@@ -66,7 +66,7 @@ either_front : {X : Type 0} (b : Bool) (x : X) (xs ys : List X) → cond b (x �
 either_front true x xs ys = refl
 either_front false x xs ys = refl
 
-pub small : (b : Bool) → bit b ≤ 1
+pub small : (b : Bool) → one_if b ≤ 1
 small true = omega arith
 small false = omega arith
 
@@ -88,14 +88,14 @@ named_without files file number =
     (λ name. ap not (tied_name file (record { user = name.user; name = name.name }) number name.number))
 
 -- no entry is named twice
-named_once : (files : Drive) (file : FileName) (number : ℕ) → sum_by (λ e. bit (is_named file number e)) (entries_named files) ≤ 1
+named_once : (files : Drive) (file : FileName) (number : ℕ) → sum_by (λ e. one_if (is_named file number e)) (entries_named files) ≤ 1
 unfolding entries_named
 named_once files file number =
     let key = one_key entry_cmp entry_total entry_same files.extents (record { user = file.user; name = file.name; number = number }) in
-    let same = sum_mapped (λ e. bit (is_named file number e)) (λ name. (record { user = name.user; name = name.name }, name.number)) (keys files.extents)
-    ∙ sum_mapped (λ name. bit (is_named file number (record { user = name.user; name = name.name }, name.number))) (λ e. e.0) (entries files.extents)
-    ∙ sums_alike _ (λ e. bit (eq_by_cmp entry_cmp (record { user = file.user; name = file.name; number = number }) e.0)) (entries files.extents)
-    (λ e. ap bit (sym (tied_name file (record { user = e.0.user; name = e.0.name }) number e.0.number))) in
+    let same = sum_mapped (λ e. one_if (is_named file number e)) (λ name. (record { user = name.user; name = name.name }, name.number)) (keys files.extents)
+    ∙ sum_mapped (λ name. one_if (is_named file number (record { user = name.user; name = name.name }, name.number))) (λ e. e.0) (entries files.extents)
+    ∙ sums_alike _ (λ e. one_if (eq_by_cmp entry_cmp (record { user = file.user; name = file.name; number = number }) e.0)) (entries files.extents)
+    (λ e. ap one_if (sym (tied_name file (record { user = e.0.user; name = e.0.name }) number e.0.number))) in
     omega (arith, same, key, small (is_some (get files.extents (record { user = file.user; name = file.name; number = number }))))
 
 pub named_by : (file other : FileName) (number k : ℕ) → is_same_file other file ≡ true → is_named file number (other, k) ≡ (number == k)
@@ -133,27 +133,27 @@ first_split test [] x found = absurd (true≢false (sym (ap is_some found)))
 first_split test (y ∷ ys) x found = split_by test y x ys (test y) refl found (λ rest. first_split test ys x rest)
 
 -- what passes no test stays
-kept_by : {X : Type 0} (x : X) (xs kept : List X) (b : Bool) → bit b ≡ 0 → kept ≡ xs → cond (not b) (x ∷ kept) kept ≡ x ∷ xs
+kept_by : {X : Type 0} (x : X) (xs kept : List X) (b : Bool) → one_if b ≡ 0 → kept ≡ xs → cond (not b) (x ∷ kept) kept ≡ x ∷ xs
 kept_by x xs kept true none same = absurd (omega arith)
 kept_by x xs kept false none same = ap (λ l. x ∷ l) same
 
-pub all_kept : {X : Type 0} (test : X → Bool) (xs : List X) → sum_by (λ x. bit (test x)) xs ≡ 0 → filter (λ x. not (test x)) xs ≡ xs
+pub all_kept : {X : Type 0} (test : X → Bool) (xs : List X) → sum_by (λ x. one_if (test x)) xs ≡ 0 → filter (λ x. not (test x)) xs ≡ xs
 all_kept test [] none = refl
 all_kept test (x ∷ xs) none =
-    let parts = sum_by-cons (λ y. bit (test y)) x xs in
+    let parts = sum_by-cons (λ y. one_if (test y)) x xs in
     kept_by x xs (filter (λ y. not (test y)) xs) (test x) (omega arith) (all_kept test xs (omega arith))
 
 filter_both : {X : Type 0} (p : X → Bool) (xs ys : List X) → filter p (xs ++ ys) ≡ filter p xs ++ filter p ys
 filter_both p [] ys = refl
 filter_both p (x ∷ xs) ys = ap (λ l. cond (p x) (x ∷ l) l) (filter_both p xs ys) ∙ either_front (p x) x (filter p xs) (filter p ys)
 
-one_less : {X : Type 0} (test : X → Bool) (front rest : List X) (x : X) → test x ≡ true → sum_by (λ y. bit (test y)) (front ++ (x ∷ rest)) ≤ 1
+one_less : {X : Type 0} (test : X → Bool) (front rest : List X) (x : X) → test x ≡ true → sum_by (λ y. one_if (test y)) (front ++ (x ∷ rest)) ≤ 1
     → filter (λ y. not (test y)) (front ++ (x ∷ rest)) ≡ front ++ rest
 one_less {X = X} test front rest x here few =
-    let g : X → ℕ = λ y. bit (test y) in
+    let g : X → ℕ = λ y. one_if (test y) in
     let whole = sum_by-append g front (x ∷ rest) in
     let last = sum_by-cons g x rest in
-    let is : bit (test x) ≡ 1 = ap bit here in
+    let is : one_if (test x) ≡ 1 = ap one_if here in
     filter_both (λ y. not (test y)) front (x ∷ rest)
     ∙ ap (λ l. l ++ filter (λ y. not (test y)) (x ∷ rest)) (all_kept test front (omega (arith, few, whole, last, is)))
     ∙ ap (λ b. front ++ cond (not b) (x ∷ filter (λ y. not (test y)) rest) (filter (λ y. not (test y)) rest)) here
@@ -215,7 +215,7 @@ deletion_next units j files user pattern file number other follows found h =
     let itself : is_named file number (file, number) ≡ true = named_itself file number in
     let named : entries_named after ≡ split.front ++ split.rest =
     named_without files file number ∙ ap (filter (λ e. not (is_named file number e))) split.whole
-    ∙ one_less (is_named file number) split.front split.rest (file, number) itself (subst (λ l. sum_by (λ e. bit (is_named file number e)) l ≤ 1) split.whole (named_once files file number)) in
+    ∙ one_less (is_named file number) split.front split.rest (file, number) itself (subst (λ l. sum_by (λ e. one_if (is_named file number e)) l ≤ 1) split.whole (named_once files file number)) in
     let there : list_any (is_entry_of file) (entries_named after) ≡ list_any (is_entry_of file) split.rest =
     ap (list_any (is_entry_of file)) named ∙ any_both (is_entry_of file) split.front split.rest (none_of_it user pattern file split.front split.passes split.none) in
     let left : deleting after user pattern (entries_named after) ≡ deleting files user pattern split.rest =

@@ -11,13 +11,13 @@ use Rattle.std.specs.FinMap.Entries.{by_order}
 use Rattle.std.proofs.lemmas.Bool.{true≢false, eq-eqb}
 use Rattle.std.proofs.lemmas.Simd.{map-map}
 use Rattle.std.proofs.lemmas.List.Sums.{sum_by-cons}
+use Rattle.mpm_base.specs.Counts.{one_if}
 use Rattle.mpm_mount.specs.Drives.{FileName, entry_cmp, PhysicalExtent, Protection, Drive, is_of, extents_of, with_extent, without_extent, without_xfcb}
 use Rattle.mpm_mount.specs.Files.{where_there, is_same_file}
 use Rattle.mpm_mount.proofs.Orders.{entry_total, entry_same, file_total}
 use Rattle.mpm_mount.proofs.Names.{one_file, entry_parts, files_differ, same_back}
 use Rattle.mpm_files.specs.Units.{FileUnit, RenamesEntry, RemovesXfcb, RenamesXfcb, stages, last_of, applied}
 use Rattle.mpm_files.specs.Plans.{when, each, of_entries, of_xfcb, renaming}
-use Rattle.mpm_files.specs.Counting.{bit}
 use Rattle.mpm_files.specs.Serving.{Follows}
 use Rattle.mpm_files.proofs.NextUnits.{Next, next_of}
 use Rattle.mpm_files.proofs.Pairs.{one_key}
@@ -57,25 +57,25 @@ numbers_without num number of tied (x ∷ xs) same =
     step_numbers num number of x xs (filter (λ y. not (tied y)) xs) (of x) (tied x) refl (same x) (numbers_without num number of tied xs same)
 
 step_sum : {X : Type 0} (num : X → ℕ) (number : ℕ) (of tied : X → Bool) (x : X) (xs : List X) (a : Bool) → of x ≡ a → (a ≡ true → tied x ≡ (number == num x))
-    → sum_by (λ k. bit (number == k)) (map num (filter of xs)) ≤ sum_by (λ y. bit (tied y)) xs
-    → sum_by (λ k. bit (number == k)) (map num (cond a (x ∷ filter of xs) (filter of xs))) ≤ sum_by (λ y. bit (tied y)) (x ∷ xs)
+    → sum_by (λ k. one_if (number == k)) (map num (filter of xs)) ≤ sum_by (λ y. one_if (tied y)) xs
+    → sum_by (λ k. one_if (number == k)) (map num (cond a (x ∷ filter of xs) (filter of xs))) ≤ sum_by (λ y. one_if (tied y)) (x ∷ xs)
 step_sum num number of tied x xs true is same so =
-    let one = sum_by-cons (λ k. bit (number == k)) (num x) (map num (filter of xs)) in
-    let other = sum_by-cons (λ y. bit (tied y)) x xs in
-    omega (arith, so, one, other, ap bit (same refl))
+    let one = sum_by-cons (λ k. one_if (number == k)) (num x) (map num (filter of xs)) in
+    let other = sum_by-cons (λ y. one_if (tied y)) x xs in
+    omega (arith, so, one, other, ap one_if (same refl))
 step_sum num number of tied x xs false is same so =
-    let other = sum_by-cons (λ y. bit (tied y)) x xs in
+    let other = sum_by-cons (λ y. one_if (tied y)) x xs in
     omega (arith, so, other)
 
 few_numbers : {X : Type 0} (num : X → ℕ) (number : ℕ) (of tied : X → Bool) (xs : List X) → ((x : X) → of x ≡ true → tied x ≡ (number == num x))
-    → sum_by (λ k. bit (number == k)) (map num (filter of xs)) ≤ sum_by (λ y. bit (tied y)) xs
+    → sum_by (λ k. one_if (number == k)) (map num (filter of xs)) ≤ sum_by (λ y. one_if (tied y)) xs
 few_numbers num number of tied [] same = omega arith
 few_numbers num number of tied (x ∷ xs) same = step_sum num number of tied x xs (of x) refl (same x) (few_numbers num number of tied xs same)
 
-first_without : (number : ℕ) (more : List ℕ) → sum_by (λ k. bit (number == k)) (number ∷ more) ≤ 1 → filter (λ k. not (number == k)) (number ∷ more) ≡ more
+first_without : (number : ℕ) (more : List ℕ) → sum_by (λ k. one_if (number == k)) (number ∷ more) ≤ 1 → filter (λ k. not (number == k)) (number ∷ more) ≡ more
 first_without number more few =
-    let whole = sum_by-cons (λ k. bit (number == k)) number more in
-    let is : bit (number == number) ≡ 1 = ap bit (eq-eqb number number refl) in
+    let whole = sum_by-cons (λ k. one_if (number == k)) number more in
+    let is : one_if (number == number) ≡ 1 = ap one_if (eq-eqb number number refl) in
     ap (λ b. cond (not b) (number ∷ filter (λ k. not (number == k)) more) (filter (λ k. not (number == k)) more)) (eq-eqb number number refl)
     ∙ all_kept (λ k. number == k) more (omega (arith, few, whole, is))
 
@@ -102,7 +102,7 @@ renamed_left files file new number entry more apart first =
     ∙ numbers_without (λ e. e.0.number) number (is_of file) (λ e. eq_by_cmp entry_cmp (record { user = file.user; name = file.name; number = number }) e.0) (entries files.extents)
     (λ e is. tied_number file (record { user = e.0.user; name = e.0.name }) number e.0.number true is refl)
     ∙ ap (filter (λ k. not (number == k))) first
-    ∙ first_without number more (subst (λ l. sum_by (λ k. bit (number == k)) l ≤ 1) first
+    ∙ first_without number more (subst (λ l. sum_by (λ k. one_if (number == k)) l ≤ 1) first
     (omega (
       arith,
       few_numbers (λ e. e.0.number) number (is_of file) (λ e. eq_by_cmp entry_cmp (record { user = file.user; name = file.name; number = number }) e.0) (entries files.extents)

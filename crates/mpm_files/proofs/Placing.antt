@@ -8,6 +8,7 @@ use Rattle.std.proofs.lemmas.List.{map-append}
 use Rattle.std.proofs.lemmas.List.Quantifiers.{position-Some}
 use Rattle.mpm_port.specs.Disks.{Disks}
 use Rattle.mpm_base.specs.declared.kind.Kind.{Kind}
+use Rattle.mpm_base.specs.Counts.{one_if}
 use Rattle.mpm_blocks.specs.Sectors.{Sectors, sectors_of, told_image}
 use Rattle.mpm_dirent.specs.declared.kinds.Entry.{Entry}
 use Rattle.mpm_dirent.specs.declared.kinds.Entry.TheVariants.{Free, File, Xfcb, Label}
@@ -30,7 +31,6 @@ use Rattle.mpm_mount.proofs.Distinct.{xfcb_by, label_by}
 use Rattle.mpm_files.specs.declared.jobs.Job.{Job}
 use Rattle.mpm_files.specs.Units.{FileUnit, AddsEntry, SetsAttributes, RenamesEntry, PutsXfcb, RenamesXfcb, PutsLabel, new_entry, with_attributes, stages, last_of, applied}
 use Rattle.mpm_files.specs.Plans.{file_of_job, new_file_of_job, protection_in}
-use Rattle.mpm_files.specs.Counting.{bit}
 use Rattle.mpm_files.specs.Standing.{StandsOn, Does}
 use Rattle.mpm_files.specs.Turning.{IsFileAt, xfcb_of_job, label_of_job, marks_set}
 use Rattle.mpm_files.proofs.NoFile.{there_at}
@@ -68,9 +68,9 @@ new_stage image d files job slot free =
     ∙ xfcb_added (sectors_of image d.kind) files (xfcb_of_job job) ∙ ap (λ (f : FileName). with_xfcb files f (protection_in job)) (own_file job)))
 
 pub xfcb_has_room : (image : List ℕ) (d : Directory) (files : Drive) (job : Job) → Stands image d files → xfcb_slot d (file_of_job job) ≡ None → free_slot d ≡ None
-    → bit (not (is_some (get files.xfcbs (file_of_job job)))) ≤ free_entries files → ⊥
+    → one_if (not (is_some (get files.xfcbs (file_of_job job)))) ≤ free_entries files → ⊥
 xfcb_has_room image d files job stands none full room =
-    omega (arith, room, no_free_slot image d files stands full, ap (λ o. bit (not (is_some o))) (xfcb_missing image d files (file_of_job job) stands none))
+    omega (arith, room, no_free_slot image d files stands full, ap (λ o. one_if (not (is_some o))) (xfcb_missing image d files (file_of_job job) stands none))
 
 -- the label
 pub label_clean_over : (d : Directory) (job : Job) (slot : ℕ) → first_fault d.kind d.entries ≡ None → label_slot d ≡ Some slot
@@ -99,9 +99,9 @@ label_new_stage image d files job slot free =
     ∙ label_added (sectors_of image d.kind) files (label_of_job job)))
 
 pub label_has_room : (image : List ℕ) (d : Directory) (files : Drive) → Stands image d files → label_slot d ≡ None → free_slot d ≡ None
-    → bit (not (is_some files.label)) ≤ free_entries files → ⊥
+    → one_if (not (is_some files.label)) ≤ free_entries files → ⊥
 label_has_room image d files stands none full room =
-    omega (arith, room, no_free_slot image d files stands full, ap (λ o. bit (not (is_some o))) (label_missing image d files stands none))
+    omega (arith, room, no_free_slot image d files stands full, ap (λ o. one_if (not (is_some o))) (label_missing image d files stands none))
 
 -- a file's entry comes
 zero_at : (n i : ℕ) → slice_index (replicate n 0) i ≡ 0

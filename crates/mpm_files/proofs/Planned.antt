@@ -7,6 +7,7 @@ use Rattle.std.proofs.lemmas.Simd.{map-map}
 use Rattle.std.proofs.lemmas.List.FromFn.{length-map-range_with_len}
 use Rattle.std.proofs.lemmas.Bool.{true≢false}
 use Rattle.mpm_base.specs.declared.kind.Kind.{Kind}
+use Rattle.mpm_base.specs.Counts.{one_if}
 use Rattle.mpm_blocks.specs.Geometries.{block_records}
 use Rattle.mpm_mount.specs.Drives.{FileName, Drive, extents_of, free_records, free_entries}
 use Rattle.mpm_mount.specs.Directories.{Directory, Stands, free_records_in, free_entries_in}
@@ -21,7 +22,7 @@ use Rattle.mpm_files.specs.declared.jobs.Job.{Job}
 use Rattle.mpm_files.specs.declared.counting.Count.{Count}
 use Rattle.mpm_files.specs.Units.{FileUnit, AddsEntry, ReadsRecord, PassesRecord, WritesRecord, SetsAttributes, PutsXfcb, applied, all_applied}
 use Rattle.mpm_files.specs.Plans.{Plan, Test, behind, unless_failing, when, file_of_job, new_file_of_job, record_at, read_error, reading, needs_entry, needs_block, has_record, passing, testing, test_at, each, of_entries, protection_in, records_of_job, tests_of_job, plan_by, plan_of}
-use Rattle.mpm_files.specs.Counting.{bit, unless_refused, same_entry, same_block, entry_more, block_more, room_error, record_units, read_count, write_count, lacks_entry, lacks_block, record_error, unit_count_by, unit_count}
+use Rattle.mpm_files.specs.Counting.{unless_refused, same_entry, same_block, entry_more, block_more, room_error, record_units, read_count, write_count, lacks_entry, lacks_block, record_error, unit_count_by, unit_count}
 use Rattle.mpm_files.specs.Serving.{Follows, all_read, left_writing, left_reading, left_passing, left_testing, is_later, left_setting, left_by, left_of, untested_by, untested_plan, with_records, missed_by, IsServing, IsInService, begun}
 use Rattle.mpm_files.proofs.Left.{writing_first}
 use Rattle.mpm_files.proofs.WriteCounts.{count_of, counted_writing}
@@ -38,12 +39,12 @@ writes_alike (suc count) kind entries blocks others more free_e free_r later n o
     let e : entry_more kind entries later n ≡ entry_more kind others later n = ap (λ b. b && not (later && same_entry kind n (n - 1))) (one n) in
     let b : block_more kind blocks later n ≡ block_more kind more later n = ap (λ b. b && not (later && same_block kind n (n - 1))) (two n) in
     let of : Bool → Bool → Count = λ x y. unless_refused (room_error x y free_e free_r) (record_units kind x y)
-    (write_count kind entries blocks (free_e - bit x) (free_r - (if y then block_records kind else 0)) true (n + 1) count) in
+    (write_count kind entries blocks (free_e - one_if x) (free_r - (if y then block_records kind else 0)) true (n + 1) count) in
     let x : Bool = entry_more kind others later n in
     let y : Bool = block_more kind more later n in
     ap (λ q. of q (block_more kind blocks later n)) e ∙ ap (of x) b
     ∙ ap (unless_refused (room_error x y free_e free_r) (record_units kind x y))
-    (writes_alike count kind entries blocks others more (free_e - bit x) (free_r - (if y then block_records kind else 0)) true (n + 1) one two)
+    (writes_alike count kind entries blocks others more (free_e - one_if x) (free_r - (if y then block_records kind else 0)) true (n + 1) one two)
 
 -- how many units
 abbrev counts : Drive → Job → JobKind → Count
@@ -77,7 +78,7 @@ testing_planned image d files job stands =
     ∙ sym (ap (λ (c : Count). c.units) (counted_reading job.count files file job.first)))
     ∙ reading_planned image d files job stands
 
-making_size : (b : Bool) (one other : FileUnit) → length (one ∷ when b other) ≡ 1 + bit b
+making_size : (b : Bool) (one other : FileUnit) → length (one ∷ when b other) ≡ 1 + one_if b
 making_size true one other = refl
 making_size false one other = refl
 

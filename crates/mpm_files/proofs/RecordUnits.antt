@@ -1,7 +1,7 @@
 -- The unit of a record, put together from its sector writes.
-use Rattle.std.proofs.Common.{◌≡◌, ◌≢◌, ℕ, ◌+◌, ◌*◌, ◌%◌, ◌<◌, ◌≤◌, Bool, true, false, ◌==◌, List, [], ◌∷◌, Option, Some, None, Result, Ok, Err, length, refl, sym, ap, subst, ◌∙◌, arith}
-use Rattle.std.specs.Prelude.{is_some, replicate, slice_set, if◌then◌else◌}
-use Rattle.std.proofs.lemmas.Bool.{false≢true, eqb-true}
+use Rattle.std.proofs.Common.{◌≡◌, ◌≢◌, ℕ, ◌+◌, ◌*◌, ◌/◌, ◌%◌, ◌<◌, ◌≤◌, Bool, true, false, ◌==◌, List, [], ◌∷◌, Option, Some, None, Result, Ok, Err, length, refl, sym, ap, subst, ◌∙◌, arith, eq-eqb}
+use Rattle.std.specs.Prelude.{IsSome, is_some, not, replicate, slice_set, if◌then◌else◌}
+use Rattle.std.proofs.lemmas.Bool.{false≢true, true≢false, eqb-true}
 use Rattle.std.proofs.lemmas.List.{append-nil}
 use Rattle.std.proofs.lemmas.Option.{same_Some}
 use Rattle.mpm_base.specs.declared.kind.Kind.{Kind}
@@ -14,7 +14,7 @@ use Rattle.mpm_dirent.specs.declared.kinds.FileEntry.{FileEntry}
 use Rattle.mpm_mount.specs.Drives.{FileName, PhysicalExtent, Drive, block_place, with_extent}
 use Rattle.mpm_mount.specs.Faults.{name_of, block_at}
 use Rattle.mpm_mount.specs.Images.{contents_of, extent_in}
-use Rattle.mpm_mount.specs.Directories.{Directory, Stands, free_block}
+use Rattle.mpm_mount.specs.Directories.{Directory, Stands, free_block, extent_slot}
 use Rattle.mpm_mount.proofs.LookedUp.{free_block_unheld}
 use Rattle.mpm_mount.proofs.Unheld.{block_sector}
 use Rattle.mpm_sectors.specs.Writes.{Write, written, Puts, block_writes, block_calls, zeros_from}
@@ -22,7 +22,7 @@ use Rattle.mpm_sectors.specs.Writes as sectors
 use Rattle.mpm_sectors.specs.declared.disk.Disk.{Disk}
 use Rattle.mpm_files.specs.Units.{WritesRecord, ClearsBlock, fresh_records, with_stamp, last_of, stages}
 use Rattle.mpm_files.specs.Plans.{clears_blocks}
-use Rattle.mpm_files.specs.Counting.{number_in, lacks_block_at, lacks_block}
+use Rattle.mpm_files.specs.Counting.{lacks_entry, number_in, lacks_block_at, lacks_block}
 use Rattle.mpm_files.specs.Lookups.{HasEntry}
 use Rattle.mpm_files.specs.Standing.{StandsOn, GoesThrough, Does, HasFreshBlock, StandsCleared, cleared_of, with_record, with_taken, raises}
 use Rattle.mpm_files.proofs.StandingLaws.{goes_nowhere, stays, goes_on, goes_stopped, does}
@@ -38,6 +38,31 @@ lacks_is d file n slot f has = ap (lacks_block_at d n) has.found ∙ ap (λ (e :
 
 pub is_lacking : (d : Directory) (file : FileName) (n slot : ℕ) (f : FileEntry) → HasEntry d file n slot f → lacks_block d file n ≡ true → block_at f (block_place d.kind n) ≡ 0
 is_lacking d file n slot f has lacks = eqb-true (block_at f (block_place d.kind n)) 0 (sym (lacks_is d file n slot f has) ∙ lacks)
+
+-- a record that lacks no entry has one; a fresh block is there; and it may be taken
+
+pub entry_there : (d : Directory) (file : FileName) (n : ℕ) → extent_slot d file (n / 128) ≡ None → lacks_entry d file n ≡ false → ⊥
+entry_there d file n none has = true≢false (sym (ap (λ o. not (is_some o)) none) ∙ has)
+
+pub block_free : (b : Bool) (sectors : Sectors) (d : Directory) (cleared : Option ℕ) → HasFreshBlock b sectors d cleared → free_block d ≡ None → ⊥
+block_free false sectors d cleared fresh none = false≢true (subst IsSome none fresh)
+block_free true sectors d None fresh none = fresh
+block_free true sectors d (Some c) fresh none = true≢false (ap is_some (sym fresh.free ∙ none))
+
+pub may_take : (b : Bool) (sectors : Sectors) (d : Directory) (cleared : Option ℕ) (block : ℕ) → HasFreshBlock b sectors d cleared → free_block d ≡ Some block
+    → cleared_of b cleared block ≡ None → ⊥
+may_take false sectors d cleared block fresh free none = true≢false (ap is_some none)
+may_take true sectors d None block fresh free none = fresh
+may_take true sectors d (Some c) block fresh free none =
+    true≢false (ap is_some (sym (ap (λ (b : Bool). if b then Some 18 else None) (eq-eqb c block (same_Some c block (sym fresh.free ∙ free)))) ∙ none))
+
+-- a record that lacks no block has an entry, and a number in that
+
+pub block_lacking : (d : Directory) (file : FileName) (n : ℕ) → extent_slot d file (n / 128) ≡ None → lacks_block d file n ≡ false → ⊥
+block_lacking d file n none held = true≢false (sym (ap (lacks_block_at d n) none) ∙ held)
+
+pub number_lacking : (d : Directory) (file : FileName) (n slot : ℕ) (f : FileEntry) → HasEntry d file n slot f → block_at f (block_place d.kind n) ≡ 0 → lacks_block d file n ≡ false → ⊥
+number_lacking d file n slot f has none held = true≢false (sym (lacks_is d file n slot f has ∙ eq-eqb (block_at f (block_place d.kind n)) 0 none) ∙ held)
 
 -- ---- into a block that is held
 
@@ -202,8 +227,16 @@ block_calls_few d disk clear index old new is few most =
 
 -- ---- the sectors that are cleared
 
-pub is_clearing : (kind same : Kind) (b : Bool) → b ≡ clears_blocks same → same ≡ kind → b ≡ true → clears_blocks kind ≡ true
+pub is_clearing : (kind same : Kind) (b : Bool) {v : Bool} → b ≡ clears_blocks same → same ≡ kind → b ≡ v → clears_blocks kind ≡ v
 is_clearing kind same b is here clears = sym (ap clears_blocks here) ∙ sym is ∙ clears
+
+-- which block was cleared
+
+pub cleared_if : (kind : Kind) (free block : Option ℕ) → clears_blocks kind ≡ true → free ≡ block → block ≡ (if clears_blocks kind then free else None)
+cleared_if kind free block clears is = sym is ∙ ap (λ (b : Bool). if b then free else None) (sym clears)
+
+pub clears_if : (kind : Kind) (free : Option ℕ) → clears_blocks kind ≡ false → None ≡ (if clears_blocks kind then free else None)
+clears_if kind free clears = ap (λ (b : Bool). if b then free else None) (sym clears)
 
 pub clear_inside : (d : Directory) (disk : Disk) (block a b count : ℕ) → disk ≡ record { drive = d.drive; kind = d.kind } → a ≡ block → b ≡ block_records d.kind → count ≡ 18
     → clears_blocks d.kind ≡ true → free_block d ≡ Some block → a * b + count ≤ logical_sectors disk.kind

@@ -8,12 +8,12 @@ use Rattle.std.proofs.lemmas.Bool.{false_from_ne_true}
 use Rattle.std.proofs.lemmas.List.Sums.{sum_by-set}
 use Rattle.mpm_base.proofs.CountLaws.{count_cons}
 use Rattle.mpm_base.specs.declared.kind.Kind.{Kind}
+use Rattle.mpm_base.specs.Counts.{one_if}
 use Rattle.mpm_blocks.specs.Geometries.{block_records}
 use Rattle.mpm_mount.specs.Drives.{FileName, PhysicalExtent, Protection, Drive, entry_cmp, block_place, held_blocks, with_record_in, with_extent, with_xfcb}
 use Rattle.mpm_mount.proofs.Orders.{entry_total, entry_same, file_total}
 use Rattle.mpm_mount.proofs.Names.{entry_parts}
 use Rattle.mpm_files.specs.Units.{holds_block, fresh_records, with_fresh_block}
-use Rattle.mpm_files.specs.Counting.{bit}
 use Rattle.mpm_files.proofs.Sums.{sum_new, sum_there, sum_values}
 
 -- how many entries and blocks are held
@@ -127,8 +127,8 @@ pub recorded_held : (kind : Kind) (n : ℕ) (entry : PhysicalExtent) (bytes : Li
 recorded_held kind n entry bytes h =
     let old : Option (List (List ℕ)) = slice_index_or entry.blocks (block_place kind n) None in
     let new : Option (List (List ℕ)) = option_map (λ records. slice_set records (n % block_records kind) bytes) old in
-    exact (count_by is_some (slice_set entry.blocks (block_place kind n) new)) (bit (is_some old)) (count_by is_some entry.blocks) (bit (is_some new))
-    (sum_by-set (λ (o : Option (List (List ℕ))). bit (is_some o)) entry.blocks (block_place kind n) new None h) (ap bit (sym (still_some old)))
+    exact (count_by is_some (slice_set entry.blocks (block_place kind n) new)) (one_if (is_some old)) (count_by is_some entry.blocks) (one_if (is_some new))
+    (sum_by-set (λ (o : Option (List (List ℕ))). one_if (is_some o)) entry.blocks (block_place kind n) new None h) (ap one_if (sym (still_some old)))
   where
     still_some : (o : Option (List (List ℕ))) → is_some (option_map (λ records. slice_set records (n % block_records kind) bytes) o) ≡ is_some o
     still_some None = refl
@@ -139,5 +139,5 @@ pub fresh_held : (kind : Kind) (n : ℕ) (entry : PhysicalExtent) (bytes : List 
     → held_blocks (with_fresh_block kind n bytes entry) ≡ held_blocks entry + 1
 fresh_held kind n entry bytes h free =
     one_up (count_by is_some (slice_set entry.blocks (block_place kind n) (Some (fresh_records kind n bytes)))) (count_by is_some entry.blocks)
-    (ap (λ b. held_blocks (with_fresh_block kind n bytes entry) + bit b) (sym free)
-    ∙ sum_by-set (λ (o : Option (List (List ℕ))). bit (is_some o)) entry.blocks (block_place kind n) (Some (fresh_records kind n bytes)) None h)
+    (ap (λ b. held_blocks (with_fresh_block kind n bytes entry) + one_if b) (sym free)
+    ∙ sum_by-set (λ (o : Option (List (List ℕ))). one_if (is_some o)) entry.blocks (block_place kind n) (Some (fresh_records kind n bytes)) None h)

@@ -15,9 +15,10 @@ use Rattle.mpm_mount.specs.Faults.{cause_of}
 use Rattle.mpm_mount.specs.Changes.{exchanged}
 use Rattle.mpm_mount.specs.Directories.{Directory, Stands, entry_in, with_entry, others}
 use Rattle.mpm_mount.specs.Files.{where_there, is_file}
+use Rattle.mpm_mount.specs.Images.{protection_of}
 use Rattle.mpm_mount.proofs.Still.{still_faultless}
 use Rattle.mpm_mount.proofs.Puts.{still_xfcb_changed}
-use Rattle.mpm_mount.proofs.Sorts.{protection_of, xfcb_changed}
+use Rattle.mpm_mount.proofs.Sorts.{xfcb_changed}
 use Rattle.mpm_files.specs.Units.{second_stamped, with_stamp, last_of}
 use Rattle.mpm_files.specs.Lookups.{HasXfcb}
 use Rattle.mpm_files.specs.Standing.{GoesThrough}

@@ -10,7 +10,8 @@ use Rattle.mpm_mount.specs.Drives.{FileName, Protection, Drive, with_xfcb}
 use Rattle.mpm_mount.specs.Changes.{exchanged}
 use Rattle.mpm_mount.specs.Directories.{Directory, Stands, entry_in, xfcb_slot}
 use Rattle.mpm_mount.specs.Files.{where_there}
-use Rattle.mpm_mount.proofs.Sorts.{file_of, protection_of, xfcb_changed}
+use Rattle.mpm_mount.specs.Images.{protection_of}
+use Rattle.mpm_mount.proofs.Sorts.{file_of, xfcb_changed}
 use Rattle.mpm_mount.proofs.LookedUp.{xfcb_found, xfcb_missing}
 use Rattle.mpm_files.specs.declared.stamps.Stamp.{Stamp}
 use Rattle.mpm_files.specs.declared.stamps.Stamp.TheVariants.{First, Second}

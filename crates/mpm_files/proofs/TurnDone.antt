@@ -1,5 +1,6 @@
 -- A turn of a job in service.
 use Rattle.std.proofs.Common.{◌≡◌, ℕ, suc, ◌+◌, ◌≤◌, ◌<◌, Option, Some, Ok, length, sym, ap, subst, ◌∙◌, arith}
+use Rattle.std.specs.Prelude.{max, nat_lt, if◌then◌else◌}
 use Rattle.mpm_port.specs.Disks.{Disks}
 use Rattle.mpm_blocks.specs.Sectors.{told_image}
 use Rattle.mpm_mount.specs.Drives.{Drive}
@@ -22,6 +23,21 @@ use Rattle.mpm_files.proofs.Served.{serves_idly, done_idly}
 -- the turns of a job in service are counted by its units
 pub in_time : (before : Drive) (job : Job) (j : ℕ) (work : Work) → IsServing before job j work → j < turns_of before job → work.ended < turns_in work
 in_time before job j work serving h = omega (arith, h, serving.ended, serving.units)
+
+-- it is counted, as the unit of the turn leaves what is counted alone
+
+pub still_more : (old mid : Work) → mid.ended ≡ old.ended → mid.units ≡ old.units → old.ended < turns_in old → mid.ended < turns_in mid
+still_more old mid ended units more =
+    subst (λ k. k < turns_in mid) (sym ended) (subst (λ n. old.ended < max n 1) (sym units) more)
+
+pub turn_ends : (now : Option Disks) (e : Directory) (before : Drive) (job : Job) (j : ℕ) (mid new : Work) → new ≡ one_ended mid → InService now e before job (suc j) (one_ended mid)
+    → InService now e before job (suc j) new
+turn_ends now e before job j mid new ends service = subst (InService now e before job (suc j)) (sym ends) service
+
+pub told_same : {X : Type 0} (again done : X) (old mid : Work) → mid.ended ≡ old.ended → mid.units ≡ old.units
+    → (if nat_lt (mid.ended + 1) (turns_in mid) then again else done) ≡ (if nat_lt (old.ended + 1) (turns_in old) then again else done)
+told_same again done old mid ended units =
+    ap (λ k. if nat_lt (k + 1) (turns_in mid) then again else done) ended ∙ ap (λ n. if nat_lt (old.ended + 1) (max n 1) then again else done) units
 
 pub next_there : (before : Drive) (job : Job) (j : ℕ) (work : Work) → IsServing before job j work → work.ended < work.units → j < length (plan_of before job).units
 next_there before job j work serving h = omega (arith, h, serving.ended, serving.units)

@@ -5,13 +5,14 @@ use Rattle.std.proofs.lemmas.Bool.{true≢false, and_parts, and_from, eq-eqb, eq
 use Rattle.std.proofs.lemmas.List.{length-append}
 use Rattle.mpm_base.specs.declared.kind.Kind.{Kind}
 use Rattle.mpm_base.specs.declared.kind.Kind.TheVariants.{Ibm3740, Hd4, Hd8}
+use Rattle.mpm_base.specs.Counts.{one_if}
 use Rattle.mpm_blocks.specs.Geometries.{block_records}
 use Rattle.mpm_mount.specs.Drives.{FileName, Drive, entry_number, block_place, free_records, free_entries}
 use Rattle.mpm_files.specs.declared.errors.RecordError.{RecordError}
 use Rattle.mpm_files.specs.declared.counting.Count.{Count}
 use Rattle.mpm_files.specs.Units.{FileUnit, AddsEntry, ClearsBlock, WritesRecord, all_applied}
 use Rattle.mpm_files.specs.Plans.{Plan, behind, unless_failing, needs_entry, needs_block, clears_blocks, when, write_error, write_units, writing}
-use Rattle.mpm_files.specs.Counting.{bit, counted, unless_refused, same_entry, same_block, entry_more, block_more, room_error, record_units, write_count}
+use Rattle.mpm_files.specs.Counting.{counted, unless_refused, same_entry, same_block, entry_more, block_more, room_error, record_units, write_count}
 use Rattle.mpm_files.proofs.Needs.{IsWhole, Done, record_done}
 
 abbrev pub count_of : Plan → Count
@@ -54,7 +55,7 @@ without_test : (b : Bool) → (b && not false) ≡ b
 without_test true = refl
 without_test false = refl
 
-three_parts : (a b : Bool) (x y z : FileUnit) → length (when a x ++ (when b y ++ (z ∷ []))) ≡ 1 + bit a + bit b
+three_parts : (a b : Bool) (x y z : FileUnit) → length (when a x ++ (when b y ++ (z ∷ []))) ≡ 1 + one_if a + one_if b
 three_parts true true x y z = refl
 three_parts true false x y z = refl
 three_parts false true x y z = refl
@@ -102,14 +103,14 @@ writing_counted (bytes ∷ records) kind file entries blocks later n stamp d ahe
     let b : needs_block d file n ≡ block = ahead.blocks_are n (omega arith) in
     let size : length units ≡ record_units kind entry block =
     three_parts (needs_entry d file n) (clears_blocks d.kind && (needs_block d file n && not false)) (AddsEntry file (n / 128)) (ClearsBlock file n) (WritesRecord file n bytes stamp)
-    ∙ ap (λ x. 1 + bit (needs_entry d file n) + bit (clears_blocks d.kind && x)) (without_test (needs_block d file n))
-    ∙ ap (λ x. 1 + bit x + bit (clears_blocks d.kind && needs_block d file n)) e ∙ ap (λ x. 1 + bit entry + bit (clears_blocks d.kind && x)) b
-    ∙ ap (λ q. 1 + bit entry + bit (clears_blocks q && block)) ahead.kind_is in
-    let rest : Count = write_count kind entries blocks (free_entries d - bit entry) (free_records d - (if block then block_records kind else 0)) true (n + 1) (length records) in
+    ∙ ap (λ x. 1 + one_if (needs_entry d file n) + one_if (clears_blocks d.kind && x)) (without_test (needs_block d file n))
+    ∙ ap (λ x. 1 + one_if x + one_if (clears_blocks d.kind && needs_block d file n)) e ∙ ap (λ x. 1 + one_if entry + one_if (clears_blocks d.kind && x)) b
+    ∙ ap (λ q. 1 + one_if entry + one_if (clears_blocks q && block)) ahead.kind_is in
+    let rest : Count = write_count kind entries blocks (free_entries d - one_if entry) (free_records d - (if block then block_records kind else 0)) true (n + 1) (length records) in
     let left : count_of (writing after file (n + 1) records None) ≡ rest =
     writing_counted records kind file entries blocks true (n + 1) None after (step_ahead kind file entries blocks later n d after ahead done)
-    ∙ ap (λ q. write_count kind entries blocks q (free_records after) true (n + 1) (length records)) (done.entries_left ∙ ap (λ x. free_entries d - bit x) e)
-    ∙ ap (λ q. write_count kind entries blocks (free_entries d - bit entry) q true (n + 1) (length records))
+    ∙ ap (λ q. write_count kind entries blocks q (free_records after) true (n + 1) (length records)) (done.entries_left ∙ ap (λ x. free_entries d - one_if x) e)
+    ∙ ap (λ q. write_count kind entries blocks (free_entries d - one_if entry) q true (n + 1) (length records))
     (done.records_left ∙ ap (λ x. free_records d - (if x then block_records d.kind else 0)) b ∙ ap (λ q. free_records d - (if block then block_records q else 0)) ahead.kind_is) in
     counted_behind (write_error d file n) units (writing after file (n + 1) records None) rest (record_units kind entry block) size left
     ∙ ap (λ x. unless_refused (room_error x (needs_block d file n) (free_entries d) (free_records d)) (record_units kind entry block) rest) e

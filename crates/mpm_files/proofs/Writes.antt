@@ -4,12 +4,12 @@ use Rattle.std.specs.Prelude.{is_some, option_map, slice_set, slice_index_or, if
 use Rattle.std.specs.FinMap.{get}
 use Rattle.std.proofs.lemmas.List.{get_or-set_same, get_or-set_other, length-set, append-nil}
 use Rattle.mpm_base.specs.declared.kind.Kind.{Kind}
+use Rattle.mpm_base.specs.Counts.{one_if}
 use Rattle.mpm_blocks.specs.Geometries.{block_records}
 use Rattle.mpm_mount.specs.Drives.{FileName, PhysicalExtent, Protection, Drive, places, entry_number, entry_name, block_place, held_blocks, with_record_in, with_extent, with_xfcb}
 use Rattle.mpm_mount.specs.Files.{where_there}
 use Rattle.mpm_mount.proofs.KeptRecords.{place_within}
 use Rattle.mpm_files.specs.Units.{WritesRecord, is_raising, raised, holds_block, fresh_records, with_fresh_block, rewritten, written_extents, last_of, second_stamped, stamped, with_stamp, stages, applied}
-use Rattle.mpm_files.specs.Counting.{bit}
 use Rattle.mpm_files.proofs.Keeping.{last_append}
 use Rattle.mpm_files.proofs.Recorded.{Puts, put_there, puts_stamped, recorded_held, fresh_held}
 
@@ -39,7 +39,7 @@ block_written kind n bytes old held =
 -- what the record's own unit leaves: the block is held, and the entry's others are as they were
 pub record Written (file : FileName) (n : ℕ) (bytes : List ℕ) (old : PhysicalExtent) (before after : Drive) : Type 0 where
   pub entry : PhysicalExtent
-  pub puts : Puts file (entry_number before.kind (n / 128)) entry 0 (bit (not (holds_block before.kind n old))) before after
+  pub puts : Puts file (entry_number before.kind (n / 128)) entry 0 (one_if (not (holds_block before.kind n old))) before after
   pub room : length entry.blocks ≡ length old.blocks
   pub holds : holds_block before.kind n entry ≡ true
   pub others : (place : ℕ) → place ≢ block_place before.kind n → slice_index_or entry.blocks place None ≡ slice_index_or old.blocks place None
@@ -49,7 +49,7 @@ pub record Written (file : FileName) (n : ℕ) (bytes : List ℕ) (old : Physica
 
 -- the blocks that are set
 record SetsBlock (kind : Kind) (n : ℕ) (bytes : List ℕ) (old new : PhysicalExtent) : Type 0 where
-  more : held_blocks new ≡ held_blocks old + bit (not (holds_block kind n old))
+  more : held_blocks new ≡ held_blocks old + one_if (not (holds_block kind n old))
   room : length new.blocks ≡ length old.blocks
   holds : holds_block kind n new ≡ true
   others : (place : ℕ) → place ≢ block_place kind n → slice_index_or new.blocks place None ≡ slice_index_or old.blocks place None
@@ -65,7 +65,7 @@ content_sets kind n bytes old h true held =
     let place : ℕ = block_place kind n in
     let put : Option (List (List ℕ)) = option_map (λ records. slice_set records (n % block_records kind) bytes) (slice_index_or old.blocks place None) in
     record {
-      more = recorded_held kind n old bytes h ∙ sym (ap (λ b. held_blocks old + bit (not b)) held ∙ omega arith);
+      more = recorded_held kind n old bytes h ∙ sym (ap (λ b. held_blocks old + one_if (not b)) held ∙ omega arith);
       room = length-set old.blocks place put;
       holds = ap is_some (get_or-set_same old.blocks place put None h) ∙ still_some (slice_index_or old.blocks place None) _ ∙ held;
       others = λ q apart. get_or-set_other old.blocks place q put None apart;
@@ -74,7 +74,7 @@ content_sets kind n bytes old h true held =
 content_sets kind n bytes old h false free =
     let place : ℕ = block_place kind n in
     record {
-      more = fresh_held kind n old bytes h free ∙ sym (ap (λ b. held_blocks old + bit (not b)) free);
+      more = fresh_held kind n old bytes h free ∙ sym (ap (λ b. held_blocks old + one_if (not b)) free);
       room = length-set old.blocks place (Some (fresh_records kind n bytes));
       holds = ap is_some (get_or-set_same old.blocks place (Some (fresh_records kind n bytes)) None h);
       others = λ q apart. get_or-set_other old.blocks place q (Some (fresh_records kind n bytes)) None apart;
@@ -110,7 +110,7 @@ stamps_too file n bytes old before drives moment (Some xfcb) is written =
     subst (Written file n bytes old before) (sym (last_append drives new before))
     (record {
       entry = written.entry;
-      puts = puts_stamped file (entry_number before.kind (n / 128)) 0 (bit (not (holds_block before.kind n old))) written.entry before last file xfcb (second_stamped moment xfcb) is written.puts;
+      puts = puts_stamped file (entry_number before.kind (n / 128)) 0 (one_if (not (holds_block before.kind n old))) written.entry before last file xfcb (second_stamped moment xfcb) is written.puts;
       room = written.room;
       holds = written.holds;
       others = written.others;
@@ -137,7 +137,7 @@ by_entry d file n bytes stamp old o is there room =
     let ends = content_ends d.kind n bytes old (holds_block d.kind n old) in
     let written : Written file n bytes old d (put (raised n (content d.kind n bytes old))) = record {
       entry = raised n (content d.kind n bytes old);
-      puts = put_there d file (entry_number d.kind (n / 128)) (bit (not (holds_block d.kind n old))) old (raised n (content d.kind n bytes old)) is high.more;
+      puts = put_there d file (entry_number d.kind (n / 128)) (one_if (not (holds_block d.kind n old))) old (raised n (content d.kind n bytes old)) is high.more;
       room = high.room;
       holds = high.holds;
       others = high.others;

@@ -2,6 +2,7 @@
 use Rattle.std.specs.Prelude.{ℕ, zero, suc, ◌+◌, ◌-◌, ◌/◌, ◌%◌, ◌==◌, ◌&&◌, ◌||◌, not, Bool, true, false, Option, Some, None, is_some, nat_lt, nat_le, count_by, List, if◌then◌else◌}
 use Rattle.std.specs.List.{list_any}
 use Rattle.mpm_base.specs.declared.kind.Kind.{Kind}
+use Rattle.mpm_base.specs.Counts.{one_if}
 use Rattle.mpm_blocks.specs.Geometries.{block_records}
 use Rattle.mpm_dirent.specs.declared.kinds.Entry.{Entry}
 use Rattle.mpm_dirent.specs.declared.kinds.Entry.TheVariants.{Free, File, Xfcb, Label, Kept}
@@ -19,9 +20,6 @@ use Rattle.mpm_files.specs.declared.counting.Count.{Count}
 use Rattle.mpm_files.specs.declared.searching.Sought.{Sought}
 use Rattle.mpm_files.specs.declared.searching.Sought.TheVariants.{OfFile, Deleted}
 use Rattle.mpm_files.specs.Plans.{file_of_job, new_file_of_job, clears_blocks}
-
-abbrev pub bit : Bool → ℕ
-bit b = if b then 1 else 0
 
 -- units of a record before those of others, or none where it can't be done
 abbrev pub counted : ℕ → Count → Count
@@ -56,7 +54,7 @@ room_error entry block entries records =
     if entry && (entries == 0) then Some NoDirectorySpace else (if block && (records == 0) then Some NoDataBlock else None)
 
 abbrev pub record_units : Kind → Bool → Bool → ℕ
-record_units kind entry block = 1 + bit entry + bit (clears_blocks kind && block)
+record_units kind entry block = 1 + one_if entry + one_if (clears_blocks kind && block)
 
 -- records from n on that are written, by which of them need an entry or a block of the drive as it was
 unfoldable pub write_count : Kind → (ℕ → Bool) → (ℕ → Bool) → ℕ → ℕ → Bool → ℕ → ℕ → Count
@@ -65,7 +63,7 @@ write_count kind entries blocks free_entries free_records later n (suc count) =
     let entry = entry_more kind entries later n in
     let block = block_more kind blocks later n in
     unless_refused (room_error entry block free_entries free_records) (record_units kind entry block)
-    (write_count kind entries blocks (free_entries - bit entry) (free_records - (if block then block_records kind else 0)) true (n + 1) count)
+    (write_count kind entries blocks (free_entries - one_if entry) (free_records - (if block then block_records kind else 0)) true (n + 1) count)
 
 -- what a directory says of a record: whether a directory entry is there for it, and the number of its block, 0 where none is held
 abbrev pub lacks_entry : Directory → FileName → ℕ → Bool
@@ -129,14 +127,14 @@ reads_of d job = read_count (record_error d (file_of_job job)) job.first job.cou
 
 abbrev pub renamed_count : Directory → Job → ℕ
 renamed_count d job =
-    count_by (is_part_of (file_of_job job)) d.entries + bit (is_some (xfcb_slot d (file_of_job job))) + bit (is_some (xfcb_slot d (new_file_of_job job)))
+    count_by (is_part_of (file_of_job job)) d.entries + one_if (is_some (xfcb_slot d (file_of_job job))) + one_if (is_some (xfcb_slot d (new_file_of_job job)))
 
 abbrev pub unit_count_by : Directory → Job → JobKind → Count
 unit_count_by d job kinds.Read = reads_of d job
 unit_count_by d job kinds.TestWrite = reads_of d job
 unit_count_by d job kinds.Write =
     write_count d.kind (lacks_entry d (file_of_job job)) (lacks_block d (file_of_job job)) (free_entries_in d) (free_records_in d) false job.first job.count
-unit_count_by d job kinds.Make = only_units (1 + bit (not (job.count == 0)))
+unit_count_by d job kinds.Make = only_units (1 + one_if (not (job.count == 0)))
 unit_count_by d job kinds.Delete = only_units (count_by (is_deleted d job.user job.name) d.entries)
 unit_count_by d job kinds.Rename = only_units (renamed_count d job)
 unit_count_by d job kinds.Attributes = only_units (count_by (is_part_of (file_of_job job)) d.entries)

@@ -3,6 +3,7 @@ use Rattle.std.specs.Prelude.{◌≡◌, ℕ, suc, ◌+◌, ◌*◌, ◌<◌, �
 use Rattle.std.specs.List.{list_any}
 use Rattle.std.specs.FinMap.{get}
 use Rattle.mpm_port.specs.Disks.{Disks}
+use Rattle.mpm_base.specs.Counts.{one_if}
 use Rattle.mpm_blocks.specs.Sectors.{told_image}
 use Rattle.mpm_blocks.specs.Geometries.{geometry_of}
 use Rattle.mpm_cache.specs.declared.cache.Place.{Place}
@@ -22,7 +23,6 @@ use Rattle.mpm_files.specs.declared.jobs.JobKind.TheVariants.{Read, Write, TestW
 use Rattle.mpm_files.specs.declared.jobs.Job.{Job}
 use Rattle.mpm_files.specs.declared.work.Work.{Work}
 use Rattle.mpm_files.specs.Plans.{plan_of, file_of_job, new_file_of_job, protection_in, unit_at}
-use Rattle.mpm_files.specs.Counting.{bit}
 use Rattle.mpm_files.specs.Serving.{units_done, IsInService}
 use Rattle.mpm_files.specs.Lookups.{IsSound, IsRecordCached}
 use Rattle.mpm_files.specs.Standing.{StandsWithin}
@@ -30,7 +30,7 @@ use Rattle.mpm_files.specs.Standing.{StandsWithin}
 -- a file that is made isn't there, and there is a free entry for it, and one for its XFCB where that comes and isn't there
 pub record MayMake (drive : Drive) (job : Job) : Type 0 where
   pub none : has_file drive (file_of_job job) ≡ false
-  pub room : suc (bit (not (job.count == 0) && not (is_some (get drive.xfcbs (file_of_job job))))) ≤ free_entries drive
+  pub room : suc (one_if (not (job.count == 0) && not (is_some (get drive.xfcbs (file_of_job job))))) ≤ free_entries drive
 
 -- a file is renamed to another name, of which no file is there
 pub record MayRename (drive : Drive) (job : Job) : Type 0 where
@@ -48,8 +48,8 @@ SuitsKind drive job Make = MayMake drive job
 SuitsKind drive job Delete = Unit {0}
 SuitsKind drive job Rename = MayRename drive job
 SuitsKind drive job Attributes = IsUnambiguous job.name
-SuitsKind drive job Label = bit (not (is_some drive.label)) ≤ free_entries drive
-SuitsKind drive job Xfcb = bit (not (is_some (get drive.xfcbs (file_of_job job)))) ≤ free_entries drive
+SuitsKind drive job Label = one_if (not (is_some drive.label)) ≤ free_entries drive
+SuitsKind drive job Xfcb = one_if (not (is_some (get drive.xfcbs (file_of_job job)))) ≤ free_entries drive
 SuitsKind drive job Nothing = Unit {0}
 
 -- the slot of the XFCB that goes next in a deletion: that of the file whose last entry went

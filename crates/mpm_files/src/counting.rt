@@ -1,4 +1,5 @@
 ghost use Rattle.std.specs.Prelude.{◌≡◌, ◌+◌, ◌-◌, ◌<◌, ◌≤◌, Some, None, false, if◌then◌else◌};
+ghost use Rattle.mpm_base.specs.Counts.{one_if};
 ghost use Rattle.mpm_blocks.specs.Geometries.{block_records};
 ghost use Rattle.mpm_mount.specs.Directories as directory;
 ghost use Rattle.mpm_files.specs.Plans as plans;
@@ -95,7 +96,7 @@ impl Room {
 
     /// What is free after it is written.
     fn after(self, needs: Needs, kind: Kind) -> Room
-        ensures entries { result.entries ≡ self.entries - spec.bit needs.entry }
+        ensures entries { result.entries ≡ self.entries - one_if needs.entry }
         ensures records { result.records ≡ self.records - (if needs.block then block_records kind else 0) }
     {
         let records = if needs.block {

@@ -1,6 +1,7 @@
 ghost use Rattle.std.specs.Prelude.{◌≡◌, ◌+◌, ◌<◌, ◌≤◌, ℕ, List, Some, None, not, is_some, slice_range};
 ghost use Rattle.std.specs.FinMap.{get};
 ghost use Rattle.mpm_port.specs.Causes.{HasCause};
+ghost use Rattle.mpm_base.specs.Counts.{one_if};
 ghost use Rattle.mpm_blocks.specs.Geometries.{geometry_of};
 ghost use Rattle.mpm_blocks.specs.Sectors.{told_image};
 ghost use Rattle.mpm_mount.specs.Drives.{Drive, free_entries};
@@ -10,7 +11,6 @@ ghost use Rattle.mpm_sectors.specs.Disks.{Leaves};
 ghost use Rattle.mpm_files.specs.Standing.{Does};
 ghost use Rattle.mpm_files.specs.Units.{PutsXfcb, PutsLabel};
 ghost use Rattle.mpm_files.specs.Plans.{file_of_job, protection_in};
-ghost use Rattle.mpm_files.specs.Counting.{bit};
 ghost use Rattle.mpm_files.specs.Turning.{xfcb_of_job, label_of_job};
 
 use crate::entries::put_entry;
@@ -73,7 +73,7 @@ pub(crate) fn put_xfcb<D: Drives, L: Ledger>(
     requires coherent { IsCoherent cache.old (D.disks drives.old) }
     requires apart { HasNoAlias cache.old (D.disks drives.old) mounted.old.drive }
     ensures does { (image : List ℕ) (files : Drive) → told_image (D.disks drives.old) mounted.old.drive ≡ Some image → Stands image mounted.old files
-        → job.now.user < 16 → bit (not (is_some (get files.xfcbs (file_of_job job.now)))) ≤ free_entries files
+        → job.now.user < 16 → one_if (not (is_some (get files.xfcbs (file_of_job job.now)))) ≤ free_entries files
         → Does (D.disks drives.new) mounted.old.drive mounted.new files (PutsXfcb (file_of_job job.now) (protection_in job.now)) result }
     ensures drive { mounted.new.drive ≡ mounted.old.drive }
     ensures kind { mounted.new.kind ≡ mounted.old.kind }
@@ -107,7 +107,7 @@ pub(crate) fn put_label<D: Drives, L: Ledger>(
     requires coherent { IsCoherent cache.old (D.disks drives.old) }
     requires apart { HasNoAlias cache.old (D.disks drives.old) mounted.old.drive }
     ensures does { (image : List ℕ) (files : Drive) → told_image (D.disks drives.old) mounted.old.drive ≡ Some image → Stands image mounted.old files
-        → bit (not (is_some files.label)) ≤ free_entries files
+        → one_if (not (is_some files.label)) ≤ free_entries files
         → Does (D.disks drives.new) mounted.old.drive mounted.new files (PutsLabel (record { name = job.now.new_name; protection = protection_in job.now })) result }
     ensures drive { mounted.new.drive ≡ mounted.old.drive }
     ensures kind { mounted.new.kind ≡ mounted.old.kind }

@@ -36,7 +36,7 @@ use Rattle.mpm_kernel.specs.ConsoleInput.{is_cooked, is_raw, writes, raw_if, key
 use Rattle.mpm_kernel.specs.Dates.{date_set, date_answered, time_answered}
 use Rattle.mpm_kernel.specs.Procedures.{procedure_queue, inside, procedure_read, procedure_at, procedure_called}
 use Rattle.mpm_kernel.specs.Queueing.{with_queue, queue_made, opened, may_delete, deleted, queued, blocked_or_refused, taken_from, was_read, read_at, given_to, was_written, write_at}
-use Rattle.mpm_kernel.specs.Waiting.{polled, is_flag, flag_waited_for, waited, with_woken, signalled, flag_waited, flag_set, slept}
+use Rattle.mpm_kernel.specs.Waiting.{polled, is_flag, flag_waited_for, waited, with_woken, signalled, flag_waited, flag_set, process_delayed}
 use Rattle.mpm_kernel.proofs.AwaitingLaws.{awaits_moved, awaits_removed, awaits_ready, awaits_heir, awaits_none, awaits_woken, one_alone, waits_apart, held_by_read, held_by_write, awaits_other}
 use Rattle.mpm_kernel.proofs.Passing.{heir_lives, passed_detach}
 use Rattle.mpm_kernel.proofs.RowLaws.{by_rows, by_table}
@@ -104,10 +104,10 @@ awaits_priority k q p priority kernel s h ready a =
     subst (AwaitsIn k q) (sym (turned changed p ready))
     (awaits_ready k q kernel.dispatcher.lists kernel.dispatcher.completed p (process_in changed.dispatcher.procs p).priority (lives_below kernel.dispatcher.procs p s.slots h) a)
 
-awaits_slept : (k q : ℕ) (call : Taken) (p : ℕ) (kernel : Kernel) → IsSound kernel → Lives kernel.dispatcher.procs p → IsReady kernel.dispatcher p → q ≢ p
-    → AwaitsIn k q kernel → AwaitsIn k q (slept call p kernel).kernel
-unfolding slept
-awaits_slept k q call p kernel s h ready other a =
+awaits_delayed : (k q : ℕ) (call : Taken) (p : ℕ) (kernel : Kernel) → IsSound kernel → Lives kernel.dispatcher.procs p → IsReady kernel.dispatcher p → q ≢ p
+    → AwaitsIn k q kernel → AwaitsIn k q (process_delayed call p kernel).kernel
+unfolding process_delayed
+awaits_delayed k q call p kernel s h ready other a =
     either (λ (c : Called). AwaitsIn k q c.kernel) (call.word == 0) _ _ (λ _. awaits_behind k q p kernel s h ready a)
     (λ _. awaits_removed k q kernel.dispatcher.lists kernel.dispatcher.completed p other a)
 
@@ -465,7 +465,7 @@ awaits_call_done k q call p kernel s h ready other a =
                                               (
                                                 λ _. awaits_write_at k q _ false p kernel s (λ _. other) a,
                                                 (
-                                                  λ _. awaits_slept k q call p kernel s h ready other a,
+                                                  λ _. awaits_delayed k q call p kernel s h ready other a,
                                                   (
                                                     λ _. awaits_behind k q p kernel s h ready a,
                                                     (

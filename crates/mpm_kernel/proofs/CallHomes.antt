@@ -6,7 +6,7 @@ use Rattle.mpm_procs.specs.declared.process.Process.{Process}
 use Rattle.mpm_procs.proofs.MapLaws.{call_after}
 use Rattle.mpm_kernel.specs.Kernel.{Kernel, IsSound, with_changed, dispatched}
 use Rattle.mpm_kernel.specs.Called.{Called, valued, low_parameter}
-use Rattle.mpm_kernel.specs.Waiting.{polled, is_flag, flag_waited_for, waited, with_woken, signalled, flag_waited, flag_set, slept}
+use Rattle.mpm_kernel.specs.Waiting.{polled, is_flag, flag_waited_for, waited, with_woken, signalled, flag_waited, flag_set, process_delayed}
 use Rattle.mpm_clock.specs.PackedDecimal.{names_time}
 use Rattle.mpm_kernel.specs.Dates.{date_set, date_answered, time_answered}
 use Rattle.mpm_kernel.specs.Calls.{called}
@@ -144,9 +144,9 @@ unfolding flag_set
 kept_flag_set call kernel =
     kept_if kernel (is_flag (low_parameter call)) _ _ (kept_same kernel _ (procs_signalled (low_parameter call) kernel) (consoles_signalled (low_parameter call) kernel)) (kept_same kernel _ refl refl)
 
-pub kept_slept : (call : Taken) (p : ℕ) (kernel : Kernel) → KeepsHome kernel (slept call p kernel)
-unfolding slept
-kept_slept call p kernel = kept_if kernel (call.word == 0) _ _ (kept_behind p 0 kernel) (kept_same kernel _ refl refl)
+pub kept_delayed : (call : Taken) (p : ℕ) (kernel : Kernel) → KeepsHome kernel (process_delayed call p kernel)
+unfolding process_delayed
+kept_delayed call p kernel = kept_if kernel (call.word == 0) _ _ (kept_behind p 0 kernel) (kept_same kernel _ refl refl)
 
 -- queues
 pub kept_queue_made : (call : Taken) (kernel : Kernel) → KeepsHome kernel (queue_made call kernel)

@@ -35,7 +35,7 @@ use Rattle.mpm_kernel.specs.Kernel.{Kernel, call_begun, afresh, dispatched}
 use Rattle.mpm_kernel.specs.Called.{Called, low_parameter}
 use Rattle.mpm_kernel.specs.Calls.{call_done, called, does_echo}
 use Rattle.mpm_kernel.specs.Columns.{spoke}
-use Rattle.mpm_kernel.specs.Waiting.{polled, is_flag, flag_waited_for, waited, flag_waited, with_woken, signalled, flag_set, slept}
+use Rattle.mpm_kernel.specs.Waiting.{polled, is_flag, flag_waited_for, waited, flag_waited, with_woken, signalled, flag_set, process_delayed}
 use Rattle.mpm_kernel.specs.Dates.{date_set, date_answered, time_answered}
 use Rattle.mpm_kernel.specs.Queueing.{with_queue, queue_made, opened, may_delete, deleted, queued, blocked_or_refused, was_read, read_at, was_written, write_at}
 use Rattle.mpm_kernel.specs.Procedures.{procedure_queue, inside, procedure_read, procedure_at, procedure_called, outside, given_back_to, given_back}
@@ -88,9 +88,9 @@ disk_flag_set : (call : Taken) (kernel : Kernel) → HasDisk kernel.disk (flag_s
 unfolding flag_set
 disk_flag_set call kernel = call_if kernel.disk (is_flag (low_parameter call)) _ _ (disk_signalled (low_parameter call) kernel) refl
 
-disk_slept : (call : Taken) (p : ℕ) (kernel : Kernel) → HasDisk kernel.disk (slept call p kernel)
-unfolding slept
-disk_slept call p kernel = call_if kernel.disk (call.word == 0) _ _ refl refl
+disk_delayed : (call : Taken) (p : ℕ) (kernel : Kernel) → HasDisk kernel.disk (process_delayed call p kernel)
+unfolding process_delayed
+disk_delayed call p kernel = call_if kernel.disk (call.word == 0) _ _ refl refl
 
 disk_date_set : (call : Taken) (kernel : Kernel) → HasDisk kernel.disk (date_set call kernel)
 unfolding date_set
@@ -365,7 +365,7 @@ disk_call_done call p process kernel =
                                               (
                                                 λ _. disk_write_at _ false p kernel,
                                                 (
-                                                  λ _. disk_slept call p kernel,
+                                                  λ _. disk_delayed call p kernel,
                                                   (
                                                     λ _. refl,
                                                     (

@@ -36,7 +36,7 @@ use Rattle.mpm_queues.specs.Queues.{waits}
 pub use Rattle.mpm_kernel.proofs.Homes.{IsLivedIn, SameHomes, homes_stay, homes_both, lived_in_changed, homes_changed, homes_call, homes_vacated, opening_home, aborts_admitted, homes_admitted, homes_in_slot, lives_on, keeps_call, keeps_process, procs_spoke}
 pub use Rattle.mpm_kernel.proofs.CallHomes.{KeepsHome, procs_with_other, kept_delivered_to}
 use Rattle.mpm_kernel.proofs.RowLaws.{by_table}
-use Rattle.mpm_kernel.proofs.CallHomes.{kept_same, kept_changed, kept_behind, kept_priority, kept_polled, kept_flag_waited, kept_flag_set, kept_slept, kept_queue_made, kept_opened, kept_deleted, kept_read_at, kept_write_at, kept_procedure_called, kept_date_set, procs_date_answered, procs_time_answered, consoles_date_answered, consoles_time_answered, consoles_signalled}
+use Rattle.mpm_kernel.proofs.CallHomes.{kept_same, kept_changed, kept_behind, kept_priority, kept_polled, kept_flag_waited, kept_flag_set, kept_delayed, kept_queue_made, kept_opened, kept_deleted, kept_read_at, kept_write_at, kept_procedure_called, kept_date_set, procs_date_answered, procs_time_answered, consoles_date_answered, consoles_time_answered, consoles_signalled}
 use Rattle.mpm_kernel.proofs.UnitHomes.{kept_unit_called, kept_console_called, consoles_spoken}
 
 -- the one function of a row
@@ -96,7 +96,7 @@ kept_call_done call p kernel s h own =
                                               (
                                                 λ _. kept_write_at _ false p kernel s,
                                                 (
-                                                  λ _. kept_slept call p kernel,
+                                                  λ _. kept_delayed call p kernel,
                                                   (
                                                     λ _. kept_behind p 0 kernel,
                                                     (

@@ -28,7 +28,7 @@ use Rattle.mpm_kernel.specs.Kernel.{Kernel, call_begun}
 use Rattle.mpm_kernel.specs.Called.{Called, low_parameter}
 use Rattle.mpm_kernel.specs.Calls.{for_console, ending, going_on, done_by, call_done, called, does_echo}
 use Rattle.mpm_kernel.proofs.RowLaws.{by_rows, among}
-use Rattle.mpm_kernel.specs.Waiting.{polled, is_flag, flag_waited_for, waited, flag_waited, flag_set, slept}
+use Rattle.mpm_kernel.specs.Waiting.{polled, is_flag, flag_waited_for, waited, flag_waited, flag_set, process_delayed}
 use Rattle.mpm_kernel.specs.Dates.{date_set, date_answered, time_answered}
 use Rattle.mpm_kernel.specs.Queueing.{queue_made, opened, may_delete, deleted, blocked_or_refused, was_read, read_at, was_written, write_at, pointed}
 use Rattle.mpm_kernel.specs.Procedures.{procedure_queue, procedure_read, procedure_at, procedure_called}
@@ -85,9 +85,9 @@ goes_flag_set : (hold retry : Bool) (call : Taken) (kernel : Kernel) → Goes ho
 unfolding flag_set Goes
 goes_flag_set hold retry call kernel = goes_if hold retry (is_flag (low_parameter call)) _ _ tt tt
 
-goes_slept : (hold retry : Bool) (call : Taken) (p : ℕ) (kernel : Kernel) → hold ≡ true → Goes hold retry (slept call p kernel).outcome
-unfolding slept Goes
-goes_slept hold retry call p kernel may = goes_if hold retry (call.word == 0) _ _ tt may
+goes_delayed : (hold retry : Bool) (call : Taken) (p : ℕ) (kernel : Kernel) → hold ≡ true → Goes hold retry (process_delayed call p kernel).outcome
+unfolding process_delayed Goes
+goes_delayed hold retry call p kernel may = goes_if hold retry (call.word == 0) _ _ tt may
 
 -- calls on dates
 
@@ -415,7 +415,7 @@ ends_call_done call p process kernel =
                                             (
                                               λ _. goes_write_at hold retry (pointed kernel.queues (word_at call 0)) false p kernel (λ e. absurd (false≢true e)),
                                               (
-                                                λ is. goes_slept hold retry call p kernel (among may_hold f (DELAY ∷ []) is refl),
+                                                λ is. goes_delayed hold retry call p kernel (among may_hold f (DELAY ∷ []) is refl),
                                                 (
                                                   λ _. tt,
                                                   (

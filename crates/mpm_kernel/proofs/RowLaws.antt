@@ -1,10 +1,12 @@
 -- What is so of the calls of each row of the table, and of the answer to a function that stands in none, is so of every call.
-use Rattle.std.proofs.Common.{◌≡◌, ℕ, Bool, true, false, ◌||◌, ◌&&◌, ◌==◌, List, [], ◌∷◌, refl, sym, subst}
+use Rattle.std.proofs.Common.{◌≡◌, ℕ, Bool, true, false, ◌||◌, ◌&&◌, ◌==◌, List, [], ◌∷◌, refl, sym, ap, subst}
+use Rattle.std.specs.Prelude.{if◌then◌else◌}
 use Rattle.std.proofs.lemmas.Bool.{eqb-true}
 use Rattle.std.specs.List.{AllByRecursion, list_all, count_by}
 use Rattle.mpm_base.proofs.Choices.{either}
 use Rattle.mpm_base.specs.Lists.{is_among}
 use Rattle.mpm_base.specs.Calls.{Taken}
+use Rattle.mpm_procs.specs.Table.{call_of, process_in}
 use Rattle.mpm_procs.specs.declared.process.Process.{Process}
 use Rattle.mpm_kernel.specs.Kernel.{Kernel}
 use Rattle.mpm_kernel.specs.Called.{Called, valued, Row, functions_of, done_by}
@@ -24,6 +26,27 @@ pub by_table : (P : Called → Type 0) (call : Taken) (p : ℕ) (process : Proce
     → AllByRecursion (IsSoOf P call p process kernel) table → P (valued 65535 kernel) → P (call_done call p process kernel)
 unfolding call_done
 by_table P call p process kernel each none = by_rows P call p process kernel table each none
+
+-- a call of a number is done by the first row that names the number
+abbrev pub done_at : ℕ → List Row → Taken → ℕ → Process → Kernel → Called
+done_at n [] call p process kernel = valued 65535 kernel
+done_at n (row ∷ rows) call p process kernel =
+    if is_among n row.functions then row.does call p process kernel else (done_at n rows call p process kernel)
+
+at_its_row : (call : Taken) (p : ℕ) (process : Process) (kernel : Kernel) (rows : List Row)
+    → done_at call.function rows call p process kernel ≡ done_by rows call p process kernel
+at_its_row call p process kernel [] = refl
+at_its_row call p process kernel (row ∷ rows) =
+    ap (λ other. if is_among call.function row.functions then row.does call p process kernel else other) (at_its_row call p process kernel rows)
+
+pub numbered : (p : ℕ) (kernel : Kernel) (n : ℕ) → (call_of kernel.dispatcher.procs p).function ≡ n
+    → done_at n table (call_of kernel.dispatcher.procs p) p (process_in kernel.dispatcher.procs p) kernel
+    ≡ call_done (call_of kernel.dispatcher.procs p) p (process_in kernel.dispatcher.procs p) kernel
+unfolding call_done
+numbered p kernel n is =
+    let call = call_of kernel.dispatcher.procs p in
+    let process = process_in kernel.dispatcher.procs p in
+    subst (λ f. done_at f table call p process kernel ≡ done_by table call p process kernel) is (at_its_row call p process kernel table)
 
 -- what is so of one of two is so where either is
 pub in_both : (a b c : Bool) → (a || b) ≡ true → (a ≡ true → c ≡ true) → (b ≡ true → c ≡ true) → c ≡ true

@@ -28,7 +28,7 @@ use Rattle.mpm_kernel.specs.Kernel.{Kernel, poll_list, is_waiter, flags_of, wait
 use Rattle.mpm_procs.specs.Settings.{is_count, with_user, with_multi}
 use Rattle.mpm_kernel.specs.Calls.{call_done, called}
 use Rattle.mpm_kernel.specs.Called.{Called, valued, low_parameter, failure_code}
-use Rattle.mpm_kernel.specs.Waiting.{polled, is_flag, waited, flag_waited, with_woken, signalled, flag_set, slept}
+use Rattle.mpm_kernel.specs.Waiting.{polled, is_flag, waited, flag_waited, with_woken, signalled, flag_set, process_delayed}
 use Rattle.mpm_clock.specs.PackedDecimal.{names_time, named_moment}
 use Rattle.mpm_kernel.specs.Dates.{date_set, date_answered, time_answered}
 use Rattle.mpm_kernel.specs.Events.{MayCome, with_tick, clock_ticked, pollers, with_ready, device_ready, happens, happened, flag_came}
@@ -258,9 +258,9 @@ delays_delayed_own : (kernel : Kernel) (p ticks : ℕ) → delays_of (delayed ke
 unfolding delayed
 delays_delayed_own kernel p ticks = delays_more_own kernel.clock.delays (record { slot = p; ticks = ticks }) p refl
 
-stays_slept : (call : Taken) (p : ℕ) (kernel : Kernel) → Calls p kernel → StaysSound p (slept call p kernel)
-unfolding slept
-stays_slept call p kernel c =
+stays_delayed : (call : Taken) (p : ℕ) (kernel : Kernel) → Calls p kernel → StaysSound p (process_delayed call p kernel)
+unfolding process_delayed
+stays_delayed call p kernel c =
     let clock = delayed kernel.clock p call.word in
     called_if p (call.word == 0) _ _ (λ _. stays_behind p 0 kernel c) (λ _. record {
       sound = sound_unlisted kernel p kernel.flags clock kernel.queues c.sound c.lives c.sound.flags (own_queues kernel c.sound)
@@ -349,7 +349,7 @@ stays_call_done call p kernel c =
                                               (
                                                 λ _. stays_queue_written false call p kernel c,
                                                 (
-                                                  λ _. stays_slept call p kernel c,
+                                                  λ _. stays_delayed call p kernel c,
                                                   (
                                                     λ _. stays_behind p 0 kernel c,
                                                     (

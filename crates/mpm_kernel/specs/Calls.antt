@@ -10,7 +10,7 @@ use Rattle.mpm_procs.specs.Settings.{user_value, with_user, multi_value, with_mu
 pub use Rattle.mpm_consoles.specs.Modes.{does_echo}
 use Rattle.mpm_kernel.specs.Kernel.{Kernel, with_changed, call_begun, dispatched}
 use Rattle.mpm_dispatcher.specs.Dispatch.{behind_equals, with_priority}
-use Rattle.mpm_kernel.specs.Waiting.{polled, flag_waited, flag_set, slept}
+use Rattle.mpm_kernel.specs.Waiting.{polled, flag_waited, flag_set, process_delayed}
 use Rattle.mpm_kernel.specs.Dates.{date_set, date_answered, time_answered}
 use Rattle.mpm_kernel.specs.Consoling.{unit_rows, unit_called}
 use Rattle.mpm_kernel.specs.ConsoleInput.{console_called}
@@ -59,7 +59,7 @@ going_on =
     ∷ row (CONDITIONAL_READ_QUEUE ∷ []) (λ call p process kernel. queue_read false call p kernel)
     ∷ row (WRITE_QUEUE ∷ []) (λ call p process kernel. queue_written true call p kernel)
     ∷ row (CONDITIONAL_WRITE_QUEUE ∷ []) (λ call p process kernel. queue_written false call p kernel)
-    ∷ row (DELAY ∷ []) (λ call p process kernel. slept call p kernel)
+    ∷ row (DELAY ∷ []) (λ call p process kernel. process_delayed call p kernel)
     ∷ row (DISPATCH ∷ []) (λ call p process kernel. done (dispatched (behind_equals p) kernel))
     ∷ row (SET_PRIORITY ∷ []) (λ call p process kernel. done (dispatched (with_priority p (low_parameter call)) kernel))
     ∷ row (CALL_RESIDENT_SYSTEM_PROCEDURE ∷ []) (λ call p process kernel. procedure_called call p kernel)

@@ -69,8 +69,8 @@ flag_set call kernel =
     else (valued failure_code kernel)
 
 -- function 141: a process waits for ticks; for none, it is put behind its equals, as function 142 does
-unfoldable pub slept : Taken → ℕ → Kernel → Called
-slept call p kernel =
+unfoldable pub process_delayed : Taken → ℕ → Kernel → Called
+process_delayed call p kernel =
     if call.word == 0 then done (dispatched (behind_equals p) kernel)
     else (blocked p (record (dispatched (unlisted p) kernel) { clock = delayed kernel.clock p call.word }))
 

@@ -114,7 +114,7 @@ impl Kernel {
             functions::CONDITIONAL_READ_QUEUE => return self.read_queue(p, false, reply),
             functions::WRITE_QUEUE => return self.write_queue(p, true, reply),
             functions::CONDITIONAL_WRITE_QUEUE => return self.write_queue(p, false, reply),
-            functions::DELAY => return self.sleep(p, word, reply),
+            functions::DELAY => return self.delay(p, word, reply),
             functions::DISPATCH => self.dispatcher.rotate(p),
             functions::SET_PRIORITY => self.dispatcher.set_priority(p, byte),
             functions::CALL_RESIDENT_SYSTEM_PROCEDURE => return self.call_procedure(p, reply),

@@ -22,7 +22,7 @@ impl Kernel {
     ghost use Rattle.mpm_dispatcher.specs.Dispatch.{IsReady, with_completed, at_rest, unlisted, moved, all_ready, all_woken};
     ghost use Rattle.mpm_kernel.specs.Kernel.{IsSound};
     ghost use Rattle.mpm_kernel.specs.Called.{low_parameter};
-    ghost use Rattle.mpm_kernel.specs.Waiting.{polled, flag_waited, flag_set as flag_set_by, slept, signalled};
+    ghost use Rattle.mpm_kernel.specs.Waiting.{polled, flag_waited, flag_set as flag_set_by, process_delayed, signalled};
 
     /// A process waits until a device is ready, unless it is. (MP/M II Programmer's Guide, "Function 131: Poll".)
     #[cold]
@@ -92,15 +92,15 @@ impl Kernel {
     /// Delay".)
     #[cold]
     #[inline(never)]
-    #[tactic(auto, using(crate::proofs::SoundLaws::not_delayed), unfolding(crate::specs::Waiting::slept))]
-    pub(crate) fn sleep(&mut self, p: Pid, ticks: u16, reply: &mut Reply) -> Outcome
+    #[tactic(auto, using(crate::proofs::SoundLaws::not_delayed), unfolding(crate::specs::Waiting::process_delayed))]
+    pub(crate) fn delay(&mut self, p: Pid, ticks: u16, reply: &mut Reply) -> Outcome
         requires sound { IsSound self.old }
         requires lives { Lives self.old.dispatcher.procs p }
         requires ready { IsReady self.old.dispatcher p }
         requires ticks { ticks ≡ (call_of self.old.dispatcher.procs p).word }
-        ensures kernel { self.new ≡ (slept (call_of self.old.dispatcher.procs p) p self.old).kernel }
-        ensures outcome { result ≡ (slept (call_of self.old.dispatcher.procs p) p self.old).outcome }
-        ensures reply { reply.new ≡ (slept (call_of self.old.dispatcher.procs p) p self.old).reply }
+        ensures kernel { self.new ≡ (process_delayed (call_of self.old.dispatcher.procs p) p self.old).kernel }
+        ensures outcome { result ≡ (process_delayed (call_of self.old.dispatcher.procs p) p self.old).outcome }
+        ensures reply { reply.new ≡ (process_delayed (call_of self.old.dispatcher.procs p) p self.old).reply }
     {
         if ticks == 0 {
             self.dispatcher.rotate(p);

@@ -1,12 +1,12 @@
 //! What calls, events and ends come to, as the guides tell it.
-use crate::scene::Answer::{Done, Ended, Held};
-use crate::scene::Line::{
+use mpm_base::functions;
+use mpm_kernel_scenes::Answer::{Done, Ended, Held};
+use mpm_kernel_scenes::Line::{
     Ask, AskWith, Begin, Completes, CompletesNone, CompletesTwo, End, Flag, FreeSlots, Interrupts,
     Keeps, Last, Lives, Multi, Next, NextAfterInstruction, Places, Priority, Ready, Runs, Second,
     Tick,
 };
-use crate::scene::play;
-use mpm_base::functions;
+use mpm_kernel_scenes::play;
 use std::test::Fail;
 
 #[test]

@@ -1,11 +1,11 @@
 //! Consoles, their keys and lines, and printers.
-use crate::scene::Answer::{Again, Done};
-use crate::scene::Line::{
+use mpm_base::functions;
+use mpm_kernel_scenes::Answer::{Again, Done};
+use mpm_kernel_scenes::Line::{
     Aborts, Ask, AskWith, Begin, BeginOther, BeginResident, CompletesNone, Echoes, End, Keys, Lost,
     Next, NextAfterInstruction, Places, Write,
 };
-use crate::scene::{BLOCK, kernel_with_system_queue, play, play_on};
-use mpm_base::functions;
+use mpm_kernel_scenes::{BLOCK, kernel_with_system_queue, play, play_on};
 use std::test::Fail;
 
 const CONTROL_C: u8 = 0x03;

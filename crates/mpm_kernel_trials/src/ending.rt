@@ -1,10 +1,10 @@
 //! Messages that ends give back, and resident procedures.
-use crate::scene::Answer::{Done, Held};
-use crate::scene::Line::{
+use mpm_base::functions;
+use mpm_kernel_scenes::Answer::{Done, Held};
+use mpm_kernel_scenes::Line::{
     Ask, Begin, Completes, Delete, Delivers, End, Holds, Inside, Make, Name, Next, Pass,
 };
-use crate::scene::play;
-use mpm_base::functions;
+use mpm_kernel_scenes::play;
 use std::test::Fail;
 
 #[test]

@@ -1,5 +1,5 @@
-//! Tests of whole kernels as scenes: what happens, and what is seen. They stand above the crate that they play, so that it isn't proved
-//! once more for them; each sees what any caller of it does.
+//! Tests of whole kernels, as scenes of mpm_kernel_scenes: what calls, events and ends come to, and what is seen behind them. They stand
+//! above the crate that plays them, so that it isn't proved once more for its tests.
 #![tactic(auto)]
 
 #[cfg(test)]
@@ -12,5 +12,3 @@ mod disk;
 mod ending;
 #[cfg(test)]
 mod queues;
-#[cfg(test)]
-mod scene;

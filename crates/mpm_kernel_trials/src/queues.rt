@@ -1,10 +1,10 @@
 //! Messages between processes.
-use crate::scene::Answer::{Done, Held};
-use crate::scene::Line::{
+use mpm_base::functions;
+use mpm_kernel_scenes::Answer::{Done, Held};
+use mpm_kernel_scenes::Line::{
     Begin, Completes, CompletesNone, Delete, Delivers, End, Holds, Make, Name, Next, Pass, Places,
 };
-use crate::scene::{BLOCK, kernel_with_system_queue, play, play_on};
-use mpm_base::functions;
+use mpm_kernel_scenes::{BLOCK, kernel_with_system_queue, play, play_on};
 use std::test::Fail;
 
 #[test]

@@ -246,14 +246,18 @@ pub once_fault : {A : Type 0} (r : Result A StepFault) (o n : Outside) (emitted 
 once_fault (Ok a) o n emitted failed = tt
 once_fault (Err fault) o n emitted failed = failed.0
 
-pub once_stops : {A : Type 0} (r : Result A StepFault) (p : ℕ) (o n : Outside) (old : System) (reply : Answer) (extended : Option Extended) → is_done_at_once p old ≡ true
-    → IsToldOf p old reply extended
+pub once_stops : {A : Type 0} (r : Result A StepFault) (kept : Kept) (p : ℕ) (o n : Outside) (old : System) (reply : Answer) (extended : Option Extended) → is_done_at_once p old ≡ true
+    → IsToldOf p old reply extended → IsToldAsKept kept p old reply extended
     → SinkFailed r o n (concluded (told_of (call_of old.kernel.dispatcher.procs p) reply extended) p old).emitted
-    → IfErr r (λ fault. HasStoppedAtGate fault p o n old)
-once_stops (Ok a) p o n old reply extended done tells failed = tt
-once_stops (Err fault) p o n old reply extended done tells failed =
+    → IfErr r (λ fault. HasStoppedAtGate fault kept p o n old)
+once_stops (Ok a) kept p o n old reply extended done tells as_kept failed = tt
+once_stops (Err WriteFault) kept p o n old reply extended done tells as_kept failed =
     let told = told_of (call_of old.kernel.dispatcher.procs p) reply extended in
-    record { told = told; of_call = refl; tells = tells; stops = stops_so fault told p o n old done failed.0 failed.1 }
+    record { told = told; of_call = refl; tells = tells; as_kept = as_kept; stops = stops_so WriteFault told p o n old done refl failed.1 }
+once_stops (Err DiskFault) kept p o n old reply extended done tells as_kept failed = absurd (disk_is_no_sink failed.0)
+  where
+    disk_is_no_sink : DiskFault ≡ WriteFault → ⊥
+    disk_is_no_sink is = cc
 
 -- whether records are asked for stays, and what failed is the sink
 
@@ -275,11 +279,6 @@ once_cause (Err fault) o n emitted before behind same wrote failed = record {
 }
 
 -- a drive failed in it
-
-pub fails_told : (p : ℕ) (o : Outside) (old : System) → HasStoppedAtGate DiskFault p o o old
-fails_told p o old =
-    let any = something_told p old in
-    record { told = told_of (call_of old.kernel.dispatcher.procs p) any.0 any.1; of_call = refl; tells = any.2; stops = refl }
 
 between_by : (turn_steps : ℕ) (served : Option Served) (kept : Kept) (disks : Option Disks) (filing : Filing) → StandsWorkedBy turn_steps served kept disks (Between filing)
     → StandsBetween kept disks filing

@@ -1,5 +1,5 @@
 -- The call in service as it is carried to its end: the turns that are left to it, its answer, the ends that are then due, and the records.
-use Rattle.std.proofs.Common.{◌≡◌, ◌∙◌, ℕ, ◌+◌, Bool, List, [], ◌++◌, Option, Some, None, refl, sym, ap, subst, arith}
+use Rattle.std.proofs.Common.{◌≡◌, ◌∙◌, ℕ, ◌+◌, Bool, false, List, [], ◌++◌, Option, Some, None, refl, sym, ap, subst, arith}
 use Rattle.std.proofs.lemmas.Option.{same_Some}
 use Rattle.std.specs.Prelude.{Result, Ok, Err, IsOk, IfSome, option_map}
 use Rattle.mpm_port.specs.Causes.{HasCause}
@@ -23,12 +23,12 @@ use Rattle.mpm_requests.specs.Filing.{Situation}
 use Rattle.mpm_bdos.specs.Jobs.{call_turns}
 use Rattle.mpm_bdos.specs.Outcomes.{file_call}
 use Rattle.mpm_bdos.specs.Serving.{Kept as Filed, InService, StandEach, Serves, filing_of}
-use Rattle.mpm_bdos.specs.Turns.{told_images, without_work}
+use Rattle.mpm_bdos.specs.Turns.{has_work, told_images, without_work}
 use Rattle.mpm_bdos.proofs.Answerable.{still_entered}
 use Rattle.mpm_bdos.proofs.ServingLaws.{stand_at_last}
 use Rattle.mpm_machine.specs.declared.system.System.{System}
 use Rattle.mpm_machine.specs.State.{Change, IsWhole}
-use Rattle.mpm_machine.specs.After.{IsOfCall, IsToldIn, EndKeeps}
+use Rattle.mpm_machine.specs.After.{IsOfCall, IsToldIn, IsOverAsKept, EndKeeps}
 use Rattle.mpm_machine.specs.Files.{Files, Between, Within, StandsBetween, StandsServed, StandsForFiles, filing_in, all_left, given_back}
 use Rattle.mpm_machine.specs.Holding.{IsOwn}
 use Rattle.mpm_machine.specs.FileCalls.{concluded}
@@ -36,13 +36,14 @@ use Rattle.mpm_machine.specs.Due.{with_ends}
 use Rattle.mpm_machine.specs.Step.{recorded_behind, records_out}
 use Rattle.mpm_machine.specs.DiskStep.{ready_again, call_over, told_of_call, all_paid}
 use Rattle.mpm_machine.specs.Failing.{Working, HaveImages}
-use Rattle.mpm_machine.specs.Settling.{turns_passed, over_at_end, ended_at_end, ended_with, files_at_end, carried_out, HasCarried, left_of, IsEndBy}
+use Rattle.mpm_machine.specs.Settling.{turns_passed, over_at_end, ended_at_end, ended_with, files_at_end, carried_out, HasCarried, left_of, IsEndBy, WritesEndOf, StopsEndOf}
 use Rattle.mpm_machine.proofs.WholeLaws.{whole_kernel, whole_written}
 use Rattle.mpm_machine.proofs.WholeStepLaws.{whole_with_ends}
 use Rattle.mpm_machine.proofs.DiskStepLaws.{whole_all_paid}
 use Rattle.mpm_machine.proofs.RecordsLaws.{recorded_after}
 use Rattle.mpm_machine.proofs.KeepingLaws.{finishing_disk, concluded_serves, ends_serve}
 use Rattle.mpm_machine.proofs.TurnLaws.{stands_idle, paid_stands, drives_left}
+use Rattle.mpm_machine.proofs.FilesStepLaws.{over_as_before}
 
 -- the call in service, with the turns that are left to it
 
@@ -284,14 +285,36 @@ unfolding over_at_end
 told_system p system before one two three four told is a b c d =
     ended_system told p before one two three four (a ∙ ap (λ (x : System). (call_over told p x).system) is) b c d
 
-pub ends_told : (p : ℕ) (system before : System) (told : Directly) → system ≡ turns_passed before → IsOfCall (Some p) told system → IsToldIn (Some p) told system
-    → IsEndBy (Some p) before (ended_with told p before)
-ends_told p system before told is of_call tells = record {
+pub ends_told : (kept : Filed) (p : ℕ) (system before : System) (told : Directly) → system ≡ turns_passed before → IsOfCall (Some p) told system → IsToldIn (Some p) told system
+    → IsOverAsKept kept (Some p) told → IsEndBy kept (Some p) before (ended_with told p before)
+ends_told kept p system before told is of_call tells as_kept = record {
   told = told;
   of_call = subst (λ (x : System). IsOfCall (Some p) told x) is of_call;
   tells = subst (λ (x : System). IsToldIn (Some p) told x) is tells;
+  as_kept = as_kept;
   is = refl;
 }
+
+-- what is kept as its turns are done is what was kept before, where it has no work
+
+end_before : (old worked : Filed) (p : ℕ) (before : System) (change : Change) → (has_work old.service ≡ false → worked ≡ old) → IsEndBy worked (Some p) before change
+    → IsEndBy old (Some p) before change
+end_before old worked p before change rests end = record {
+  told = end.told;
+  of_call = end.of_call;
+  tells = end.tells;
+  as_kept = over_as_before old worked worked (Some p) end.told rests (λ some. refl) end.as_kept;
+  is = end.is;
+}
+
+pub writes_before : (old worked : Filed) (p : ℕ) (o n : Outside) (before new : System) → (has_work old.service ≡ false → worked ≡ old) → WritesEndOf worked (Some p) o n before new
+    → WritesEndOf old (Some p) o n before new
+writes_before old worked p o n before new rests end =
+    record { change = end.change; is = end_before old worked p before end.change rests end.is; system = end.system; wrote = end.wrote }
+
+pub stops_before : (old worked : Filed) (p : ℕ) (o n : Outside) (before : System) → (has_work old.service ≡ false → worked ≡ old) → StopsEndOf worked (Some p) o n before
+    → StopsEndOf old (Some p) o n before
+stops_before old worked p o n before rests end = record { change = end.change; is = end_before old worked p before end.change rests end.is; stops = end.stops }
 
 pub never_both : {A E : Type 0} (r : Result A E) (e : E) (P : Type 0) → r ≡ Err e → IsOk r → P
 never_both (Ok x) e P is ok = absurd (cc)

@@ -15,7 +15,9 @@ use Rattle.mpm_output.specs.Outside.{Outside, TheSink}
 use Rattle.mpm_render.specs.Outputs.{Output}
 use Rattle.mpm_bdos.specs.Direct.{Directly}
 use Rattle.mpm_bdos.specs.Serving.{Kept, InService, StandEach, Serves, directory_at, filing_of}
+use Rattle.mpm_bdos.specs.Jobs.{call_turns}
 use Rattle.mpm_bdos.specs.Turns.{has_work}
+use Rattle.mpm_functions.specs.declared.functions.FileFunction.{FileFunction}
 use Rattle.mpm_machine.specs.declared.system.System.{System}
 use Rattle.mpm_machine.specs.Files.{Files, StandsServed, StandsForFiles, all_left, given_back}
 use Rattle.mpm_machine.specs.State.{IsWhole, NoCompletions, silent}
@@ -24,9 +26,10 @@ use Rattle.mpm_machine.specs.Step.{records_out}
 use Rattle.mpm_machine.specs.Mounting.{HasNoDrive}
 use Rattle.mpm_machine.specs.Holding.{OwnsService, AreFiled}
 use Rattle.mpm_machine.specs.FileCalls.{situation_of}
+use Rattle.mpm_machine.specs.Filed.{kept_paid, kept_behind}
 use Rattle.mpm_machine.specs.DiskStep.{step_passed, over_after, process_over, served_by, disk_served, all_paid, entered_by, entered_unless, call_entered}
 use Rattle.mpm_machine.specs.Stepping.{Telling, nothing_told, told_within, paid_after, entered_after, ended_after, rest_of, telling_then, files_then, files_rest}
-use Rattle.mpm_machine.specs.After.{ServesEntered, HasServedTo, HasStoppedServing, HasServed, HasEndedStep, HasEndedTo, HasEndedToStop, EndKeeps}
+use Rattle.mpm_machine.specs.After.{EntersService, ServesEntered, LeavesServed, LeavesKept, HasServedTo, HasStoppedServing, HasServed, HasEndedStep, HasEndedTo, HasEndedToStop, EndKeeps}
 use Rattle.mpm_machine.proofs.RecordsLaws.{recorded_after}
 use Rattle.mpm_machine.proofs.WholeStepLaws.{whole_with_ends}
 use Rattle.mpm_machine.proofs.KeepingLaws.{ServesSame, ends_serve}
@@ -36,7 +39,7 @@ use Rattle.mpm_machine.proofs.TellingLaws.{any_turns, enters_for_any}
 use Rattle.mpm_machine.proofs.CallsLaws.{SystemKeepsCalls, calls_same, calls_then, calls_with_ends}
 use Rattle.mpm_machine.proofs.HoldingLaws.{filed_still, own_still}
 use Rattle.mpm_machine.proofs.ServeLaws.{over_serves, none_behind}
-use Rattle.mpm_machine.proofs.EnterLaws.{entry_serves, still_behind, paid_kernel, pays}
+use Rattle.mpm_machine.proofs.EnterLaws.{entry_serves, still_behind, paid_service, paid_kernel, pays}
 use Rattle.mpm_machine.proofs.CarryingLaws.{keeps_by}
 
 -- what comes behind the disk's step
@@ -85,19 +88,44 @@ ended_still o n old served ended has is some none =
 
 -- so one that entered is served by what is kept behind it
 entered_then : {kept kept' kept'' : Kept} (o n : Outside) (old served ended : System) (has : HasServed kept kept' o n old served) → ended ≡ (records_out (with_ends served)).system
-    → (is_some ended.kernel.disk.served ≡ true → kept'' ≡ kept') → ServesEntered kept'' (paid_after has.telling.at_disk old)
-entered_then o n old served ended has is same = record {
-  serves = λ function p images drives enters stand.
-      let there = subst (λ (s : System). is_some s.kernel.disk.served ≡ true) (sym has.system) (entry_serves has.telling old function p enters) in
-      let keeps = same (ends_still served ended is there) in
-      subst (λ (k : Kept). Serves images k (situation_of (filing_of k drives) function p (paid_after has.telling.at_disk old)) 0) (sym keeps)
-      (has.entered.serves function p images drives enters (subst (λ (k : Kept). StandEach images k.mounted drives) keeps stand));
-}
+    → (is_some ended.kernel.disk.served ≡ true → kept'' ≡ kept') → ServesEntered kept'' has.telling.turns (paid_after has.telling.at_disk old)
+entered_then {kept} {kept'} {kept''} o n old served ended has is same =
+    let behind = paid_after has.telling.at_disk old in
+    let keeps : (function : FileFunction) (p : ℕ) → EntersService function p behind → kept'' ≡ kept' =
+    λ function p enters. same (ends_still served ended is
+    (subst (λ (s : System). is_some s.kernel.disk.served ≡ true) (sym has.system) (entry_serves has.telling old function p enters))) in
+    record {
+      serves = λ function p images drives enters stand.
+          let is = keeps function p enters in
+          subst (λ (k : Kept). Serves images k (situation_of (filing_of k drives) function p behind) 0) (sym is)
+          (has.entered.serves function p images drives enters (subst (λ (k : Kept). StandEach images k.mounted drives) is stand));
+      takes = λ function p images drives enters stand.
+          let is = keeps function p enters in
+          subst (λ (k : Kept). has.telling.turns ≡ call_turns (situation_of (filing_of k drives) function p behind)) (sym is)
+          (has.entered.takes function p images drives enters (subst (λ (k : Kept). StandEach images k.mounted drives) is stand));
+    }
+
+-- of what is kept those leave what they had open and marked whose ends were due
+paid_ended : (telling : Telling) (old served ended : System) (kept : Kept) → served ≡ entered_after telling old → ended ≡ (records_out (with_ends served)).system
+    → kept_paid ended kept ≡ kept_paid (ended_after telling old) kept
+unfolding kept_paid ended_after
+paid_ended telling old served ended kept is ends =
+    ap (λ (s : System). kept_paid s kept) ends ∙ ap (λ (s : System). kept_paid (records_out (with_ends s)).system kept) is
+
+leaves_behind : (telling : Telling) (old served ended : System) (kept kept' kept'' : Kept) → served ≡ entered_after telling old → ended ≡ (records_out (with_ends served)).system
+    → LeavesServed telling kept kept' old → kept'' ≡ kept_paid ended kept' → LeavesKept telling kept kept'' old
+leaves_behind telling old served ended kept kept' kept'' is ends leaves pays =
+    let service : kept''.service ≡ kept'.service = ap (λ (k : Kept). k.service) pays ∙ paid_service ended kept' in
+    record {
+      is = pays ∙ paid_ended telling old served ended kept' is ends ∙ ap (kept_paid (ended_after telling old)) leaves.is
+          ∙ ap (λ (call : Option InService). kept_behind telling call old kept) (sym service);
+      service = λ none. service ∙ leaves.service none;
+    }
 
 pub has_ended : {kept kept' kept'' : Kept} (instruction : Bool) (o m n : Outside) (old served ended paid new : System) → HasServed kept kept' o m old served
-    → (is_some ended.kernel.disk.served ≡ true → kept'' ≡ kept') → ended ≡ (records_out (with_ends served)).system → Wrote m n (records_out (with_ends served)).emitted → paid ≡ all_paid ended
+    → kept'' ≡ kept_paid ended kept' → (is_some ended.kernel.disk.served ≡ true → kept'' ≡ kept') → ended ≡ (records_out (with_ends served)).system → Wrote m n (records_out (with_ends served)).emitted → paid ≡ all_paid ended
     → new ≡ record paid { kernel = with_dispatcher (picked instruction) paid.kernel } → HasEndedStep kept kept'' instruction o n old new
-has_ended instruction o m n old served ended paid new has same ends wrote pays picks =
+has_ended {kept} {kept'} {kept''} instruction o m n old served ended paid new has left same ends wrote pays picks =
     let done = rest_done instruction has.telling o m n old served new has.system has.wrote wrote (ended_so instruction served ended paid new ends pays picks) in
     record {
       telling = has.telling;
@@ -106,6 +134,7 @@ has_ended instruction o m n old served ended paid new has same ends wrote pays p
       tells = has.tells;
       as_kept = has.as_kept;
       entered = entered_then o m old served ended has ends same;
+      leaves = λ none. leaves_behind has.telling old served ended kept kept' kept'' has.system ends (has.leaves none) left;
       system = done.0;
       wrote = done.1;
     }
@@ -248,11 +277,18 @@ pub serving_stopped : (instruction : Bool) (files : Files) (o n : Outside) (old 
 unfolding telling_then
 serving_stopped instruction files o n old stopped = served_stops instruction (telling_then nothing_told old files) o n old stopped
 
-pub serving_stops : (instruction : Bool) (o n : Outside) (old : System) → HasStoppedServing o n old → HasEndedToStop instruction o n old
+pub serving_stops : {kept : Kept} (instruction : Bool) (o n : Outside) (old : System) → HasStoppedServing kept o n old → HasEndedToStop kept instruction o n old
 serving_stops instruction o n old stopped =
     let paid = paid_after stopped.told old in
     let telling : Telling = record { at_gate = nothing_told; at_disk = stopped.told; turns = any_turns paid } in
-    record { telling = telling; turns = enters_for_any paid; of_call = stopped.of_call; tells = stopped.tells; stops = served_stops instruction telling o n old stopped.stops }
+    record {
+      telling = telling;
+      turns = enters_for_any paid;
+      of_call = stopped.of_call;
+      tells = stopped.tells;
+      as_kept = stopped.as_kept;
+      stops = served_stops instruction telling o n old stopped.stops;
+    }
 
 pub ending_stopped : (instruction : Bool) (files : Files) (o m n : Outside) (old served : System) (kept : Kept) (disks : Option Disks) → HasServedTo files o m old served kept disks
     → Stopped m n (records_out (with_ends served)).emitted → Stopped o n (rest_of instruction (telling_then nothing_told old files) (silent old)).emitted
@@ -260,12 +296,13 @@ ending_stopped instruction files o m n old served kept disks has stopped =
     ends_stop instruction (telling_then nothing_told old files) o m n old served (served_so files o m old served kept disks has) (said_so files o m old served kept disks has) stopped
 
 pub ended_stops : {kept kept' : Kept} (instruction : Bool) (o m n : Outside) (old served : System) → HasServed kept kept' o m old served → Stopped m n (records_out (with_ends served)).emitted
-    → HasEndedToStop instruction o n old
+    → HasEndedToStop kept instruction o n old
 ended_stops instruction o m n old served has stopped = record {
   telling = has.telling;
   turns = has.turns;
   of_call = has.of_call;
   tells = has.tells;
+  as_kept = has.as_kept;
   stops = ends_stop instruction has.telling o m n old served has.system has.wrote stopped;
 }
 

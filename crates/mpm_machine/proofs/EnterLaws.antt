@@ -1,6 +1,6 @@
 -- The disk's step as the code makes it, behind the turn of the call in service: those who ended give back, and the first that waits
 -- enters service, in the situation of that moment.
-use Rattle.std.proofs.Common.{◌≡◌, ◌∙◌, ◌<◌, ◌==◌, ℕ, Bool, true, false, if◌then◌else◌, List, Option, Some, None, Result, Ok, Err, OnOk, is_some, option_map, IfSome, refl, sym, ap, subst, arith}
+use Rattle.std.proofs.Common.{◌≡◌, ◌∙◌, ◌<◌, ◌==◌, ℕ, Bool, true, false, if◌then◌else◌, List, [], Option, Some, None, Result, Ok, Err, OnOk, is_some, option_map, IfSome, refl, sym, ap, subst, arith}
 use Rattle.std.specs.Prelude.{option_and_then}
 use Rattle.std.proofs.lemmas.Bool.{false≢true}
 use Rattle.mpm_base.proofs.CountLaws.{one_if_true}
@@ -22,7 +22,7 @@ use Rattle.mpm_output.proofs.WritingLaws.{wrote_nothing}
 use Rattle.mpm_bdos.specs.Direct.{Directly}
 use Rattle.mpm_functions.specs.declared.functions.FileFunction.{FileFunction}
 use Rattle.mpm_bdos.specs.Answering.{HasEntered}
-use Rattle.mpm_requests.specs.Filing.{Filing}
+use Rattle.mpm_requests.specs.Filing.{Filing, Situation}
 use Rattle.mpm_functions.specs.Functions.{function_of}
 use Rattle.mpm_bdos.specs.Jobs.{call_turns}
 use Rattle.mpm_bdos.specs.Serving.{Kept, InService, StandEach, Serves, filing_of}
@@ -33,6 +33,7 @@ use Rattle.mpm_machine.specs.Files.{Files, Between, Within, StandsBetween, Stand
 use Rattle.mpm_machine.specs.Holding.{IsOwn, OwnsService, AreFiled}
 use Rattle.mpm_machine.specs.State.{Change, IsWhole, silent}
 use Rattle.mpm_machine.specs.FileCalls.{looked_at, situation_of}
+use Rattle.mpm_machine.specs.Filed.{left_unless, kept_paid}
 use Rattle.mpm_machine.specs.DiskStep.{with_kernel, step_passed, served_by, disk_served, over_by, process_over, files_served_by, files_served, all_paid, entered_by, entered_unless, call_entered, within_call, entering_call, files_entered_by, files_entered_unless, files_entered, turns_within}
 use Rattle.mpm_machine.specs.Stepping.{Telling, nothing_told, told_within, paid_after, entered_after, files_paid, files_then}
 use Rattle.mpm_machine.specs.After.{IsOfCall, IsToldIn, IsOverAsKept, EntersService, ServesEntered, EntersFor, HasServedTo, HasPassed, HasServed, HasEnteredCall}
@@ -133,8 +134,8 @@ starts_filed old kernel p is starts filed =
 -- so it enters
 
 pub record Begins (p turns : ℕ) (old : System) (kept kept' : Kept) : Type 0 where
-  pub turns_are : (disks : Option Disks) (filing : Filing) (function : FileFunction) → function_of (call_of old.kernel.dispatcher.procs p).function ≡ Some function
-      → StandsBetween kept disks filing → turns ≡ call_turns (situation_of filing function p old)
+  pub turns_are : (images : ℕ → List ℕ) (drives : List (Option Drive)) (function : FileFunction) → function_of (call_of old.kernel.dispatcher.procs p).function ≡ Some function
+      → StandEach images kept.mounted drives → turns ≡ call_turns (situation_of (filing_of kept drives) function p old)
   pub takes : (function : FileFunction) → function_of (call_of old.kernel.dispatcher.procs p).function ≡ Some function
       → (filing : Filing) × (turns ≡ call_turns (situation_of filing function p old))
   pub serves : (images : ℕ → List ℕ) (drives : List (Option Drive)) (function : FileFunction) → function_of (call_of old.kernel.dispatcher.procs p).function ≡ Some function
@@ -159,7 +160,9 @@ enters_so old new p turns kept kept' disks files is starts none filed begins sta
     enters_by old new kept kept' disks files none stands
     (λ filing between.
     let its = named_by (function_of (call_of old.kernel.dispatcher.procs p).function) (filed p (starts_at old.kernel.disk p starts)) in
-    let so = enters_ok old filing its.0 p turns kept kept' disks starts none its.1 between (begins.turns_are disks filing its.0 its.1 between) begins.some
+    let so = enters_ok old filing its.0 p turns kept kept' disks starts none its.1 between
+    (subst (λ (found : Filing). turns ≡ call_turns (situation_of found its.0 p old)) between.filing_is
+    (begins.turns_are (told_images disks) filing.drives its.0 its.1 between.stand)) begins.some
     (subst (λ (found : Filing). Serves (told_images disks) kept' (situation_of found its.0 p old) 0) between.filing_is
     (begins.serves (told_images disks) filing.drives its.0 its.1 between.stand)) in
     (is ∙ so.0, subst (λ (system : System). StandsForFiles system.kernel.disk kept' disks (files_entered old (Between filing))) (sym is) so.1))
@@ -172,16 +175,24 @@ enters_for old p turns kept kept' starts none filed begins =
     let files : files_entered old (Between takes.0) ≡ entering_call p old (Between takes.0) = files_so old (Between takes.0) (Starts p) none starts in
     record { filing = takes.0; are = takes.1 ∙ sym (ap turns_within (files ∙ enters_within old takes.0 its.0 p its.1)) }
 
--- by what is kept then it is served in the situation of that moment
+-- by what is kept then it is served in the situation of that moment, for the turns that it takes in that one
+enters_as : (P : Situation → Type 0) (old : System) (p turns : ℕ) (kept kept' : Kept) → turn_answer old.kernel.disk ≡ Starts p → kept' ≡ record kept { service = kept'.service }
+    → (function : FileFunction) (q : ℕ) (images : ℕ → List ℕ) (drives : List (Option Drive)) → EntersService function q old → StandEach images kept'.mounted drives
+    → (function_of (call_of old.kernel.dispatcher.procs p).function ≡ Some function → StandEach images kept.mounted drives → P (situation_of (filing_of kept drives) function p old))
+    → P (situation_of (filing_of kept' drives) function q old)
+enters_as P old p turns kept kept' starts rest function q images drives enters stand so =
+    let same : p ≡ q = ap who (sym starts ∙ enters.starts) in
+    let its = subst (λ (r : ℕ). function_of (call_of old.kernel.dispatcher.procs r).function ≡ Some function) (sym same) enters.calls in
+    subst (λ (found : Filing). P (situation_of found function q old)) (sym (ap (λ (k : Kept). filing_of k drives) rest))
+    (subst (λ (r : ℕ). P (situation_of (filing_of kept drives) function r old)) same (so its (subst (λ (k : Kept). StandEach images k.mounted drives) rest stand)))
+
 enters_anew : (old : System) (p turns : ℕ) (kept kept' : Kept) → turn_answer old.kernel.disk ≡ Starts p → kept' ≡ record kept { service = kept'.service }
-    → Begins p turns (step_passed old) kept kept' → ServesEntered kept' old
+    → Begins p turns (step_passed old) kept kept' → ServesEntered kept' turns old
 enters_anew old p turns kept kept' starts rest begins = record {
   serves = λ function q images drives enters stand.
-      let same : p ≡ q = ap who (sym starts ∙ enters.starts) in
-      let its = subst (λ (r : ℕ). function_of (call_of old.kernel.dispatcher.procs r).function ≡ Some function) (sym same) enters.calls in
-      let serves = begins.serves images drives function its (subst (λ (k : Kept). StandEach images k.mounted drives) rest stand) in
-      subst (λ (found : Filing). Serves images kept' (situation_of found function q old) 0) (sym (ap (λ (k : Kept). filing_of k drives) rest))
-      (subst (λ (r : ℕ). Serves images kept' (situation_of (filing_of kept drives) function r old) 0) same serves);
+      enters_as (λ (s : Situation). Serves images kept' s 0) old p turns kept kept' starts rest function q images drives enters stand (begins.serves images drives function);
+  takes = λ function q images drives enters stand.
+      enters_as (λ (s : Situation). turns ≡ call_turns s) old p turns kept kept' starts rest function q images drives enters stand (begins.turns_are images drives function);
 }
 
 -- and is in service behind it
@@ -192,6 +203,10 @@ serves_behind turns system p none starts =
     let disk = system.kernel.disk in
     subst (λ (s : System). is_some s.kernel.disk.served ≡ true) (sym (entered_so turns system (Starts p) none starts))
     (ap is_some (entered_first disk.turn_steps disk.served (first_of disk.waiting) p turns none starts))
+
+pub never_idle : (old new : System) (p turns : ℕ) → new ≡ call_entered turns old → old.kernel.disk.served ≡ None → turn_answer old.kernel.disk ≡ Starts p → new.kernel.disk.served ≡ None → ⊥
+never_idle old new p turns is none starts idle =
+    false≢true (sym (ap is_some idle) ∙ subst (λ (s : System). is_some s.kernel.disk.served ≡ true) (sym is) (serves_behind turns old p none starts))
 
 pub entry_serves : (telling : Telling) (old : System) (function : FileFunction) (p : ℕ) → EntersService function p (paid_after telling.at_disk old)
     → is_some (entered_after telling old).kernel.disk.served ≡ true
@@ -289,7 +304,10 @@ unfolding StartsNobody
 has_entered_none kept old none nobody = record {
   turns = any_turns old;
   its = enters_for_any old;
-  entered = record { serves = λ function p images drives enters stand. absurd (nobody p enters.starts) };
+  entered = record {
+    serves = λ function p images drives enters stand. absurd (nobody p enters.starts);
+    takes = λ function p images drives enters stand. absurd (nobody p enters.starts);
+  };
   is = sym (entered_so (any_turns old) old Idle none (stays_idle old.kernel.disk none nobody));
 }
 
@@ -321,6 +339,31 @@ pays system kept kept' disks files stands rest same left = by_served system.kern
           stands = subst (λ (k : Kept). StandsServed system.kernel.disk.served k disks (given_back system.owed files)) (sym (same some))
               (given_within system.kernel.disk.served kept disks system.owed files some stands.stands);
         }
+
+-- so of what is kept as of files
+pub paid_is : (system : System) (kept kept' : Kept) → kept' ≡ record kept { opens = kept'.opens; marks = kept'.marks; searches = kept'.searches }
+    → (is_some system.kernel.disk.served ≡ true → kept' ≡ kept)
+    → (system.kernel.disk.served ≡ None → (drives : List (Option Drive)) → filing_of kept' drives ≡ all_left system.owed (filing_of kept drives))
+    → kept' ≡ kept_paid system kept
+unfolding kept_paid
+paid_is system kept kept' rest same left = by_served system.kernel.disk.served refl
+  where
+    given : Filing → Kept
+    given filing = record kept { opens = filing.opens; marks = filing.marks; searches = filing.searches }
+
+    by_served : (served : Option Served) → system.kernel.disk.served ≡ served → kept' ≡ left_unless system.kernel.disk.served system.owed kept
+    by_served None is =
+        rest ∙ ap given (left is []) ∙ sym (ap (λ (call : Option Served). left_unless call system.owed kept) is)
+    by_served (Some call) is =
+        same (ap is_some is) ∙ sym (ap (λ (call : Option Served). left_unless call system.owed kept) is)
+
+pub paid_service : (system : System) (kept : Kept) → (kept_paid system kept).service ≡ kept.service
+unfolding kept_paid
+paid_service system kept = by_served system.kernel.disk.served
+  where
+    by_served : (served : Option Served) → (left_unless served system.owed kept).service ≡ kept.service
+    by_served None = refl
+    by_served (Some call) = refl
 
 -- that is all that they change
 
@@ -364,7 +407,10 @@ pub has_entered_still : (kept : Kept) (old : System) → is_some old.kernel.disk
 has_entered_still kept old some = record {
   turns = any_turns old;
   its = enters_for_any old;
-  entered = record { serves = λ function p images drives enters stand. absurd (false≢true (sym (ap is_some enters.idle) ∙ some)) };
+  entered = record {
+    serves = λ function p images drives enters stand. absurd (false≢true (sym (ap is_some enters.idle) ∙ some));
+    takes = λ function p images drives enters stand. absurd (false≢true (sym (ap is_some enters.idle) ∙ some));
+  };
   is = sym (nobody_enters (any_turns old) old some);
 }
 
@@ -401,18 +447,32 @@ entered_behind passed paid new kept kept' kept'' disks files is stands rest same
     (pays passed kept kept' disks files stands rest same left)))
 
 pub has_served : {kept kept' : Kept} (turns : ℕ) (o n : Outside) (old passed new : System) (has : HasPassed kept o n old passed) → EntersFor turns (all_paid passed)
-    → ServesEntered kept' (all_paid passed) → new ≡ call_entered turns (all_paid passed) → HasServed kept kept' o n old new
+    → ServesEntered kept' turns (all_paid passed) → new ≡ call_entered turns (all_paid passed)
+    → (process_over old ≡ None → (kept' ≡ record (kept_paid passed kept) { service = kept'.service }) × (new.kernel.disk.served ≡ None → kept'.service ≡ kept.service))
+    → HasServed kept kept' o n old new
 unfolding entered_after
-has_served {kept} {kept'} turns o n old passed new has enters entered is = record {
+has_served {kept} {kept'} turns o n old passed new has enters entered is leaves = record {
   telling = record { at_gate = nothing_told; at_disk = has.told; turns = turns };
   turns = subst (λ (system : System). EntersFor turns (all_paid system)) has.system enters;
   of_call = has.of_call;
   tells = has.tells;
   as_kept = has.as_kept;
-  entered = subst (λ (system : System). ServesEntered kept' (all_paid system)) has.system entered;
+  entered = subst (λ (system : System). ServesEntered kept' turns (all_paid system)) has.system entered;
+  leaves = λ none.
+      let behind : new ≡ call_entered turns (all_paid (disk_served has.told old).system) = is ∙ ap (λ (system : System). call_entered turns (all_paid system)) has.system in
+      record {
+        is = (leaves none).0 ∙ ap (λ (system : System). record (kept_paid system kept) { service = kept'.service }) has.system;
+        service = λ idle. (leaves none).1 (ap (λ (system : System). system.kernel.disk.served) behind ∙ idle);
+      };
   system = is ∙ ap (λ (system : System). call_entered turns (all_paid system)) has.system;
   wrote = has.wrote;
 }
+
+-- of what is kept
+pub leaves_served : (passed : System) (old kept paid new : Kept) → kept ≡ old → paid ≡ kept_paid passed kept → new ≡ record paid { service = new.service }
+    → new ≡ record (kept_paid passed old) { service = new.service }
+leaves_served passed old kept paid new same pays enters =
+    enters ∙ ap (λ (k : Kept). record k { service = new.service }) (pays ∙ ap (kept_paid passed) same)
 
 -- where nobody was in service as it began
 pub none_served : (told : Directly) (system : System) → system.kernel.disk.served ≡ None → disk_served told system ≡ silent system

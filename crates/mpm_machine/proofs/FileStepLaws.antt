@@ -13,6 +13,7 @@ use Rattle.mpm_residents.specs.Natives.{native_in}
 use Rattle.mpm_functions.specs.declared.refusals.Extended.{Extended}
 use Rattle.mpm_bdos.specs.Outcomes.{CallerChange, Stays, Selects, Resets}
 use Rattle.mpm_bdos.specs.Direct.{Directly}
+use Rattle.mpm_bdos.specs.Serving.{Kept}
 use Rattle.mpm_machine.specs.declared.system.System.{System}
 use Rattle.mpm_machine.specs.State.{Change, IsWhole, NoCompletions, HasRoomForAll, speaking}
 use Rattle.mpm_machine.specs.Ending.{ended}
@@ -22,13 +23,15 @@ use Rattle.mpm_machine.specs.Step.{gate_before, coming, counted}
 use Rattle.mpm_machine.specs.FileCalls.{at_gate, is_of_files, is_file_number, file_caller_by, file_caller, made_by, call_made, with_caller, reply_by, file_replied, error_told, told_then, error_met, answered_by, concluded}
 use Rattle.mpm_machine.specs.DiskStep.{is_done_at_once, file_called, ready_again, step_passed, call_over, over_after, served_by, disk_served, process_over, all_paid, entered_by, entered_unless, call_entered}
 use Rattle.mpm_machine.specs.Stepping.{Telling, begun_with, begun_as, is_instruction, paid_after, entered_after, ended_after, rest_of, step_with, nothing_told}
-use Rattle.mpm_machine.specs.After.{IsOfCall, made_in, IsStep, IsToldIn, EntersFor, IsMade}
+use Rattle.mpm_machine.specs.After.{IsOfCall, made_in, IsStep, IsToldIn, IsAsKept, IsOverAsKept, EntersFor, IsMade, IsMadeUpon}
 use Rattle.mpm_machine.proofs.FiledLaws.{contained_by}
 use Rattle.mpm_machine.proofs.TallyLaws.{Tally, tally, OneMore, none_more, one_more_behind, answering_more, more_have_room, begun_more, all_answered_steps, all_finished_steps, ends_steps}
 use Rattle.mpm_machine.proofs.StepWithLaws.{no_file_at, instructed_with, served_with}
 use Rattle.mpm_machine.proofs.ValueLaws.{resided_with}
 use Rattle.mpm_machine.proofs.FiledValue.{filed_by_value, over_by_value, enters_by_value}
 use Rattle.mpm_machine.proofs.TellingLaws.{any_turns, enters_for_any}
+use Rattle.mpm_machine.proofs.PassingLaws.{Passes, nobody_over, nobody_starts}
+use Rattle.mpm_machine.proofs.PlainLaws.{rest_keeps}
 
 -- none is made where no process runs, or the one that runs is at no gate
 
@@ -220,7 +223,7 @@ made_as telling system change enters w handed first later tells_first tells_late
     } in
     subst (IsMadeAs telling system) (sym is) (record { made = made; telling_is = refl })
 
-pub is_made : (telling : Telling) (system : System) (change : Change) → EntersFor telling.turns (paid_after telling.at_disk (begun_as telling.at_gate system).system)
+is_made : (telling : Telling) (system : System) (change : Change) → EntersFor telling.turns (paid_after telling.at_disk (begun_as telling.at_gate system).system)
     → IsWhole system → NoCompletions system
     → IsOfCall (file_caller system) telling.at_gate (made_in (file_caller system) system) → OfCall telling system
     → IsToldIn (file_caller system) telling.at_gate (made_in (file_caller system) system)
@@ -249,8 +252,28 @@ behind_nothing system = paid_after nothing_told (begun_as nothing_told system).s
 abbrev telling_nothing : System → Telling
 telling_nothing system = record { at_gate = nothing_told; at_disk = nothing_told; turns = any_turns (behind_nothing system) }
 
-pub is_made_still : (system : System) (change : Change) → IsWhole system → NoCompletions system → file_caller system ≡ None
-    → process_over (begun_as nothing_told system).system ≡ None → ((telling : Telling) → change ≡ step_with telling system) → IsMade system change
-is_made_still system change w handed alone nobody is =
-    is_made_so (file_caller system) (process_over (begun_as nothing_told system).system) (telling_nothing system) system change (enters_for_any (behind_nothing system)) w handed
-    refl alone refl nobody (is (telling_nothing system))
+-- it leaves what is kept: none is over in it, and none enters service
+pub is_made_still : (kept : Kept) (system : System) (change : Change) → IsWhole system → NoCompletions system → file_caller system ≡ None
+    → ((told : Directly) → Passes (begun_as told system).system) → ((telling : Telling) → change ≡ step_with telling system) → IsMadeUpon kept kept system change
+is_made_still kept system change w handed alone passes is =
+    let nobody : (told : Directly) → process_over (begun_as told system).system ≡ None = λ told. nobody_over (begun_as told system).system (passes told).still in
+    let made = is_made_so (file_caller system) (process_over (begun_as nothing_told system).system) (telling_nothing system) system change (enters_for_any (behind_nothing system)) w handed
+    refl alone refl (nobody nothing_told) (is (telling_nothing system)) in
+    let told = made.step.telling.at_gate in
+    let begun = (begun_as told system).system in
+    let here = passes told in
+    record {
+      made = made;
+      as_kept = subst (λ (c : Option ℕ). IsAsKept kept c told (made_in c system)) (sym alone) tt;
+      over_as_kept = subst (λ (c : Option ℕ). IsOverAsKept kept c made.step.telling.at_disk) (sym (nobody told)) tt;
+      entered = record {
+        serves = λ function p images drives enters stand. absurd (nobody_starts made.step.telling.at_disk begun function p here.still enters);
+        takes = λ function p images drives enters stand. absurd (nobody_starts made.step.telling.at_disk begun function p here.still enters);
+      };
+      stays = λ some over. record {
+        turn = record { rest = refl; service = refl; places = λ number _. refl; labels = λ number. refl };
+        passing = λ none. refl;
+        workless = λ less. refl;
+      };
+      leaves = λ none off. rest_keeps made.step.telling begun kept here.done here.nobody here.off here.still;
+    }

@@ -1,12 +1,11 @@
 -- A step of the machine is what it begins with and the rest of it, by what its file calls may tell, and by what is on the drives.
-use Rattle.std.specs.Prelude.{◌≢◌, is_some, option_and_then, option_map, slice_index_or}
+use Rattle.std.specs.Prelude.{is_some, option_and_then, option_map}
 use Rattle.std.proofs.Math.Path.{fun_ext}
-use Rattle.std.proofs.Common.{◌≡◌, ◌∙◌, ℕ, Bool, true, false, ◌++◌, List, [], Option, Some, None, refl, sym, ap, subst}
+use Rattle.std.proofs.Common.{◌≡◌, ◌∙◌, ℕ, Bool, true, false, ◌++◌, ◌==◌, List, [], Option, Some, None, inl, inr, refl, sym, ap, subst}
 use Rattle.mpm_port.specs.Disks.{Disks}
 use Rattle.mpm_base.specs.Calls.{Answer}
 use Rattle.mpm_base.specs.declared.kind.Kind.{Kind}
 use Rattle.mpm_mount.specs.Directories.{Directory}
-use Rattle.mpm_mount.specs.Drives.{Drive}
 use Rattle.mpm_procs.specs.Table.{process_in, call_of}
 use Rattle.mpm_render.specs.Outputs.{Output}
 use Rattle.mpm_output.specs.Outside.{Outside, TheSink}
@@ -17,15 +16,12 @@ use Rattle.mpm_functions.specs.declared.functions.DirectFunction.{DirectFunction
 use Rattle.mpm_functions.specs.declared.refusals.Extended.{Extended}
 use Rattle.mpm_bdos.specs.Direct.{Directly, ComesDirectly, is_protected}
 use Rattle.mpm_functions.specs.Functions.{direct_of, function_of}
-use Rattle.mpm_requests.specs.Filing.{Filing, Situation}
-use Rattle.mpm_requests.specs.Asking.{StandsWhere}
+use Rattle.mpm_requests.specs.Filing.{Situation}
 use Rattle.mpm_service.specs.Disk.{turn_answer, served_process}
 use Rattle.mpm_service.specs.declared.service.Served.{Served}
-use Rattle.mpm_bdos.specs.AtOnce.{IsJobless}
 use Rattle.mpm_bdos.specs.Jobs.{job_of}
-use Rattle.mpm_bdos.specs.Outcomes.{file_call}
-use Rattle.mpm_bdos.specs.Serving.{Kept, Serves, directory_at, filing_of, kind_at}
-use Rattle.mpm_bdos.specs.Turns.{TurnKeeps, drive_served, has_work, labelled, without_work}
+use Rattle.mpm_bdos.specs.Serving.{Kept, Serves, directory_at, kind_at}
+use Rattle.mpm_bdos.specs.Turns.{TurnKeeps, has_work, labelled}
 use Rattle.mpm_bdos.proofs.NextTurns.{idle_work}
 use Rattle.mpm_machine.specs.declared.system.System.{System}
 use Rattle.mpm_machine.specs.declared.machine.StepFault.{StepFault}
@@ -33,14 +29,17 @@ use Rattle.mpm_machine.specs.declared.machine.StepFault.TheVariants.{DiskFault, 
 use Rattle.mpm_machine.specs.Files.{Files, StandsForFiles, drives_in}
 use Rattle.mpm_machine.specs.State.{Change, IsWhole, NoCompletions, silent}
 use Rattle.mpm_machine.specs.Faults.{OnDiskFault}
-use Rattle.mpm_machine.specs.FileCalls.{file_caller, situation_of, told_of, ComesWithoutJob, EndsWithoutJob, TellsAsKept, IsToldAsKept}
+use Rattle.mpm_machine.specs.FileCalls.{file_caller, call_made, told_of, ComesWithoutJob, EndsWithoutJob, TellsAsKept, IsToldAsKept}
 use Rattle.mpm_machine.specs.DiskStep.{over_by, process_over}
-use Rattle.mpm_machine.specs.Failing.{does_work}
+use Rattle.mpm_machine.specs.Failing.{does_work, works_at_once, works_in_turn}
 use Rattle.mpm_machine.specs.Stepping.{Telling, begun_as, is_instruction, paid_after, entered_after, ended_after, rest_of, step_with, nothing_told, told_first, files_begun, before_disk, telling_then, telling_of, files_rest, stepped}
-use Rattle.mpm_machine.specs.After.{IsOfCall, made_in, IsToldIn, EntersFor, IsAsKept, IsOverAsKept, ServesEntered, HasStepped, HasSteppedTo, HasStopped, StopsBy, HasBegunStep, HasBegunTo, HasBegunToStop, HasEndedStep, HasEndedTo, HasEndedToStop}
+use Rattle.mpm_machine.specs.After.{IsOfCall, made_in, IsToldIn, EntersFor, IsAsKept, IsOverAsKept, ServesEntered, StaysInService, LeavesKept, HasStepped, HasSteppedTo, HasJob, HasStopped, StopsBy, HasBegunStep, HasBegunTo, HasBegunToStop, HasEndedStep, HasEndedTo, HasEndedToStop}
 use Rattle.mpm_machine.proofs.RestLaws.{rest_emitted}
-use Rattle.mpm_machine.proofs.FileStepLaws.{is_made, made_as}
+use Rattle.mpm_machine.proofs.FileStepLaws.{made_as}
+use Rattle.mpm_machine.proofs.EnterLaws.{none_over}
 use Rattle.mpm_machine.proofs.ToldLaws.{something_told}
+use Rattle.mpm_machine.proofs.WorkLaws.{never_turns}
+use Rattle.mpm_machine.proofs.BegunLaws.{made_serves}
 use Rattle.mpm_machine.proofs.TellingLaws.{any_turns, enters_for_any}
 
 -- a call that is made, or is over, may be told something
@@ -95,6 +94,10 @@ whole_emitted instruction told telling old middle i is =
     ∙ sym (rest_emitted (is_instruction (file_caller old) old) (joined told telling) first)
     ∙ ap (λ (c : Change). c.emitted) (sym (step_is_rest told telling old))
 
+leaves_joined : (at_gate : Directly) (telling : Telling) (kept kept' : Kept) (begun : System) → LeavesKept telling kept kept' begun → LeavesKept (joined at_gate telling) kept kept' begun
+unfolding ended_after entered_after
+leaves_joined at_gate telling kept kept' begun leaves = record { is = leaves.is; service = leaves.service }
+
 wrote_same : (o n : Outside) (a b : List Output) → a ≡ b → Wrote o n a → Wrote o n b
 wrote_same o n a b is wrote = subst (Wrote o n) is wrote
 
@@ -103,10 +106,11 @@ change_is new change is = ap (λ (s : System). let c : Change = record { system 
 
 -- whatever is on the drives
 
-pub has_stepped : {kept kept' : Kept} (instruction : Bool) (o m n : Outside) (old middle new : System) → IsWhole old → NoCompletions old → HasBegunStep kept instruction o m old middle
-    → HasEndedStep kept kept' instruction m n middle new
-    → (has_work kept.service ≡ false → is_some old.kernel.disk.served ≡ true → process_over middle ≡ None → kept' ≡ kept) → HasStepped kept kept' o n old new
-has_stepped {kept} {kept'} instruction o m n old middle new w handed begun ended stays =
+pub has_stepped : {kept between kept' : Kept} (instruction : Bool) (o m n : Outside) (old middle new : System) → IsWhole old → NoCompletions old → HasBegunStep kept instruction o m old middle
+    → (ended : HasEndedStep between kept' instruction m n middle new) → IsOverAsKept kept (process_over middle) ended.telling.at_disk
+    → (is_some old.kernel.disk.served ≡ true → process_over middle ≡ None → StaysInService kept kept' old)
+    → middle.kernel.disk.served ≡ old.kernel.disk.served → (old.kernel.disk.served ≡ None → works_at_once (file_caller old) old ≡ false → between ≡ kept) → HasStepped kept kept' o n old new
+has_stepped {kept} {between} {kept'} instruction o m n old middle new w handed begun ended over stays served same =
     let telling = joined begun.told ended.telling in
     let change = step_with telling old in
     let P : System → Type 0 = λ s. IsOfCall (process_over s) ended.telling.at_disk s in
@@ -117,65 +121,48 @@ has_stepped {kept} {kept'} instruction o m n old middle new w handed begun ended
     (subst Q begun.system ended.tells) (change_is new change is) in
     record {
       emitted = change.emitted;
-      is = by.made;
-      as_kept = subst (λ (t : Telling). IsAsKept kept (file_caller old) t.at_gate (made_in (file_caller old) old)) (sym by.telling_is) begun.as_kept;
-      over_as_kept = subst (λ (t : Telling). IsOverAsKept kept (process_over (begun_as t.at_gate old).system) t.at_disk) (sym by.telling_is)
-          (subst (λ (s : System). IsOverAsKept kept (process_over s) ended.telling.at_disk) begun.system ended.as_kept);
-      entered = subst (λ (t : Telling). ServesEntered kept' (paid_after t.at_disk (begun_as t.at_gate old).system)) (sym by.telling_is)
-          (subst (λ (s : System). ServesEntered kept' (paid_after ended.telling.at_disk s)) begun.system ended.entered);
-      stays = λ less some still. stays less some (subst (λ (s : System). process_over s ≡ None)
-          (sym (begun.system ∙ ap (λ (t : Telling). (begun_as t.at_gate old).system) (sym by.telling_is))) still);
+      is = record {
+        made = by.made;
+        as_kept = subst (λ (t : Telling). IsAsKept kept (file_caller old) t.at_gate (made_in (file_caller old) old)) (sym by.telling_is) begun.as_kept;
+        over_as_kept = subst (λ (t : Telling). IsOverAsKept kept (process_over (begun_as t.at_gate old).system) t.at_disk) (sym by.telling_is)
+            (subst (λ (s : System). IsOverAsKept kept (process_over s) ended.telling.at_disk) begun.system over);
+        entered = subst (λ (t : Telling). ServesEntered kept' t.turns (paid_after t.at_disk (begun_as t.at_gate old).system)) (sym by.telling_is)
+            (subst (λ (s : System). ServesEntered kept' ended.telling.turns (paid_after ended.telling.at_disk s)) begun.system ended.entered);
+        stays = λ some still. stays some (subst (λ (s : System). process_over s ≡ None)
+            (sym (begun.system ∙ ap (λ (t : Telling). (begun_as t.at_gate old).system) (sym by.telling_is))) still);
+        leaves = λ none off. subst (λ (t : Telling). LeavesKept t kept kept' (begun_as t.at_gate old).system) (sym by.telling_is)
+            (subst (LeavesKept telling kept kept') begun.system (leaves_joined begun.told ended.telling kept kept' middle
+            (subst (λ (k : Kept). LeavesKept ended.telling k kept' middle) (same none off) (ended.leaves (none_over middle (served ∙ none))))));
+      };
       wrote = wrote_same o n _ change.emitted (whole_emitted instruction begun.told ended.telling old middle begun.instruction_is begun.system)
           (wrote_after o m n (begun_as begun.told old).emitted (rest_of instruction ended.telling (silent middle)).emitted begun.wrote ended.wrote);
     }
 
--- a turn of the call in service leaves what goes by which drives are mounted and protected, and where none is in service all that is
--- kept
+-- where the call in service isn't over, a step leaves what its turn does
+pub stays_served : (kept worked kept' : Kept) (old : System) → TurnKeeps kept worked → (works_in_turn old ≡ false → worked ≡ kept) → (has_work kept.service ≡ false → worked ≡ kept)
+    → kept' ≡ worked → StaysInService kept kept' old
+stays_served kept worked kept' old keeps passes rests is = record {
+  turn = subst (TurnKeeps kept) (sym is) keeps;
+  passing = λ none. is ∙ passes none;
+  workless = λ less. is ∙ rests less;
+}
+
+-- a turn of the call in service leaves what goes by which drives are mounted and protected; and where turns have no steps none is done
 same_label : (old new : Option Directory) → option_map labelled new ≡ option_map labelled old → option_map (λ (d : Directory). d.kind) new ≡ option_map (λ (d : Directory). d.kind) old
 same_label None None same = refl
 same_label None (Some new) same = absurd (cc)
 same_label (Some old) None same = absurd (cc)
 same_label (Some old) (Some new) same = ap (option_map (λ (label : ℕ × Kind). label.1)) same
 
-none_served : {A B : Type 0} (f : A → B) (old new : Option A) → option_map f new ≡ option_map f old → old ≡ None → new ≡ None
-none_served f old None same none = refl
-none_served f old (Some call) same none = absurd (cc)
-
-kept_still : (old new : Kept) (images : ℕ → List ℕ) (s : Situation) → TurnKeeps old new → old.service ≡ None → IsJobless images old.mounted s → IsJobless images new.mounted s
-kept_still old new images s keeps none jobless = record {
-  stand = record {
-    each = λ number. subst (λ (here : Option Directory). StandsWhere number (images number) here (slice_index_or s.filing.drives number None))
-        (sym (keeps.places number (not_served number))) (jobless.stand.each number);
-  };
-  none = jobless.none;
-}
-  where
-    not_served : (number : ℕ) → drive_served old.service ≢ Some number
-    not_served number is = absurd (cc)
-
-without_job_before : (old new : Kept) (function : FileFunction) (p : ℕ) (system : System) (answer : Answer) (extended : Option Extended) → TurnKeeps old new → old.service ≡ None
-    → ComesWithoutJob function new p system answer extended → ComesWithoutJob function old p system answer extended
-without_job_before old new function p system answer extended keeps none comes =
-    let same : (drives : List (Option Drive)) → filing_of new drives ≡ filing_of old drives = λ drives. ap (λ (k : Kept). filing_of k drives) keeps.rest in
-    let at : Filing → Situation = λ filing. situation_of filing function p system in
-    let has_none : (images : ℕ → List ℕ) (drives : List (Option Drive)) → IsJobless images old.mounted (at (filing_of old drives)) → IsJobless images new.mounted (at (filing_of new drives)) =
-    λ images drives jobless. kept_still old new images (at (filing_of new drives)) keeps none
-    (subst (λ (f : Filing). IsJobless images old.mounted (at f)) (sym (same drives)) jobless) in
-    record {
-      answer_is = λ images drives jobless. comes.answer_is images drives (has_none images drives jobless) ∙ ap (λ (f : Filing). (file_call (at f)).answer) (same drives);
-      extended_is = λ images drives jobless. comes.extended_is images drives (has_none images drives jobless) ∙ ap (λ (f : Filing). (file_call (at f)).extended) (same drives);
-    }
-
-told_as_before : (old new : Kept) (p : ℕ) (system : System) (answer : Answer) (extended : Option Extended) → TurnKeeps old new → IsToldAsKept new p system answer extended
-    → IsToldAsKept old p system answer extended
+told_as_before : (old new : Kept) (p : ℕ) (system : System) (answer : Answer) (extended : Option Extended) → TurnKeeps old new
+    → ((system.kernel.disk.turn_steps == 0) ≡ true → new ≡ old) → IsToldAsKept new p system answer extended → IsToldAsKept old p system answer extended
 unfolding IsToldAsKept
-told_as_before old new p system answer extended keeps told =
+told_as_before old new p system answer extended keeps still told =
     let number = (call_of system.kernel.dispatcher.procs p).function in
     by_function (function_of number) (direct_of number) told
   where
     by_function : (served : Option FileFunction) (found : Option DirectFunction) → TellsAsKept served found new p system answer extended → TellsAsKept served found old p system answer extended
-    by_function (Some function) found so =
-        λ once none. without_job_before old new function p system answer extended keeps none (so once (none_served without_work old.service new.service keeps.service none))
+    by_function (Some function) found so = λ once. subst (λ (kept : Kept). ComesWithoutJob function kept p system answer extended) (still once) (so once)
     by_function None None so = tt
     by_function None (Some function) so =
         let procs = system.kernel.dispatcher.procs in
@@ -185,17 +172,20 @@ told_as_before old new p system answer extended keeps told =
         (fun_ext (λ number. same_label (directory_at old.mounted number) (directory_at new.mounted number) (keeps.labels number)))
         (subst (λ (all : List Bool). ComesDirectly (kind_at new.mounted) (is_protected all) drive function call answer extended) (ap (λ (k : Kept). k.protected) keeps.rest) so)
 
-kept_as_before : (old new : Kept) (whose : Option ℕ) (told : Directly) (system : System) → TurnKeeps old new → IsAsKept new whose told system → IsAsKept old whose told system
-kept_as_before old new None told system keeps is = tt
-kept_as_before old new (Some p) told system keeps is = told_as_before old new p system told.answer told.extended keeps is
+kept_as_before : (old new : Kept) (whose : Option ℕ) (told : Directly) (system : System) → TurnKeeps old new → (works_in_turn system ≡ false → new ≡ old)
+    → IsAsKept new whose told (made_in whose system) → IsAsKept old whose told (made_in whose system)
+kept_as_before old new None told system keeps still is = tt
+kept_as_before old new (Some p) told system keeps still is =
+    told_as_before old new p (call_made p system) told.answer told.extended keeps
+    (λ once. still (never_turns system (ap (λ (n : ℕ). n == 0) (sym (made_serves p system).steps) ∙ once))) is
 
-pub begun_as_before : (old new : Kept) (instruction : Bool) (o n : Outside) (system middle : System) → TurnKeeps old new → HasBegunStep new instruction o n system middle
-    → HasBegunStep old instruction o n system middle
-begun_as_before old new instruction o n system middle keeps begun = record {
+pub begun_as_before : (old new : Kept) (instruction : Bool) (o n : Outside) (system middle : System) → TurnKeeps old new → (works_in_turn system ≡ false → new ≡ old)
+    → HasBegunStep new instruction o n system middle → HasBegunStep old instruction o n system middle
+begun_as_before old new instruction o n system middle keeps still begun = record {
   told = begun.told;
   of_call = begun.of_call;
   tells = begun.tells;
-  as_kept = kept_as_before old new (file_caller system) begun.told (made_in (file_caller system) system) keeps begun.as_kept;
+  as_kept = kept_as_before old new (file_caller system) begun.told system keeps still begun.as_kept;
   instruction_is = begun.instruction_is;
   system = begun.system;
   wrote = begun.wrote;
@@ -212,7 +202,7 @@ ends_before old worked middle answer extended rests same ends =
       extended_is = λ images s serves none. ends.extended_is images s (still images s serves none) none;
     }
 
-over_as_before : (old worked middle : Kept) (over : Option ℕ) (told : Directly) → (has_work old.service ≡ false → worked ≡ old) → (is_some over ≡ true → middle ≡ worked)
+pub over_as_before : (old worked middle : Kept) (over : Option ℕ) (told : Directly) → (has_work old.service ≡ false → worked ≡ old) → (is_some over ≡ true → middle ≡ worked)
     → IsOverAsKept middle over told → IsOverAsKept old over told
 over_as_before old worked middle None told rests same is = tt
 over_as_before old worked middle (Some p) told rests same is = ends_before old worked middle told.answer told.extended rests (same refl) is
@@ -225,17 +215,20 @@ served_if_over : (system : System) → is_some (process_over system) ≡ true �
 unfolding process_over served_process
 served_if_over system some = served_if_some system.kernel.disk.served (λ p. over_by (turn_answer system.kernel.disk)) some
 
-pub ended_as_before : {behind : Kept} (old worked begun : Kept) (instruction : Bool) (o n : Outside) (middle new : System) → (has_work old.service ≡ false → worked ≡ old)
-    → (is_some middle.kernel.disk.served ≡ true → begun ≡ worked) → HasEndedStep begun behind instruction o n middle new → HasEndedStep old behind instruction o n middle new
-ended_as_before old worked begun instruction o n middle new rests same ended = record {
+pub ended_as_before : (old worked begun : Kept) (middle : System) (told : Directly) → (has_work old.service ≡ false → worked ≡ old)
+    → (is_some middle.kernel.disk.served ≡ true → begun ≡ worked) → IsOverAsKept begun (process_over middle) told → IsOverAsKept old (process_over middle) told
+ended_as_before old worked begun middle told rests same is =
+    over_as_before old worked begun (process_over middle) told rests (λ some. same (served_if_over middle some)) is
+
+pub stopped_as_before : (old worked begun : Kept) (instruction : Bool) (o n : Outside) (middle : System) → (has_work old.service ≡ false → worked ≡ old)
+    → (is_some middle.kernel.disk.served ≡ true → begun ≡ worked) → HasEndedToStop begun instruction o n middle → HasEndedToStop old instruction o n middle
+stopped_as_before old worked begun instruction o n middle rests same ended = record {
   telling = ended.telling;
   turns = ended.turns;
   of_call = ended.of_call;
   tells = ended.tells;
-  as_kept = over_as_before old worked begun (process_over middle) ended.telling.at_disk rests (λ some. same (served_if_over middle some)) ended.as_kept;
-  entered = ended.entered;
-  system = ended.system;
-  wrote = ended.wrote;
+  as_kept = ended_as_before old worked begun middle ended.telling.at_disk rests same ended.as_kept;
+  stops = ended.stops;
 }
 
 -- what it begins with stopped
@@ -247,9 +240,10 @@ stops_before DiskFault o n a b stops = stops
 stops_same : (fault : StepFault) (o n : Outside) (a b : List Output) → a ≡ b → StopsBy fault o n a → StopsBy fault o n b
 stops_same fault o n a b is stops = subst (StopsBy fault o n) is stops
 
-pub begun_has_stopped : (fault : StepFault) (o n : Outside) (old : System) → IsWhole old → NoCompletions old → OnDiskFault fault (does_work old ≡ true)
-    → HasBegunToStop fault o n old → HasStopped fault o n old
-begun_has_stopped fault o n old w handed works begun =
+pub begun_has_stopped : (fault : StepFault) (kept worked : Kept) (o n : Outside) (old : System) → IsWhole old → NoCompletions old → OnDiskFault fault (does_work old ≡ true)
+    → OnDiskFault fault (works_in_turn old ≡ false) → TurnKeeps kept worked → (works_in_turn old ≡ false → worked ≡ kept) → HasBegunToStop fault worked o n old
+    → HasStopped fault kept o n old
+begun_has_stopped WriteFault kept worked o n old w handed works apart keeps still begun =
     let middle = (begun_as begun.told old).system in
     let any = may_be_told (process_over middle) middle in
     let paid = paid_after any.told middle in
@@ -257,35 +251,41 @@ begun_has_stopped fault o n old w handed works begun =
     let telling = joined begun.told rest in
     let change = step_with telling old in
     let i = is_instruction (file_caller old) old in
+    let by = made_as telling old change (enters_for_any paid) w handed begun.of_call any.of_call begun.tells any.tells refl in
     record {
       change = change;
-      is = is_made telling old change (enters_for_any paid) w handed begun.of_call any.of_call begun.tells any.tells refl;
-      stops = stops_same fault o n _ change.emitted (whole_emitted i begun.told rest old middle refl refl)
-          (stops_before fault o n (begun_as begun.told old).emitted (rest_of i rest (silent middle)).emitted begun.stops);
-      works = works;
+      made = by.made;
+      as_kept = subst (λ (t : Telling). IsAsKept kept (file_caller old) t.at_gate (made_in (file_caller old) old)) (sym by.telling_is)
+          (kept_as_before kept worked (file_caller old) begun.told old keeps still begun.as_kept);
+      over_as_kept = inl (subst (λ (t : Telling). Stopped o n (begun_as t.at_gate old).emitted) (sym by.telling_is) begun.stops);
+      text = fails_same TheSink o n _ change.emitted (whole_emitted i begun.told rest old middle refl refl)
+          (fails_before TheSink o n (begun_as begun.told old).emitted (rest_of i rest (silent middle)).emitted begun.stops);
     }
+begun_has_stopped DiskFault kept worked o n old w handed works apart keeps still begun =
+    (begun.still, record { works = works; job = inl (subst (λ (k : Kept). HasJob k (file_caller old) (made_in (file_caller old) old)) (still apart) begun.job) })
 
 -- the disk did, before anything was written
-pub disk_has_stopped : (o : Outside) (old : System) → IsWhole old → NoCompletions old → does_work old ≡ true → HasStopped DiskFault o o old
-disk_has_stopped o old w handed works =
-    let any = may_be_told (file_caller old) (made_in (file_caller old) old) in
-    begun_has_stopped DiskFault o o old w handed works (record { told = any.told; of_call = any.of_call; tells = any.tells; stops = refl })
+pub disk_has_stopped : (kept : Kept) (o : Outside) (old : System) → does_work old ≡ true → has_work kept.service ≡ true → HasStopped DiskFault kept o o old
+disk_has_stopped kept o old works work = (refl, record { works = works; job = inr work })
 
 -- or the rest of it
 pub ended_has_stopped : {kept : Kept} (instruction : Bool) (o m n : Outside) (old middle : System) → IsWhole old → NoCompletions old → HasBegunStep kept instruction o m old middle
-    → HasEndedToStop instruction m n middle → HasStopped WriteFault o n old
-ended_has_stopped instruction o m n old middle w handed begun ended =
+    → HasEndedToStop kept instruction m n middle → HasStopped WriteFault kept o n old
+ended_has_stopped {kept} instruction o m n old middle w handed begun ended =
     let telling = joined begun.told ended.telling in
     let change = step_with telling old in
     let P : System → Type 0 = λ s. IsOfCall (process_over s) ended.telling.at_disk s in
     let Q : System → Type 0 = λ s. IsToldIn (process_over s) ended.telling.at_disk s in
     let R : System → Type 0 = λ s. EntersFor ended.telling.turns (paid_after ended.telling.at_disk s) in
+    let by = made_as telling old change (subst R begun.system ended.turns) w handed begun.of_call (subst P begun.system ended.of_call) begun.tells (subst Q begun.system ended.tells) refl in
     record {
       change = change;
-      is = is_made telling old change (subst R begun.system ended.turns) w handed begun.of_call (subst P begun.system ended.of_call) begun.tells (subst Q begun.system ended.tells) refl;
-      stops = fails_same TheSink o n _ change.emitted (whole_emitted instruction begun.told ended.telling old middle begun.instruction_is begun.system)
+      made = by.made;
+      as_kept = subst (λ (t : Telling). IsAsKept kept (file_caller old) t.at_gate (made_in (file_caller old) old)) (sym by.telling_is) begun.as_kept;
+      over_as_kept = inr (subst (λ (t : Telling). IsOverAsKept kept (process_over (begun_as t.at_gate old).system) t.at_disk) (sym by.telling_is)
+          (subst (λ (s : System). IsOverAsKept kept (process_over s) ended.telling.at_disk) begun.system ended.as_kept));
+      text = fails_same TheSink o n _ change.emitted (whole_emitted instruction begun.told ended.telling old middle begun.instruction_is begun.system)
           (fails_within TheSink o m n (begun_as begun.told old).emitted (rest_of instruction ended.telling (silent middle)).emitted [] begun.wrote ended.stops);
-      works = tt;
     }
 
 -- by what is on the drives

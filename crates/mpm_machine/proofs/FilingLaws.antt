@@ -1,5 +1,6 @@
 -- A file call in a step: what becomes of its caller, what it comes to, and what those leave who end in the step.
-use Rattle.std.proofs.Common.{◌≡◌, ◌∙◌, ℕ, suc, ◌+◌, ◌-◌, ◌<◌, ◌==◌, ◌&&◌, Bool, true, false, List, [], ◌∷◌, Option, Some, None, IsSome, IfSome, Result, Ok, Err, IfOk, if◌then◌else◌, refl, ap, sym, subst, arith, eqb-true}
+use Rattle.std.proofs.Common.{◌≡◌, ◌∙◌, ℕ, suc, ◌+◌, ◌-◌, ◌<◌, ◌==◌, ◌&&◌, Bool, true, false, List, [], ◌∷◌, Option, Some, None, IsSome, IfSome, Result, Ok, Err, IsOk, OnErr, IfOk, if◌then◌else◌, refl, ap, sym, subst, arith, eqb-true}
+use Rattle.std.proofs.lemmas.Bool.{false≢true}
 use Rattle.std.specs.Prelude.{is_none, find, option_map}
 use Rattle.std.specs.List.{AllByRecursion, range_with_len}
 use Rattle.mpm_base.specs.Calls.{Taken, Answer, answering}
@@ -34,6 +35,7 @@ use Rattle.mpm_machine.specs.declared.system.System.{System}
 use Rattle.mpm_mount.specs.Directories.{Directory}
 use Rattle.mpm_machine.specs.Files.{StandsBetween, left_each, owes, all_left}
 use Rattle.mpm_machine.specs.Mounting.{HasNoDrive}
+use Rattle.mpm_machine.specs.After.{HasJob}
 use Rattle.mpm_machine.specs.Filed.{IsOutcome, left_if}
 use Rattle.mpm_machine.specs.FileCalls.{looked_at, entering, situation_of, outcome_by, outcome_in, change_of, told_by, told_of, ComesWithoutJob, TellsAsKept, IsToldAsKept}
 
@@ -314,7 +316,18 @@ disk_as_kept p system kept new caller process call moment answer (Ok extended) l
       answer_is = λ images drives none. (comes images drives none).answer_is ∙ ap (λ (s : Situation). (file_call s).answer) (is drives);
       extended_is = λ images drives none. (comes images drives none).extended_is ∙ ap (λ (s : Situation). (file_call s).extended) (is drives);
     } in
-    subst (λ f. TellsAsKept f (direct_of (call_of system.kernel.dispatcher.procs p).function) kept p system answer extended) (sym found.1) (λ once idle. so)
+    subst (λ f. TellsAsKept f (direct_of (call_of system.kernel.dispatcher.procs p).function) kept p system answer extended) (sym found.1) (λ once. so)
+
+-- and where a drive fails, it has one
+pub disk_has_job : {E : Type 0} (p : ℕ) (system : System) (kept : Kept) (caller process : Process) (call : Taken) (moment : Moment) (result : Result (Option Extended) E)
+    → caller ≡ looked_at process → process ≡ process_in system.kernel.dispatcher.procs p → call ≡ call_of system.kernel.dispatcher.procs p → moment ≡ moment_of system.kernel.clock
+    → ((images : ℕ → List ℕ) (before : List (Option Drive)) (function : FileFunction) → function_of call.function ≡ Some function
+    → IsJobless images kept.mounted (entering_here kept before (caller_of p caller) function call (stamp moment)) → IsOk result)
+    → OnErr result (HasJob kept (Some p) system)
+disk_has_job p system kept caller process call moment (Ok extended) looks lives calls at ok = tt
+disk_has_job p system kept caller process call moment (Err error) looks lives calls at ok = λ function images drives its jobless.
+    let is = situation_is (filing_of kept drives) p system kept function caller process call moment refl looks lives calls at in
+    false≢true (ok images drives function (ap (λ (c : Taken). function_of c.function) calls ∙ its) (subst (IsJobless images kept.mounted) (sym is) jobless))
 
 -- behind it no call is in service
 pub at_once_idle : (call kept : Taken) {service : Option InService} → call ≡ kept → IsSome (function_of kept.function)

@@ -76,7 +76,7 @@ goes_in_step telling system w i =
 
 pub interprets_stepped : {kept kept' : Kept} (before behind : Outside) (old new : System) → IsWhole old → HasStepped kept kept' before behind old new → Interprets old → Interprets new
 interprets_stepped before behind old new w stepped i =
-    subst (λ (c : Change). Interprets c.system) (sym stepped.is.step.is) (goes_in_step stepped.is.step.telling old w i)
+    subst (λ (c : Change). Interprets c.system) (sym stepped.is.made.step.is) (goes_in_step stepped.is.made.step.telling old w i)
 
 -- a run of them
 
@@ -84,17 +84,17 @@ pub record HasGone (system : System) : Type 0 where
   pub whole : IsWhole system
   pub interprets : Interprets system
 
-pub goes_steps : (n : ℕ) (old : System) (change : Change) → IsWhole old → Interprets old → AreSteps n old change → HasGone change.system
+pub goes_steps : (n : ℕ) (kept kept' : Kept) (old : System) (change : Change) → IsWhole old → Interprets old → AreSteps n kept kept' old change → HasGone change.system
 unfolding AreSteps
-goes_steps zero old change w i is = subst (λ (c : Change). HasGone c.system) (sym is) (record { whole = w; interprets = i })
-goes_steps (suc n) old change w i steps =
+goes_steps zero kept kept' old change w i are = subst (λ (c : Change). HasGone c.system) (sym are.1) (record { whole = w; interprets = i })
+goes_steps (suc n) kept kept' old change w i steps =
     let P : Change → Type 0 = λ c. HasGone c.system in
-    let before = steps.0 in
-    let last = steps.3 in
-    let gone = goes_steps n old before w i steps.2 in
-    subst P (sym steps.4)
+    let before = steps.1 in
+    let last = steps.4.made in
+    let gone = goes_steps n kept steps.0 old before w i steps.3 in
+    subst P (sym steps.5)
     (subst P (sym last.step.is)
     (record { whole = whole_with last.step.telling before.system gone.whole; interprets = goes_in_step last.step.telling before.system gone.whole gone.interprets }))
 
-pub interprets_run : (n : ℕ) (before behind : Outside) (old new : System) → IsWhole old → HasRun n before behind old new → Interprets old → Interprets new
-interprets_run n before behind old new w run i = (goes_steps n old (record { system = new; emitted = run.emitted }) w i run.steps).interprets
+pub interprets_run : {kept kept' : Kept} (n : ℕ) (before behind : Outside) (old new : System) → IsWhole old → HasRun n kept kept' before behind old new → Interprets old → Interprets new
+interprets_run {kept} {kept'} n before behind old new w run i = (goes_steps n kept kept' old (record { system = new; emitted = run.emitted }) w i run.steps).interprets

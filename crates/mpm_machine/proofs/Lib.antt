@@ -38,6 +38,7 @@ pub mod InstructedLaws
 pub mod StepWithLaws
 pub mod FileStepLaws
 pub mod NextLaws
+pub mod ChainLaws
 pub mod PlainLaws
 pub mod StandingLaws
 pub mod FilingLaws

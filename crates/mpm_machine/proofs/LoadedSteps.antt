@@ -8,6 +8,7 @@ use Rattle.mpm_base.specs.Calls.{Answer}
 use Rattle.mpm_banks.specs.Memory.{Memory, byte_at}
 use Rattle.mpm_bdos.specs.Direct.{Directly}
 use Rattle.mpm_bdos.specs.Outcomes.{CallerChange, Resets, Selects, Stays}
+use Rattle.mpm_bdos.specs.Serving.{Kept}
 use Rattle.mpm_functions.specs.declared.refusals.Extended.{Extended}
 use Rattle.mpm_cli.specs.Interpreters.{Interpreter, call_at, next_call}
 use Rattle.mpm_cli.specs.Standing.{is_loading}
@@ -390,17 +391,18 @@ loads_step telling file system w i reads h =
 
 -- a run of them
 
-loads_steps : (n : ℕ) (file : List ℕ) (old : System) (change : Change) → IsWhole old → Interprets old → (steps : AreSteps n old change) → IsReadIn file n old change steps
+loads_steps : (n : ℕ) (file : List ℕ) (kept kept' : Kept) (old : System) (change : Change) → IsWhole old → Interprets old → (steps : AreSteps n kept kept' old change)
+    → IsReadIn file n kept kept' old change steps
     → IsLoading file old → IsLoading file change.system
 unfolding AreSteps IsReadIn
-loads_steps zero file old change w i steps reads h = subst (λ (c : Change). IsLoading file c.system) (sym steps) h
-loads_steps (suc n) file old change w i steps reads h =
+loads_steps zero file kept kept' old change w i steps reads h = subst (λ (c : Change). IsLoading file c.system) (sym steps.1) h
+loads_steps (suc n) file kept kept' old change w i steps reads h =
     let P : Change → Type 0 = λ c. IsLoading file c.system in
-    let before = steps.0 in
-    let last = steps.3 in
-    let gone = goes_steps n old before w i steps.2 in
-    let here = loads_steps n file old before w i steps.2 reads.0 h in
-    subst P (sym steps.4) (subst P (sym last.step.is) (loads_step last.step.telling file before.system gone.whole gone.interprets reads.1 here))
+    let before = steps.1 in
+    let last = steps.4.made in
+    let gone = goes_steps n kept steps.0 old before w i steps.3 in
+    let here = loads_steps n file kept steps.0 old before w i steps.3 reads.0 h in
+    subst P (sym steps.5) (subst P (sym last.step.is) (loads_step last.step.telling file before.system gone.whole gone.interprets reads.1 here))
 
 -- as it reads a command, it has no segment
 pub loads_nothing : (file : List ℕ) (cli : Interpreter) (system : System) → native_in system.residents 0 ≡ Some (Cli cli) → cli.row ≡ ReadCommand → IsLoading file system
@@ -408,13 +410,13 @@ loads_nothing file cli system acts is =
     loads_still file cli system acts (unloaded cli file system.memory (ap is_loading is) (subst (λ (row : Row). HasCome row cli.load) (sym is) tt))
 
 -- as a program begins, all of its code stands behind the base page of its segment, as its file has it, each byte moved that is marked
-pub stands_as_it_begins : (n : ℕ) (file : List ℕ) (before behind : Outside) (old new : System) → IsWhole old → Interprets old → (run : HasRun n before behind old new)
-    → IsReadIn file n old (record { system = new; emitted = run.emitted }) run.steps → IsLoading file old
+pub stands_as_it_begins : (n : ℕ) (file : List ℕ) (kept kept' : Kept) (before behind : Outside) (old new : System) → IsWhole old → Interprets old → (run : HasRun n kept kept' before behind old new)
+    → IsReadIn file n kept kept' old (record { system = new; emitted = run.emitted }) run.steps → IsLoading file old
     → (cli : Interpreter) → native_in new.residents 0 ≡ Some (Cli cli) → cli.row ≡ Begin
     → (place : ℕ) → place < cli.load.plan.length
     → byte_at new.memory cli.seg (256 * cli.spec.base + 256 + place) ≡ code_byte cli.load.plan file cli.spec.base (all_bytes cli.load.plan) place
-stands_as_it_begins n file before behind old new w i run reads h cli acts is =
-    let here = loads_steps n file old (record { system = new; emitted = run.emitted }) w i run.steps reads h cli acts in
+stands_as_it_begins n file kept kept' before behind old new w i run reads h cli acts is =
+    let here = loads_steps n file kept kept' old (record { system = new; emitted = run.emitted }) w i run.steps reads h cli acts in
     let code : HasLoadedAt Begin cli file new.memory = subst (λ (row : Row). HasLoadedAt row cli file new.memory) is (here.code (ap is_loading is)) in
     let came : HasCome Begin cli.load = subst (λ (row : Row). HasCome row cli.load) is here.came in
     loaded_whole cli file new.memory came code

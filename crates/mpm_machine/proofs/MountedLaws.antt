@@ -1,9 +1,10 @@
 -- What is kept of files as a machine begins holds its drives.
-use Rattle.std.proofs.Common.{◌≡◌, ◌≢◌, ◌∙◌, ℕ, ◌<◌, true, false, List, [], ◌∷◌, Option, Some, None, IfSome, inl, inr, ◌==◌, length, refl, sym, ap, subst, arith}
+use Rattle.std.proofs.Common.{◌≡◌, ◌≢◌, ◌∙◌, ℕ, ◌<◌, Bool, true, false, List, [], ◌∷◌, Option, Some, None, IfSome, inl, inr, ◌==◌, length, refl, sym, ap, subst, arith}
 use Rattle.std.specs.Prelude.{◌⊎◌, is_some, bytes_eq}
 use Rattle.std.specs.List.{AllByRecursion}
 use Rattle.std.proofs.lemmas.Bool.{false≢true, or_right}
 use Rattle.std.proofs.lemmas.List.{length-set}
+use Rattle.std.proofs.lemmas.List.Elements.{recursion_from_All}
 use Rattle.std.proofs.lemmas.Slice.Eq.{bytes_eq-Decides}
 use Rattle.std.proofs.lemmas.Option.{same_Some}
 use Rattle.mpm_port.specs.Disks.{Disks}
@@ -17,8 +18,9 @@ use Rattle.mpm_machine_file.specs.Drives.{all_differ}
 use Rattle.mpm_machine_file.proofs.OrderLaws.{IsApart, AreApart as SpecsApart, apart_from_differ}
 use Rattle.mpm_mount.specs.Directories.{Directory}
 use Rattle.mpm_drives.specs.Images.{Untold, Images}
-use Rattle.mpm_drives.specs.Mounted.{number_of, IsNamed, AreMounted}
+use Rattle.mpm_drives.specs.Mounted.{number_of, IsNamed, AreMounted, AreSynced as FreshOf}
 use Rattle.mpm_bdos.specs.Serving.{Kept, directory_at, all_put, in_places, nothing_kept}
+use Rattle.mpm_bdos.specs.Syncing.{AreSynced}
 use Rattle.mpm_bdos.specs.Turns.{FitsDrives, has_directory, has_work}
 use Rattle.mpm_bdos.proofs.Placed.{set_each, no_place}
 use Rattle.mpm_service.specs.Disk.{DiskService, no_service}
@@ -154,6 +156,14 @@ mounted_here a x images specs ds items kept same mounted is kept_is = record {
   mounted = subst (λ s. AreMounted a x images s ds) same mounted;
   is = kept_is ∙ ap (λ l. nothing_kept (in_places l)) is;
 }
+
+-- what is mounted is synced
+
+pub fresh_here : (unsynced : ℕ → Bool) (ds items : List Directory) (kept : Kept) → FreshOf unsynced ds → items ≡ ds → kept ≡ nothing_kept (in_places items)
+    → AreSynced unsynced kept.mounted
+fresh_here unsynced ds items kept fresh is kept_is =
+    subst (λ (k : Kept). AreSynced unsynced k.mounted) (sym (kept_is ∙ ap (λ l. nothing_kept (in_places l)) is))
+    (each_placed (λ number d. unsynced number ≡ false) ds (recursion_from_All (λ (d : Directory). unsynced d.drive ≡ false) ds fresh))
 
 -- there are sixteen places, which nothing is in at first
 

@@ -10,7 +10,7 @@ use Rattle.mpm_machine.specs.declared.machine.StepFault.{StepFault}
 use Rattle.mpm_machine.specs.State.{State, Change, IsWhole, NoCompletions, silent}
 use Rattle.mpm_machine.specs.Faults.{EndsBy}
 use Rattle.mpm_machine.specs.Stepping.{step_with, telling_of, stepped}
-use Rattle.mpm_machine.specs.After.{next, after, IsStep, IsMade, IsNextOf, followed, AreSteps, HasRun, HasStepped, HasStopped, HasStoppedIn, EndsInStep}
+use Rattle.mpm_machine.specs.After.{next, after, IsStep, IsMadeUpon, IsNextOf, followed, AreSteps, HasRun, HasStepped, HasStopped, HasStoppedIn, EndsInStep}
 use Rattle.mpm_machine.proofs.StepWithLaws.{whole_with, no_completions_with}
 use Rattle.mpm_machine.proofs.FileStepLaws.{steps_with, is_step}
 use Rattle.mpm_machine.proofs.TellingLaws.{first_of_call, later_of_call}
@@ -134,23 +134,25 @@ followed_again : (one two three : Change) → followed one (followed two three) 
 followed_again one two three =
     ap (λ emitted. let c : Change = record { system = three.system; emitted = emitted } in c) (append_assoc three.emitted two.emitted one.emitted)
 
-pub are_steps_both : (m n : ℕ) (old : System) (one two : Change) → AreSteps m old one → AreSteps n one.system two → AreSteps (m + n) old (followed one two)
+pub are_steps_both : (m n : ℕ) (kept between kept' : Kept) (old : System) (one two : Change) → AreSteps m kept between old one → AreSteps n between kept' one.system two
+    → AreSteps (m + n) kept kept' old (followed one two)
 unfolding AreSteps
-are_steps_both m zero old one two first more =
+are_steps_both m zero kept between kept' old one two first more =
     let count : m + zero ≡ m = omega arith in
-    let same : followed one two ≡ one = ap (followed one) more in
-    subst (λ k. AreSteps k old (followed one two)) (sym count) (subst (AreSteps m old) (sym same) first)
-are_steps_both m (suc n) old one two first more =
+    let same : followed one two ≡ one = ap (followed one) more.1 in
+    subst (λ k. AreSteps k kept kept' old (followed one two)) (sym count)
+    (subst (AreSteps m kept kept' old) (sym same) (subst (λ (k : Kept). AreSteps m kept k old one) (sym more.0) first))
+are_steps_both m (suc n) kept between kept' old one two first more =
     let count : m + suc n ≡ suc (m + n) = omega arith in
-    let before = more.0 in
-    let last = more.1 in
-    subst (λ k. AreSteps k old (followed one two)) (sym count)
-    (followed one before, last, are_steps_both m n old one before first more.2, more.3, ap (followed one) more.4 ∙ followed_again one before last)
+    let before = more.1 in
+    let last = more.2 in
+    subst (λ k. AreSteps k kept kept' old (followed one two)) (sym count)
+    (more.0, followed one before, last, are_steps_both m n kept between more.0 old one before first more.3, more.4, ap (followed one) more.5 ∙ followed_again one before last)
 
-are_steps_one : (old : System) (change : Change) → IsMade old change → AreSteps 1 old change
+are_steps_one : (kept kept' : Kept) (old : System) (change : Change) → IsMadeUpon kept kept' old change → AreSteps 1 kept kept' old change
 unfolding AreSteps
-are_steps_one old change is =
-    (silent old, change, refl, is, ap (λ emitted. let c : Change = record { system = change.system; emitted = emitted } in c) (sym (append-nil change.emitted)))
+are_steps_one kept kept' old change is =
+    (kept, silent old, change, (refl, refl), is, ap (λ emitted. let c : Change = record { system = change.system; emitted = emitted } in c) (sym (append-nil change.emitted)))
 
 -- nothing was done
 
@@ -158,52 +160,56 @@ pub still_state : (system : System) (s : State) → s.system ≡ system → afte
 unfolding after
 still_state system s is = ap (λ (x : System). record s { system = x }) is
 
-pub still_steps : (system : System) → AreSteps 0 system (silent system)
+pub still_steps : (kept : Kept) (system : System) → AreSteps 0 kept kept system (silent system)
 unfolding AreSteps
-still_steps system = refl
+still_steps kept system = (refl, refl)
 
-pub run_nothing : (o : Outside) (old : System) → HasRun 0 o o old old
+pub run_nothing : (kept : Kept) (o : Outside) (old : System) → HasRun 0 kept kept o o old old
 unfolding AreSteps
-run_nothing o old = record { emitted = []; steps = refl; wrote = wrote_nothing o }
+run_nothing kept o old = record { emitted = []; steps = (refl, refl); wrote = wrote_nothing o }
 
-pub run_both : (m n : ℕ) (o p q : Outside) (old middle new : System) → HasRun m o p old middle → HasRun n p q middle new → HasRun (m + n) o q old new
-run_both m n o p q old middle new one two = record {
+pub run_both : {kept between kept' : Kept} (m n : ℕ) (o p q : Outside) (old middle new : System) → HasRun m kept between o p old middle → HasRun n between kept' p q middle new
+    → HasRun (m + n) kept kept' o q old new
+run_both {kept} {between} {kept'} m n o p q old middle new one two = record {
   emitted = two.emitted ++ one.emitted;
-  steps = are_steps_both m n old (record { system = middle; emitted = one.emitted }) (record { system = new; emitted = two.emitted }) one.steps two.steps;
+  steps = are_steps_both m n kept between kept' old (record { system = middle; emitted = one.emitted }) (record { system = new; emitted = two.emitted }) one.steps two.steps;
   wrote = wrote_after o p q one.emitted two.emitted one.wrote two.wrote;
 }
 
-pub run_silent : (n : ℕ) (o : Outside) (old new : System) → AreSteps n old (silent new) → HasRun n o o old new
+pub run_silent : {kept kept' : Kept} (n : ℕ) (o : Outside) (old new : System) → AreSteps n kept kept' old (silent new) → HasRun n kept kept' o o old new
 run_silent n o old new are = record { emitted = []; steps = are; wrote = wrote_nothing o }
 
-run_step : {kept kept' : Kept} (o p : Outside) (old new : System) → HasStepped kept kept' o p old new → HasRun 1 o p old new
-run_step o p old new one =
-    record { emitted = one.emitted; steps = are_steps_one old (record { system = new; emitted = one.emitted }) one.is; wrote = one.wrote }
+run_step : {kept kept' : Kept} (o p : Outside) (old new : System) → HasStepped kept kept' o p old new → HasRun 1 kept kept' o p old new
+run_step {kept} {kept'} o p old new one =
+    record { emitted = one.emitted; steps = are_steps_one kept kept' old (record { system = new; emitted = one.emitted }) one.is; wrote = one.wrote }
 
 -- some that wrote nothing, and one more
-pub run_and_step : {kept kept' : Kept} (n : ℕ) (o p : Outside) (old middle new : System) → AreSteps n old (silent middle) → HasStepped kept kept' o p middle new → HasRun (n + 1) o p old new
+pub run_and_step : {kept between kept' : Kept} (n : ℕ) (o p : Outside) (old middle new : System) → AreSteps n kept between old (silent middle)
+    → HasStepped between kept' o p middle new → HasRun (n + 1) kept kept' o p old new
 run_and_step n o p old middle new are one = run_both n 1 o o p old middle new (run_silent n o old middle are) (run_step o p middle new one)
 
 -- some that wrote nothing, and one that stopped; and some before these
-pub stopped_in_step : (n done : ℕ) (fault : StepFault) (step : ℕ) (o p : Outside) (old middle : System) → done < n → step ≡ old.steps + done + 1
-    → AreSteps done old (silent middle) → HasStopped fault o p middle → HasStoppedIn n fault step o p old
-stopped_in_step n done fault step o p old middle few is are stops = record {
+pub stopped_in_step : {kept : Kept} (n done : ℕ) (fault : StepFault) (step : ℕ) (between : Kept) (o p : Outside) (old middle : System) → done < n → step ≡ old.steps + done + 1
+    → AreSteps done kept between old (silent middle) → HasStopped fault between o p middle → HasStoppedIn n fault step kept o p old
+stopped_in_step n done fault step between o p old middle few is are stops = record {
   done = done;
   few = few;
   is = is;
   middle = middle;
+  kept_then = between;
   between = o;
   ran = run_silent done o old middle are;
   stops = stops;
 }
 
-pub stopped_later : (n done : ℕ) (fault : StepFault) (step : ℕ) (o p q : Outside) (old middle : System) → done ≤ n → middle.steps ≡ old.steps + done
-    → HasRun done o p old middle → HasStoppedIn (n - done) fault step p q middle → HasStoppedIn n fault step o q old
+pub stopped_later : {kept between : Kept} (n done : ℕ) (fault : StepFault) (step : ℕ) (o p q : Outside) (old middle : System) → done ≤ n → middle.steps ≡ old.steps + done
+    → HasRun done kept between o p old middle → HasStoppedIn (n - done) fault step between p q middle → HasStoppedIn n fault step kept o q old
 stopped_later n done fault step o p q old middle few steps ran stops = record {
   done = done + stops.done;
   few = omega (arith, few, stops.few);
   is = omega (arith, steps, stops.is);
   middle = stops.middle;
+  kept_then = stops.kept_then;
   between = stops.between;
   ran = run_both done stops.done o p stops.between old middle stops.middle ran stops.ran;
   stops = stops.stops;

@@ -2,6 +2,7 @@
 use Rattle.std.proofs.Common.{◌≡◌, ◌∙◌, ℕ, ◌+◌, ◌-◌, ◌<◌, ◌≤◌, ◌==◌, Bool, true, false, List, [], ◌++◌, Option, Some, None, IfSome, if◌then◌else◌, option_map, refl, sym, ap, arith}
 use Rattle.std.proofs.lemmas.Bool.{false≢true}
 use Rattle.std.proofs.lemmas.Bool.Decides.{nat_tests}
+use Rattle.std.proofs.lemmas.Option.{none-some}
 use Rattle.std.specs.Prelude.{option_and_then}
 use Rattle.mpm_ready.specs.Order.{Member, first_of}
 use Rattle.mpm_service.specs.Disk.{DiskService, served_process, is_last_step, after_step, step_answer, answer_by, served_after, waiting_after, starting, turned, turn_answer}
@@ -10,6 +11,7 @@ use Rattle.mpm_service.specs.declared.service.Served.{Served}
 use Rattle.mpm_service.specs.declared.service.Turn.{Turn}
 use Rattle.mpm_service.specs.declared.service.Turn.TheVariants.{Idle, Passing, Work, Starts}
 use Rattle.mpm_render.specs.Outputs.{Output}
+use Rattle.mpm_functions.specs.declared.functions.FileFunction.{FileFunction}
 use Rattle.mpm_bdos.specs.Direct.{Directly}
 use Rattle.mpm_machine.specs.declared.system.System.{System}
 use Rattle.mpm_machine.specs.Owing.{nobody_owes}
@@ -18,7 +20,8 @@ use Rattle.mpm_machine.specs.Due.{with_ends}
 use Rattle.mpm_machine.specs.Files.{Files, Between, Within, AreWithin}
 use Rattle.mpm_machine.specs.Step.{dispatched, with_records}
 use Rattle.mpm_machine.specs.DiskStep.{step_passed, disk_served, over_by, process_over, owed_then, all_paid, call_entered}
-use Rattle.mpm_machine.specs.Stepping.{Telling, entered_after, ended_after, rest_of}
+use Rattle.mpm_machine.specs.Stepping.{Telling, paid_after, entered_after, ended_after, rest_of}
+use Rattle.mpm_machine.specs.After.{EntersService}
 use Rattle.mpm_machine.specs.Moving.{is_still, CanPass}
 use Rattle.mpm_machine.proofs.DueLaws.{no_ends, nothing_out}
 use Rattle.mpm_machine.proofs.QuietLaws.{served_still, served_nobody, entered_nobody, entered_served}
@@ -94,7 +97,7 @@ paid_now system None is nobody =
     ap (λ (o : Option Served). record system { owed = owed_then o system.owed }) is ∙ ap (λ (owed : List Bool). record system { owed = owed }) (sym (nobody refl))
 paid_now system (Some call) is nobody = ap (λ (o : Option Served). record system { owed = owed_then o system.owed }) is
 
-still_served : (served : Option Served) (first : Option ℕ) (turn_steps : ℕ) → is_still (answer_by turn_steps served first) ≡ true
+pub still_served : (served : Option Served) (first : Option ℕ) (turn_steps : ℕ) → is_still (answer_by turn_steps served first) ≡ true
     → served_after turn_steps served first ≡ None → served ≡ None
 unfolding step_answer after_step
 still_served None first turn_steps still none = refl
@@ -113,6 +116,13 @@ paid_passed system none still =
 
 pub paid_already : (system : System) → NoCompletions system → all_paid system ≡ system
 paid_already system none = paid_now system system.kernel.disk.served refl none.paid
+
+-- a system in which the disk's step only passes, and nothing is left to be done
+pub record Passes (system : System) : Type 0 where
+  pub done : NoCompletions system
+  pub nobody : NobodyAborted system.kernel
+  pub off : system.abort_deferred ≡ false
+  pub still : is_still (turn_answer system.kernel.disk) ≡ true
 
 -- whose call is served then
 serves_on : (served : Option Served) (first : Option ℕ) (turn_steps p : ℕ) → is_still (answer_by turn_steps served first) ≡ true → option_map (λ call. call.p) served ≡ Some p
@@ -160,6 +170,23 @@ over_by_whom (Some p) turn still = over_nobody turn still
 pub nobody_over : (system : System) → is_still (turn_answer system.kernel.disk) ≡ true → process_over system ≡ None
 unfolding process_over
 nobody_over system still = over_by_whom (served_process system.kernel.disk) (turn_answer system.kernel.disk) still
+
+-- and none enters service
+starts_nobody : (turn : Turn) (p : ℕ) → is_still turn ≡ true → turn ≡ Starts p → ⊥
+starts_nobody turn p still is = false≢true (sym (ap is_still is) ∙ still)
+
+starts_by_whom : (whom : Option ℕ) (told : Directly) (system : System) (function : FileFunction) (p : ℕ) → served_process system.kernel.disk ≡ whom
+    → is_still (turn_answer system.kernel.disk) ≡ true → EntersService function p (paid_after told system) → ⊥
+unfolding served_process all_paid
+starts_by_whom None told system function p is still enters =
+    starts_nobody (turn_answer system.kernel.disk) p still (ap (λ (c : Change). turn_answer c.system.kernel.disk) (sym (served_nobody told system is)) ∙ enters.starts)
+starts_by_whom (Some q) told system function p is still enters =
+    none-some q (sym (ap (option_map (λ (call : Served). call.p)) enters.idle)
+    ∙ ap (λ (c : Change). served_process c.system.kernel.disk) (served_still told q system is still) ∙ still_serves system.kernel.disk q still is)
+
+pub nobody_starts : (told : Directly) (system : System) (function : FileFunction) (p : ℕ) → is_still (turn_answer system.kernel.disk) ≡ true
+    → EntersService function p (paid_after told system) → ⊥
+nobody_starts told system function p still enters = starts_by_whom (served_process system.kernel.disk) told system function p refl still enters
 
 says_by_whom : (whom : Option ℕ) (told : Directly) (system : System) → served_process system.kernel.disk ≡ whom → is_still (turn_answer system.kernel.disk) ≡ true
     → (disk_served told system).emitted ≡ []

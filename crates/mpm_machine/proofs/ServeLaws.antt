@@ -100,13 +100,15 @@ answered_told (Err e) p old new o n kept answer extended own may ends system wro
 pub answered_stops : {A : Type 0} (r : Result A Failed) (p : ℕ) (old : System) (o n : Outside) (kept : Kept) (answer : Answer) (extended : Option Extended)
     → IsOwn old.kernel.dispatcher.procs p kept.service
     → ((caller : Caller) (function : FileFunction) (call : Taken) → HasEntered caller function call kept.service → MayAnswer caller.multi function call answer extended)
+    → EndsWithoutJob kept answer extended
     → IfErr r (λ error. Fails (by_sink error) o n (call_over (told_here p old answer extended) p old).emitted)
-    → OnErr r (HasStoppedAnswering p o n old)
-answered_stops (Ok a) p old o n kept answer extended own may failed = tt
-answered_stops (Err e) p old o n kept answer extended own may failed = record {
+    → OnErr r (HasStoppedAnswering kept p o n old)
+answered_stops (Ok a) p old o n kept answer extended own may ends failed = tt
+answered_stops (Err e) p old o n kept answer extended own may ends failed = record {
   told = told_here p old answer extended;
   of_call = refl;
   tells = own_told p old kept.service answer extended own may;
+  as_kept = ends;
   stops = failed;
 }
 
@@ -264,14 +266,15 @@ has_passed_over r kept p o n old new works =
       wrote = subst (λ (c : Change). Wrote o n c.emitted) (sym (over_served answered.told old p works)) answered.wrote;
     })
 
-pub has_stopped_over : {A E : Type 0} (r : Result A E) (p : ℕ) (o n : Outside) (old : System) → turn_answer old.kernel.disk ≡ Work p true
-    → OnErr r (HasStoppedAnswering p o n (step_passed old)) → OnErr r (HasStoppedServing o n old)
-has_stopped_over r p o n old works =
-    on_err_weaker r (λ (stopped : HasStoppedAnswering p o n (step_passed old)). record {
+pub has_stopped_over : {A E : Type 0} (r : Result A E) (kept : Kept) (p : ℕ) (o n : Outside) (old : System) → turn_answer old.kernel.disk ≡ Work p true
+    → OnErr r (HasStoppedAnswering kept p o n (step_passed old)) → OnErr r (HasStoppedServing kept o n old)
+has_stopped_over r kept p o n old works =
+    on_err_weaker r (λ (stopped : HasStoppedAnswering kept p o n (step_passed old)). record {
       told = stopped.told;
       of_call = subst (λ (over : Option ℕ). IsOfCall over stopped.told old) (sym (over_process old p works)) stopped.of_call;
       tells = subst (λ (over : Option ℕ). IsToldIn over stopped.told old) (sym (over_process old p works))
           (told_passed p old stopped.told.answer stopped.told.extended stopped.tells);
+      as_kept = subst (λ (over : Option ℕ). IsOverAsKept kept over stopped.told) (sym (over_process old p works)) stopped.as_kept;
       stops = subst (λ (c : Change). Stopped o n c.emitted) (sym (over_served stopped.told old p works)) stopped.stops;
     })
 

@@ -1,7 +1,7 @@
 -- The end of a run: what was written and what the images stand for, where it came through and where it stopped.
-use Rattle.std.proofs.Common.{◌≡◌, ◌∙◌, ℕ, suc, ◌+◌, ◌<◌, Bool, true, List, [], ◌∷◌, ◌++◌, Option, Some, None, Result, Ok, Err, inl, inr, refl, sym, ap, subst, arith}
+use Rattle.std.proofs.Common.{◌≡◌, ◌∙◌, ℕ, suc, ◌+◌, ◌*◌, ◌<◌, ◌≤◌, Bool, List, [], ◌∷◌, ◌++◌, Option, Some, None, IsSome, Result, Ok, Err, inl, inr, refl, sym, ap, subst, arith}
 use Rattle.std.proofs.Math.Path.{fun_ext}
-use Rattle.std.specs.Prelude.{OnOk, IfErr, is_some, option_map, unwrap_or}
+use Rattle.std.specs.Prelude.{OnOk, OnErr, IfErr, is_some, option_map, unwrap_or}
 use Rattle.mpm_base.proofs.CountLaws.{count_cons}
 use Rattle.mpm_port.specs.Disks.{Disks, SameDisks, Told}
 use Rattle.mpm_port.specs.Texts.{Begins, appended}
@@ -15,21 +15,22 @@ use Rattle.mpm_render.proofs.Grows.{begins_refl, begins_more, widened}
 use Rattle.mpm_output.specs.Outside.{Outside, seen}
 use Rattle.mpm_output.specs.Writing.{Wrote}
 use Rattle.mpm_output.proofs.WritingLaws.{rendered_onward, wrote_nothing}
+use Rattle.mpm_service.specs.Ahead.{turns_left}
 use Rattle.mpm_service.specs.Disk.{DiskService, no_service, served_process}
 use Rattle.mpm_service.specs.declared.service.Served.{Served}
 use Rattle.mpm_requests.specs.Filing.{Filing, Situation}
 use Rattle.mpm_bdos.specs.Serving.{Kept as Filed, StandEach, Serves, directory_at}
-use Rattle.mpm_bdos.specs.Syncing.{StopsAtDrive, mounted_count}
-use Rattle.mpm_bdos.specs.Turns.{StaysBeside, labelled, told_images}
+use Rattle.mpm_bdos.specs.Syncing.{mounted_count}
+use Rattle.mpm_bdos.specs.Turns.{KeepsUnsynced, StaysBeside, drive_served, labelled, told_images}
 use Rattle.mpm_machine.specs.declared.system.System.{System}
 use Rattle.mpm_machine.specs.declared.machine.StepFault.{StepFault}
 use Rattle.mpm_machine.specs.declared.machine.StepFault.TheVariants.{DiskFault, WriteFault}
-use Rattle.mpm_machine.specs.State.{State, silent}
+use Rattle.mpm_machine.specs.State.{State, Change, silent}
 use Rattle.mpm_machine.specs.Files.{Files, Between, Within, StandsServed, StandsForFiles, filing_in}
 use Rattle.mpm_machine.specs.Faults.{Counts, HaveCause, EndsBy, OnDiskFault}
 use Rattle.mpm_machine.specs.Mounting.{HasNoDrive, KeepsMounted}
 use Rattle.mpm_machine.specs.Failing.{FailsWithin, HaveImages, HaveImagesOf}
-use Rattle.mpm_machine.specs.Settling.{at_end, carried_out, carried, HasCarried, left_of, StopsCarrying, StopsAtEnd, WritesEndOf, WritesEnd, StopsEnd, ClosesEnd, StopsSettling, SyncsBelow}
+use Rattle.mpm_machine.specs.Settling.{at_end, carried_out, carried, HasCarried, left_of, StopsCarrying, StopsAtEnd, IsEnd, WritesEndOf, WritesEnd, ClosesEnd, StopsSettling, Called, TurnsCall, SyncsTo}
 use Rattle.mpm_machine.proofs.DriveLaws.{keeps_both}
 
 -- what is told of the images where the drives were synced
@@ -161,11 +162,11 @@ on_fault DiskFault P Q so p = so p
 
 -- so it is whatever is on the drives
 
-pub ok_closes : {A E : Type 0} (r : Result A E) (o m : Outside) (written : Option (List ℕ)) (old new : System) → WritesEnd o m old new
+pub ok_closes : {A E : Type 0} (r : Result A E) (kept : Filed) (o m : Outside) (written : Option (List ℕ)) (old new : System) → WritesEnd kept o m old new
     → ((outputs : List Output) (first : Option (List ℕ)) → Shows m.kept m.written outputs first → OnOk r (written ≡ appended first (closed m.kept.trace outputs)))
-    → OnOk r (ClosesEnd o written old new)
-ok_closes (Err e) o m written old new end closes = tt
-ok_closes (Ok x) o m written old new end closes = record {
+    → OnOk r (ClosesEnd kept o written old new)
+ok_closes (Err e) kept o m written old new end closes = tt
+ok_closes (Ok x) kept o m written old new end closes = record {
   change = end.change;
   is = end.is;
   system = end.system;
@@ -174,29 +175,44 @@ ok_closes (Ok x) o m written old new end closes = record {
       (closes (end.change.emitted ++ said) first (end.wrote.shown said first shows));
 }
 
-pub err_closes : {A : Type 0} (r : Result A StepFault) (o m n : Outside) (old new : System) → WritesEnd o m old new
-    → ((outputs : List Output) (first : Option (List ℕ)) → Shows m.kept m.written outputs first
+pub err_closes : {A : Type 0} (r : Result A StepFault) (kept : Filed) (mounted : List (Option Directory)) (o m n : Outside) (drives between now : Called) (old new : System)
+    → WritesEnd kept o m old new → ((outputs : List Output) (first : Option (List ℕ)) → Shows m.kept m.written outputs first
     → IfErr r (λ fault. EndsBy fault n.written first (rendered m.kept.trace outputs) (closed m.kept.trace outputs)))
-    → IfErr r (λ fault. OnDiskFault fault (n ≡ m)) → IfErr r (λ fault. StopsSettling fault o n old new)
-err_closes (Ok x) o m n old new end ends same = tt
-err_closes (Err WriteFault) o m n old new end ends same = record {
-  change = end.change;
-  is = end.is;
-  stops = λ said first shows.
-      let all : List Output = end.change.emitted ++ said in
-      subst (λ (t : Bool). EndsBetween n.written first (rendered t said) (closed t all)) end.wrote.trace
-      (ends_from n.written first m.kept.trace end.change.emitted said (closed m.kept.trace all) (ends all first (end.wrote.shown said first shows)));
-}
-err_closes (Err DiskFault) o m n old new end ends same =
-    inr (record { change = end.change; is = end.is; system = end.system; wrote = subst (λ (seen : Outside). Wrote o seen end.change.emitted) (sym same) end.wrote })
+    → IfErr r (λ fault. OnDiskFault fault (n ≡ m)) → TurnsCall old kept drives between → IfErr r (λ fault. SyncsTo fault mounted between now)
+    → IfErr r (λ fault. StopsSettling fault kept mounted o n drives now old new)
+err_closes (Ok x) kept mounted o m n drives between now old new end ends same turns syncs = tt
+err_closes (Err WriteFault) kept mounted o m n drives between now old new end ends same turns syncs = inr (record {
+  text = record {
+    change = end.change;
+    is = end.is;
+    system = end.system;
+    stops = λ said first shows.
+        let all : List Output = end.change.emitted ++ said in
+        subst (λ (t : Bool). EndsBetween n.written first (rendered t all) (closed t all)) end.wrote.trace (ends all first (end.wrote.shown said first shows));
+  };
+  called = record { between = between; turns = turns; syncs = syncs };
+})
+err_closes (Err DiskFault) kept mounted o m n drives between now old new end ends same turns syncs = inr (record {
+  text = record { change = end.change; is = end.is; system = end.system; wrote = subst (λ (seen : Outside). Wrote o seen end.change.emitted) (sym same) end.wrote };
+  called = record { between = between; turns = turns; syncs = syncs };
+})
 
-pub stops_settling : (fault : StepFault) (o m : Outside) (old new : System) → StopsEnd fault o m old → StopsSettling fault o m old new
-stops_settling WriteFault o m old new stops = record {
-  change = stops.change;
-  is = stops.is;
-  stops = λ said first shows. ends_closed m.written first o.kept.trace said (stops.change.emitted ++ said) (stops.stops.part said first shows);
-}
-stops_settling DiskFault o m old new same = inl same
+-- where the sink failed, the text is in both cases a first part of all that the end adds
+pub settling_text : (kept : Filed) (mounted : List (Option Directory)) (o n : Outside) (drives now : Called) (old new : System)
+    → StopsSettling WriteFault kept mounted o n drives now old new
+    → (change : Change) × IsEnd kept old change × ((said : List Output) (first : Option (List ℕ)) → Shows o.kept o.written said first
+    → EndsBetween n.written first (rendered o.kept.trace said) (closed o.kept.trace (change.emitted ++ said)))
+settling_text kept mounted o n drives now old new (inl stops) = (
+  stops.text.change,
+  stops.text.is,
+  (λ said first shows. ends_closed n.written first o.kept.trace said (stops.text.change.emitted ++ said) (stops.text.stops.part said first shows)),
+)
+settling_text kept mounted o n drives now old new (inr stops) = (
+  stops.text.change,
+  stops.text.is,
+  (λ said first shows.
+      ends_from n.written first o.kept.trace stops.text.change.emitted said (closed o.kept.trace (stops.text.change.emitted ++ said)) (stops.text.stops said first shows)),
+)
 
 -- what is left of the drives
 
@@ -250,20 +266,6 @@ sink_alone (Ok x) places none some = tt
 sink_alone (Err WriteFault) places none some = refl
 sink_alone (Err DiskFault) places none some = absurd (omega (arith, some, none_counted places none))
 
--- the drives as the call in service left them, and as they were synced up to one that failed
-pub none_synced : (fault : StepFault) (mounted : List (Option Directory)) (before now : ℕ → Bool) → ((number : ℕ) → before number ≡ true → now number ≡ true)
-    → OnDiskFault fault (SyncsBelow mounted before now)
-none_synced WriteFault mounted before now owed = tt
-none_synced DiskFault mounted before now owed = record { drive = 0; front = λ number less. absurd (omega (arith, less)); rest = λ number _. owed number }
-
-pub some_synced : {A : Type 0} (r : Result A StepFault) (mounted : List (Option Directory)) (before between now : ℕ → Bool) (steps steps' : ℕ)
-    → ((number : ℕ) → before number ≡ true → between number ≡ true) → IfErr r (λ fault. OnDiskFault fault (StopsAtDrive mounted between now steps steps'))
-    → IfErr r (λ fault. OnDiskFault fault (SyncsBelow mounted before now))
-some_synced (Ok x) mounted before between now steps steps' owed stops = tt
-some_synced (Err WriteFault) mounted before between now steps steps' owed stops = tt
-some_synced (Err DiskFault) mounted before between now steps steps' owed stops =
-    record { drive = stops.drive; front = stops.front; rest = λ number from was. stops.rest number from ∙ owed number was }
-
 pub cause_behind : {A E : Type 0} (fault : E → StepFault) (old middle new : Counts) (r : Result A E) → middle ≡ old → HaveCause fault middle new r → HaveCause fault old new r
 cause_behind fault old middle new r same cause = subst (λ (k : Counts). HaveCause fault k new r) same cause
 
@@ -287,6 +289,25 @@ unfolding served_process
 somebody_served system p A some none =
     let e : None ≡ Some p = ap (option_map (λ (call : Served). call.p)) (sym none) ∙ some in absurd (cc)
 
+some_call : (served : Option Served) (p : ℕ) → option_map (λ (call : Served). call.p) served ≡ Some p → IsSome served
+some_call None p some = absurd (cc)
+some_call (Some call) p some = refl
+
+pub served_err : {A E : Type 0} (r : Result A E) (system : System) (p : ℕ) → served_process system.kernel.disk ≡ Some p → OnErr r (IsSome system.kernel.disk.served)
+unfolding served_process
+served_err (Ok x) system p some = tt
+served_err (Err e) system p some = some_call system.kernel.disk.served p some
+
+-- the turns that are left to the one in service call its drive
+pub turns_call : (system : System) (p : ℕ) (kept : Filed) (before behind : Called) (turns : ℕ) → served_process system.kernel.disk ≡ Some p
+    → KeepsUnsynced (drive_served kept.service) before.unsynced behind.unsynced → behind.calls ≤ before.calls + 20 * turns → turns ≡ turns_left system.kernel.disk
+    → TurnsCall system kept before behind
+turns_call system p kept before behind turns serves unsynced calls all = record {
+  unsynced = unsynced;
+  calls = omega (arith, calls, all);
+  idle = λ none. somebody_served system p _ serves none;
+}
+
 none_within : (served : Option Served) (kept : Filed) (disks : Option Disks) (s : Situation) → served ≡ None → StandsServed served kept disks (Within s) → ⊥
 none_within None kept disks s none stands = stands
 none_within (Some call) kept disks s none stands = absurd (cc)
@@ -297,9 +318,9 @@ nothing_carried (Between filing) o system kept disks none stands = record { syst
 nothing_carried (Within s) o system kept disks none stands =
     absurd (none_within system.kernel.disk.served kept disks s (nobody_served system none) stands.stands)
 
-pub nothing_ends : (o : Outside) (system : System) → served_process system.kernel.disk ≡ None → WritesEnd o o system system
-nothing_ends o system none =
-    subst (λ (call : Option ℕ). WritesEndOf call o o system system) (sym none) (record { change = silent system; is = refl; system = refl; wrote = wrote_nothing o })
+pub nothing_ends : (kept : Filed) (o : Outside) (system : System) → served_process system.kernel.disk ≡ None → WritesEnd kept o o system system
+nothing_ends kept o system none =
+    subst (λ (call : Option ℕ). WritesEndOf kept call o o system system) (sym none) (record { change = silent system; is = refl; system = refl; wrote = wrote_nothing o })
 
 -- by the result of what came last
 

@@ -66,6 +66,9 @@ of_nobody old none = subst (λ (o : Option ℕ). IsOfCall o nothing_told (made_i
 tells_nobody : (old : System) → file_caller old ≡ None → IsToldIn (file_caller old) nothing_told (made_in (file_caller old) old)
 tells_nobody old none = subst (λ (o : Option ℕ). IsToldIn o nothing_told (made_in o old)) (sym none) tt
 
+kept_nobody : (kept : Kept) (old : System) → file_caller old ≡ None → IsAsKept kept (file_caller old) nothing_told (made_in (file_caller old) old)
+kept_nobody kept old none = subst (λ (o : Option ℕ). IsAsKept kept o nothing_told (made_in o old)) (sym none) tt
+
 pub alone_begun : {kept : Kept} (instruction : Bool) (o n : Outside) (old new : System) → file_caller old ≡ None → instruction ≡ is_instruction None old
     → new ≡ all_answered (begun_alone old).system → Wrote o n (begun_alone old).emitted → HasBegunStep kept instruction o n old new
 alone_begun {kept} instruction o n old new none i is wrote =
@@ -74,7 +77,7 @@ alone_begun {kept} instruction o n old new none i is wrote =
       told = nothing_told;
       of_call = of_nobody old none;
       tells = tells_nobody old none;
-      as_kept = subst (λ (o : Option ℕ). IsAsKept kept o nothing_told (made_in o old)) (sym none) tt;
+      as_kept = kept_nobody kept old none;
       instruction_is = i ∙ ap (λ (o : Option ℕ). is_instruction o old) (sym none);
       system = is ∙ ap (λ (c : Change). c.system) so;
       wrote = subst (λ (c : Change). Wrote o n c.emitted) so wrote;
@@ -82,11 +85,12 @@ alone_begun {kept} instruction o n old new none i is wrote =
 
 -- where the sink failed
 
-pub alone_stops : (o n : Outside) (old : System) → file_caller old ≡ None → Stopped o n (begun_alone old).emitted → HasBegunToStop WriteFault o n old
-alone_stops o n old none stopped = record {
+pub alone_stops : (kept : Kept) (o n : Outside) (old : System) → file_caller old ≡ None → Stopped o n (begun_alone old).emitted → HasBegunToStop WriteFault kept o n old
+alone_stops kept o n old none stopped = record {
   told = nothing_told;
   of_call = of_nobody old none;
   tells = tells_nobody old none;
+  as_kept = kept_nobody kept old none;
   stops = subst (λ (c : Change). Stopped o n c.emitted) (sym (begun_is nothing_told old none)) stopped;
 }
 

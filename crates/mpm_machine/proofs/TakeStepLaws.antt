@@ -2,7 +2,7 @@
 -- drives the images stand where one stopped.
 use Rattle.std.proofs.Common.{◌≡◌, ◌∙◌, ℕ, ◌+◌, ◌*◌, ◌<◌, ◌≤◌, ◌==◌, ◌&&◌, ◌||◌, Bool, true, false, List, Option, Some, None, Result, Ok, Err, refl, sym, ap, subst, arith}
 use Rattle.std.specs.Prelude.{is_some, is_none}
-use Rattle.std.proofs.lemmas.Bool.{and_parts, false≢true, or_parts, or_left, or_right, true_from_ne_false}
+use Rattle.std.proofs.lemmas.Bool.{and_parts, false≢true, or_parts, or_left, or_right, true_from_ne_false, false_from_ne_true}
 use Rattle.std.proofs.lemmas.Bool.Decides.{nat_tests}
 use Rattle.std.proofs.lemmas.Option.{none-some}
 use Rattle.mpm_port.specs.Disks.{Disks}
@@ -40,6 +40,10 @@ pub does_nothing : (system : System) → does_work system ≡ false → (works_a
 unfolding does_work
 does_nothing system none = or_parts (works_at_once (file_caller system) system) (works_in_turn system) none
 
+-- nor does one in which no call is in service end a turn
+pub no_turn : (system : System) → system.kernel.disk.served ≡ None → works_in_turn system ≡ false
+no_turn system none = ap (λ (call : Option Served). is_some call && is_work (turn_answer system.kernel.disk)) none
+
 -- and one that fails does
 
 pub turn_worked : (system : System) → (works_in_turn system ≡ false → ⊥) → does_work system ≡ true
@@ -54,6 +58,13 @@ unfolding does_work
 begun_worked WriteFault system idle = tt
 begun_worked DiskFault system idle =
     or_left (works_at_once (file_caller system) system) (works_in_turn system) (true_from_ne_false (works_at_once (file_caller system) system) (λ none. no_sink (idle none)))
+
+-- what it begins with fails only where the disk has no work
+
+pub begun_apart : (fault : StepFault) (system : System) → (is_some system.kernel.disk.served ≡ true → fault ≡ WriteFault) → OnDiskFault fault (works_in_turn system ≡ false)
+begun_apart WriteFault system sink = tt
+begun_apart DiskFault system sink =
+    false_from_ne_true (works_in_turn system) (λ works. no_sink (sink (and_parts (is_some system.kernel.disk.served) (is_work (turn_answer system.kernel.disk)) works).0))
 
 -- where turns have steps no call is done on a drive as it is made
 

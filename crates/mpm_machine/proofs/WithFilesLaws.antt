@@ -10,7 +10,7 @@ use Rattle.mpm_mount.specs.Directories.{Directory}
 use Rattle.mpm_residents.specs.declared.native.Native.{Native}
 use Rattle.mpm_residents.specs.Natives.{native_in}
 use Rattle.mpm_output.specs.Outside.{Outside}
-use Rattle.mpm_output.specs.Writing.{Wrote}
+use Rattle.mpm_output.specs.Writing.{Wrote, Stopped}
 use Rattle.mpm_bdos.specs.Direct.{Directly}
 use Rattle.mpm_requests.specs.Filing.{Filing, Situation}
 use Rattle.mpm_functions.specs.Functions.{function_of}
@@ -31,7 +31,7 @@ use Rattle.mpm_machine.specs.FileCalls.{file_caller, made_by, call_made}
 use Rattle.mpm_machine.specs.DiskStep.{is_done_at_once, file_called, files_called, told_at_gate}
 use Rattle.mpm_machine.specs.Stepping.{begun_with, begun_as, is_instruction, told_first_by, told_first, files_begun_by, files_begun, before_disk}
 use Rattle.mpm_machine.specs.Failing.{HaveImagesOf, FailsWithin, working_if, working_by, working_in, turns_done, works_at_once}
-use Rattle.mpm_machine.specs.After.{IsOfCall, made_in, IsToldIn, IsAsKept, StopsBy, HasCalled, HasToldAtGate, HasStoppedAtGate, HasBegunStep, HasBegunTo, HasBegunToStop}
+use Rattle.mpm_machine.specs.After.{IsOfCall, made_in, IsToldIn, IsAsKept, HasJob, StopsBy, HasCalled, HasToldAtGate, HasStoppedAtGate, HasBegunStep, HasBegunTo, HasBegunToStop}
 use Rattle.mpm_machine.proofs.FileLaws.{Made, makes}
 use Rattle.mpm_machine.proofs.DiskStepLaws.{whole_file_called}
 use Rattle.mpm_machine.proofs.FiledLaws.{caller_lives, caller_ready}
@@ -165,13 +165,18 @@ gate_begun {kept} p o n old made called new caller is has was =
 
 -- where it stopped
 
-pub gate_stops : (fault : StepFault) (p : ℕ) (o n : Outside) (old made : System) → file_caller old ≡ Some p → made ≡ call_made p old → HasStoppedAtGate fault p o n made
-    → HasBegunToStop fault o n old
-gate_stops fault p o n old made caller is has = record {
+pub gate_stops : (fault : StepFault) (kept : Kept) (p : ℕ) (o n : Outside) (old made : System) → file_caller old ≡ Some p → made ≡ call_made p old
+    → HasStoppedAtGate fault kept p o n made → HasBegunToStop fault kept o n old
+gate_stops WriteFault kept p o n old made caller is has = record {
   told = has.told;
   of_call = of_call_here has.told p old made caller is has.of_call;
   tells = tells_here has.told p old made caller is has.tells;
-  stops = subst (λ (c : Change). StopsBy fault o n c.emitted) (sym (begun_here has.told p old made caller is)) has.stops;
+  as_kept = kept_here kept has.told p old made caller is has.as_kept;
+  stops = subst (λ (c : Change). Stopped o n c.emitted) (sym (begun_here has.told p old made caller is)) has.stops;
+}
+gate_stops DiskFault kept p o n old made caller is has = record {
+  still = has.still;
+  job = subst (λ (whose : Option ℕ). HasJob kept whose (made_in whose old)) (sym caller) (subst (λ (s : System). HasJob kept (Some p) s) is has.job);
 }
 
 pub gate_err : (fault : StepFault) (p : ℕ) (files : Files) (o n : Outside) (old made : System) → file_caller old ≡ Some p → made ≡ call_made p old

@@ -1,9 +1,10 @@
 -- What the disk's work is in a step, where it failed, and what those who ended give back.
-use Rattle.std.proofs.Common.{◌≡◌, ◌∙◌, ℕ, ◌<◌, Bool, true, false, not, ◌&&◌, List, Option, Some, None, is_some, option_map, IfSome, refl, sym, ap, subst, arith}
+use Rattle.std.proofs.Common.{◌≡◌, ◌∙◌, ℕ, ◌<◌, Bool, true, false, not, ◌&&◌, ◌==◌, if◌then◌else◌, List, Option, Some, None, is_some, option_map, IfSome, refl, sym, ap, subst, arith}
 use Rattle.std.proofs.lemmas.Bool.{false≢true}
+use Rattle.std.proofs.lemmas.Bool.Decides.{nat_tests}
 use Rattle.mpm_port.specs.Disks.{Disks}
 use Rattle.mpm_ready.specs.Order.{first_of}
-use Rattle.mpm_service.specs.Disk.{DiskService, answer_by, turn_answer, served_process}
+use Rattle.mpm_service.specs.Disk.{DiskService, is_last_step, step_answer, answer_by, turn_answer, served_process}
 use Rattle.mpm_service.specs.declared.service.Served.{Served}
 use Rattle.mpm_service.specs.declared.service.Turn.{Turn}
 use Rattle.mpm_service.specs.declared.service.Turn.TheVariants.{Idle, Passing, Work, Starts}
@@ -89,6 +90,21 @@ idle_answer (Work p last) never = absurd (never p last refl)
 pub no_work_here : (disk : DiskService) (answer : Turn) → answer ≡ turn_answer disk → ((p : ℕ) (last : Bool) → answer ≡ Work p last → ⊥)
     → is_work (turn_answer disk) ≡ false
 no_work_here disk answer is never = ap is_work (sym is) ∙ idle_answer answer never
+
+-- where turns have no steps none has
+
+no_last_step : (turn_steps : ℕ) (call : Served) → (turn_steps == 0) ≡ true → is_last_step turn_steps call ≡ false
+no_last_step turn_steps call none = grind (arith, nat_tests, none)
+
+never_turns_by : (turn_steps : ℕ) (served : Option Served) (first : Option ℕ) → (turn_steps == 0) ≡ true → (is_some served && is_work (answer_by turn_steps served first)) ≡ false
+unfolding step_answer
+never_turns_by turn_steps None first none = refl
+never_turns_by turn_steps (Some call) first none =
+    ap (λ (b : Bool). is_work (if b then Work call.p (call.left == 1) else Passing)) (no_last_step turn_steps call none)
+
+pub never_turns : (system : System) → (system.kernel.disk.turn_steps == 0) ≡ true → works_in_turn system ≡ false
+unfolding turn_answer
+never_turns system none = never_turns_by system.kernel.disk.turn_steps system.kernel.disk.served (first_of system.kernel.disk.waiting) none
 
 -- where a drive failed in it
 

@@ -1,5 +1,5 @@
 -- One step, and n steps, of system, files and drives.
-use Rattle.std.specs.Prelude.{◌≡◌, ℕ, zero, suc, ◌+◌, ◌-◌, ◌<◌, ◌≤◌, Bool, true, false, List, ◌++◌, Option, Some, None, IsSome, ⊤}
+use Rattle.std.specs.Prelude.{◌≡◌, ℕ, zero, suc, ◌+◌, ◌-◌, ◌<◌, ◌≤◌, ◌⊎◌, Bool, true, false, List, ◌++◌, Option, Some, None, IsSome, ⊤}
 use Rattle.mpm_port.specs.Disks.{Disks}
 use Rattle.mpm_procs.specs.Table.{call_of}
 use Rattle.mpm_mount.specs.Drives.{Drive}
@@ -10,22 +10,25 @@ use Rattle.mpm_render.specs.Shown.{Kept, Shows}
 use Rattle.mpm_output.specs.Outside.{Outside}
 use Rattle.mpm_output.specs.Writing.{Wrote, Stopped}
 use Rattle.mpm_bdos.specs.Direct.{Directly}
+use Rattle.mpm_bdos.specs.Jobs.{call_turns}
 use Rattle.mpm_bdos.specs.Serving.{Kept as Filed, StandEach, Serves, filing_of}
-use Rattle.mpm_bdos.specs.Turns.{has_work}
+use Rattle.mpm_bdos.specs.AtOnce.{IsJobless}
+use Rattle.mpm_bdos.specs.Turns.{TurnKeeps, has_work}
 use Rattle.mpm_residents.specs.declared.native.Native.{Native}
 use Rattle.mpm_machine.specs.declared.system.System.{System}
 use Rattle.mpm_machine.specs.declared.machine.StepFault.{StepFault}
 use Rattle.mpm_machine.specs.declared.machine.StepFault.TheVariants.{DiskFault, WriteFault}
 use Rattle.mpm_machine.specs.Files.{Files, Between, StandsWorked, StandsForFiles}
 use Rattle.mpm_machine.specs.State.{State, Change, silent}
-use Rattle.mpm_machine.specs.Faults.{EndsBy, OnDiskFault}
+use Rattle.mpm_machine.specs.Faults.{EndsBy}
 use Rattle.mpm_functions.specs.declared.functions.FileFunction.{FileFunction}
 use Rattle.mpm_functions.specs.Functions.{function_of}
 use Rattle.mpm_requests.specs.Filing.{Filing, Situation}
 use Rattle.mpm_machine.specs.FileCalls.{file_caller, call_made, situation_of, outcome_in, IsToldOf, IsToldAsKept, EndsWithoutJob, change_of}
 use Rattle.mpm_machine.specs.DiskStep.{process_over, file_called, call_over, call_entered, disk_served, files_entered, told_of_call, turns_within}
 use Rattle.mpm_machine.specs.Stepping.{Telling, begun_as, is_instruction, rest_of, step_with, nothing_told, before_disk, files_begun, told_within, paid_after, entered_after, files_then, telling_then, files_rest, Stepped, stepped}
-use Rattle.mpm_machine.specs.Failing.{does_work}
+use Rattle.mpm_machine.specs.Filed.{kept_served, kept_behind}
+use Rattle.mpm_machine.specs.Failing.{does_work, works_at_once, works_in_turn}
 use Rattle.mpm_machine.specs.Contained.{IsContainedBy, Instructs, OnlyInstructed, Calls, DiffersInBytes, ServedByValue, Resides, ResidedByValue}
 
 -- what a step that was made of a state leaves
@@ -87,10 +90,31 @@ pub record EntersService (function : FileFunction) (p : ℕ) (system : System) :
   pub starts : turn_answer system.kernel.disk ≡ Starts p
   pub calls : function_of (call_of system.kernel.dispatcher.procs p).function ≡ Some function
 
--- by what is kept then, it is served in the situation of that moment, for whatever images and drives the directories stand for
-pub record ServesEntered (kept : Filed) (system : System) : Type 0 where
+-- by what is kept then, it is served in the situation of that moment, and for the turns that it takes in that one, for whatever images
+-- and drives the directories stand for
+pub record ServesEntered (kept : Filed) (turns : ℕ) (system : System) : Type 0 where
   pub serves : (function : FileFunction) (p : ℕ) (images : ℕ → List ℕ) (drives : List (Option Drive)) → EntersService function p system
       → StandEach images kept.mounted drives → Serves images kept (situation_of (filing_of kept drives) function p system) 0
+  pub takes : (function : FileFunction) (p : ℕ) (images : ℕ → List ℕ) (drives : List (Option Drive)) → EntersService function p system
+      → StandEach images kept.mounted drives → turns ≡ call_turns (situation_of (filing_of kept drives) function p system)
+
+-- of what is kept, a step in which the call in service isn't over leaves all but what a turn changes: the directory of its drive, what is
+-- cached, and how far its work is; and all, where no turn of it ends, or where it has no work
+pub record StaysInService (kept kept' : Filed) (old : System) : Type 0 where
+  pub turn : TurnKeeps kept kept'
+  pub passing : works_in_turn old ≡ false → kept' ≡ kept
+  pub workless : has_work kept.service ≡ false → kept' ≡ kept
+
+-- where no call is over, the disk's step leaves all that is kept but what those had open and marked who ended, and the call in service:
+-- none, where none was and none enters
+pub record LeavesServed (telling : Telling) (kept kept' : Filed) (old : System) : Type 0 where
+  pub is : kept' ≡ kept_served telling kept'.service old kept
+  pub service : (entered_after telling old).kernel.disk.served ≡ None → kept'.service ≡ kept.service
+
+-- so does the rest of a step
+pub record LeavesKept (telling : Telling) (kept kept' : Filed) (old : System) : Type 0 where
+  pub is : kept' ≡ kept_behind telling kept'.service old kept
+  pub service : (entered_after telling old).kernel.disk.served ≡ None → kept'.service ≡ kept.service
 
 -- a file call is served by what it took: whatever bytes had stood in memory as it was made, it would come to the same, and might be
 -- answered so
@@ -130,33 +154,40 @@ pub record IsMade (old : System) (change : Change) : Type 0 where
   pub over : IsOverByValue (process_over (begun_as step.telling.at_gate old).system) step.telling.at_disk (begun_as step.telling.at_gate old).system
   pub enters : EntersByValue (paid_after step.telling.at_disk (begun_as step.telling.at_gate old).system)
 
+-- upon what was kept of file calls, and to what is kept then: what is done at once, and what is over, is as that has it; the call that
+-- enters service is served by what is kept then; one in service that isn't over leaves what is kept, but for its turn; and so does a step
+-- without a call, but for what those give back who ended
+pub record IsMadeUpon (kept kept' : Filed) (old : System) (change : Change) : Type 0 where
+  pub made : IsMade old change
+  pub as_kept : IsAsKept kept (file_caller old) made.step.telling.at_gate (made_in (file_caller old) old)
+  pub over_as_kept : IsOverAsKept kept (process_over (begun_as made.step.telling.at_gate old).system) made.step.telling.at_disk
+  pub entered : ServesEntered kept' made.step.telling.turns (paid_after made.step.telling.at_disk (begun_as made.step.telling.at_gate old).system)
+  pub stays : IsSome old.kernel.disk.served → process_over (begun_as made.step.telling.at_gate old).system ≡ None → StaysInService kept kept' old
+  pub leaves : old.kernel.disk.served ≡ None → works_at_once (file_caller old) old ≡ false
+      → LeavesKept made.step.telling kept kept' (begun_as made.step.telling.at_gate old).system
+
 -- one state's is the other's
 pub record IsNextOf (s t : State) : Type 0 where
   pub emitted : List Output
   pub is : IsStep s.system (record { system = t.system; emitted = emitted })
   pub outputs : t.outputs ≡ emitted ++ s.outputs
 
--- n of them in a row
-unfoldable pub AreSteps : ℕ → System → Change → Type 0
-AreSteps zero old change = change ≡ silent old
-AreSteps (suc n) old change = (before : Change) × (last : Change) × AreSteps n old before × IsMade before.system last × (change ≡ followed before last)
+-- n of them in a row, each upon what the one before has kept
+unfoldable pub AreSteps : ℕ → Filed → Filed → System → Change → Type 0
+AreSteps zero kept kept' old change = (kept' ≡ kept) × (change ≡ silent old)
+AreSteps (suc n) kept kept' old change =
+    (between : Filed) × (before : Change) × (last : Change) × AreSteps n kept between old before × IsMadeUpon between kept' before.system last × (change ≡ followed before last)
 
 -- so many steps were made of a system, and what they say was written
-pub record HasRun (n : ℕ) (before behind : Outside) (old new : System) : Type 0 where
+pub record HasRun (n : ℕ) (kept kept' : Filed) (before behind : Outside) (old new : System) : Type 0 where
   pub emitted : List Output
-  pub steps : AreSteps n old (record { system = new; emitted = emitted })
+  pub steps : AreSteps n kept kept' old (record { system = new; emitted = emitted })
   pub wrote : Wrote before behind emitted
 
--- one was, upon what was kept of file calls and to what is kept then: the call that entered service is served by it, and one in service
--- that has no work and isn't over leaves it as it was
+-- one was
 pub record HasStepped (kept kept' : Filed) (before behind : Outside) (old new : System) : Type 0 where
   pub emitted : List Output
-  pub is : IsMade old (record { system = new; emitted = emitted })
-  pub as_kept : IsAsKept kept (file_caller old) is.step.telling.at_gate (made_in (file_caller old) old)
-  pub over_as_kept : IsOverAsKept kept (process_over (begun_as is.step.telling.at_gate old).system) is.step.telling.at_disk
-  pub entered : ServesEntered kept' (paid_after is.step.telling.at_disk (begun_as is.step.telling.at_gate old).system)
-  pub stays : has_work kept.service ≡ false → IsSome old.kernel.disk.served → process_over (begun_as is.step.telling.at_gate old).system ≡ None
-      → kept' ≡ kept
+  pub is : IsMadeUpon kept kept' old (record { system = new; emitted = emitted })
   pub wrote : Wrote before behind emitted
 
 -- what a step begins with was done, which was an instruction or not, by what its file call may tell
@@ -183,7 +214,8 @@ pub record HasEndedStep (kept kept' : Filed) (instruction : Bool) (before behind
   pub of_call : IsOfCall (process_over old) telling.at_disk old
   pub tells : IsToldIn (process_over old) telling.at_disk old
   pub as_kept : IsOverAsKept kept (process_over old) telling.at_disk
-  pub entered : ServesEntered kept' (paid_after telling.at_disk old)
+  pub entered : ServesEntered kept' telling.turns (paid_after telling.at_disk old)
+  pub leaves : process_over old ≡ None → LeavesKept telling kept kept' old
   pub system : new ≡ (rest_of instruction telling (silent old)).system
   pub wrote : Wrote before behind (rest_of instruction telling (silent old)).emitted
 
@@ -204,27 +236,57 @@ abbrev pub StopsBy : StepFault → Outside → Outside → List Output → Type 
 StopsBy WriteFault before behind emitted = Stopped before behind emitted
 StopsBy DiskFault before behind emitted = behind ≡ before
 
--- so did one, whatever the images are: it writes what a step of the system writes, by what file calls come to; and a drive fails only
--- where the step works on one
-pub record HasStopped (fault : StepFault) (before behind : Outside) (old : System) : Type 0 where
+-- whatever the images are, a first part was written of the text of a step of the system, upon what was kept of file calls: what is done
+-- at once is as that has it, and so is what is over, where more was written than what the step begins with
+pub record IsMadeInPart (Text : List Output → Type 0) (kept : Filed) (old : System) : Type 0 where
   pub change : Change
-  pub is : IsMade old change
-  pub stops : StopsBy fault before behind change.emitted
-  pub works : OnDiskFault fault (does_work old ≡ true)
+  pub made : IsMade old change
+  pub as_kept : IsAsKept kept (file_caller old) made.step.telling.at_gate (made_in (file_caller old) old)
+  pub over_as_kept : Text (begun_as made.step.telling.at_gate old).emitted
+      ⊎ IsOverAsKept kept (process_over (begun_as made.step.telling.at_gate old).system) made.step.telling.at_disk
+  pub text : Text change.emitted
 
--- what a step begins with stopped: so did the step
-pub record HasBegunToStop (fault : StepFault) (before behind : Outside) (old : System) : Type 0 where
+-- no images and drives for which the directories stand leave the call of a process without a job
+abbrev pub HasJob : Filed → Option ℕ → System → Type 0
+HasJob kept None system = ⊥
+HasJob kept (Some p) system =
+    (function : FileFunction) (images : ℕ → List ℕ) (drives : List (Option Drive)) → function_of (call_of system.kernel.dispatcher.procs p).function ≡ Some function
+    → IsJobless images kept.mounted (situation_of (filing_of kept drives) function p system) → ⊥
+
+-- a step works on a drive, for a call that is done at once and has a job, or for the one in service, which has work
+pub record WorksOnDrive (kept : Filed) (old : System) : Type 0 where
+  pub works : does_work old ≡ true
+  pub job : HasJob kept (file_caller old) (made_in (file_caller old) old) ⊎ (has_work kept.service ≡ true)
+
+-- so a step stopped: where a drive failed, it works on one, and nothing of it was written
+abbrev pub HasStopped : StepFault → Filed → Outside → Outside → System → Type 0
+HasStopped WriteFault kept before behind old = IsMadeInPart (Stopped before behind) kept old
+HasStopped DiskFault kept before behind old = (behind ≡ before) × WorksOnDrive kept old
+
+-- what a step begins with stopped, in its text
+pub record HasBegunInPart (kept : Filed) (before behind : Outside) (old : System) : Type 0 where
   pub told : Directly
   pub of_call : IsOfCall (file_caller old) told (made_in (file_caller old) old)
   pub tells : IsToldIn (file_caller old) told (made_in (file_caller old) old)
-  pub stops : StopsBy fault before behind (begun_as told old).emitted
+  pub as_kept : IsAsKept kept (file_caller old) told (made_in (file_caller old) old)
+  pub stops : Stopped before behind (begun_as told old).emitted
+
+-- or as a drive failed
+pub record FailsAtGate (kept : Filed) (whose : Option ℕ) (before behind : Outside) (made : System) : Type 0 where
+  pub still : behind ≡ before
+  pub job : HasJob kept whose made
+
+abbrev pub HasBegunToStop : StepFault → Filed → Outside → Outside → System → Type 0
+HasBegunToStop WriteFault kept before behind old = HasBegunInPart kept before behind old
+HasBegunToStop DiskFault kept before behind old = FailsAtGate kept (file_caller old) before behind (made_in (file_caller old) old)
 
 -- the rest of a step did
-pub record HasEndedToStop (instruction : Bool) (before behind : Outside) (old : System) : Type 0 where
+pub record HasEndedToStop (kept : Filed) (instruction : Bool) (before behind : Outside) (old : System) : Type 0 where
   pub telling : Telling
   pub turns : EntersFor telling.turns (paid_after telling.at_disk old)
   pub of_call : IsOfCall (process_over old) telling.at_disk old
   pub tells : IsToldIn (process_over old) telling.at_disk old
+  pub as_kept : IsOverAsKept kept (process_over old) telling.at_disk
   pub stops : Stopped before behind (rest_of instruction telling (silent old)).emitted
 
 -- a file call that a process made was done at once, or waits: by what it came to, and by what it may tell
@@ -239,11 +301,16 @@ pub record HasToldAtGate (kept : Filed) (p : ℕ) (before behind : Outside) (old
   pub as_kept : IsAsKept kept (Some p) told old
   pub called : HasCalled told p before behind old new
 
-pub record HasStoppedAtGate (fault : StepFault) (p : ℕ) (before behind : Outside) (old : System) : Type 0 where
+pub record HasCalledInPart (kept : Filed) (p : ℕ) (before behind : Outside) (old : System) : Type 0 where
   pub told : Directly
   pub of_call : IsOfCall (Some p) told old
   pub tells : IsToldIn (Some p) told old
-  pub stops : StopsBy fault before behind (file_called told p old).emitted
+  pub as_kept : IsAsKept kept (Some p) told old
+  pub stops : Stopped before behind (file_called told p old).emitted
+
+abbrev pub HasStoppedAtGate : StepFault → Filed → ℕ → Outside → Outside → System → Type 0
+HasStoppedAtGate WriteFault kept p before behind old = HasCalledInPart kept p before behind old
+HasStoppedAtGate DiskFault kept p before behind old = FailsAtGate kept (Some p) before behind old
 
 -- the disk made its step: by what is on the drives, and by what the call may tell that is over
 pub record HasServedTo (files : Files) (before behind : Outside) (old new : System) (kept : Filed) (disks : Option Disks) : Type 0 where
@@ -260,10 +327,11 @@ pub record HasPassed (kept : Filed) (before behind : Outside) (old new : System)
   pub wrote : Wrote before behind (disk_served told old).emitted
 
 -- or that stopped
-pub record HasStoppedServing (before behind : Outside) (old : System) : Type 0 where
+pub record HasStoppedServing (kept : Filed) (before behind : Outside) (old : System) : Type 0 where
   pub told : Directly
   pub of_call : IsOfCall (process_over old) told old
   pub tells : IsToldIn (process_over old) told old
+  pub as_kept : IsOverAsKept kept (process_over old) told
   pub stops : Stopped before behind (disk_served told old).emitted
 
 pub record HasServed (kept kept' : Filed) (before behind : Outside) (old new : System) : Type 0 where
@@ -272,7 +340,8 @@ pub record HasServed (kept kept' : Filed) (before behind : Outside) (old new : S
   pub of_call : IsOfCall (process_over old) telling.at_disk old
   pub tells : IsToldIn (process_over old) telling.at_disk old
   pub as_kept : IsOverAsKept kept (process_over old) telling.at_disk
-  pub entered : ServesEntered kept' (paid_after telling.at_disk old)
+  pub entered : ServesEntered kept' telling.turns (paid_after telling.at_disk old)
+  pub leaves : process_over old ≡ None → LeavesServed telling kept kept' old
   pub system : new ≡ entered_after telling old
   pub wrote : Wrote before behind (disk_served telling.at_disk old).emitted
 
@@ -286,17 +355,18 @@ pub record HasAnswered (kept : Filed) (p : ℕ) (before behind : Outside) (old n
   pub wrote : Wrote before behind (call_over told p old).emitted
 
 -- or that stopped
-pub record HasStoppedAnswering (p : ℕ) (before behind : Outside) (old : System) : Type 0 where
+pub record HasStoppedAnswering (kept : Filed) (p : ℕ) (before behind : Outside) (old : System) : Type 0 where
   pub told : Directly
   pub of_call : IsOfCall (Some p) told old
   pub tells : IsToldIn (Some p) told old
+  pub as_kept : IsOverAsKept kept (Some p) told
   pub stops : Stopped before behind (call_over told p old).emitted
 
 -- the first call that waited entered service, if one did, for the turns that it may take, and is served by what is kept then
 pub record HasEnteredCall (kept : Filed) (old new : System) : Type 0 where
   pub turns : ℕ
   pub its : EntersFor turns old
-  pub entered : ServesEntered kept old
+  pub entered : ServesEntered kept turns old
   pub is : new ≡ call_entered turns old
 
 -- of what is kept of file calls, the rest of a step leaves the directories and what is cached
@@ -304,14 +374,15 @@ abbrev pub EndKeeps : Filed → Filed → Type 0
 EndKeeps old new = new ≡ record new { mounted = old.mounted; cached = old.cached }
 
 -- a run of n steps stopped in that step, whatever the images are: the steps before it were made, and what they say was written
-pub record HasStoppedIn (n : ℕ) (fault : StepFault) (step : ℕ) (before behind : Outside) (old : System) : Type 0 where
+pub record HasStoppedIn (n : ℕ) (fault : StepFault) (step : ℕ) (kept : Filed) (before behind : Outside) (old : System) : Type 0 where
   pub done : ℕ
   pub few : done < n
   pub is : step ≡ old.steps + done + 1
   pub middle : System
+  pub kept_then : Filed
   pub between : Outside
-  pub ran : HasRun done before between old middle
-  pub stops : HasStopped fault between behind middle
+  pub ran : HasRun done kept kept_then before between old middle
+  pub stops : HasStopped fault kept_then between behind middle
 
 -- where a drive failed in the step after a state, what is kept to be written is that of the state
 abbrev pub ShowsBefore : StepFault → Kept → Option (List ℕ) → State → Option (List ℕ) → Type 0

@@ -160,11 +160,11 @@ pub record EndsWithoutJob (kept : Kept) (answer : Answer) (extended : Option Ext
   pub answer_is : (images : ℕ → List ℕ) (s : Situation) → Serves images kept s 0 → job_of s ≡ None → answer ≡ (file_call s).answer
   pub extended_is : (images : ℕ → List ℕ) (s : Situation) → Serves images kept s 0 → job_of s ≡ None → extended ≡ (file_call s).extended
 
--- a call is answered as what is kept has it: one that the disk serves, where calls are done at once and none is in service; and one that
--- no disk serves, by which drives are mounted, of which kinds, and which are protected
+-- a call is answered as what is kept has it: one that the disk serves, where calls are done at once; and one that no disk serves, by which
+-- drives are mounted, of which kinds, and which are protected
 abbrev pub TellsAsKept : Option FileFunction → Option DirectFunction → Kept → ℕ → System → Answer → Option Extended → Type 0
 TellsAsKept (Some function) other kept p system answer extended =
-    (system.kernel.disk.turn_steps == 0) ≡ true → kept.service ≡ None → ComesWithoutJob function kept p system answer extended
+    (system.kernel.disk.turn_steps == 0) ≡ true → ComesWithoutJob function kept p system answer extended
 TellsAsKept None (Some function) kept p system answer extended =
     ComesDirectly (kind_at kept.mounted) (is_protected kept.protected) (process_in system.kernel.dispatcher.procs p).drive function (call_of system.kernel.dispatcher.procs p) answer extended
 TellsAsKept None None kept p system answer extended = ⊤

@@ -26,4 +26,5 @@ pub mod Filed
 pub mod Failing
 pub mod Contained
 pub mod After
+pub mod Chain
 pub mod Settling

@@ -12,6 +12,7 @@ use Rattle.mpm_cli.specs.declared.table.Row.TheVariants.{Reserve, Place, Patch, 
 use Rattle.mpm_cli.specs.Standing.{is_loading}
 use Rattle.mpm_residents.specs.Natives.{native_in}
 use Rattle.mpm_residents.specs.declared.native.Native.TheVariants.{Cli}
+use Rattle.mpm_bdos.specs.Serving.{Kept}
 use Rattle.mpm_machine.specs.After.{AreSteps}
 use Rattle.mpm_machine.specs.State.{Change}
 use Rattle.mpm_machine.specs.declared.system.System.{System}
@@ -71,7 +72,7 @@ IsReading file system =
     → IsPiece file cli.load.before cli.load.piece
 
 -- so it is before each of some steps
-unfoldable pub IsReadIn : (file : List ℕ) (n : ℕ) (old : System) (change : Change) → AreSteps n old change → Type 0
+unfoldable pub IsReadIn : (file : List ℕ) (n : ℕ) (kept kept' : Kept) (old : System) (change : Change) → AreSteps n kept kept' old change → Type 0
 unfolding AreSteps
-IsReadIn file zero old change steps = ⊤
-IsReadIn file (suc n) old change steps = IsReadIn file n old steps.0 steps.2 × IsReading file steps.0.system
+IsReadIn file zero kept kept' old change steps = ⊤
+IsReadIn file (suc n) kept kept' old change steps = IsReadIn file n kept steps.0 old steps.1 steps.3 × IsReading file steps.1.system

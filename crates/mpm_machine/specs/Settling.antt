@@ -1,12 +1,12 @@
 -- The end of a run: the call in service is carried to its end without further steps, as if in the last one; who waits for the disk has
 -- no effect, and nobody enters service. (This project's own.)
-use Rattle.std.specs.Prelude.{◌≡◌, ℕ, ◌<◌, ◌≤◌, ◌⊎◌, Bool, true, false, List, ◌++◌, Option, Some, None, IfSome}
+use Rattle.std.specs.Prelude.{◌≡◌, ℕ, ◌+◌, ◌*◌, ◌≤◌, ◌⊎◌, Bool, List, ◌++◌, Option, Some, None, IsSome}
 use Rattle.mpm_port.specs.Disks.{Disks}
 use Rattle.mpm_port.specs.Texts.{appended}
 use Rattle.mpm_mount.specs.Directories.{Directory}
 use Rattle.mpm_render.specs.Outputs.{Output, rendered, closed}
 use Rattle.mpm_render.specs.Shown.{Kept, Shows, EndsBetween}
-use Rattle.mpm_service.specs.Ahead.{unserved}
+use Rattle.mpm_service.specs.Ahead.{turns_left, unserved}
 use Rattle.mpm_service.specs.Disk.{served_process}
 use Rattle.mpm_service.specs.declared.service.Served.{Served}
 use Rattle.mpm_kernel.specs.Disk.{with_disk}
@@ -14,6 +14,8 @@ use Rattle.mpm_bdos.specs.Direct.{Directly}
 use Rattle.mpm_requests.specs.Filing.{Situation}
 use Rattle.mpm_bdos.specs.Outcomes.{file_call}
 use Rattle.mpm_bdos.specs.Serving.{Kept as Filed, directory_at}
+use Rattle.mpm_bdos.specs.Syncing.{AreSynced, StopsAtDrive, mounted_count}
+use Rattle.mpm_bdos.specs.Turns.{KeepsUnsynced, drive_served}
 use Rattle.mpm_output.specs.Outside.{Outside}
 use Rattle.mpm_output.specs.Writing.{Wrote, Stopped}
 use Rattle.mpm_machine.specs.declared.system.System.{System}
@@ -26,7 +28,7 @@ use Rattle.mpm_machine.specs.Step.{with_records}
 use Rattle.mpm_machine.specs.DiskStep.{with_kernel, call_over, told_of_call, all_paid}
 use Rattle.mpm_machine.specs.Stepping.{Stepped}
 use Rattle.mpm_machine.specs.Failing.{Working, FailsWithin, HaveImages, HaveImagesOf}
-use Rattle.mpm_machine.specs.After.{IsOfCall, IsToldIn, having}
+use Rattle.mpm_machine.specs.After.{IsOfCall, IsToldIn, IsOverAsKept, having}
 
 -- the turns that are left pass
 abbrev pub turns_passed : System → System
@@ -98,62 +100,109 @@ StopsAtEnd WriteFault kept written disks mounted s first =
     EndsBetween written first (rendered kept.trace s.outputs) (closed kept.trace (carried s).outputs) × HaveImages disks mounted (filing_in (carried s).files).drives
 StopsAtEnd DiskFault kept written disks mounted s first = StopsInTurn kept written disks mounted s first ⊎ StopsInSync kept written disks mounted s first
 
--- whatever is on the drives: the end makes this of a system, by what the call in service may tell
-pub record IsEndOf (p : ℕ) (old : System) (change : Change) : Type 0 where
+-- whatever is on the drives: the end makes this of a system, by what the call in service may tell, and, where that has no job, upon what
+-- is kept of file calls
+pub record IsEndOf (kept : Filed) (p : ℕ) (old : System) (change : Change) : Type 0 where
   pub told : Directly
   pub of_call : IsOfCall (Some p) told (turns_passed old)
   pub tells : IsToldIn (Some p) told (turns_passed old)
+  pub as_kept : IsOverAsKept kept (Some p) told
   pub is : change ≡ ended_with told p old
 
-abbrev pub IsEndBy : Option ℕ → System → Change → Type 0
-IsEndBy None old change = change ≡ silent old
-IsEndBy (Some p) old change = IsEndOf p old change
+abbrev pub IsEndBy : Filed → Option ℕ → System → Change → Type 0
+IsEndBy kept None old change = change ≡ silent old
+IsEndBy kept (Some p) old change = IsEndOf kept p old change
 
-abbrev pub IsEnd : System → Change → Type 0
-IsEnd old change = IsEndBy (served_process old.kernel.disk) old change
+abbrev pub IsEnd : Filed → System → Change → Type 0
+IsEnd kept old change = IsEndBy kept (served_process old.kernel.disk) old change
 
 -- that was done and written, or a first part of it was written, as it is of a call or of none
-pub record WritesEndOf (call : Option ℕ) (before behind : Outside) (old new : System) : Type 0 where
+pub record WritesEndOf (kept : Filed) (call : Option ℕ) (before behind : Outside) (old new : System) : Type 0 where
   pub change : Change
-  pub is : IsEndBy call old change
+  pub is : IsEndBy kept call old change
   pub system : new ≡ change.system
   pub wrote : Wrote before behind change.emitted
 
-pub record StopsEndOf (call : Option ℕ) (before behind : Outside) (old : System) : Type 0 where
+pub record StopsEndOf (kept : Filed) (call : Option ℕ) (before behind : Outside) (old : System) : Type 0 where
   pub change : Change
-  pub is : IsEndBy call old change
+  pub is : IsEndBy kept call old change
   pub stops : Stopped before behind change.emitted
 
-abbrev pub WritesEnd : Outside → Outside → System → System → Type 0
-WritesEnd before behind old new = WritesEndOf (served_process old.kernel.disk) before behind old new
+abbrev pub WritesEnd : Filed → Outside → Outside → System → System → Type 0
+WritesEnd kept before behind old new = WritesEndOf kept (served_process old.kernel.disk) before behind old new
 
 -- where a drive failed nothing of it was
-abbrev pub StopsEnd : StepFault → Outside → Outside → System → Type 0
-StopsEnd WriteFault before behind old = StopsEndOf (served_process old.kernel.disk) before behind old
-StopsEnd DiskFault before behind old = behind ≡ before
+abbrev pub StopsEnd : StepFault → Filed → Outside → Outside → System → Type 0
+StopsEnd WriteFault kept before behind old = StopsEndOf kept (served_process old.kernel.disk) before behind old
+StopsEnd DiskFault kept before behind old = behind ≡ before
 
 -- behind it unfinished lines were closed
-pub record ClosesEnd (before : Outside) (written : Option (List ℕ)) (old new : System) : Type 0 where
+pub record ClosesEnd (kept : Filed) (before : Outside) (written : Option (List ℕ)) (old new : System) : Type 0 where
   pub change : Change
-  pub is : IsEnd old change
+  pub is : IsEnd kept old change
   pub system : new ≡ change.system
   pub closes : (said : List Output) (first : Option (List ℕ)) → Shows before.kept before.written said first
       → written ≡ appended first (closed before.kept.trace (change.emitted ++ said))
 
--- or a first part of all that was written; and where a drive failed nothing of the end was, or all of it but the closed lines
-pub record StopsClosing (before : Outside) (written : Option (List ℕ)) (old : System) : Type 0 where
+-- or, behind all that the end says, a first part of the closed lines was, where the sink failed; where a drive did nothing of them
+pub record StopsInLines (kept : Filed) (before : Outside) (written : Option (List ℕ)) (old new : System) : Type 0 where
   pub change : Change
-  pub is : IsEnd old change
+  pub is : IsEnd kept old change
+  pub system : new ≡ change.system
   pub stops : (said : List Output) (first : Option (List ℕ)) → Shows before.kept before.written said first
-      → EndsBetween written first (rendered before.kept.trace said) (closed before.kept.trace (change.emitted ++ said))
+      → EndsBetween written first (rendered before.kept.trace (change.emitted ++ said)) (closed before.kept.trace (change.emitted ++ said))
 
-abbrev pub StopsSettling : StepFault → Outside → Outside → System → System → Type 0
-StopsSettling WriteFault before behind old new = StopsClosing before behind.written old
-StopsSettling DiskFault before behind old new = (behind ≡ before) ⊎ WritesEnd before behind old new
+abbrev pub StopsClosing : StepFault → Filed → Outside → Outside → System → System → Type 0
+StopsClosing WriteFault kept before behind old new = StopsInLines kept before behind.written old new
+StopsClosing DiskFault kept before behind old new = WritesEnd kept before behind old new
 
--- where a drive failed, the mounted ones below a number are synced, none where it failed in the call in service; what was unsynced of
--- the others stays so
-pub record SyncsBelow (mounted : List (Option Directory)) (before now : ℕ → Bool) : Type 0 where
-  pub drive : ℕ
-  pub front : (number : ℕ) → number < drive → IfSome (directory_at mounted number) (λ directory. now number ≡ false)
-  pub rest : (number : ℕ) → drive ≤ number → before number ≡ true → now number ≡ true
+-- of the drives: which aren't synced, and how often one was called
+pub record Called : Type 0 where
+  pub unsynced : ℕ → Bool
+  pub calls : ℕ
+
+abbrev pub called : {D : Type 0} → (D → ℕ → Bool) → D → ℕ → Called
+called unsynced drives calls = record { unsynced = unsynced drives; calls = calls }
+
+-- the turns that were left call the drive of the call in service, at most 20 times each, and sync none; without a call in service none
+-- is called
+pub record TurnsCall (system : System) (kept : Filed) (before behind : Called) : Type 0 where
+  pub unsynced : KeepsUnsynced (drive_served kept.service) before.unsynced behind.unsynced
+  pub calls : behind.calls ≤ before.calls + 20 * turns_left system.kernel.disk
+  pub idle : system.kernel.disk.served ≡ None → behind ≡ before
+
+-- each mounted drive is synced by one call, and no other is
+pub record SyncsAll (mounted : List (Option Directory)) (before behind : Called) : Type 0 where
+  pub synced : AreSynced behind.unsynced mounted
+  pub beside : (number : ℕ) → directory_at mounted number ≡ None → behind.unsynced number ≡ before.unsynced number
+  pub calls : behind.calls ≡ before.calls + mounted_count mounted
+
+-- or those before one that failed are, in order of their letters
+pub record SyncsUpTo (mounted : List (Option Directory)) (before behind : Called) : Type 0 where
+  pub stops : StopsAtDrive mounted before.unsynced behind.unsynced before.calls behind.calls
+  pub beside : (number : ℕ) → directory_at mounted number ≡ None → behind.unsynced number ≡ before.unsynced number
+
+-- where the sink fails as lines are closed all were synced
+abbrev pub SyncsTo : StepFault → List (Option Directory) → Called → Called → Type 0
+SyncsTo WriteFault mounted before behind = SyncsAll mounted before behind
+SyncsTo DiskFault mounted before behind = SyncsUpTo mounted before behind
+
+-- that came behind the turns
+pub record BehindTurns (system : System) (kept : Filed) (Syncs : Called → Called → Type 0) (before behind : Called) : Type 0 where
+  pub between : Called
+  pub turns : TurnsCall system kept before between
+  pub syncs : Syncs between behind
+
+-- the end of a run stopped as the call in service was carried to its end, and no drive was synced, or behind that
+pub record StopsInCall (fault : StepFault) (kept : Filed) (before behind : Outside) (drives now : Called) (old : System) : Type 0 where
+  pub serves : IsSome old.kernel.disk.served
+  pub text : StopsEnd fault kept before behind old
+  pub called : TurnsCall old kept drives now
+
+pub record StopsBehindCall (fault : StepFault) (kept : Filed) (mounted : List (Option Directory)) (before behind : Outside) (drives now : Called) (old new : System) : Type 0 where
+  pub text : StopsClosing fault kept before behind old new
+  pub called : BehindTurns old kept (SyncsTo fault mounted) drives now
+
+abbrev pub StopsSettling : StepFault → Filed → List (Option Directory) → Outside → Outside → Called → Called → System → System → Type 0
+StopsSettling fault kept mounted before behind drives now old new =
+    StopsInCall fault kept before behind drives now old ⊎ StopsBehindCall fault kept mounted before behind drives now old new

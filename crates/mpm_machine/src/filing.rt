@@ -18,6 +18,7 @@ ghost use Rattle.mpm_machine.specs.FileCalls.{IsToldOf, IsToldAsKept, outcome_in
 ghost use Rattle.mpm_machine.specs.Mounting.{HasNoDrive, KeepsMounted};
 ghost use Rattle.mpm_machine.specs.Failing.{HaveImagesOf, FailsWithin, working_if, working_turn_of, works_in_turn, turns_done};
 ghost use Rattle.mpm_machine.specs.Filed.{IsOutcome, left_if};
+ghost use Rattle.mpm_machine.specs.After.{HasJob};
 
 use crate::owed::Owed;
 use crate::system::System;
@@ -96,6 +97,7 @@ pub(crate) fn call_files<D: Drives, L: Ledger>(
     ensures direct { function_of (call_of system.now.kernel.dispatcher.procs p).function ≡ None
         → IsOk result × (bdos.new ≡ bdos.old) × (drives.new ≡ drives.old) × (steps.new ≡ steps.old) }
     ensures service { IsSome (function_of (call_of system.now.kernel.dispatcher.procs p).function) → bdos.new.service ≡ None }
+    ensures job { OnErr result (HasJob bdos.old (Some p) system.now) }
 {
     let call = system.kernel.kept_call(p);
     match FileFunction::of(call.function) {
@@ -134,6 +136,7 @@ fn call_disk<D: Drives, L: Ledger>(
     ensures unfailing { HasNoDrive bdos.old.mounted → OnErr result ⊥ }
     ensures cause { HasCause (D.faults drives.old) (D.faults drives.new) result }
     ensures service { bdos.new.service ≡ None }
+    ensures job { OnErr result (HasJob bdos.old (Some p) system.now) }
 {
     let caller = looked_at(system.kernel.living(p));
     let now = system.kernel.now();
@@ -170,8 +173,8 @@ pub(crate) fn start_call(system: &System, bdos: &mut Bdos, p: Pid) -> u32
     requires whole { IsWhole system.now }
     requires lives { Lives system.now.kernel.dispatcher.procs p }
     requires function { IsSome (function_of (call_of system.now.kernel.dispatcher.procs p).function) }
-    ensures turns { (disks : Option Disks) (filing : Filing) (function : FileFunction) → function_of (call_of system.now.kernel.dispatcher.procs p).function ≡ Some function
-        → StandsBetween bdos.old disks filing → result ≡ call_turns (situation_of filing function p system.now) }
+    ensures turns { (images : ℕ → List ℕ) (drives : List (Option Drive)) (function : FileFunction) → function_of (call_of system.now.kernel.dispatcher.procs p).function ≡ Some function
+        → StandEach images bdos.old.mounted drives → result ≡ call_turns (situation_of (filing_of bdos.old drives) function p system.now) }
     ensures takes { (function : FileFunction) → function_of (call_of system.now.kernel.dispatcher.procs p).function ≡ Some function
         → (filing : Filing) × (result ≡ call_turns (situation_of filing function p system.now)) }
     ensures serves { (images : ℕ → List ℕ) (drives : List (Option Drive)) (function : FileFunction) → function_of (call_of system.now.kernel.dispatcher.procs p).function ≡ Some function
@@ -208,6 +211,7 @@ pub(crate) fn work<D: Drives, L: Ledger>(
     ensures kept { TurnKeeps bdos.old bdos.new }
     ensures at_rest { has_work bdos.old.service ≡ false → bdos.new ≡ bdos.old }
     ensures unfailing { HasNoDrive bdos.old.mounted → IsOk result }
+    ensures workless { has_work bdos.old.service ≡ false → IsOk result }
     ensures idle { works_in_turn system.now ≡ false → IsOk result × (drives.new ≡ drives.old) × (steps.new ≡ steps.old) × (bdos.new ≡ bdos.old) }
     ensures few { steps.new ≤ steps.old + 20 }
     ensures cause { HasCause (D.faults drives.old) (D.faults drives.new) result }

@@ -1,4 +1,4 @@
-ghost use Rattle.std.specs.Prelude.{◌≡◌, ℕ, ◌+◌, ◌-◌, ◌*◌, ◌<◌, ◌≤◌, true, false, List, [], Option, Some, None, IfOk, OnOk, IfErr, OnErr, MatchOption, length, option_map};
+ghost use Rattle.std.specs.Prelude.{◌≡◌, ◌≢◌, ℕ, ◌+◌, ◌-◌, ◌*◌, ◌<◌, ◌≤◌, true, false, List, [], All, Option, Some, None, IfOk, OnOk, IfErr, OnErr, MatchOption, length, option_map};
 ghost use Rattle.mpm_script.specs.declared.line.TheConstants.{GREATEST_STEP};
 
 use crate::filing::work;
@@ -51,12 +51,12 @@ impl Machine {
     ghost use Rattle.mpm_render.specs.Shown.{Shows};
     ghost use Rattle.mpm_machine_file.specs.MachineFiles.{IsMachine};
     ghost use Rattle.mpm_drives.specs.Images.{image_named};
-    ghost use Rattle.mpm_drives.specs.Mounted.{SameBeside, placed};
+    ghost use Rattle.mpm_drives.specs.Mounted.{SameBeside, number_of, placed};
     ghost use Rattle.mpm_port.specs.Disks.{Disks};
     ghost use Rattle.mpm_drives.specs.Stopping.{Stops};
     ghost use Rattle.mpm_opens.specs.Opens.{AreOpen};
     ghost use Rattle.mpm_bdos.specs.Serving.{directory_at, nothing_kept, in_places};
-    ghost use Rattle.mpm_bdos.specs.Syncing.{mounted_count};
+    ghost use Rattle.mpm_bdos.specs.Syncing.{AreSynced, mounted_count};
     ghost use Rattle.mpm_output.specs.Outside.{seen};
     ghost use Rattle.mpm_machine.specs.State.{State, silent, StandsWithDrives, IsWhole, NoCompletions};
     ghost use Rattle.mpm_machine.specs.Files.{Files, Between, AreWithin, StandsForFiles};
@@ -72,12 +72,13 @@ impl Machine {
     ghost use Rattle.mpm_kernel.specs.Queueing.{OnlySystems};
     ghost use Rattle.mpm_queues.specs.Queues.{make_error};
     ghost use Rattle.mpm_machine.specs.After.{next, after, IsNextOf, AreSteps, HasRun, HasStepped, HasSteppedTo, HasStopped, HasStoppedIn, StopsBy, ShowsBefore, EndsInStep};
+    ghost use Rattle.mpm_machine.specs.Chain.{IsChain};
     ghost use Rattle.mpm_machine.specs.Mounting.{HasMounted, HasNoDrive, HasDrives, KeepsMounted, OpensOn, untouched};
     ghost use Rattle.mpm_machine.specs.Failing.{HaveImagesOf, StopsOn, StopsWithImages, does_work, turns_done, working_in};
 
     /// The machine of a machine file, and of its script's events, as it is run: the command queue, the command line
     /// interpreter, and a terminal message processor for each console. Its drives are attached to their images and mounted,
-    /// one after another in order of their letters; no image changes, and no other drive.
+    /// one after another in order of their letters, and synced then; no image changes, and no other drive.
     ///
     /// # Errors
     /// `BootError::Image` comes exactly where that drive is the first whose image has a fault, `BootError::DiskFault` only
@@ -107,6 +108,8 @@ impl Machine {
             (record { faults = D.faults drives.new; names = D.failed_names drives.new }) error) }
         ensures images { (name : List ℕ) → image_named (D.disks drives.new) name ≡ image_named (D.disks drives.old) name }
         ensures beside { SameBeside file.now.drives (D.attached drives.old) (D.attached drives.new) (D.disks drives.old) (D.disks drives.new) }
+        ensures fresh { IfOk result (λ machine. AreSynced (D.unsynced drives.new) machine.bdos.mounted) }
+        ensures unsynced { (number : ℕ) → All (λ spec. number_of spec ≢ number) file.now.drives → D.unsynced drives.new number ≡ D.unsynced drives.old number }
         ensures none { file.now.drives ≡ [] → drives.new ≡ drives.old }
     {
         let mut machine = match Machine::boot_bare(alloc, file, script, drives) {
@@ -161,6 +164,8 @@ impl Machine {
             (record { faults = D.faults drives.new; names = D.failed_names drives.new }) error) }
         ensures images { (name : List ℕ) → image_named (D.disks drives.new) name ≡ image_named (D.disks drives.old) name }
         ensures beside { SameBeside file.now.drives (D.attached drives.old) (D.attached drives.new) (D.disks drives.old) (D.disks drives.new) }
+        ensures fresh { IfOk result (λ machine. AreSynced (D.unsynced drives.new) machine.bdos.mounted) }
+        ensures unsynced { (number : ℕ) → All (λ spec. number_of spec ≢ number) file.now.drives → D.unsynced drives.new number ≡ D.unsynced drives.old number }
         ensures none { file.now.drives ≡ [] → drives.new ≡ drives.old }
     {
         let mounted = match MountedDrives::mount(alloc, file.drives.as_slice(), drives) {
@@ -306,7 +311,7 @@ impl Machine {
         ensures images { (s : State) (first : Option (List ℕ)) → StandsWithDrives self.old render.old (S.written sink.old) (D.disks drives.old) s first
             → IfErr result (λ fault. StopsWithImages fault (D.disks drives.new) self.new.bdos.mounted s) }
         ensures step { OnOk result (HasStepped self.old.bdos self.new.bdos (seen S.written S.faults render.old sink.old) (seen S.written S.faults render.new sink.new) self.old.system self.new.system) }
-        ensures stops { IfErr result (λ fault. HasStopped fault (seen S.written S.faults render.old sink.old) (seen S.written S.faults render.new sink.new) self.old.system) }
+        ensures stops { IfErr result (λ fault. HasStopped fault self.old.bdos (seen S.written S.faults render.old sink.old) (seen S.written S.faults render.new sink.new) self.old.system) }
         ensures due { OnOk result (NobodyDue self.new.system.kernel) }
         ensures interprets { Interprets self.old.system → OnOk result (Interprets self.new.system) }
         ensures locks { OnOk result (AreOpen self.new.bdos.opens) }
@@ -364,7 +369,7 @@ impl Machine {
         ensures images { (files : Files) → StandsForFiles self.old.system.kernel.disk self.old.bdos (D.disks drives.old) files
             → IfErr result (λ fault. HaveImagesOf (StopsOn fault self.old.system files) (D.disks drives.new) self.new.bdos.mounted) }
         ensures step { OnOk result (HasStepped self.old.bdos self.new.bdos (seen S.written S.faults render.old sink.old) (seen S.written S.faults render.new sink.new) self.old.system self.new.system) }
-        ensures stops { IfErr result (λ fault. HasStopped fault (seen S.written S.faults render.old sink.old) (seen S.written S.faults render.new sink.new) self.old.system) }
+        ensures stops { IfErr result (λ fault. HasStopped fault self.old.bdos (seen S.written S.faults render.old sink.old) (seen S.written S.faults render.new sink.new) self.old.system) }
         ensures trace { render.new.trace ≡ render.old.trace }
         ensures cause { HaveCause itself (counts S.faults D.faults sink.old drives.old) (counts S.faults D.faults sink.new drives.new) result }
         ensures keeps { KeepsMounted (D.disks drives.old) (D.disks drives.new) self.old.bdos.mounted self.new.bdos.mounted }
@@ -418,8 +423,9 @@ impl Machine {
             → IfErr result (λ error. ShowsBefore error.fault render.new (S.written sink.new) (after (error.step - 1 - s.system.steps) s) first) }
         ensures images { (s : State) (first : Option (List ℕ)) → StandsWithDrives self.old render.old (S.written sink.old) (D.disks drives.old) s first
             → IfErr result (λ error. StopsWithImages error.fault (D.disks drives.new) self.new.bdos.mounted (after (error.step - 1 - s.system.steps) s)) }
-        ensures steps { OnOk result (HasRun n (seen S.written S.faults render.old sink.old) (seen S.written S.faults render.new sink.new) self.old.system self.new.system) }
-        ensures stops { IfErr result (λ error. HasStoppedIn n error.fault error.step (seen S.written S.faults render.old sink.old) (seen S.written S.faults render.new sink.new) self.old.system) }
+        ensures steps { OnOk result (HasRun n self.old.bdos self.new.bdos (seen S.written S.faults render.old sink.old) (seen S.written S.faults render.new sink.new) self.old.system self.new.system) }
+        ensures stops { IfErr result (λ error. HasStoppedIn n error.fault error.step self.old.bdos (seen S.written S.faults render.old sink.old) (seen S.written S.faults render.new sink.new) self.old.system) }
+        ensures chain { OnOk result (IsChain n self.old.bdos self.new.bdos self.old.system self.new.system) }
         ensures each { (s : State) → s.system ≡ self.old.system → (k : ℕ) → k < n → IsNextOf (after k s) (after (k + 1) s) }
         ensures due { 0 < n → OnOk result (NobodyDue self.new.system.kernel) }
         ensures interprets { Interprets self.old.system → OnOk result (Interprets self.new.system) }
@@ -476,8 +482,8 @@ impl Machine {
             → IfErr result (λ error. ShowsBefore error.fault render.new (S.written sink.new) (after (error.step - 1 - s.system.steps) s) first) }
         ensures images { (s : State) (first : Option (List ℕ)) → StandsWithDrives self.old render.old (S.written sink.old) (D.disks drives.old) s first
             → IfErr result (λ error. StopsWithImages error.fault (D.disks drives.new) self.new.bdos.mounted (after (error.step - 1 - s.system.steps) s)) }
-        ensures steps { IfOk result (λ more. HasRun more (seen S.written S.faults render.old sink.old) (seen S.written S.faults render.new sink.new) self.old.system self.new.system) }
-        ensures stops { IfErr result (λ error. HasStoppedIn most error.fault error.step (seen S.written S.faults render.old sink.old) (seen S.written S.faults render.new sink.new) self.old.system) }
+        ensures steps { IfOk result (λ more. HasRun more self.old.bdos self.new.bdos (seen S.written S.faults render.old sink.old) (seen S.written S.faults render.new sink.new) self.old.system self.new.system) }
+        ensures stops { IfErr result (λ error. HasStoppedIn most error.fault error.step self.old.bdos (seen S.written S.faults render.old sink.old) (seen S.written S.faults render.new sink.new) self.old.system) }
         ensures due { OnOk result (NobodyDue self.new.system.kernel) }
         ensures some { IfOk result (λ more. 0 < more) }
         ensures few { IfOk result (λ more. more ≤ most) }
@@ -519,7 +525,7 @@ impl Machine {
         ensures states { (s : State) → s.system ≡ self.old.system → AreWithin self.old.system.kernel.disk.served s.files → after result s ≡ record s { system = self.new.system } }
         ensures disk { self.new.system.kernel.disk ≡ passed_by result self.old.system.kernel.disk }
         ensures calls { CallsAlike self.old.system.kernel.dispatcher.procs self.new.system.kernel.dispatcher.procs }
-        ensures steps { AreSteps result self.old.system (silent self.new.system) }
+        ensures steps { AreSteps result self.old.bdos self.new.bdos self.old.system (silent self.new.system) }
         ensures due { 0 < result → NobodyDue self.new.system.kernel }
         ensures whole { IsWhole self.new.system }
         ensures no_completions { NoCompletions self.new.system }

@@ -1,5 +1,5 @@
 //! The end of a run: the call in service is carried to its end, the drives are synced, and unfinished lines are closed.
-ghost use Rattle.std.specs.Prelude.{◌≡◌, ℕ, ◌+◌, ◌*◌, ◌<◌, ◌≤◌, true, List, [], Option, Some, None, OnOk, OnErr, IfErr};
+ghost use Rattle.std.specs.Prelude.{◌≡◌, ℕ, ◌+◌, ◌*◌, ◌<◌, ◌≤◌, List, [], Option, Some, None, OnOk, OnErr, IfErr, IsSome};
 ghost use Rattle.mpm_port.specs.Texts.{appended};
 
 use crate::machine::{Machine, StepFault};
@@ -22,7 +22,7 @@ impl Machine {
     ghost use Rattle.mpm_requests.specs.Filing.{Situation};
     ghost use Rattle.mpm_bdos.specs.Jobs.{call_turns};
     ghost use Rattle.mpm_bdos.specs.Serving.{Serves};
-    ghost use Rattle.mpm_bdos.specs.Syncing.{AreSynced, StopsAtDrive, mounted_count};
+    ghost use Rattle.mpm_bdos.specs.Syncing.{mounted_count};
     ghost use Rattle.mpm_bdos.specs.Turns.{FitsDrives, told_images};
     ghost use Rattle.mpm_machine.specs.declared.system.System.{System};
     ghost use Rattle.mpm_machine.specs.State.{State, StandsWithDrives, IsWhole, NoCompletions};
@@ -32,7 +32,7 @@ impl Machine {
     ghost use Rattle.mpm_machine.specs.Mounting.{HasNoDrive, KeepsMounted};
     ghost use Rattle.mpm_machine.specs.Failing.{HaveImages};
     ghost use Rattle.mpm_machine.specs.After.{EndKeeps};
-    ghost use Rattle.mpm_machine.specs.Settling.{carried, carried_out, turns_passed, HasCarried, StopsCarrying, StopsAtEnd, WritesEndOf, StopsEndOf, WritesEnd, StopsEnd, ClosesEnd, StopsSettling, SyncsBelow};
+    ghost use Rattle.mpm_machine.specs.Settling.{carried, carried_out, turns_passed, HasCarried, StopsCarrying, StopsAtEnd, WritesEndOf, StopsEndOf, WritesEnd, StopsEnd, ClosesEnd, StopsSettling, called, TurnsCall, SyncsAll, SyncsTo, BehindTurns};
 
     /// The end of a run: the call in service is carried to its end, each drive is synced, in order of the letters, and unfinished lines
     /// are closed. Where a drive fails nothing more is written, and the lines are left to `Render::finish`. Only `Render::finish` may
@@ -58,18 +58,20 @@ impl Machine {
             → IfErr result (λ fault. StopsAtEnd fault render.new (S.written sink.new) (D.disks drives.new) self.new.bdos.mounted s first) }
 
         // Whatever is on the drives: what the end does and writes is what the call in service may tell brings about.
-        ensures end { OnOk result (ClosesEnd (seen S.written S.faults render.old sink.old) (S.written sink.new) self.old.system self.new.system) }
-        ensures stops { IfErr result (λ fault. StopsSettling fault (seen S.written S.faults render.old sink.old) (seen S.written S.faults render.new sink.new) self.old.system self.new.system) }
+        ensures end { OnOk result (ClosesEnd self.old.bdos (seen S.written S.faults render.old sink.old) (S.written sink.new) self.old.system self.new.system) }
         ensures trace { render.new.trace ≡ render.old.trace }
         ensures cause { HaveCause itself (counts S.faults D.faults sink.old drives.old) (counts S.faults D.faults sink.new drives.new) result }
         ensures keeps { KeepsMounted (D.disks drives.old) (D.disks drives.new) self.old.bdos.mounted self.new.bdos.mounted }
 
-        // Behind a success each mounted drive is synced; where a drive fails, those before some letter and no others. Each turn that is
-        // left calls a drive at most 20 times, and each drive is synced by one call. Where no call is in service no image changes.
-        ensures synced { OnOk result (AreSynced (D.unsynced drives.new) self.new.bdos.mounted) }
-        ensures syncs { IfErr result (λ fault. OnDiskFault fault (SyncsBelow self.new.bdos.mounted (D.unsynced drives.old) (D.unsynced drives.new))) }
+        // The end stops as the call in service is carried to its end, with a first part of what it says, or nothing where its drive
+        // fails, and no drive is synced; or as the drives are synced, of which those before the one that fails are then; or, where all
+        // are, as lines are closed. Each turn that is left calls a drive at most 20 times, and each drive is synced by one call. Where
+        // no call is in service no image changes.
+        ensures synced { OnOk result (BehindTurns self.old.system self.old.bdos (SyncsAll self.new.bdos.mounted) (called D.unsynced drives.old steps.old) (called D.unsynced drives.new steps.new)) }
+        ensures stops { IfErr result (λ fault. StopsSettling fault self.old.bdos self.new.bdos.mounted
+            (seen S.written S.faults render.old sink.old) (seen S.written S.faults render.new sink.new)
+            (called D.unsynced drives.old steps.old) (called D.unsynced drives.new steps.new) self.old.system self.new.system) }
         ensures calls { steps.new ≤ steps.old + 20 * turns_left self.old.system.kernel.disk + mounted_count self.old.bdos.mounted }
-        ensures all { self.old.system.kernel.disk.served ≡ None → OnOk result (steps.new ≡ steps.old + mounted_count self.old.bdos.mounted) }
         ensures idle { self.old.system.kernel.disk.served ≡ None → SameDrives D.attached D.disks D.failed_names drives.old drives.new }
         ensures names { D.failed_names drives.new ≡ D.failed_names drives.old }
         ensures attached { (number : ℕ) → D.attached drives.new number ≡ D.attached drives.old number }
@@ -100,11 +102,8 @@ impl Machine {
         ensures trace { render.new.trace ≡ render.old.trace }
         ensures cause { HaveCause itself (counts S.faults D.faults sink.old drives.old) (counts S.faults D.faults sink.new drives.new) result }
         ensures calls { steps.new ≤ steps.old + mounted_count self.now.bdos.mounted }
-        ensures all { OnOk result (steps.new ≡ steps.old + mounted_count self.now.bdos.mounted) }
-        ensures all_first { IfErr result (λ fault. OnWriteFault fault (steps.new ≡ steps.old + mounted_count self.now.bdos.mounted)) }
-        ensures synced { OnOk result (AreSynced (D.unsynced drives.new) self.now.bdos.mounted) }
-        ensures synced_first { IfErr result (λ fault. OnWriteFault fault (AreSynced (D.unsynced drives.new) self.now.bdos.mounted)) }
-        ensures syncs { IfErr result (λ fault. OnDiskFault fault (StopsAtDrive self.now.bdos.mounted (D.unsynced drives.old) (D.unsynced drives.new) steps.old steps.new)) }
+        ensures synced { OnOk result (SyncsAll self.now.bdos.mounted (called D.unsynced drives.old steps.old) (called D.unsynced drives.new steps.new)) }
+        ensures syncs { IfErr result (λ fault. SyncsTo fault self.now.bdos.mounted (called D.unsynced drives.old steps.old) (called D.unsynced drives.new steps.new)) }
         ensures drives { SameDrives D.attached D.disks D.failed_names drives.old drives.new }
         ensures none { mounted_count self.now.bdos.mounted ≡ 0 → drives.new ≡ drives.old }
     {
@@ -133,21 +132,20 @@ impl Machine {
         ensures err { (files : Files) → StandsForFiles self.old.system.kernel.disk self.old.bdos (D.disks drives.old) files
             → IfErr result (λ fault. StopsCarrying fault files (seen S.written S.faults render.old sink.old) (seen S.written S.faults render.new sink.new) self.old.system self.new.bdos.mounted (D.disks drives.new)) }
         ensures whole { OnOk result (IsWhole self.new.system) }
-        ensures end { OnOk result (WritesEnd (seen S.written S.faults render.old sink.old) (seen S.written S.faults render.new sink.new) self.old.system self.new.system) }
-        ensures stops { IfErr result (λ fault. StopsEnd fault (seen S.written S.faults render.old sink.old) (seen S.written S.faults render.new sink.new) self.old.system) }
+        ensures end { OnOk result (WritesEnd self.old.bdos (seen S.written S.faults render.old sink.old) (seen S.written S.faults render.new sink.new) self.old.system self.new.system) }
+        ensures serves { OnErr result (IsSome self.old.system.kernel.disk.served) }
+        ensures stops { IfErr result (λ fault. StopsEnd fault self.old.bdos (seen S.written S.faults render.old sink.old) (seen S.written S.faults render.new sink.new) self.old.system) }
         ensures trace { render.new.trace ≡ render.old.trace }
         ensures cause { HaveCause itself (counts S.faults D.faults sink.old drives.old) (counts S.faults D.faults sink.new drives.new) result }
         ensures keeps { KeepsMounted (D.disks drives.old) (D.disks drives.new) self.old.bdos.mounted self.new.bdos.mounted }
         ensures names { D.failed_names drives.new ≡ D.failed_names drives.old }
         ensures attached { (number : ℕ) → D.attached drives.new number ≡ D.attached drives.old number }
-        ensures unsynced { (number : ℕ) → D.unsynced drives.old number ≡ true → D.unsynced drives.new number ≡ true }
+        ensures called { TurnsCall self.old.system self.old.bdos (called D.unsynced drives.old steps.old) (called D.unsynced drives.new steps.new) }
         ensures bare { HasNoDrive self.old.bdos.mounted → HasNoDrive self.new.bdos.mounted }
         ensures none { HasNoDrive self.old.bdos.mounted → drives.new ≡ drives.old }
         ensures unfailing { HasNoDrive self.old.bdos.mounted → IfErr result (λ fault. fault ≡ StepFault.WriteFault) }
         ensures fits { FitsDrives D.attached D.disks self.new.bdos.mounted self.new.bdos.cached drives.new }
         ensures idle { self.old.system.kernel.disk.served ≡ None → drives.new ≡ drives.old }
-        ensures still { self.old.system.kernel.disk.served ≡ None → steps.new ≡ steps.old }
-        ensures calls { steps.new ≤ steps.old + 20 * turns_left self.old.system.kernel.disk }
     {
         match self.system.kernel.disk().serving() {
             Some(p) => self.carry_call(p, drives, render, sink, steps),
@@ -173,19 +171,18 @@ impl Machine {
         ensures err { (files : Files) → StandsForFiles self.old.system.kernel.disk self.old.bdos (D.disks drives.old) files
             → IfErr result (λ fault. StopsCarrying fault files (seen S.written S.faults render.old sink.old) (seen S.written S.faults render.new sink.new) self.old.system self.new.bdos.mounted (D.disks drives.new)) }
         ensures whole { OnOk result (IsWhole self.new.system) }
-        ensures end { OnOk result (WritesEnd (seen S.written S.faults render.old sink.old) (seen S.written S.faults render.new sink.new) self.old.system self.new.system) }
-        ensures stops { IfErr result (λ fault. StopsEnd fault (seen S.written S.faults render.old sink.old) (seen S.written S.faults render.new sink.new) self.old.system) }
+        ensures end { OnOk result (WritesEnd self.old.bdos (seen S.written S.faults render.old sink.old) (seen S.written S.faults render.new sink.new) self.old.system self.new.system) }
+        ensures stops { IfErr result (λ fault. StopsEnd fault self.old.bdos (seen S.written S.faults render.old sink.old) (seen S.written S.faults render.new sink.new) self.old.system) }
         ensures trace { render.new.trace ≡ render.old.trace }
         ensures cause { HaveCause itself (counts S.faults D.faults sink.old drives.old) (counts S.faults D.faults sink.new drives.new) result }
         ensures keeps { KeepsMounted (D.disks drives.old) (D.disks drives.new) self.old.bdos.mounted self.new.bdos.mounted }
         ensures names { D.failed_names drives.new ≡ D.failed_names drives.old }
         ensures attached { (number : ℕ) → D.attached drives.new number ≡ D.attached drives.old number }
-        ensures unsynced { (number : ℕ) → D.unsynced drives.old number ≡ true → D.unsynced drives.new number ≡ true }
+        ensures called { TurnsCall self.old.system self.old.bdos (called D.unsynced drives.old steps.old) (called D.unsynced drives.new steps.new) }
         ensures bare { HasNoDrive self.old.bdos.mounted → HasNoDrive self.new.bdos.mounted }
         ensures none { HasNoDrive self.old.bdos.mounted → drives.new ≡ drives.old }
         ensures unfailing { HasNoDrive self.old.bdos.mounted → IfErr result (λ fault. fault ≡ StepFault.WriteFault) }
         ensures fits { FitsDrives D.attached D.disks self.new.bdos.mounted self.new.bdos.cached drives.new }
-        ensures calls { steps.new ≤ steps.old + 20 * turns_left self.old.system.kernel.disk }
     {
         let turns = self.system.kernel.finish_disk_call();
         if let Err(Failed) = self.bdos.do_turns(turns, drives, steps) {
@@ -209,8 +206,8 @@ impl Machine {
         ensures err { (disks : Option Disks) (s : Situation) (before : System) → Serves (told_images disks) self.old.bdos s (call_turns s) → s.caller.process ≡ p → self.old.system ≡ turns_passed before
             → OnErr result (Stopped (seen S.written S.faults render.old sink.old) (seen S.written S.faults render.new sink.new) (carried_out s before).change.emitted × HaveImages disks self.new.bdos.mounted (filing_in (carried_out s before).files).drives) }
         ensures whole { OnOk result (IsWhole self.new.system) }
-        ensures end { (before : System) → self.old.system ≡ turns_passed before → OnOk result (WritesEndOf (Some p) (seen S.written S.faults render.old sink.old) (seen S.written S.faults render.new sink.new) before self.new.system) }
-        ensures stops { (before : System) → self.old.system ≡ turns_passed before → OnErr result (StopsEndOf (Some p) (seen S.written S.faults render.old sink.old) (seen S.written S.faults render.new sink.new) before) }
+        ensures end { (before : System) → self.old.system ≡ turns_passed before → OnOk result (WritesEndOf self.old.bdos (Some p) (seen S.written S.faults render.old sink.old) (seen S.written S.faults render.new sink.new) before self.new.system) }
+        ensures stops { (before : System) → self.old.system ≡ turns_passed before → OnErr result (StopsEndOf self.old.bdos (Some p) (seen S.written S.faults render.old sink.old) (seen S.written S.faults render.new sink.new) before) }
         ensures trace { render.new.trace ≡ render.old.trace }
         ensures cause { HasCause (S.faults sink.old) (S.faults sink.new) result }
         ensures kept { EndKeeps self.old.bdos self.new.bdos }

@@ -62,7 +62,7 @@ impl Machine {
         ensures stands { (files : Files) → StandsWorked self.old.system.kernel.disk self.old.bdos (D.disks drives.old) files
             → IfErr result (λ fault. OnWriteFault fault (StandsWorked self.old.system.kernel.disk self.new.bdos (D.disks drives.new) (files_begun self.old.system files))) }
         ensures step { IfOk result (λ instruction. HasBegunStep self.old.bdos instruction (seen S.written S.faults render.old sink.old) (seen S.written S.faults render.new sink.new) self.old.system self.new.system) }
-        ensures stops { IfErr result (λ fault. HasBegunToStop fault (seen S.written S.faults render.old sink.old) (seen S.written S.faults render.new sink.new) self.old.system) }
+        ensures stops { IfErr result (λ fault. HasBegunToStop fault self.old.bdos (seen S.written S.faults render.old sink.old) (seen S.written S.faults render.new sink.new) self.old.system) }
         ensures served { OnOk result (self.new.system.kernel.disk.served ≡ self.old.system.kernel.disk.served) }
         ensures turn_steps { OnOk result (self.new.system.kernel.disk.turn_steps ≡ self.old.system.kernel.disk.turn_steps) }
         ensures whole { OnOk result (IsWhole self.new.system) }
@@ -80,6 +80,7 @@ impl Machine {
             → IfErr result (λ fault. fault ≡ StepFault.WriteFault) × (drives.new ≡ drives.old) × (steps.new ≡ steps.old) }
         ensures apart { IsSome self.old.system.kernel.disk.served → IfErr result (λ fault. fault ≡ StepFault.WriteFault) × (drives.new ≡ drives.old) × (steps.new ≡ steps.old) }
         ensures kept { IsSome self.old.system.kernel.disk.served → self.new.bdos ≡ self.old.bdos }
+        ensures at_rest { works_at_once (file_caller self.old.system) self.old.system ≡ false → self.new.bdos ≡ self.old.bdos }
         ensures calls { (files : Files) → StandsWorked self.old.system.kernel.disk self.old.bdos (D.disks drives.old) files
             → steps.new ≤ steps.old + 20 * turns_done (working_in self.old.system files) }
         ensures trace { render.new.trace ≡ render.old.trace }
@@ -122,7 +123,7 @@ impl Machine {
         ensures stands { (files : Files) → StandsWorked self.old.system.kernel.disk self.old.bdos (D.disks drives.old) files
             → IfErr result (λ fault. OnWriteFault fault (StandsWorked self.old.system.kernel.disk self.new.bdos (D.disks drives.new) (files_begun self.old.system files))) }
         ensures step { OnOk result (HasBegunStep self.old.bdos false (seen S.written S.faults render.old sink.old) (seen S.written S.faults render.new sink.new) self.old.system self.new.system) }
-        ensures stops { IfErr result (λ fault. HasBegunToStop fault (seen S.written S.faults render.old sink.old) (seen S.written S.faults render.new sink.new) self.old.system) }
+        ensures stops { IfErr result (λ fault. HasBegunToStop fault self.old.bdos (seen S.written S.faults render.old sink.old) (seen S.written S.faults render.new sink.new) self.old.system) }
         ensures served { OnOk result (self.new.system.kernel.disk.served ≡ self.old.system.kernel.disk.served) }
         ensures turn_steps { OnOk result (self.new.system.kernel.disk.turn_steps ≡ self.old.system.kernel.disk.turn_steps) }
         ensures whole { OnOk result (IsWhole self.new.system) }
@@ -140,6 +141,7 @@ impl Machine {
             → IfErr result (λ fault. fault ≡ StepFault.WriteFault) × (drives.new ≡ drives.old) × (steps.new ≡ steps.old) }
         ensures apart { IsSome self.old.system.kernel.disk.served → IfErr result (λ fault. fault ≡ StepFault.WriteFault) × (drives.new ≡ drives.old) × (steps.new ≡ steps.old) }
         ensures kept { IsSome self.old.system.kernel.disk.served → self.new.bdos ≡ self.old.bdos }
+        ensures at_rest { works_at_once (file_caller self.old.system) self.old.system ≡ false → self.new.bdos ≡ self.old.bdos }
         ensures calls { (files : Files) → StandsWorked self.old.system.kernel.disk self.old.bdos (D.disks drives.old) files
             → steps.new ≤ steps.old + 20 * turns_done (working_in self.old.system files) }
         ensures trace { render.new.trace ≡ render.old.trace }
@@ -180,7 +182,7 @@ impl Machine {
         ensures stands { (files : Files) → StandsWorked self.old.system.kernel.disk self.old.bdos (D.disks drives.old) files
             → IfErr result (λ fault. OnWriteFault fault (StandsWorked self.old.system.kernel.disk self.new.bdos (D.disks drives.new) (files_called p self.old.system files))) }
         ensures called { OnOk result (HasToldAtGate self.old.bdos p (seen S.written S.faults render.old sink.old) (seen S.written S.faults render.new sink.new) self.old.system self.new.system) }
-        ensures stops { IfErr result (λ fault. HasStoppedAtGate fault p (seen S.written S.faults render.old sink.old) (seen S.written S.faults render.new sink.new) self.old.system) }
+        ensures stops { IfErr result (λ fault. HasStoppedAtGate fault self.old.bdos p (seen S.written S.faults render.old sink.old) (seen S.written S.faults render.new sink.new) self.old.system) }
         ensures keeps { KeepsMounted (D.disks drives.old) (D.disks drives.new) self.old.bdos.mounted self.new.bdos.mounted }
         ensures names { D.failed_names drives.new ≡ D.failed_names drives.old }
         ensures attached { (number : ℕ) → D.attached drives.new number ≡ D.attached drives.old number }
@@ -193,6 +195,7 @@ impl Machine {
             → IfErr result (λ fault. fault ≡ StepFault.WriteFault) × (drives.new ≡ drives.old) × (steps.new ≡ steps.old) }
         ensures apart { IsSome self.old.system.kernel.disk.served → IfErr result (λ fault. fault ≡ StepFault.WriteFault) × (drives.new ≡ drives.old) × (steps.new ≡ steps.old) }
         ensures kept { IsSome self.old.system.kernel.disk.served → self.new.bdos ≡ self.old.bdos }
+        ensures at_rest { (is_some (function_of (call_of self.old.system.kernel.dispatcher.procs p).function) && is_done_at_once p self.old.system) ≡ false → self.new.bdos ≡ self.old.bdos }
         ensures calls { (filing : Filing) → StandsWorked self.old.system.kernel.disk self.old.bdos (D.disks drives.old) (Between filing)
             → steps.new ≤ steps.old + 20 * turns_done (working_if (is_done_at_once p self.old.system) filing p self.old.system) }
         ensures trace { render.new.trace ≡ render.old.trace }
@@ -262,7 +265,7 @@ impl Machine {
         ensures stands { (disks : Option Disks) (files : Files) → StandsWorked self.old.system.kernel.disk self.old.bdos disks files
             → OnErr result (HaveImages disks self.new.bdos.mounted (drives_in (rest_of instruction (telling_then nothing_told self.old.system files) (silent self.old.system)).system.kernel.disk.served (files_rest self.old.system files))) }
         ensures step { OnOk result (HasEndedStep self.old.bdos self.new.bdos instruction (seen S.written S.faults render.old sink.old) (seen S.written S.faults render.new sink.new) self.old.system self.new.system) }
-        ensures stops { OnErr result (HasEndedToStop instruction (seen S.written S.faults render.old sink.old) (seen S.written S.faults render.new sink.new) self.old.system) }
+        ensures stops { OnErr result (HasEndedToStop self.old.bdos instruction (seen S.written S.faults render.old sink.old) (seen S.written S.faults render.new sink.new) self.old.system) }
         ensures due { OnOk result (NobodyDue self.new.system.kernel) }
         ensures whole { OnOk result (IsWhole self.new.system) }
         ensures no_completions { OnOk result (NoCompletions self.new.system) }
@@ -303,7 +306,7 @@ impl Machine {
         ensures err { (disks : Option Disks) (files : Files) → StandsWorked self.old.system.kernel.disk self.old.bdos disks files
             → OnErr result (Stopped (seen S.written S.faults render.old sink.old) (seen S.written S.faults render.new sink.new) (disk_served (told_within files self.old.system) self.old.system).emitted) }
         ensures step { OnOk result (HasServed self.old.bdos self.new.bdos (seen S.written S.faults render.old sink.old) (seen S.written S.faults render.new sink.new) self.old.system self.new.system) }
-        ensures stops { OnErr result (HasStoppedServing (seen S.written S.faults render.old sink.old) (seen S.written S.faults render.new sink.new) self.old.system) }
+        ensures stops { OnErr result (HasStoppedServing self.old.bdos (seen S.written S.faults render.old sink.old) (seen S.written S.faults render.new sink.new) self.old.system) }
         ensures begun { OnOk result (HasBegun self.new.system.kernel.disk) }
         ensures filed { OnOk result (AreFiled self.new.system.kernel) }
         ensures own { OnOk result (OwnsService self.new.system.kernel self.new.bdos.service) }
@@ -338,14 +341,14 @@ impl Machine {
         ensures err { (disks : Option Disks) (files : Files) → StandsWorked self.old.system.kernel.disk self.old.bdos disks files
             → OnErr result (Stopped (seen S.written S.faults render.old sink.old) (seen S.written S.faults render.new sink.new) (disk_served (told_within files self.old.system) self.old.system).emitted) }
         ensures step { OnOk result (HasPassed self.old.bdos (seen S.written S.faults render.old sink.old) (seen S.written S.faults render.new sink.new) self.old.system self.new.system) }
-        ensures stops { OnErr result (HasStoppedServing (seen S.written S.faults render.old sink.old) (seen S.written S.faults render.new sink.new) self.old.system) }
+        ensures stops { OnErr result (HasStoppedServing self.old.bdos (seen S.written S.faults render.old sink.old) (seen S.written S.faults render.new sink.new) self.old.system) }
         ensures begun { OnOk result (HasBegun self.new.system.kernel.disk) }
         ensures filed { OnOk result (AreFiled self.new.system.kernel) }
         ensures own { OnOk result (OwnsService self.new.system.kernel self.new.bdos.service) }
         ensures whole { OnOk result (IsWhole self.new.system) }
         ensures completed { OnOk result (self.new.system.kernel.dispatcher.completed ≡ []) }
         ensures kept { EndKeeps self.old.bdos self.new.bdos }
-        ensures stays { IsSome self.old.system.kernel.disk.served → process_over self.old.system ≡ None → self.new.bdos ≡ self.old.bdos }
+        ensures stays { process_over self.old.system ≡ None → self.new.bdos ≡ self.old.bdos }
         ensures workless { HasNoDrive self.old.bdos.mounted → has_work self.old.bdos.service ≡ false → has_work self.new.bdos.service ≡ false }
         ensures trace { render.new.trace ≡ render.old.trace }
         ensures cause { HasCause (S.faults sink.old) (S.faults sink.new) result }
@@ -379,7 +382,7 @@ impl Machine {
         ensures err { (disks : Option Disks) (s : Situation) → Serves (told_images disks) self.old.bdos s (call_turns s) → s.caller.process ≡ p
             → OnErr result (Stopped (seen S.written S.faults render.old sink.old) (seen S.written S.faults render.new sink.new) (call_over (told_of_call s p self.old.system) p self.old.system).emitted) }
         ensures told { OnOk result (HasAnswered self.old.bdos p (seen S.written S.faults render.old sink.old) (seen S.written S.faults render.new sink.new) self.old.system self.new.system) }
-        ensures stops { OnErr result (HasStoppedAnswering p (seen S.written S.faults render.old sink.old) (seen S.written S.faults render.new sink.new) self.old.system) }
+        ensures stops { OnErr result (HasStoppedAnswering self.old.bdos p (seen S.written S.faults render.old sink.old) (seen S.written S.faults render.new sink.new) self.old.system) }
         ensures idle { self.new.bdos.service ≡ None }
         ensures whole { OnOk result (IsWhole self.new.system) }
         ensures completed { OnOk result (self.new.system.kernel.dispatcher.completed ≡ []) }
@@ -440,6 +443,7 @@ impl Machine {
         ensures begun { HasBegun self.new.system.kernel.disk }
         ensures own { OwnsService self.new.system.kernel self.new.bdos.service }
         ensures kept { self.new.bdos ≡ record self.old.bdos { service = self.new.bdos.service } }
+        ensures idle { self.new.system.kernel.disk.served ≡ None → self.new.bdos ≡ self.old.bdos }
         ensures workless { HasNoDrive self.old.bdos.mounted → has_work self.old.bdos.service ≡ false → has_work self.new.bdos.service ≡ false }
         ensures reply { self.new.reply ≡ self.old.reply }
     {

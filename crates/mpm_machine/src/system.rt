@@ -38,6 +38,7 @@ impl System {
     ghost use Rattle.mpm_machine.specs.Gates.{is_inside};
     ghost use Rattle.mpm_machine.specs.State.{State, silent, IsWhole, NoCompletions, HasRoom, HasRoomForAll};
     ghost use Rattle.mpm_machine.specs.Due.{NobodyDue};
+    ghost use Rattle.mpm_bdos.specs.Serving.{Kept};
     ghost use Rattle.mpm_machine.specs.After.{after, AreSteps};
     ghost use Rattle.mpm_ready.specs.Order.{first_of};
     ghost use Rattle.mpm_ready.specs.Tables.{list_at};
@@ -65,7 +66,7 @@ impl System {
         ensures states { (s : State) → s.system ≡ self.old → AreWithin self.old.kernel.disk.served s.files → after result s ≡ record s { system = self.new } }
         ensures disk { self.new.kernel.disk ≡ passed_by result self.old.kernel.disk }
         ensures calls { CallsAlike self.old.kernel.dispatcher.procs self.new.kernel.dispatcher.procs }
-        ensures steps { AreSteps result self.old (silent self.new) }
+        ensures steps { (kept : Kept) → AreSteps result kept kept self.old (silent self.new) }
         ensures due { 0 < result → NobodyDue self.new.kernel }
         ensures whole { IsWhole self.new }
         ensures no_completions { NoCompletions self.new }
@@ -162,6 +163,7 @@ impl System {
 
     /// Instructions of a process of a segment, at most so many.
     #[tactic(auto, unfolding(crate::specs::Moving::with_view))]
+    #[inline(always)]
     fn run_process(&mut self, p: Pid, seg: Seg, most: u64) -> u64
         requires sound { IsSound self.old.kernel }
         requires short { most ≤ 4294967295 }

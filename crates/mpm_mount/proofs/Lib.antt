@@ -39,3 +39,4 @@ pub mod OneFile
 pub mod Names
 pub mod SearchSteps
 pub mod Lowest
+pub mod Looked

@@ -20,7 +20,7 @@ use Rattle.mpm_dirent.specs.declared.kinds.LabelEntry.{LabelEntry}
 use Rattle.mpm_mount.specs.declared.slots.EntryName.{EntryName}
 use Rattle.mpm_mount.specs.Drives.{FileName, entry_cmp, file_cmp, Drive, entry_name}
 use Rattle.mpm_mount.specs.Faults.{name_of, holds, is_named, is_label, is_xfcb, first_fault}
-use Rattle.mpm_mount.specs.Images.{extent_in, extent_from, xfcb_from, label_from, drive_of}
+use Rattle.mpm_mount.specs.Images.{extent_in, extent_from, xfcb_from, label_from, drive_of, protection_of}
 use Rattle.mpm_mount.specs.Directories.{others, Directory, entry_in, extent_slot, xfcb_slot, label_slot, is_free, free_slot, is_used, used_blocks, free_block, IsFreeBlock, Stands}
 use Rattle.mpm_mount.proofs.Ranges.{map_at}
 use Rattle.mpm_mount.proofs.Others.{all_none}
@@ -29,7 +29,7 @@ use Rattle.mpm_mount.proofs.Collected.{ties, get_collected, scanned_here, scanne
 use Rattle.mpm_mount.proofs.Orders.{entry_total, file_total, same_file}
 use Rattle.mpm_mount.proofs.Distinct.{named_by, named_alone, xfcb_by, xfcb_alone, label_by}
 use Rattle.mpm_mount.proofs.Exchanged.{others_map, none_of, gives_name, gives_xfcb, none_first, first_alone, gives_label, label_only}
-use Rattle.mpm_mount.proofs.Sorts.{file_of, protection_of, label_of}
+use Rattle.mpm_mount.proofs.Sorts.{file_of, label_of}
 
 -- both are of one kind
 pub kind_of : (image : List ℕ) (d : Directory) (files : Drive) → Stands image d files → files.kind ≡ d.kind

@@ -13,7 +13,7 @@ use Rattle.mpm_dirent.specs.Names.{plain}
 use Rattle.mpm_mount.specs.declared.slots.EntryName.{EntryName}
 use Rattle.mpm_mount.specs.Drives.{FileName, entry_cmp, file_cmp, PhysicalExtent, Protection, DirectoryLabel, Drive, with_extent, without_extent, with_xfcb, without_xfcb}
 use Rattle.mpm_mount.specs.Faults.{name_of}
-use Rattle.mpm_mount.specs.Images.{extent_in}
+use Rattle.mpm_mount.specs.Images.{extent_in, protection_of}
 use Rattle.mpm_mount.specs.Changes.{exchanged}
 use Rattle.mpm_mount.proofs.Orders.{entry_total, entry_same, file_total, file_same}
 
@@ -59,9 +59,6 @@ extent_changed sectors drive f g same =
 -- an XFCB likewise
 abbrev pub file_of : XfcbEntry → FileName
 file_of x = record { user = x.user; name = plain x.name }
-
-abbrev pub protection_of : XfcbEntry → Protection
-protection_of x = record { mode = x.mode; decode = x.decode; password = x.password; first = x.first; second = x.second }
 
 pub xfcb_added : (sectors : Sectors) (drive : Drive) (x : XfcbEntry) → exchanged sectors drive Free (Xfcb x) ≡ with_xfcb drive (record { user = x.user; name = plain x.name })
     (record { mode = x.mode; decode = x.decode; password = x.password; first = x.first; second = x.second })

@@ -9,6 +9,7 @@ use Rattle.mpm_blocks.specs.Sectors.{Sectors, sectors_of}
 use Rattle.mpm_dirent.specs.declared.kinds.Entry.{Entry}
 use Rattle.mpm_dirent.specs.declared.kinds.Entry.TheVariants.{Free, File, Xfcb, Label, Kept}
 use Rattle.mpm_dirent.specs.declared.kinds.FileEntry.{FileEntry}
+use Rattle.mpm_dirent.specs.declared.kinds.XfcbEntry.{XfcbEntry}
 use Rattle.mpm_dirent.specs.Entries.{part, entry_of}
 use Rattle.mpm_dirent.specs.Names.{plain}
 use Rattle.mpm_mount.specs.declared.errors.ImageFault.{ImageFault}
@@ -48,6 +49,10 @@ extent_in sectors kind f = record {
   blocks = map (λ i. contents_of sectors kind (block_at f i)) (range_with_len 0 (places kind));
 }
 
+-- how an XFCB protects its file
+abbrev pub protection_of : XfcbEntry → Protection
+protection_of x = record { mode = x.mode; decode = x.decode; password = x.password; first = x.first; second = x.second }
+
 -- what a directory entry gives to its drive: an entry of a file, an XFCB, a label, or one entry more that is kept
 abbrev pub extent_from : Sectors → Kind → Entry → Option (EntryName × PhysicalExtent)
 extent_from sectors kind (File f) = Some (name_of kind f, extent_in sectors kind f)
@@ -57,10 +62,7 @@ extent_from sectors kind (Label l) = None
 extent_from sectors kind (Kept bytes) = None
 
 abbrev pub xfcb_from : Entry → Option (FileName × Protection)
-xfcb_from (Xfcb x) = Some (
-  record { user = x.user; name = plain x.name },
-  record { mode = x.mode; decode = x.decode; password = x.password; first = x.first; second = x.second },
-)
+xfcb_from (Xfcb x) = Some (record { user = x.user; name = plain x.name }, protection_of x)
 xfcb_from Free = None
 xfcb_from (File f) = None
 xfcb_from (Label l) = None

@@ -8,3 +8,4 @@ pub mod Mounting
 pub mod Searching
 pub mod Attributes
 pub mod Files
+pub mod Looking

@@ -6,6 +6,7 @@ mod blocks;
 mod directory;
 mod errors;
 mod faults;
+mod looking;
 mod lookups;
 mod mounting;
 mod reading;
@@ -14,6 +15,7 @@ mod slots;
 
 pub use directory::Mounted;
 pub use errors::{ImageFault, MountError};
+pub use looking::{attributes, attributes_of, count, label, label_byte, xfcb};
 pub use lookups::lowest_entry;
 pub use mounting::mount;
 pub use searching::Found;

@@ -304,8 +304,9 @@ fn pause_in_halt(
     }
 }
 
-/// Plain instructions in a row, at most so many: R and the shadow of an EI are changed once for all of them.
-#[inline(always)]
+/// Plain instructions in a row, at most so many: R and the shadow of an EI are changed once for all of them. All of them are done
+/// here, in code of its own, so that what each one needs stays at hand.
+#[inline(never)]
 fn execute_plain(
     inside: bool,
     most: u64,
@@ -364,8 +365,7 @@ impl Burst for Instructions {
 
     ghost ran = { BurstOf };
 
-    /// All instructions are done here, in code of its own, so that what each one needs stays at hand.
-    #[inline(never)]
+    #[inline(always)]
     fn run(
         &self,
         spec: SegmentSpec,

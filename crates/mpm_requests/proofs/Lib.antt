@@ -1,4 +1,3 @@
-pub mod Looked
 pub mod Rooms
 pub mod PasswordLaws
 pub mod SharedFiles
@@ -6,7 +5,6 @@ pub mod LastSearches
 pub mod Searched
 pub mod Behind
 pub mod Deleted
-pub mod SizeLaws
 pub mod AskedLaws
 pub mod UnmountedLaws
 pub mod Firsts

@@ -4,7 +4,7 @@ use Rattle.std.specs.Prelude.{nat_lt}
 use Rattle.mpm_mount.specs.Drives.{FileName, Drive, free_entries}
 use Rattle.mpm_fcb.specs.declared.block.ControlBlock.{ControlBlock}
 use Rattle.mpm_functions.specs.declared.functions.FileFunction.{FileFunction}
-use Rattle.mpm_requests.specs.Subjects.{data_byte}
+use Rattle.mpm_mount.specs.Looking.{data_byte}
 use Rattle.mpm_requests.specs.Refusals.{makes_xfcb, lacks_xfcb, lacks_label, needed_by, entries_needed, is_directory_full}
 
 pub needed_so : (drive : Drive) (file : FileName) (b : ControlBlock) (function : FileFunction) (label : ℕ) (no_xfcb no_label : Bool) → label ≡ data_byte drive → no_xfcb ≡ lacks_xfcb drive file

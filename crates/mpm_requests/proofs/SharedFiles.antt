@@ -5,13 +5,14 @@ use Rattle.mpm_opens.specs.declared.kinds.Mode.{Mode}
 use Rattle.mpm_opens.specs.declared.kinds.Mode.TheVariants.{ReadOnly}
 use Rattle.mpm_fcb.specs.declared.block.ControlBlock.{ControlBlock}
 use Rattle.mpm_fcb.specs.Opening.{open_mode}
-use Rattle.mpm_requests.specs.Subjects.{attributes_in, shared_file, shared_by, is_shared, opened_in, file_admits, mode_asked}
+use Rattle.mpm_mount.specs.Looking.{file_attributes}
+use Rattle.mpm_requests.specs.Subjects.{shared_file, shared_by, is_shared, opened_in, file_admits, mode_asked}
 
-pub shared_so : (drive : Drive) (file : FileName) (own shared : Option (List Bool)) → attributes_in drive file ≡ own → attributes_in drive (shared_file file) ≡ shared
+pub shared_so : (drive : Drive) (file : FileName) (own shared : Option (List Bool)) → file_attributes drive file ≡ own → file_attributes drive (shared_file file) ≡ shared
     → shared_by own shared ≡ is_shared drive file
 unfolding is_shared
 shared_so drive file own shared is_own is_shared_one =
-    sym (ap (λ o. shared_by o (attributes_in drive (shared_file file))) is_own ∙ ap (shared_by own) is_shared_one)
+    sym (ap (λ o. shared_by o (file_attributes drive (shared_file file))) is_own ∙ ap (shared_by own) is_shared_one)
 
 -- of a shared file, and of one's own
 pub mode_shared : (drive : Drive) (file : FileName) (b : ControlBlock) (given default : List ℕ) → is_shared drive file ≡ true → ReadOnly ≡ mode_asked drive file b given default

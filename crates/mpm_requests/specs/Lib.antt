@@ -3,6 +3,4 @@ pub mod Searches
 pub mod Subjects
 pub mod Refusals
 pub mod Looking
-pub mod Sizes
 pub mod Asking
-pub mod Protections

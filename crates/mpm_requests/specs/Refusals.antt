@@ -4,6 +4,7 @@ use Rattle.std.specs.Option.{option_or}
 use Rattle.std.specs.Prelude.{ℕ, ◌+◌, ◌==◌, ◌&&◌, ◌||◌, not, Bool, true, false, List, [], ◌∷◌, ◌++◌, Option, Some, None, is_some, option_map, length, map, find, nat_lt, if◌then◌else◌}
 use Rattle.std.specs.List.{flat_map}
 use Rattle.std.specs.FinMap.{get}
+use Rattle.mpm_base.specs.Counts.{one_if}
 use Rattle.mpm_dirent.specs.declared.kinds.LabelEntry.{LabelEntry}
 use Rattle.mpm_dirent.specs.Names.{plain}
 use Rattle.mpm_opens.specs.declared.kinds.Mode.{Mode}
@@ -26,7 +27,8 @@ use Rattle.mpm_fcb.specs.Positions.{are_beyond}
 use Rattle.mpm_marks.specs.Busy.{are_busy}
 use Rattle.mpm_requests.specs.declared.deleting.Deleter.{Deleter}
 use Rattle.mpm_requests.specs.Filing.{Situation, block}
-use Rattle.mpm_requests.specs.Subjects.{drive_named, drive_number, drive_at, is_mounted, is_protected, is_there, has_attribute, extent_count, subject, open_key, mode_if_open, first_record, data_byte, file_admits, given_password, mode_by, found, deleted_in, deleted_files, key_of}
+use Rattle.mpm_mount.specs.Looking.{extent_count, data_byte}
+use Rattle.mpm_requests.specs.Subjects.{drive_named, drive_number, drive_at, is_mounted, is_protected, is_there, has_attribute, subject, open_key, mode_if_open, first_record, file_admits, given_password, mode_by, found, deleted_in, deleted_files, key_of}
 
 -- the named drive isn't mounted
 abbrev pub is_unmounted : Situation → Option ℕ → Bool
@@ -148,9 +150,6 @@ deletion_refusal drive opens by pattern = first_refused (file_refusal drive open
 -- a making makes an XFCB too where the label has 10h, or where it has 80h and a password is given
 abbrev pub makes_xfcb : ℕ → ControlBlock → Bool
 makes_xfcb label b = has_bit 0x10 label || (has_bit 0x80 label && has_f6 b)
-
-abbrev pub one_if : Bool → ℕ
-one_if test = if test then 1 else 0
 
 abbrev pub lacks_xfcb : Drive → FileName → Bool
 lacks_xfcb drive file = not (is_some (get drive.xfcbs file))

@@ -15,8 +15,8 @@ use Rattle.mpm_opens.specs.Items.{file_named}
 use Rattle.mpm_opens.specs.Opens.{item_of}
 use Rattle.mpm_functions.specs.declared.functions.FileFunction.{FileFunction}
 use Rattle.mpm_functions.specs.declared.functions.FileFunction.TheVariants.{ResetDisks, OpenFile, CloseFile, SearchFirst, SearchNext, ReadSequential, WriteSequential, MakeFile, ProtectDisk, ReadRandom, WriteRandom, ResetDrives, AccessDrives, FreeDrives, TestAndWrite, LockRecord, UnlockRecord, FreeSpace, FlushBuffers, LabelData}
-use Rattle.mpm_mount.specs.Drives.{FileName, PhysicalExtent, Protection, Drive, entry_cmp, entry_number, count_in, extent_at, extents_of}
-use Rattle.mpm_mount.specs.Attributes.{first_attributes}
+use Rattle.mpm_mount.specs.Drives.{FileName, Protection, Drive, entry_cmp, entry_number}
+use Rattle.mpm_mount.specs.Looking.{data_byte, file_attributes}
 use Rattle.mpm_mount.specs.Files.{entries_named, is_fitting}
 use Rattle.mpm_guard.specs.Passwords.{is_admitted}
 use Rattle.mpm_fcb.specs.declared.block.ControlBlock.{ControlBlock}
@@ -74,22 +74,15 @@ own_file s = record { user = s.caller.user; name = plain (block s).name }
 abbrev pub new_file : Situation → FileName
 new_file s = record { user = s.caller.user; name = plain (new_name_of (block s)) }
 
--- the attributes of a file that is there, and one of them, by its place among F1' to F8' and T1' to T3'
-unfoldable pub attributes_in : Drive → FileName → Option (List Bool)
-attributes_in drive file = first_attributes (extents_of drive file)
-
+-- whether a file is there, and one of its attributes, by its place among F1' to F8' and T1' to T3'
 abbrev pub is_there : Drive → FileName → Bool
-is_there drive file = is_some (attributes_in drive file)
+is_there drive file = is_some (file_attributes drive file)
 
 abbrev pub is_set : Option (List Bool) → ℕ → Bool
 is_set attributes place = slice_index_or (unwrap_or attributes []) place false
 
 abbrev pub has_attribute : Drive → FileName → ℕ → Bool
-has_attribute drive file place = is_set (attributes_in drive file) place
-
--- the record count of an extent that is there
-unfoldable pub extent_count : Drive → FileName → ℕ → Option ℕ
-extent_count drive file extent = option_map (λ (entry : PhysicalExtent). count_in entry extent) (extent_at drive file extent)
+has_attribute drive file place = is_set (file_attributes drive file) place
 
 -- a file that the user lacks is opened in user 0, where it is a system file, with T2'
 abbrev pub shared_file : FileName → FileName
@@ -101,7 +94,7 @@ shared_by None None = false
 shared_by None (Some attributes) = is_set (Some attributes) 9
 
 unfoldable pub is_shared : Drive → FileName → Bool
-is_shared drive file = shared_by (attributes_in drive file) (attributes_in drive (shared_file file))
+is_shared drive file = shared_by (file_attributes drive file) (file_attributes drive (shared_file file))
 
 unfoldable pub opened_in : Drive → FileName → FileName
 opened_in drive file = if is_shared drive file then shared_file file else file
@@ -184,10 +177,6 @@ entry_of_xfcb file xfcb = record {
   first = xfcb.first;
   second = xfcb.second;
 }
-
--- the label's data byte, 0 where there is no label
-abbrev pub data_byte : Drive → ℕ
-data_byte drive = unwrap_or (option_map (λ label. label.protection.mode) drive.label) 0
 
 abbrev pub xfcb_admits : ℕ → FileName → ℕ → List ℕ → List ℕ → Option Protection → Bool
 xfcb_admits label file need given default None = true

@@ -1,4 +1,4 @@
-ghost use Rattle.std.specs.Prelude.{◌≡◌, ◌<◌, ℕ, List, Option, unwrap_or, IfSome};
+ghost use Rattle.std.specs.Prelude.{◌≡◌, ◌<◌, ℕ, List, Option, unwrap_or, IfSome, length};
 ghost use Rattle.mpm_fcb.specs.Blocks.{block_of};
 ghost use Rattle.mpm_mount.specs.Drives.{Drive};
 ghost use Rattle.mpm_mount.specs.Directories.{Stands};
@@ -43,11 +43,20 @@ pub struct Asked {
     pub is_found: bool,
 }
 
-/// The file control block of a call.
-pub(crate) fn block_of_call(call: &Call) -> ControlBlock
-    ensures { result ≡ block_of call.now.fcb }
+/// The file control block in a call's 36 bytes.
+fn read_block(bytes: &[u8; 36]) -> ControlBlock
+    ensures block { result ≡ block_of bytes.now }
+    ensures size { length bytes.now ≡ 36 }
 {
-    ControlBlock::read(&call.fcb)
+    ControlBlock::read(bytes)
+}
+
+/// The file control block of a call.
+pub fn block_of_call(call: &Call) -> ControlBlock
+    ensures block { result ≡ block_of call.now.fcb }
+    ensures size { length call.now.fcb ≡ 36 }
+{
+    read_block(&call.fcb)
 }
 
 /// The parameter of a call.

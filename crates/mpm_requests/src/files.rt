@@ -4,8 +4,7 @@ ghost use Rattle.mpm_mount.specs.Drives.{Drive};
 ghost use Rattle.mpm_mount.specs.Directories.{Stands};
 ghost use Rattle.mpm_requests.specs.Subjects as spec;
 
-use crate::looking::attributes;
-use mpm_mount::Mounted;
+use mpm_mount::{Mounted, attributes};
 
 /// The place of T1', read-only, among the attributes.
 const READ_ONLY: usize = 8;

@@ -6,11 +6,10 @@ ghost use Rattle.mpm_requests.specs.Subjects.{deleted_in};
 ghost use Rattle.mpm_requests.specs.Refusals as spec;
 
 use crate::files::is_there;
-use crate::looking::count;
 use crate::searching::found_in;
 use mpm_fcb::ControlBlock;
 use mpm_functions::FileFunction;
-use mpm_mount::Mounted;
+use mpm_mount::{Mounted, count};
 
 /// Whether a deletion of a user's files of a pattern names none.
 fn deletes_nothing(mounted: &Mounted, user: u8, pattern: &[u8; 11]) -> bool

@@ -2,12 +2,12 @@ ghost use Rattle.std.specs.Prelude.{◌≡◌, ℕ, List};
 ghost use Rattle.mpm_dirent.specs.Names.{plain};
 ghost use Rattle.mpm_mount.specs.Drives.{Drive};
 ghost use Rattle.mpm_mount.specs.Directories.{Stands};
+ghost use Rattle.mpm_requests.specs.Subjects.{file_admits};
 ghost use Rattle.mpm_requests.specs.Refusals as spec;
 
-use crate::looking::{file_admits, label};
 use mpm_functions::FileFunction;
-use mpm_guard::admits_label;
-use mpm_mount::Mounted;
+use mpm_guard::{admits, admits_label};
+use mpm_mount::{Mounted, label, label_byte, xfcb};
 
 /// Which bits of an XFCB's mode guard a file against a call: for opening 80h, for others any.
 fn need_of(function: FileFunction) -> u8
@@ -35,6 +35,25 @@ fn label_admits(mounted: &Mounted, given: &[u8; 8], default: &[u8; 8]) -> bool
 {
     match label(mounted) {
         Some(label) => admits_label(&label, given, default),
+        None => true,
+    }
+}
+
+/// Whether a user's file is open to a process by what its XFCB guards with `need`: by the password that it gives, by its default
+/// one, or as nothing guards.
+pub(crate) fn file_admits(
+    mounted: &Mounted,
+    user: u8,
+    name: &[u8; 11],
+    need: u8,
+    given: &[u8; 8],
+    default: &[u8; 8],
+) -> bool
+    ensures { (image : List ℕ) (drive : Drive) → Stands image mounted.now drive
+        → result ≡ file_admits drive (record { user = user; name = plain name.now }) need given.now default.now }
+{
+    match xfcb(mounted, user, name) {
+        Some(xfcb) => admits(label_byte(mounted), &xfcb, need, given, default),
         None => true,
     }
 }

@@ -4,10 +4,9 @@ ghost use Rattle.mpm_mount.specs.Drives.{Drive};
 ghost use Rattle.mpm_mount.specs.Directories.{Stands};
 ghost use Rattle.mpm_requests.specs.Refusals as spec;
 
-use crate::looking::{label, label_byte, xfcb};
 use mpm_fcb::ControlBlock;
 use mpm_functions::FileFunction;
-use mpm_mount::Mounted;
+use mpm_mount::{Mounted, label, label_byte, xfcb};
 
 /// In the label's data byte: files are stamped as they are made.
 const MAKING: u8 = 0x10;

@@ -4,10 +4,10 @@ ghost use Rattle.mpm_mount.specs.Drives.{Drive};
 ghost use Rattle.mpm_mount.specs.Directories.{Stands};
 ghost use Rattle.mpm_requests.specs.Subjects as spec;
 
-use crate::looking::{attributes, file_admits};
+use crate::passwords::file_admits;
 use mpm_fcb::ControlBlock;
 use mpm_functions::FileFunction;
-use mpm_mount::Mounted;
+use mpm_mount::{Mounted, attributes};
 use mpm_opens::Mode;
 
 /// In an XFCB's mode: the password is asked for writing.

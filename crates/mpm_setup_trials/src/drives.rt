@@ -1,15 +1,10 @@
-//! Two drives that are mounted and synced, while each of their calls fails in turn, and in their order.
-ghost use Rattle.std.specs.Prelude.{◌≡◌, ◌<◌};
+//! Two drives that are mounted, while each of their calls fails in turn, and in their order.
 ghost use Rattle.mpm_machine_file.specs.MachineFiles.{IsMachine};
-ghost use Rattle.mpm_drives.specs.Mounted.{AreAttached};
 
-use mpm_base::Steps;
 use mpm_drives::{BootError, MountedDrives};
 use mpm_machine_file::{MachineFile, read_machine};
-use mpm_port::{Drives, Failed, FetchError, MemoryDrives};
+use mpm_port::{Drives, MemoryDrives};
 use std::alloc::Global;
-use std::marker::Brand;
-use std::sync::ledger::{Blank, Ledger};
 use std::test::Fail;
 
 /// A machine file with the drives A and C, which it lists last.
@@ -37,8 +32,7 @@ const DIRECTORY: usize = 52 * 128;
 /// What becomes of the drives.
 #[derive(Clone, Copy, Debug, PartialEq, Eq)]
 enum Ending {
-    Synced,
-    SyncFails,
+    Mounted,
     Refused(BootError),
 }
 
@@ -73,26 +67,12 @@ fn fault(drive: u8, cause: u8) -> Ending {
     })
 }
 
-/// Syncs mounted drives, with a count of the calls.
-fn sync<D: Drives, L: Ledger>(mounted: &MountedDrives, drives: &mut D, blank: Blank) -> Ending
-    requires attached { AreAttached (D.attached drives.old) mounted.now }
-    requires name { blank.name ≡ L.name }
-    requires parts { blank.parts ≡ L.parts }
-    requires some { 0 < L.parts }
-{
-    let mut steps = Steps::<L>::new(blank);
-    match mounted.sync(drives, &mut steps) {
-        Ok(()) => Ending::Synced,
-        Err(_) => Ending::SyncFails,
-    }
-}
-
-/// Mounts and syncs the drives of a machine file.
+/// Mounts the drives of a machine file.
 fn mount<D: Drives>(alloc: Global, file: &MachineFile, drives: &mut D) -> Ending
     requires { IsMachine file.now }
 {
     match MountedDrives::mount(alloc, file.drives.as_slice(), drives) {
-        Ok(mounted) => sync::<D, Brand>(&mounted, drives, Blank::new(1)),
+        Ok(_) => Ending::Mounted,
         Err(error) => Ending::Refused(error),
     }
 }
@@ -111,8 +91,7 @@ fn ends(alloc: Global, a: &[u8], c: &[u8], failing: u64) -> Result<Ending, Fail>
     Ok(mount(alloc, &file, &mut drives))
 }
 
-/// Each drive is attached (one call), its size is asked (one), and its directory of 16 sectors is read, A before C; then each
-/// is synced.
+/// Each drive is attached (one call), its size is asked (one), and its directory of 16 sectors is read, A before C.
 #[test]
 fn each_failing_call_is_a_fault(rt: HostRuntime) -> Result<(), Fail> {
     let image = image(rt.alloc(), SIZE, 128)?;
@@ -120,8 +99,7 @@ fn each_failing_call_is_a_fault(rt: HostRuntime) -> Result<(), Fail> {
         let ending = ends(rt.alloc(), image.as_slice(), image.as_slice(), call)?;
         let expected = match call {
             1..=36 => Ending::Refused(BootError::DiskFault),
-            37..=38 => Ending::SyncFails,
-            _ => Ending::Synced,
+            _ => Ending::Mounted,
         };
         assert_eq!(rt; ending, expected, "call {call}");
     }
@@ -148,72 +126,5 @@ fn the_first_drive_that_cannot_be_mounted_is_told(rt: HostRuntime) -> Result<(),
     for (a, c, expected) in rows {
         assert_eq!(rt; ends(rt.alloc(), a, c, 0)?, expected);
     }
-    Ok(())
-}
-
-/// Drives of empty disks that never fail, and note the first four that are synced.
-#[derive(Clone, Copy)]
-struct Noting {
-    synced: [u8; 4],
-    count: usize,
-    unsynced: [bool; 256],
-}
-
-impl Drives for Noting {
-    ghost use Rattle.std.specs.Prelude.{◌≡◌, ℕ, false, List, [], Option, Some, None, IfSome, slice_index_or};
-    ghost use Rattle.std.proofs.Common.{subst};
-    ghost use Rattle.mpm_port.specs.Disks.{Disks};
-
-    ghost attached = { λ _ _. Some 256256 };
-
-    ghost disks = { λ _. None };
-
-    ghost unsynced = { λ d drive. slice_index_or d.unsynced drive false };
-
-    ghost faults = { λ _. 0 };
-
-    ghost failed_names = { λ _. [] };
-
-    ghost sizes = { λ _ _ _ _ told size. absurd (subst (λ (disks : Option Disks). IfSome disks (λ _. ⊥)) told tt) };
-
-    fn attach(&mut self, drive: u8, _name: &str) -> Result<(), FetchError> {
-        self.unsynced[usize::from(drive)] = false;
-        Ok(())
-    }
-
-    fn size(&mut self, _drive: u8) -> Result<u64, Failed> {
-        Ok(256_256)
-    }
-
-    fn read(&mut self, _drive: u8, _sector: u32, out: &mut [u8; 128]) -> Result<(), Failed> {
-        *out = [0xE5; 128];
-        Ok(())
-    }
-
-    fn write(&mut self, drive: u8, _sector: u32, _bytes: &[u8; 128]) -> Result<(), Failed> {
-        self.unsynced[usize::from(drive)] = true;
-        Ok(())
-    }
-
-    fn sync(&mut self, drive: u8) -> Result<(), Failed> {
-        self.unsynced[usize::from(drive)] = false;
-        if self.count < 4 {
-            self.synced[self.count] = drive;
-            self.count += 1;
-        }
-        Ok(())
-    }
-}
-
-#[test]
-fn each_drive_is_synced_once_by_letter(rt: HostRuntime) -> Result<(), Fail> {
-    let file = read_machine(rt.alloc(), TWO_DRIVES)?;
-    let mut drives = Noting {
-        synced: [0xFF; 4],
-        count: 0,
-        unsynced: [false; 256],
-    };
-    assert_eq!(rt; mount(rt.alloc(), &file, &mut drives), Ending::Synced);
-    assert_eq!(rt; drives.synced, [0, 2, 0xFF, 0xFF]);
     Ok(())
 }

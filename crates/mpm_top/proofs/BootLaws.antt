@@ -26,7 +26,7 @@ use Rattle.mpm_machine.specs.Mounting.{HasDrives, HasNoDrive, OpensOn, untouched
 use Rattle.mpm_machine.proofs.MountedLaws.{none_mounted}
 use Rattle.mpm_machine.proofs.DriveLaws.{nothing_mounted}
 use Rattle.mpm_drives.specs.Stopping.{Failures, StopsAt, IsFirst, Stops}
-use Rattle.mpm_top.specs.Runs.{Host, Failed, system_of, script_name, drives_listed, begun, input_of, Holds, Scripted, Starts, StartsOf, Begins, BeginsOf, Unread, LacksScript, LacksDrive, Ends, EndsAfter, IsNoMachine, IsRefusal, IsEarly, status_of, UnlessDiskFault}
+use Rattle.mpm_top.specs.Runs.{Host, Failed, system_of, script_name, drives_listed, begun, input_of, Holds, Scripted, Starts, KeepsAtFirst, StartsOf, Begins, BeginsOf, Unread, LacksScript, LacksDrive, Ends, EndsAfter, IsNoMachine, IsRefusal, IsEarly, status_of, UnlessDiskFault}
 
 pub no_system : (bytes : List ℕ) (events : List Timed) → machine_of_text bytes ≡ None → system_of Run bytes events ≡ None
 unfolding system_of
@@ -80,14 +80,15 @@ no_drive x images (spec ∷ specs) (drive ∷ drives) mounted are has none = abs
 
 pub starts_of_file : (host : Host) (bytes : List ℕ) (file : MachineFile) (events : List Timed) (system : System) (x : Option Disks) (kept : Filed)
     → machine_of_text bytes ≡ Some file → Scripted host.contents file.script events → system ≡ opened file events → OpensOn host.images file.drives system.kernel.disk kept x
-    → HasDrives x file.drives kept.mounted → system.kernel.disk.served ≡ None → StartsOf host Run (λ content. content ≡ bytes) system kept x
+    → HasDrives x file.drives kept.mounted → KeepsAtFirst host file.drives kept → system.kernel.disk.served ≡ None → StartsOf host Run (λ content. content ≡ bytes) system kept x
 unfolding begins_of_file
-starts_of_file host bytes file events system x kept is scripted was opens listed idle = record {
+starts_of_file host bytes file events system x kept is scripted was opens listed keeps idle = record {
   drives = opens.drives;
   begins = begins_of_file host bytes file events system opens.drives is scripted was opens.are;
   same = refl;
   files = λ told. opens.stand (subst (AreTold host.images) (drives_of_file bytes file is) told);
   listed = subst (λ specs. HasDrives x specs kept.mounted) (sym (drives_of_file bytes file is)) listed;
+  at_first = subst (λ specs. KeepsAtFirst host specs kept) (sym (drives_of_file bytes file is)) keeps;
   bare = no_drive x host.images file.drives opens.drives kept.mounted opens.are listed;
   idle = idle;
 }
@@ -191,6 +192,7 @@ starts_of_contents host form name bytes system kept disks from_file starts = rec
   same = starts.same;
   files = starts.files;
   listed = starts.listed;
+  at_first = starts.at_first;
   bare = starts.bare;
   idle = starts.idle;
 }
@@ -293,6 +295,7 @@ program_starts host bytes disks system kept is none stand idle = record {
   same = refl;
   files = λ told. stand;
   listed = nothing_mounted disks kept none;
+  at_first = record { attached = λ number. None; disks = None; mounted = record { directories = []; mounted = tt; is = none } };
   bare = λ nothing. subst (λ (k : Filed). HasNoDrive k.mounted) (sym none) none_mounted;
   idle = idle;
 }

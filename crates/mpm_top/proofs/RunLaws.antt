@@ -1,6 +1,6 @@
 -- Laws of a run from its beginning to its end.
 use Rattle.std.proofs.Common.{◌≡◌, ◌∙◌, ◌<◌, ◌≤◌, ◌-◌, ℕ, zero, suc, Bool, List, [], ◌∷◌, ◌++◌, length, Option, Result, Ok, Err, refl, sym, ap, subst, inl, inr, arith}
-use Rattle.std.specs.Prelude.{OnOk, OnErr}
+use Rattle.std.specs.Prelude.{OnOk, OnErr, ◌⊎◌}
 use Rattle.std.proofs.lemmas.List.{append-nil}
 use Rattle.mpm_port.specs.Causes.{Rose, HasCause}
 use Rattle.mpm_port.specs.Disks.{Disks}
@@ -11,6 +11,7 @@ use Rattle.mpm_render.specs.Shown.{Kept, Shows, EndsBetween}
 use Rattle.mpm_render.specs.Outputs.{Output, rendered, closed}
 use Rattle.mpm_drives.specs.Images.{Images}
 use Rattle.mpm_drives.specs.Mounted.{NumberedDrive, AreTold, placed}
+use Rattle.mpm_bdos.specs.Serving.{Kept as Filed}
 use Rattle.mpm_machine.specs.declared.system.System.{System}
 use Rattle.mpm_machine.specs.declared.machine.Machine.{Machine}
 use Rattle.mpm_machine.specs.declared.machine.StepFault.{StepFault}
@@ -20,15 +21,17 @@ use Rattle.mpm_machine.specs.State.{State, Change, StandsWithDrives}
 use Rattle.mpm_machine.specs.Files.{Between, StandsForFiles}
 use Rattle.mpm_machine.specs.Mounting.{untouched}
 use Rattle.mpm_machine.specs.Failing.{HaveImages, StopsOn}
-use Rattle.mpm_machine.specs.Settling.{carried, StopsAtEnd, ClosesEnd, StopsSettling}
-use Rattle.mpm_machine.specs.After.{next, after, AreSteps, HasStoppedIn, ShowsBefore, EndsInStep}
+use Rattle.mpm_machine.specs.Settling.{carried, StopsAtEnd, ClosesEnd, StopsSettling, Called}
+use Rattle.mpm_machine.specs.After.{next, after, IsMadeInPart, AreSteps, HasStoppedIn, ShowsBefore, EndsInStep}
 use Rattle.mpm_output.specs.Outside.{Outside}
+use Rattle.mpm_output.specs.Writing.{Stopped}
 use Rattle.mpm_machine.proofs.NextLaws.{after_more}
+use Rattle.mpm_machine.proofs.SettlingLaws.{settling_text}
 use Rattle.mpm_top.specs.declared.words.Form.{Form}
 use Rattle.mpm_top.specs.declared.status.Status.{Status}
 use Rattle.mpm_top.specs.declared.status.Status.TheVariants.{DiskFault, WriteFault}
 use Rattle.mpm_top.specs.Words.{Command}
-use Rattle.mpm_top.specs.Runs.{Host, Failed, begun, drives_of, drives_left, drives_listed, Begins, Ends, StopsAt, StopsRun, Closes, ClosesAfter, ClosesAt, Causes, ended_by, KeepsOthers, StandFor, WritesSteps, StopsWriting, ClosesSteps, StopsSteps, WritesPart, WritesClosed, IsEarly}
+use Rattle.mpm_top.specs.Runs.{Host, Failed, begun, drives_of, drives_left, drives_listed, KeepsAtFirst, Begins, Ends, StopsAt, StopsRun, Closes, ClosesText, ClosesAfter, ClosesAt, Causes, ended_by, KeepsOthers, StandFor, WritesSteps, StopsWriting, ClosesSteps, StopsSteps, WritesPart, WritesClosed, IsEarly}
 
 -- a machine that begins, and a renderer that shows nothing yet, stand for its beginning
 pub stands_begun : (machine : Machine) (on : List NumberedDrive) (kept : Kept) (written : Option (List ℕ)) (disks : Option Disks) → Shows kept written [] written
@@ -148,15 +151,18 @@ pub disk_closed : (host : Host) (left : Images) (command : Command) (s : State) 
     → status ≡ ended_by fault step → status ≡ DiskFault said → (begins : Begins host command.form command.name s) → step ≤ command.steps
     → (AreTold host.images (drives_listed command.form begins.bytes)
     → StopsRun (StandFor left (drives_listed command.form begins.bytes)) fault command.trace s command.steps first written before now step)
-    → StopsSteps fault command.trace command.steps s.system first written before now step → KeepsOthers host.images left (drives_listed command.form begins.bytes)
+    → (upon : Filed) → KeepsAtFirst host (drives_listed command.form begins.bytes) upon
+    → StopsSteps fault command.trace command.steps upon s.system first written before now step → KeepsOthers host.images left (drives_listed command.form begins.bytes)
     → WritesClosed host left command first written before now said
-disk_closed host left command s SinkFailed step said status first written before now is disk begins bound stops steps others =
+disk_closed host left command s SinkFailed step said status first written before now is disk begins bound stops upon at_first steps others =
     let no : WriteFault step ≡ DiskFault said = sym is ∙ disk in absurd (cc)
-disk_closed host left command s SyncFailed step said status first written before now is disk begins bound stops steps others = record {
+disk_closed host left command s SyncFailed step said status first written before now is disk begins bound stops upon at_first steps others = record {
   start = s;
   begins = begins;
   within = subst (λ k. k ≤ command.steps) (same_disk step said (sym is ∙ disk)) bound;
-  steps = subst (λ k. ClosesSteps command.trace command.steps s.system first written before now k) (same_disk step said (sym is ∙ disk)) steps;
+  upon = upon;
+  at_first = at_first;
+  steps = subst (λ k. ClosesSteps command.trace command.steps upon s.system first written before now k) (same_disk step said (sym is ∙ disk)) steps;
   others = others;
   text = λ told.
       subst (λ k. ClosesAt (StandFor left (drives_listed command.form begins.bytes)) command.trace s command.steps first written before now k)
@@ -170,17 +176,20 @@ pub writes_part : (host : Host) (left : Images) (command : Command) (s : State) 
     → status ≡ ended_by fault step → status ≡ WriteFault said → (begins : Begins host command.form command.name s) → step ≤ command.steps
     → (AreTold host.images (drives_listed command.form begins.bytes)
     → StopsRun (StandFor left (drives_listed command.form begins.bytes)) fault command.trace s command.steps first written before now step)
-    → StopsSteps fault command.trace command.steps s.system first written before now step → KeepsOthers host.images left (drives_listed command.form begins.bytes)
+    → (upon : Filed) → KeepsAtFirst host (drives_listed command.form begins.bytes) upon
+    → StopsSteps fault command.trace command.steps upon s.system first written before now step → KeepsOthers host.images left (drives_listed command.form begins.bytes)
     → WritesPart host left command first written said
-writes_part host left command s SyncFailed step said status first written before now is wrote begins bound stops steps others =
+writes_part host left command s SyncFailed step said status first written before now is wrote begins bound stops upon at_first steps others =
     let no : DiskFault step ≡ WriteFault said = sym is ∙ wrote in absurd (cc)
-writes_part host left command s SinkFailed step said status first written before now is wrote begins bound stops steps others =
+writes_part host left command s SinkFailed step said status first written before now is wrote begins bound stops upon at_first steps others =
     let its = same_write step said (sym is ∙ wrote) in
     record {
       start = s;
       begins = begins;
       within = subst (λ k. k ≤ command.steps) its bound;
-      steps = subst (λ k. StopsWriting command.trace command.steps s.system first written k) its steps;
+      upon = upon;
+      at_first = at_first;
+      steps = subst (λ k. StopsWriting command.trace command.steps upon s.system first written k) its steps;
       others = others;
       text = λ told.
           subst (λ k. StopsAt (StandFor left (drives_listed command.form begins.bytes)) command.trace s command.steps first written k) its (stops told);
@@ -197,10 +206,11 @@ stopped_early fault step status is early = early_by fault step (subst IsEarly is
 
 -- what was written, by the steps of the system alone
 
-pub writes_steps : (trace : Bool) (steps : ℕ) (o : Outside) (old new last : System) (emitted : List Output) (first written : Option (List ℕ)) → o.kept.trace ≡ trace
-    → AreSteps steps old (record { system = new; emitted = emitted }) → Shows o.kept o.written (emitted ++ []) first → ClosesEnd o written new last
-    → WritesSteps trace steps old first written
-writes_steps trace steps o old new last emitted first written traces are shows end = record {
+pub writes_steps : (trace : Bool) (steps : ℕ) (upon kept : Filed) (o : Outside) (old new last : System) (emitted : List Output) (first written : Option (List ℕ)) → o.kept.trace ≡ trace
+    → AreSteps steps upon kept old (record { system = new; emitted = emitted }) → Shows o.kept o.written (emitted ++ []) first → ClosesEnd kept o written new last
+    → WritesSteps trace steps upon old first written
+writes_steps trace steps upon kept o old new last emitted first written traces are shows end = record {
+  kept = kept;
   change = record { system = new; emitted = emitted };
   are = are;
   end = end.change;
@@ -210,86 +220,101 @@ writes_steps trace steps o old new last emitted first written traces are shows e
 }
 
 -- no step was made
-pub none_run : (steps : ℕ) (old : System) (change : Change) → steps ≡ 0 → AreSteps steps old change → change.system ≡ old
+pub none_run : (steps : ℕ) (kept kept' : Filed) (old : System) (change : Change) → steps ≡ 0 → AreSteps steps kept kept' old change → change.system ≡ old
 unfolding AreSteps
-none_run zero old change none are = ap (λ (c : Change). c.system) are
-none_run (suc n) old change none are = absurd (omega (arith, none))
+none_run zero kept kept' old change none are = ap (λ (c : Change). c.system) are.1
+none_run (suc n) kept kept' old change none are = absurd (omega (arith, none))
 
 -- and where it stopped, in a step
 
 shown_so : (kept : Kept) (written first : Option (List ℕ)) (emitted : List Output) → Shows kept written (emitted ++ []) first → Shows kept written emitted first
 shown_so kept written first emitted shows = subst (λ outputs. Shows kept written outputs first) (append-nil emitted) shows
 
-pub stopped_inside : (fault : StepFault) (steps step : ℕ) (trace : Bool) (o q : Outside) (old : System) (first written : Option (List ℕ)) (before now : ℕ) → HasStoppedIn steps fault step o q old
-    → o.kept.trace ≡ trace → Shows o.kept o.written [] first → (fault ≡ SinkFailed → written ≡ q.written)
+-- what is so of the text of a step that was written in part
+in_part_so : (T U : List Output → Type 0) (kept : Filed) (old : System) → ((more : List Output) → T more → U more) → IsMadeInPart T kept old → IsMadeInPart U kept old
+in_part_so T U kept old so part = record {
+  change = part.change;
+  made = part.made;
+  as_kept = part.as_kept;
+  over_as_kept = either_text part.over_as_kept;
+  text = so part.change.emitted part.text;
+}
+  where
+    either_text : {P : Type 0} {said : List Output} → T said ⊎ P → U said ⊎ P
+    either_text {P} {said} (inl text) = inl (so said text)
+    either_text {P} {said} (inr p) = inr p
+
+pub stopped_inside : (fault : StepFault) (steps step : ℕ) (trace : Bool) (upon : Filed) (o q : Outside) (old : System) (first written : Option (List ℕ)) (before now : ℕ)
+    → HasStoppedIn steps fault step upon o q old → o.kept.trace ≡ trace → Shows o.kept o.written [] first → (fault ≡ SinkFailed → written ≡ q.written)
     → ((s : State) → ShowsBefore fault q.kept q.written s first → ClosesAfter fault trace s first written before now)
-    → StopsSteps fault trace steps old first written before now step
-stopped_inside SinkFailed steps step trace o q old first written before now stops traces shows same closes =
-    let ran = stops.ran in
-    let more : List Output = stops.stops.change.emitted in
-    let text = stops.stops.stops.part ran.emitted first (shown_so stops.between.kept stops.between.written first ran.emitted (ran.wrote.shown [] first shows)) in
-    inl (record {
-      done = stops.done;
-      few = stops.few;
-      is = stops.is;
-      before = record { system = stops.middle; emitted = ran.emitted };
-      are = ran.steps;
-      change = stops.stops.change;
-      made = stops.stops.is;
-      text = subst (λ w. EndsBetween w first (rendered trace ran.emitted) (rendered trace (more ++ ran.emitted))) (sym (same refl))
-          (subst (λ t. EndsBetween q.written first (rendered t ran.emitted) (rendered t (more ++ ran.emitted))) (ran.wrote.trace ∙ traces) text);
-      works = tt;
-    })
-stopped_inside SyncFailed steps step trace o q old first written before now stops traces shows same closes =
+    → StopsSteps fault trace steps upon old first written before now step
+stopped_inside SinkFailed steps step trace upon o q old first written before now stops traces shows same closes =
     let ran = stops.ran in
     let there = shown_so stops.between.kept stops.between.written first ran.emitted (ran.wrote.shown [] first shows) in
+    let T : Option (List ℕ) → Bool → List Output → Type 0 = λ w t more. EndsBetween w first (rendered t ran.emitted) (rendered t (more ++ ran.emitted)) in
     inl (record {
       done = stops.done;
       few = stops.few;
       is = stops.is;
+      kept = stops.kept_then;
       before = record { system = stops.middle; emitted = ran.emitted };
       are = ran.steps;
-      change = stops.stops.change;
-      made = stops.stops.is;
-      text = closes (record (begun stops.middle []) { outputs = ran.emitted })
-          (subst (λ (seen : Outside). Shows seen.kept seen.written ran.emitted first) (sym stops.stops.stops) there);
-      works = stops.stops.works;
+      next = in_part_so (Stopped stops.between q) (T written trace) stops.kept_then stops.middle
+          (λ more stopped. subst (λ w. T w trace more) (sym (same refl)) (subst (λ t. T q.written t more) (ran.wrote.trace ∙ traces) (stopped.part ran.emitted first there))) stops.stops;
+    })
+stopped_inside SyncFailed steps step trace upon o q old first written before now stops traces shows same closes =
+    let ran = stops.ran in
+    let there = shown_so stops.between.kept stops.between.written first ran.emitted (ran.wrote.shown [] first shows) in
+    let text : ClosesText trace ran.emitted first written before now = closes (record (begun stops.middle []) { outputs = ran.emitted })
+    (subst (λ (seen : Outside). Shows seen.kept seen.written ran.emitted first) (sym stops.stops.0) there) in
+    inl (record {
+      done = stops.done;
+      few = stops.few;
+      is = stops.is;
+      kept = stops.kept_then;
+      before = record { system = stops.middle; emitted = ran.emitted };
+      are = ran.steps;
+      next = (text, stops.stops.1);
     })
 
 -- or at the end, behind all of them
 
-pub stopped_behind : (fault : StepFault) (steps : ℕ) (trace : Bool) (o n : Outside) (old new last : System) (emitted : List Output) (first written : Option (List ℕ)) (before now : ℕ)
-    → AreSteps steps old (record { system = new; emitted = emitted }) → o.kept.trace ≡ trace → Shows o.kept o.written emitted first → (fault ≡ SinkFailed → written ≡ n.written)
-    → ((s : State) → ShowsBefore fault n.kept n.written s first → ClosesAfter fault trace s first written before now) → StopsSettling fault o n new last
-    → StopsSteps fault trace steps old first written before now steps
-stopped_behind SinkFailed steps trace o n old new last emitted first written before now are traces shows same closes stops =
-    let all : List Output = stops.change.emitted ++ emitted in
+pub stopped_behind : (fault : StepFault) (steps : ℕ) (trace : Bool) (upon kept : Filed) (mounted : List (Option Directory)) (o n : Outside) (drives left : Called) (old new last : System) (emitted : List Output) (first written : Option (List ℕ)) (before now : ℕ)
+    → AreSteps steps upon kept old (record { system = new; emitted = emitted }) → o.kept.trace ≡ trace → Shows o.kept o.written emitted first → (fault ≡ SinkFailed → written ≡ n.written)
+    → ((s : State) → ShowsBefore fault n.kept n.written s first → ClosesAfter fault trace s first written before now)
+    → StopsSettling fault kept mounted o n drives left new last → StopsSteps fault trace steps upon old first written before now steps
+stopped_behind SinkFailed steps trace upon kept mounted o n drives left old new last emitted first written before now are traces shows same closes stops =
+    let its = settling_text kept mounted o n drives left new last stops in
+    let all : List Output = its.0.emitted ++ emitted in
     inr (record {
       is = refl;
+      kept = kept;
       change = record { system = new; emitted = emitted };
       are = are;
       text = record {
-        end = stops.change;
-        ends = stops.is;
+        end = its.0;
+        ends = its.1;
         text = subst (λ (w : Option (List ℕ)). EndsBetween w first (rendered trace emitted) (closed trace all)) (sym (same refl))
-            (subst (λ (t : Bool). EndsBetween n.written first (rendered t emitted) (closed t all)) traces (stops.stops emitted first shows));
+            (subst (λ (t : Bool). EndsBetween n.written first (rendered t emitted) (closed t all)) traces (its.2 emitted first shows));
       };
     })
-stopped_behind SyncFailed steps trace o n old new last emitted first written before now are traces shows same closes (inl still) =
+stopped_behind SyncFailed steps trace upon kept mounted o n drives left old new last emitted first written before now are traces shows same closes (inl stops) =
     inr (record {
       is = refl;
+      kept = kept;
       change = record { system = new; emitted = emitted };
       are = are;
-      text = inl (closes (record (begun new []) { outputs = emitted }) (subst (λ (seen : Outside). Shows seen.kept seen.written emitted first) (sym still) shows));
+      text = inl (closes (record (begun new []) { outputs = emitted }) (subst (λ (seen : Outside). Shows seen.kept seen.written emitted first) (sym stops.text) shows));
     })
-stopped_behind SyncFailed steps trace o n old new last emitted first written before now are traces shows same closes (inr end) =
+stopped_behind SyncFailed steps trace upon kept mounted o n drives left old new last emitted first written before now are traces shows same closes (inr stops) =
     inr (record {
       is = refl;
+      kept = kept;
       change = record { system = new; emitted = emitted };
       are = are;
       text = inr (record {
-        end = end.change;
-        ends = end.is;
-        text = closes (record (begun new []) { outputs = end.change.emitted ++ emitted }) (end.wrote.shown emitted first shows);
+        end = stops.text.change;
+        ends = stops.text.is;
+        text = closes (record (begun new []) { outputs = stops.text.change.emitted ++ emitted }) (stops.text.wrote.shown emitted first shows);
       });
     })

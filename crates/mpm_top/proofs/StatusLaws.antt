@@ -1,12 +1,13 @@
 -- Laws of how a command ends: what it can't be where it ended before the first step, and where a device failed in its run.
-use Rattle.std.proofs.Common.{◌≡◌, ◌∙◌, ℕ, sym, subst}
+use Rattle.std.proofs.Common.{◌≡◌, ◌∙◌, ℕ, List, sym, subst}
 use Rattle.mpm_port.specs.Causes.{Rose}
 use Rattle.mpm_machine.specs.Faults.{Counts}
 use Rattle.mpm_machine.specs.declared.machine.StepFault.{StepFault}
 use Rattle.mpm_machine.specs.declared.machine.StepFault.TheVariants.{WriteFault as SinkFailed, DiskFault as SyncFailed}
 use Rattle.mpm_top.specs.declared.status.Status.{Status}
 use Rattle.mpm_top.specs.declared.status.Status.TheVariants.{Ran, Usage, MachineFault, ScriptFault, ImageFault, TooLong, ReadFault, DiskFault, WriteFault, OutOfMemory}
-use Rattle.mpm_top.specs.Runs.{IsEarly, IsRefusal, UnlessReadFault, UnlessDiskFault, UnlessWriteFault, Causes, ended_by}
+use Rattle.mpm_top.specs.declared.status.Input.TheVariants.{ScriptText}
+use Rattle.mpm_top.specs.Runs.{Contents, Unfetched, Unread, IsEarly, IsRefusal, UnlessReadFault, UnlessDiskFault, UnlessWriteFault, Causes, ended_by}
 
 -- it ended before the first step
 
@@ -30,6 +31,20 @@ unless_write ReadFault so = so
 unless_write (DiskFault step) so = tt
 unless_write (WriteFault step) so = tt
 unless_write OutOfMemory so = so
+
+-- a script whose file wasn't fetched wasn't read
+pub unfetched_unread : (contents : Contents) (script : List ℕ) (old new : List (List ℕ)) (status : Status) → Unfetched contents ScriptText script old new status
+    → Unread contents script old new status
+unfetched_unread contents script old new Ran why = why
+unfetched_unread contents script old new Usage why = why
+unfetched_unread contents script old new MachineFault why = why
+unfetched_unread contents script old new (ScriptFault line) why = absurd why
+unfetched_unread contents script old new (ImageFault drive cause place) why = why
+unfetched_unread contents script old new (TooLong what) why = why
+unfetched_unread contents script old new ReadFault why = why
+unfetched_unread contents script old new (DiskFault step) why = why
+unfetched_unread contents script old new (WriteFault step) why = why
+unfetched_unread contents script old new OutOfMemory why = why
 
 -- a device failed in its run
 

@@ -1,22 +1,22 @@
 -- Which drives are synced behind a run: those that are mounted, as the others are attached as they were.
-use Rattle.std.proofs.Common.{◌≡◌, ◌≢◌, ◌∙◌, ℕ, false, Bool, List, [], ◌∷◌, Option, Some, None, IfSome, IfOk, Result, Ok, Err, inl, inr, refl, sym, ap}
+use Rattle.std.proofs.Common.{◌≡◌, ◌≢◌, ◌∙◌, ℕ, false, Bool, List, [], ◌∷◌, Option, Some, None, IfSome, IfOk, Result, Ok, Err, inl, inr, refl, sym, ap, subst}
 use Rattle.std.specs.Prelude.{◌⊎◌, option_map}
-use Rattle.std.specs.List.{AllByRecursion}
+use Rattle.std.specs.List.{All, AllByRecursion}
 use Rattle.std.proofs.lemmas.List.Elements.{All-from_recursion}
 use Rattle.std.proofs.lemmas.Option.{none-some}
 use Rattle.mpm_base.specs.declared.kind.Kind.{Kind}
 use Rattle.mpm_port.specs.Disks.{Disks}
 use Rattle.mpm_machine_file.specs.declared.lists.DriveSpec.{DriveSpec}
 use Rattle.mpm_mount.specs.Directories.{Directory}
-use Rattle.mpm_drives.specs.Mounted.{SameBeside, number_of}
+use Rattle.mpm_drives.specs.Mounted.{number_of}
 use Rattle.mpm_bdos.specs.Serving.{directory_at}
 use Rattle.mpm_bdos.specs.Syncing.{AreSynced}
 use Rattle.mpm_bdos.specs.Turns.{labelled}
 use Rattle.mpm_machine.specs.declared.machine.Machine.{Machine}
-use Rattle.mpm_machine.specs.Mounting.{IsInPlace, HasDrives}
-use Rattle.mpm_top.specs.Runs.{AttachesMounted, AreSyncedOf, SyncsAttached}
+use Rattle.mpm_machine.specs.Mounting.{HasNoDrive, IsInPlace, HasDrives}
+use Rattle.mpm_top.specs.Runs.{KeepsUnmounted, AreSyncedOf, SyncsAttached}
 
--- what isn't mounted the machine file doesn't list, so that it is attached as it was
+-- what isn't mounted the machine file doesn't list, so that it is as it was
 
 unlisted : (disks : Option Disks) (mounted : List (Option Directory)) (specs : List DriveSpec) (number : ℕ) → AllByRecursion (IsInPlace disks mounted) specs
     → directory_at mounted number ≡ None → AllByRecursion (λ spec. number_of spec ≢ number) specs
@@ -26,10 +26,10 @@ unlisted disks mounted (spec ∷ specs) number each free = (
   unlisted disks mounted specs number each.1 free,
 )
 
-pub attaches_mounted : (specs : List DriveSpec) (before behind : ℕ → Option ℕ) (disks now : Option Disks) (mounted : List (Option Directory))
-    → SameBeside specs before behind disks now → HasDrives now specs mounted → AttachesMounted before behind mounted
-attaches_mounted specs before behind disks now mounted beside has number free =
-    beside.drives number (All-from_recursion (λ spec. number_of spec ≢ number) specs (unlisted now mounted specs number has.each free))
+pub keeps_unmounted : {A : Type 0} (specs : List DriveSpec) (before behind : ℕ → A) (disks : Option Disks) (mounted : List (Option Directory))
+    → ((number : ℕ) → All (λ spec. number_of spec ≢ number) specs → behind number ≡ before number) → HasDrives disks specs mounted → KeepsUnmounted before behind mounted
+keeps_unmounted specs before behind disks mounted beside has number free =
+    beside number (All-from_recursion (λ spec. number_of spec ≢ number) specs (unlisted disks mounted specs number has.each free))
 
 -- a drive that was mounted is so behind steps
 
@@ -63,7 +63,7 @@ attached_or_synced : (directory : Option Directory) (P Q : Type 0) → (director
 attached_or_synced None P Q free synced = inl (free refl)
 attached_or_synced (Some d) P Q free synced = inr synced
 
-pub syncs_attached : (before behind : ℕ → Option ℕ) (unsynced : ℕ → Bool) (mounted : List (Option Directory)) → AttachesMounted before behind mounted → AreSynced unsynced mounted
+pub syncs_attached : (before behind : ℕ → Option ℕ) (unsynced : ℕ → Bool) (mounted : List (Option Directory)) → KeepsUnmounted before behind mounted → AreSynced unsynced mounted
     → SyncsAttached before behind unsynced
 syncs_attached before behind unsynced mounted attaches synced number =
     attached_or_synced (directory_at mounted number) (behind number ≡ before number) (unsynced number ≡ false) (attaches number) (synced number)
@@ -73,6 +73,13 @@ syncs_attached before behind unsynced mounted attaches synced number =
 pub still_attached : (attached : ℕ → Option ℕ) (unsynced : ℕ → Bool) → SyncsAttached attached attached unsynced
 still_attached attached unsynced number = inl refl
 
-pub nothing_attached : {E : Type 0} (result : Result Machine E) (attached : ℕ → Option ℕ) → IfOk result (λ machine. AttachesMounted attached attached machine.bdos.mounted)
-nothing_attached (Err error) attached = tt
-nothing_attached (Ok machine) attached = λ number free. refl
+pub nothing_called : {A E : Type 0} (result : Result Machine E) (before : ℕ → A) → IfOk result (λ machine. KeepsUnmounted before before machine.bdos.mounted)
+nothing_called (Err error) before = tt
+nothing_called (Ok machine) before = λ number free. refl
+
+-- where none is mounted all are synced
+
+pub none_synced : {E : Type 0} (result : Result Machine E) (unsynced : ℕ → Bool) → IfOk result (λ machine. HasNoDrive machine.bdos.mounted)
+    → IfOk result (λ machine. AreSynced unsynced machine.bdos.mounted)
+none_synced (Err error) unsynced none = tt
+none_synced (Ok machine) unsynced none = λ number. subst (λ (directory : Option Directory). IfSome directory (λ d. unsynced number ≡ false)) (sym (none number)) tt

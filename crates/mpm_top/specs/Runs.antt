@@ -1,5 +1,5 @@
 -- With what a command begins, and what it writes, by the machine's model.
-use Rattle.std.specs.Prelude.{◌≡◌, ◌≢◌, ℕ, ◌+◌, ◌-◌, ◌<◌, ◌≤◌, ◌⊎◌, Bool, true, false, List, [], ◌∷◌, ◌++◌, Option, Some, None, Result, Ok, Err, length, MatchOption, ⊤, option_map, option_and_then, slice_index_or, nat_lt, if◌then◌else◌}
+use Rattle.std.specs.Prelude.{◌≡◌, ◌≢◌, ℕ, ◌+◌, ◌-◌, ◌<◌, ◌≤◌, ◌⊎◌, Bool, false, List, [], ◌∷◌, ◌++◌, Option, Some, None, Result, Ok, Err, length, MatchOption, ⊤, option_map, option_and_then, slice_index_or, nat_lt, if◌then◌else◌}
 use Rattle.std.specs.List.{AllByRecursion}
 use Rattle.std.specs.Option.{option_map_or}
 use Rattle.mpm_port.specs.Causes.{Rose}
@@ -24,15 +24,15 @@ use Rattle.mpm_machine.specs.declared.system.System.{System}
 use Rattle.mpm_bdos.specs.Serving.{Kept as Filed, directory_at}
 use Rattle.mpm_machine.specs.State.{State, Change}
 use Rattle.mpm_machine.specs.Files.{Between, StandsForFiles, drives_in, filing_in}
-use Rattle.mpm_machine.specs.Mounting.{HasDrives, HasNoDrive, untouched}
+use Rattle.mpm_machine.specs.Mounting.{HasDrives, HasMounted, HasNoDrive, untouched}
 use Rattle.mpm_machine.specs.Opening.{opening_system, opened}
-use Rattle.mpm_machine.specs.After.{after, AreSteps, IsMade, EndsInStep}
-use Rattle.mpm_machine.specs.Failing.{does_work, FailsWithin, StopsOn}
+use Rattle.mpm_machine.specs.After.{after, AreSteps, IsMadeInPart, WorksOnDrive, EndsInStep}
+use Rattle.mpm_machine.specs.Failing.{FailsWithin, StopsOn}
 use Rattle.mpm_machine.specs.Settling.{IsEnd, carried, left_of}
 use Rattle.mpm_machine.specs.declared.machine.StepFault.{StepFault}
 use Rattle.mpm_machine.specs.declared.machine.StepFault.TheVariants.{WriteFault as SinkFailed, DiskFault as SyncFailed}
 use Rattle.mpm_machine.specs.declared.machine.RunFault.{RunFault}
-use Rattle.mpm_machine.specs.Faults.{Counts, OnDiskFault}
+use Rattle.mpm_machine.specs.Faults.{Counts}
 use Rattle.mpm_top.specs.declared.words.Form.{Form}
 use Rattle.mpm_top.specs.declared.words.Form.TheVariants.{Program, Run}
 use Rattle.mpm_top.specs.declared.words.Asked.{Asked}
@@ -130,6 +130,13 @@ pub record BeginsOf (host : Host) (form : Form) (Of : List ℕ → Type 0) (s : 
 abbrev pub Begins : Host → Form → List ℕ → State → Type 0
 Begins host form name s = BeginsOf host form (Holds host.contents (input_of form) name) s
 
+-- what is kept of file calls as such a machine begins: its drives are mounted as their images have them, and nothing is open, locked,
+-- marked, sought or protected
+pub record KeepsAtFirst (host : Host) (specs : List DriveSpec) (kept : Filed) : Type 0 where
+  pub attached : ℕ → Option ℕ
+  pub disks : Option Disks
+  pub mounted : HasMounted attached disks host.images specs kept
+
 -- with that a machine begins: where its images are told, what is kept of files, and the images, stand for what is on the
 -- drives; and no call is in service
 pub record StartsOf (host : Host) (form : Form) (Of : List ℕ → Type 0) (system : System) (kept : Filed) (disks : Option Disks) : Type 0 where
@@ -138,6 +145,7 @@ pub record StartsOf (host : Host) (form : Form) (Of : List ℕ → Type 0) (syst
   pub same : begins.on ≡ drives
   pub files : AreTold host.images (drives_listed form begins.bytes) → StandsForFiles system.kernel.disk kept disks (Between (untouched (placed drives)))
   pub listed : HasDrives disks (drives_listed form begins.bytes) kept.mounted
+  pub at_first : KeepsAtFirst host (drives_listed form begins.bytes) kept
   pub bare : drives ≡ [] → HasNoDrive kept.mounted
   pub idle : system.kernel.disk.served ≡ None
 
@@ -165,49 +173,53 @@ abbrev pub drives_left : State → List (Option Drive)
 drives_left s = (filing_in (carried s).files).drives
 
 -- after the first text stands the closed text of what so many steps of a system say, each by what its calls on files may be answered,
--- if such are answered in it, then of what the end of the run says, by what the call in service may be, and nothing else
-pub record WritesSteps (trace : Bool) (steps : ℕ) (old : System) (first written : Option (List ℕ)) : Type 0 where
+-- if such are answered in it, then of what the end of the run says, by what the call in service may be, and nothing else; each upon what
+-- is kept of file calls then
+pub record WritesSteps (trace : Bool) (steps : ℕ) (upon : Filed) (old : System) (first written : Option (List ℕ)) : Type 0 where
+  pub kept : Filed
   pub change : Change
-  pub are : AreSteps steps old change
+  pub are : AreSteps steps upon kept old change
   pub end : Change
-  pub ends : IsEnd change.system end
+  pub ends : IsEnd kept change.system end
   pub text : written ≡ appended first (closed trace (end.emitted ++ change.emitted))
 
--- some steps of a system were made, each by what its calls on files may be answered, and the run stopped in the next one, with this
--- text, by what they said and what that one says; where a drive failed, that one works on a drive
-pub record StopsInside (fault : StepFault) (Text : List Output → List Output → Type 0) (steps step : ℕ) (old : System) : Type 0 where
+-- some steps of a system were made, each by what its calls on files may be answered, and the run stopped in the next one, by what they
+-- said and what is kept then
+pub record StopsInside (Next : Filed → System → List Output → Type 0) (steps step : ℕ) (upon : Filed) (old : System) : Type 0 where
   pub done : ℕ
   pub few : done < steps
   pub is : step ≡ old.steps + done + 1
+  pub kept : Filed
   pub before : Change
-  pub are : AreSteps done old before
-  pub change : Change
-  pub made : IsMade before.system change
-  pub text : Text before.emitted change.emitted
-  pub works : OnDiskFault fault (does_work before.system ≡ true)
+  pub are : AreSteps done upon kept old before
+  pub next : Next kept before.system before.emitted
 
--- or all of them were made, and it stopped at its end, with this text, by what they said
-pub record StopsBehind (Text : System → List Output → Type 0) (steps step : ℕ) (old : System) : Type 0 where
+-- or all of them were made, and it stopped at its end
+pub record StopsBehind (Text : Filed → System → List Output → Type 0) (steps step : ℕ) (upon : Filed) (old : System) : Type 0 where
   pub is : step ≡ steps
+  pub kept : Filed
   pub change : Change
-  pub are : AreSteps steps old change
-  pub text : Text change.system change.emitted
+  pub are : AreSteps steps upon kept old change
+  pub text : Text kept change.system change.emitted
 
 -- by what they said and what the end says
-pub record BehindEnd (Text : List Output → Type 0) (system : System) (said : List Output) : Type 0 where
+pub record BehindEnd (Text : List Output → Type 0) (kept : Filed) (system : System) (said : List Output) : Type 0 where
   pub end : Change
-  pub ends : IsEnd system end
+  pub ends : IsEnd kept system end
   pub text : Text (end.emitted ++ said)
 
 -- writing stopped in the text of a step, or in that of the end
-abbrev pub StopsWriting : Bool → ℕ → System → Option (List ℕ) → Option (List ℕ) → ℕ → Type 0
-StopsWriting trace steps old first written step =
-    StopsInside SinkFailed (λ said more. EndsBetween written first (rendered trace said) (rendered trace (more ++ said))) steps step old
-    ⊎ StopsBehind (λ system said. BehindEnd (λ all. EndsBetween written first (rendered trace said) (closed trace all)) system said) steps step old
+abbrev pub StopsInStep : Bool → Option (List ℕ) → Option (List ℕ) → Filed → System → List Output → Type 0
+StopsInStep trace first written kept system said = IsMadeInPart (λ more. EndsBetween written first (rendered trace said) (rendered trace (more ++ said))) kept system
 
--- a drive that isn't mounted is attached as it was
-abbrev pub AttachesMounted : (ℕ → Option ℕ) → (ℕ → Option ℕ) → List (Option Directory) → Type 0
-AttachesMounted before behind mounted = (number : ℕ) → directory_at mounted number ≡ None → behind number ≡ before number
+abbrev pub StopsWriting : Bool → ℕ → Filed → System → Option (List ℕ) → Option (List ℕ) → ℕ → Type 0
+StopsWriting trace steps upon old first written step =
+    StopsInside (StopsInStep trace first written) steps step upon old
+    ⊎ StopsBehind (λ kept system said. BehindEnd (λ all. EndsBetween written first (rendered trace said) (closed trace all)) kept system said) steps step upon old
+
+-- a drive that isn't mounted is as it was: attached or not, synced or not
+abbrev pub KeepsUnmounted : {A : Type 0} → (ℕ → A) → (ℕ → A) → List (Option Directory) → Type 0
+KeepsUnmounted before behind mounted = (number : ℕ) → directory_at mounted number ≡ None → behind number ≡ before number
 
 -- each drive of a machine file is synced: no write to it was asked for since
 abbrev pub AreSyncedOf : (ℕ → Bool) → List DriveSpec → Type 0
@@ -227,7 +239,9 @@ KeepsOthers before left specs = (image : List ℕ) → AllByRecursion (λ spec. 
 pub record WritesAll (host : Host) (left : Images) (unsynced : ℕ → Bool) (command : Command) (first written : Option (List ℕ)) : Type 0 where
   pub start : State
   pub begins : Begins host command.form command.name start
-  pub steps : WritesSteps command.trace command.steps start.system first written
+  pub upon : Filed
+  pub at_first : KeepsAtFirst host (drives_listed command.form begins.bytes) upon
+  pub steps : WritesSteps command.trace command.steps upon start.system first written
   pub synced : AreSyncedOf unsynced (drives_listed command.form begins.bytes)
   pub others : KeepsOthers host.images left (drives_listed command.form begins.bytes)
   pub text : AreTold host.images (drives_listed command.form begins.bytes) → written ≡ appended first (closed command.trace (carried (after command.steps start)).outputs)
@@ -255,7 +269,9 @@ pub record WritesPart (host : Host) (left : Images) (command : Command) (first w
   pub start : State
   pub begins : Begins host command.form command.name start
   pub within : step ≤ command.steps
-  pub steps : StopsWriting command.trace command.steps start.system first written step
+  pub upon : Filed
+  pub at_first : KeepsAtFirst host (drives_listed command.form begins.bytes) upon
+  pub steps : StopsWriting command.trace command.steps upon start.system first written step
   pub others : KeepsOthers host.images left (drives_listed command.form begins.bytes)
   pub text : AreTold host.images (drives_listed command.form begins.bytes)
       → StopsAt (StandFor left (drives_listed command.form begins.bytes)) command.trace start command.steps first written step
@@ -271,19 +287,19 @@ Closes trace s first written before now = ClosesText trace s.outputs first writt
 
 -- a drive failed in a step, and the lines that those before it left unfinished were closed; or at the end, in a turn of the call in
 -- service, or as it was synced, behind what the call brings about
-abbrev pub ClosesEither : Bool → Option (List ℕ) → Option (List ℕ) → ℕ → ℕ → System → List Output → Type 0
-ClosesEither trace first written before now system said =
-    ClosesText trace said first written before now ⊎ BehindEnd (λ all. ClosesText trace all first written before now) system said
+abbrev pub ClosesEither : Bool → Option (List ℕ) → Option (List ℕ) → ℕ → ℕ → Filed → System → List Output → Type 0
+ClosesEither trace first written before now kept system said =
+    ClosesText trace said first written before now ⊎ BehindEnd (λ all. ClosesText trace all first written before now) kept system said
 
-abbrev pub ClosesSteps : Bool → ℕ → System → Option (List ℕ) → Option (List ℕ) → ℕ → ℕ → ℕ → Type 0
-ClosesSteps trace steps old first written before now step =
-    StopsInside SyncFailed (λ said more. ClosesText trace said first written before now) steps step old
-    ⊎ StopsBehind (ClosesEither trace first written before now) steps step old
+abbrev pub ClosesSteps : Bool → ℕ → Filed → System → Option (List ℕ) → Option (List ℕ) → ℕ → ℕ → ℕ → Type 0
+ClosesSteps trace steps upon old first written before now step =
+    StopsInside (λ kept system said. ClosesText trace said first written before now × WorksOnDrive kept system) steps step upon old
+    ⊎ StopsBehind (ClosesEither trace first written before now) steps step upon old
 
 -- either, whatever is on the drives
-abbrev pub StopsSteps : StepFault → Bool → ℕ → System → Option (List ℕ) → Option (List ℕ) → ℕ → ℕ → ℕ → Type 0
-StopsSteps SinkFailed trace steps old first written before now step = StopsWriting trace steps old first written step
-StopsSteps SyncFailed trace steps old first written before now step = ClosesSteps trace steps old first written before now step
+abbrev pub StopsSteps : StepFault → Bool → ℕ → Filed → System → Option (List ℕ) → Option (List ℕ) → ℕ → ℕ → ℕ → Type 0
+StopsSteps SinkFailed trace steps upon old first written before now step = StopsWriting trace steps upon old first written step
+StopsSteps SyncFailed trace steps upon old first written before now step = ClosesSteps trace steps upon old first written before now step
 
 -- where a drive failed, that is so behind a state
 abbrev pub ClosesAfter : StepFault → Bool → State → Option (List ℕ) → Option (List ℕ) → ℕ → ℕ → Type 0
@@ -331,7 +347,9 @@ pub record WritesClosed (host : Host) (left : Images) (command : Command) (first
   pub start : State
   pub begins : Begins host command.form command.name start
   pub within : step ≤ command.steps
-  pub steps : ClosesSteps command.trace command.steps start.system first written before now step
+  pub upon : Filed
+  pub at_first : KeepsAtFirst host (drives_listed command.form begins.bytes) upon
+  pub steps : ClosesSteps command.trace command.steps upon start.system first written before now step
   pub others : KeepsOthers host.images left (drives_listed command.form begins.bytes)
   pub text : AreTold host.images (drives_listed command.form begins.bytes)
       → ClosesAt (StandFor left (drives_listed command.form begins.bytes)) command.trace start command.steps first written before now step

@@ -1,9 +1,10 @@
 ghost use Rattle.std.specs.Prelude.{◌≡◌, ◌≤◌, ◌↔◌, ℕ, List, Some, IsSome, IfSome, IfOk, IfErr, MatchResult, length};
 ghost use Rattle.mpm_drives.specs.Images.{image_named};
+ghost use Rattle.mpm_bdos.specs.Syncing.{AreSynced};
 ghost use Rattle.mpm_machine.specs.State.{IsWhole, NoCompletions};
 ghost use Rattle.mpm_machine.specs.Holding.{HoldsDrives};
 ghost use Rattle.mpm_machine.specs.Mounting.{HasNoDrive};
-ghost use Rattle.mpm_top.specs.Runs.{input_of as input_said, room_for, script_name, Host, host, failed, status_of, AttachesMounted, Holds, HoldsEvents, Starts, StartsOf, Scripted, Unfetched, Unread, Ends, EndsAfter, IsRefusal, IsEarly, UnlessReadFault, UnlessDiskFault, EndsAs};
+ghost use Rattle.mpm_top.specs.Runs.{input_of as input_said, room_for, script_name, Host, host, failed, status_of, KeepsUnmounted, Holds, HoldsEvents, Starts, StartsOf, Scripted, Unfetched, Unread, Ends, EndsAfter, IsRefusal, IsEarly, UnlessReadFault, UnlessDiskFault, EndsAs};
 
 use crate::status::{Input, Status};
 use crate::words::Form;
@@ -35,7 +36,9 @@ pub(crate) fn boot<F: Files, D: Drives>(
 ) -> Result<Machine, Status>
     ensures starts { IfOk result (λ machine. Starts (host F.contents D.disks files.old drives.old) form name.now machine.system machine.bdos (D.disks drives.new)) }
     ensures holds { IfOk result (λ machine. HoldsDrives D.attached D.disks machine.system.kernel machine.bdos drives.new) }
-    ensures attached { IfOk result (λ machine. AttachesMounted (D.attached drives.old) (D.attached drives.new) machine.bdos.mounted) }
+    ensures attached { IfOk result (λ machine. KeepsUnmounted (D.attached drives.old) (D.attached drives.new) machine.bdos.mounted) }
+    ensures fresh { IfOk result (λ machine. AreSynced (D.unsynced drives.new) machine.bdos.mounted) }
+    ensures unsynced { IfOk result (λ machine. KeepsUnmounted (D.unsynced drives.old) (D.unsynced drives.new) machine.bdos.mounted) }
     ensures whole { IfOk result (λ machine. IsWhole machine.system) }
     ensures no_completions { IfOk result (λ machine. NoCompletions machine.system) }
     ensures start { IfOk result (λ machine. machine.system.steps ≡ 0) }
@@ -119,7 +122,9 @@ fn boot_machine<F: Files, D: Drives>(
     ensures starts { IfOk result (λ machine. StartsOf (host F.contents D.disks files.old drives.old) Form.Run (λ content. content ≡ bytes.now)
         machine.system machine.bdos (D.disks drives.new)) }
     ensures holds { IfOk result (λ machine. HoldsDrives D.attached D.disks machine.system.kernel machine.bdos drives.new) }
-    ensures attached { IfOk result (λ machine. AttachesMounted (D.attached drives.old) (D.attached drives.new) machine.bdos.mounted) }
+    ensures attached { IfOk result (λ machine. KeepsUnmounted (D.attached drives.old) (D.attached drives.new) machine.bdos.mounted) }
+    ensures fresh { IfOk result (λ machine. AreSynced (D.unsynced drives.new) machine.bdos.mounted) }
+    ensures unsynced { IfOk result (λ machine. KeepsUnmounted (D.unsynced drives.old) (D.unsynced drives.new) machine.bdos.mounted) }
     ensures whole { IfOk result (λ machine. IsWhole machine.system) }
     ensures no_completions { IfOk result (λ machine. NoCompletions machine.system) }
     ensures start { IfOk result (λ machine. machine.system.steps ≡ 0) }

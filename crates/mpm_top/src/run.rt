@@ -208,8 +208,8 @@ fn run_to_end<D: Drives, S: Sink, L: Ledger>(
     requires some_part { 0 < L.parts }
     ensures ok { (on : List NumberedDrive) → StandsForFiles machine.old.system.kernel.disk machine.old.bdos (D.disks drives.old) (Between (untouched (placed on)))
         → OnOk result (S.written sink.new ≡ appended (S.written sink.old) (closed asked.trace (carried (after asked.steps (begun machine.old.system on))).outputs)) }
-    ensures steps { OnOk result (WritesSteps asked.trace asked.steps machine.old.system (S.written sink.old) (S.written sink.new)) }
-    ensures stops { IfErr result (λ error. StopsSteps error.fault asked.trace asked.steps machine.old.system (S.written sink.old) (S.written sink.new)
+    ensures steps { OnOk result (WritesSteps asked.trace asked.steps machine.old.bdos machine.old.system (S.written sink.old) (S.written sink.new)) }
+    ensures stops { IfErr result (λ error. StopsSteps error.fault asked.trace asked.steps machine.old.bdos machine.old.system (S.written sink.old) (S.written sink.new)
         (S.faults sink.old) (S.faults sink.new) error.step) }
     ensures images { (specs : List DriveSpec) (on : List NumberedDrive) → HasDrives (D.disks drives.old) specs machine.old.bdos.mounted
         → StandsForFiles machine.old.system.kernel.disk machine.old.bdos (D.disks drives.old) (Between (untouched (placed on)))

@@ -1,9 +1,7 @@
 //! Calls one after the other on a disk that was empty.
-use crate::disks::NO_RECORD;
-use crate::scene::{FREE, Scene, Seen, Slot};
-use crate::turns::{Came, Left, job, left_of};
 use mpm_base::Kind;
 use mpm_files::{Job, JobKind};
+use mpm_turn_scenes::{Came, FREE, Left, NO_RECORD, Scene, Seen, Slot, job, left_of};
 use std::alloc::Global;
 use std::test::Fail;
 

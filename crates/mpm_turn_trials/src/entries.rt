@@ -1,9 +1,8 @@
 //! Calls that change directory entries, XFCBs and the label, on each kind of disk: each call of the drive fails once, and then none.
-use crate::scene::{Does, FREE, Scene, Slot};
-use crate::turns::{Came, KINDS, Left, first_other, job};
 use mpm_base::Kind;
 use mpm_files::{Job, JobKind};
 use mpm_images::{Entry, UNUSED, file, layout_of, other, xfcb};
+use mpm_turn_scenes::{Came, Does, FREE, KINDS, Left, Scene, Slot, first_other, job};
 use std::alloc::Global;
 use std::test::Fail;
 

@@ -1,9 +1,8 @@
 //! Calls that read, write, or test and write records, on each kind of disk: each call of the drive fails once, and then none.
-use crate::scene::{Does, Scene};
-use crate::turns::{Came, KINDS, Left, first_other, job};
 use mpm_base::Kind;
 use mpm_files::{Job, JobKind};
 use mpm_images::{Entry, UNUSED, file, held, layout_of, other, xfcb};
+use mpm_turn_scenes::{Came, Does, KINDS, Left, Scene, first_other, job};
 use std::alloc::Global;
 use std::test::Fail;
 

@@ -1,6 +1,6 @@
 -- The step that reads by the opcode does the instruction that four bytes begin with.
-use Rattle.std.proofs.Common.{◌≡◌, ℕ, Bool, true, false, Option, None, Some, if◌then◌else◌, ◌∙◌, ap, refl, rules}
-use Rattle.std.specs.Prelude.{IsNone, ◌↔◌}
+use Rattle.std.proofs.Common.{◌≡◌, ℕ, Bool, true, false, Option, None, Some, if◌then◌else◌, ◌∙◌, ap, refl, sym, rules}
+use Rattle.std.specs.Prelude.{IsNone, ◌↔◌, is_some}
 use Rattle.std.proofs.lemmas.Grind.{common_steps}
 use Rattle.z80_regs.specs.Words.{onward}
 use Rattle.z80_regs.specs.Outcome.{Outcome}
@@ -9,15 +9,19 @@ use Rattle.z80_decode.specs.declared.instr.Instr.{Instr}
 use Rattle.z80_decode.specs.declared.instr.Page.{Page}
 use Rattle.z80_decode.specs.declared.instr.Page.TheVariants.{Main}
 use Rattle.z80_decode.specs.declared.forms.Form.{Form}
+use Rattle.z80_decode.specs.declared.page_forms.BitForm.{BitForm}
 use Rattle.z80_decode.specs.declared.forms.Tail.{Tail}
 use Rattle.z80_decode.specs.declared.forms.Tail.TheVariants.{Nothing, Byte, Word, Displacement, DisplacementByte}
 use Rattle.z80_decode.specs.Opcodes.{form_of}
-use Rattle.z80_decode.specs.Decoding.{tail_of, instr_with, main_instr_by, main_instr_of, main_or_prefixed, instr_of}
+use Rattle.z80_decode.specs.PageOpcodes.{indexed_bit_form_of}
+use Rattle.z80_decode.specs.Decoding.{tail_of, index_bit_instr_by, instr_with, main_instr_by, main_instr_of, main_or_prefixed, instr_of}
 use Rattle.z80_exec.specs.Performing.{behind, performed, next_with, main_outcome, is_plain}
 use Rattle.z80_exec.specs.Operands.{quiet}
+use Rattle.z80_exec.specs.Flow.{relative}
 use Rattle.z80_ext.specs.declared.index.IndexRegister.{IndexRegister}
 use Rattle.z80_ext.specs.declared.index.IndexRegister.TheVariants.{Ix, Iy}
-use Rattle.z80_ext.specs.Index.{page_of, bits_page_of, index_outcome, index_bits_outcome}
+use Rattle.z80_ext.specs.Bits.{memory_bits}
+use Rattle.z80_ext.specs.Index.{page_of, bits_page_of, index_word, indexed_address, index_outcome, index_bits_by, index_bits_outcome}
 use Rattle.z80_ext.specs.Instruction.{risen, four_from, page_outcome, outcome_of, unbegun_of, unbegun, is_plain_on, is_plain_instr, is_plain_at, instruction, registers_after}
 
 -- the pages of the index registers
@@ -39,6 +43,30 @@ page_plain Iy opcode = refl
 pub bits_page_plain : (index : IndexRegister) (opcode : ℕ) → is_plain_on (bits_page_of index) opcode ≡ true
 bits_page_plain Ix opcode = refl
 bits_page_plain Iy opcode = refl
+
+-- an instruction behind DDh CBh or FDh CBh, by its form
+pub bits_plain : (index : IndexRegister) (displacement byte : ℕ) (form : Option BitForm) → indexed_bit_form_of byte ≡ form
+    → is_some form ≡ is_plain_instr (index_bit_instr_by (indexed_bit_form_of byte) (bits_page_of index) displacement byte)
+bits_plain index displacement byte None is = sym (ap (λ f. is_plain_instr (index_bit_instr_by f (bits_page_of index) displacement byte)) is)
+bits_plain index displacement byte (Some form) is =
+    sym (ap (λ f. is_plain_instr (index_bit_instr_by f (bits_page_of index) displacement byte)) is ∙ bits_page_plain index byte)
+
+word_behind : (index : IndexRegister) (regs : Regs) → index_word index (behind 4 regs) ≡ index_word index regs
+word_behind Ix regs = refl
+word_behind Iy regs = refl
+
+pub bits_done : (index : IndexRegister) (form : BitForm) (displacement byte address : ℕ) (regs : Regs) (memory ports : ℕ → ℕ) → indexed_bit_form_of byte ≡ Some form
+    → address ≡ relative (index_word index (behind 4 regs)) displacement
+    → memory_bits form address (memory address) (behind 4 regs)
+    ≡ unbegun_of (index_bit_instr_by (indexed_bit_form_of byte) (bits_page_of index) displacement byte) regs memory ports
+unfolding index_bits_outcome
+bits_done index form displacement byte address regs memory ports is at =
+    let instr : Instr = record { length = 4; page = bits_page_of index; opcode = byte; displacement = displacement; operand = 0 } in
+    let here : address ≡ indexed_address index instr regs = at ∙ ap (λ word. relative word displacement) (word_behind index regs) in
+    ap (λ a. memory_bits form a (memory a) (behind 4 regs)) here
+    ∙ sym (ap (λ f. unbegun_of (index_bit_instr_by f (bits_page_of index) displacement byte) regs memory ports) is
+    ∙ index_bits_page index instr regs memory ports
+    ∙ ap (λ f. index_bits_by f index instr regs memory) is)
 
 -- whether an instruction is plain, whatever stands behind its opcode
 pub tail_plain : (tail : Tail) (page : Page) (place opcode first second : ℕ) →

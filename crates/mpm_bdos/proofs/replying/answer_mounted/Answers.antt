@@ -5,7 +5,8 @@ use Rattle.mpm_bdos.specs.Answering.{MayGrant}
 use Rattle.mpm_requests.specs.Asking.{key_asked, IsOwn}
 use Rattle.mpm_bdos.specs.Leaving.{left_by, left_first, granted_by}
 use Rattle.mpm_bdos.specs.Records.{done_by}
-use Rattle.mpm_bdos.specs.Replies.{found_bytes, value_by, answer_by}
+use Rattle.mpm_entries.specs.Telling.{found_bytes}
+use Rattle.mpm_bdos.specs.Replies.{value_by, answer_by}
 use Rattle.mpm_bdos.proofs.UserLaws.{users_kept}
 use Rattle.mpm_bdos.proofs.replying.answer_mounted.Goals as goal
 

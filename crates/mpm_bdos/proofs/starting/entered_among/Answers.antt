@@ -14,7 +14,7 @@ returns-clause-all c = λ images drives stand.
     let number : ℕ = drive_number s in
     let drive_is : c.drive_of_call-drive.result ≡ drive_number s =
     c.drive_of_call-drive.ensures
-    ∙ (λ i. unwrap_or (drive_by (c.get-search.ensures i) caller.drive (c.word_of_call-word.ensures i) (c.block_taken-block.ensures.block i) c.args.function) caller.drive)
+    ∙ (λ i. unwrap_or (drive_by (c.get-search.ensures i) caller.drive (c.word_of_call-word.ensures i) (c.block_of_call-block.ensures.block i) c.args.function) caller.drive)
     in
     let place = c.get.ensures.place ∙ ap (directory_at c.args.mounted.now) drive_is in
     record {
@@ -26,7 +26,7 @@ pub returns-clause-drive : goal.returns-clause-drive
 returns-clause-drive c = λ drives.
     let caller = c.args.caller.now in
     c.entered.ensures.drive ∙ c.drive_of_call-drive.ensures
-    ∙ (λ i. unwrap_or (drive_by (c.get-search.ensures i) caller.drive (c.word_of_call-word.ensures i) (c.block_taken-block.ensures.block i) c.args.function) caller.drive)
+    ∙ (λ i. unwrap_or (drive_by (c.get-search.ensures i) caller.drive (c.word_of_call-word.ensures i) (c.block_of_call-block.ensures.block i) c.args.function) caller.drive)
 
 pub returns-clause-entered : goal.returns-clause-entered
 returns-clause-entered c =
@@ -35,5 +35,5 @@ returns-clause-entered c =
       own = own;
       search = searched c.get-search.result;
       is = c.drive_of_call-drive.ensures
-          ∙ (λ i. unwrap_or (drive_by (searched c.get-search.result) own (c.word_of_call-word.ensures i) (c.block_taken-block.ensures.block i) c.args.function) own);
+          ∙ (λ i. unwrap_or (drive_by (searched c.get-search.result) own (c.word_of_call-word.ensures i) (c.block_of_call-block.ensures.block i) c.args.function) own);
     })

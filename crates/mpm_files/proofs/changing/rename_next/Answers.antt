@@ -6,38 +6,69 @@ use Rattle.mpm_mount.specs.Files.{file_in}
 use Rattle.mpm_files.specs.Units.{RenamesEntry, RenamesXfcb}
 use Rattle.mpm_files.specs.Plans.{file_of_job, new_file_of_job}
 use Rattle.mpm_files.specs.Serving.{units_done}
-use Rattle.mpm_files.proofs.NextDone.{does_next, put_does}
+use Rattle.mpm_files.proofs.NextDone.{does_next, put_does, found_within}
 use Rattle.mpm_files.proofs.RenameTurns.{may_rename, over_renamed, entry_renamed, xfcb_renamed, new_xfcb}
 use Rattle.mpm_files.proofs.changing.rename_next.Goals as goal
 
-pub returns-in-Some-clause-rename : goal.returns-in-Some-clause-rename
-returns-in-Some-clause-rename g c = λ kind.
-    put_does (g.D.Drives.disks c.args.drives.now) (g.D.Drives.disks c.put_entry.new.drives) c.args.mounted.now c.put_entry.new.mounted c.args.work.now _ c.in-Some.slot Free c.put_entry.result
-    refl c.put_entry.ensures.puts (λ image before job j suits stands serving h.
-    over_renamed image c.args.mounted.now before job j c.args.work.now c.in-Some.slot stands serving kind (may_rename before job j c.args.work.now serving kind suits) h (sym c.xfcb.ensures ∙ c.in-Some.is))
+pub rename_entry-requires-clause-slot : goal.rename_entry-requires-clause-slot
+rename_entry-requires-clause-slot g c =
+    found_within c.args.mounted.now c.args.work.now.job.user c.args.work.now.job.name None c.in-Some-next.found c.next.result c.kind-kind.ensures.full c.in-Some-next.is c.next.ensures
 
-pub returns-in-Some-next-clause-rename : goal.returns-in-Some-next-clause-rename
-returns-in-Some-next-clause-rename g c = λ kind.
-    does_next (g.D.Drives.disks c.args.drives.now) (g.D.Drives.disks c.rename_entry.new.drives) c.args.mounted.now c.rename_entry.new.mounted c.args.work.now _ c.rename_entry.result refl
-    (λ image before job j told suits service h.
-    let next = entry_renamed image c.args.mounted.now before job j c.args.work.now c.in-Some-next.found service.stands service.serving kind (may_rename before job j c.args.work.now service.serving kind suits) h
-    (sym c.xfcb.ensures ∙ c.in-None.is)
-    (subst (IsNext c.args.mounted.now.kind (search_of c.args.mounted.now.kind c.args.work.now.job.user c.args.work.now.job.name None) c.args.mounted.now.entries) c.in-Some-next.is c.next.ensures) in (
-      RenamesEntry (file_in next.file.user next.file.name) (name_of (units_done before job j).kind next.file).number (new_file_of_job c.args.work.now.job),
-      (
-        next.done,
-        c.rename_entry.ensures.does image (units_done before job j) next.file told service.stands next.entry next.user next.free,
-      ),
-    ))
+pub returns-in-Some : goal.returns-in-Some
+returns-in-Some g c = record {
+  rename = λ kind.
+      put_does (g.D.Drives.disks c.args.drives.now) (g.D.Drives.disks c.put_entry.new.drives) c.args.mounted.now c.put_entry.new.mounted c.args.work.now _ c.in-Some.slot Free c.put_entry.result
+      refl c.put_entry.ensures.puts (λ image before job j suits stands serving h.
+      over_renamed image c.args.mounted.now before job j c.args.work.now c.in-Some.slot stands serving kind (may_rename before job j c.args.work.now serving kind suits) h (sym c.xfcb.ensures ∙ c.in-Some.is));
+  ended = refl;
+  units = refl;
+  drive = c.put_entry.ensures.drive;
+  kind = c.put_entry.ensures.kind;
+  calls = c.put_entry.ensures.calls;
+  leaves = c.put_entry.ensures.leaves;
+  cause = c.put_entry.ensures.cause;
+}
 
-pub returns-in-None-next-clause-rename : goal.returns-in-None-next-clause-rename
-returns-in-None-next-clause-rename g c = λ kind.
-    does_next (g.D.Drives.disks c.args.drives.now) (g.D.Drives.disks c.rename_xfcb.new.drives) c.args.mounted.now c.rename_xfcb.new.mounted c.args.work.now _ c.rename_xfcb.result refl
-    (λ image before job j told suits service h. (
-      RenamesXfcb (file_of_job c.args.work.now.job) (new_file_of_job c.args.work.now.job),
-      (
-        xfcb_renamed image c.args.mounted.now before job j c.args.work.now service.stands service.serving kind (may_rename before job j c.args.work.now service.serving kind suits) h (sym c.xfcb.ensures ∙ c.in-None.is)
-            (subst (IsNext c.args.mounted.now.kind (search_of c.args.mounted.now.kind c.args.work.now.job.user c.args.work.now.job.name None) c.args.mounted.now.entries) c.in-None-next.is c.next.ensures),
-        c.rename_xfcb.ensures.does image (units_done before job j) told service.stands (new_xfcb image c.args.mounted.now (units_done before job j) c.args.work.now service.stands (sym c.xfcb.ensures ∙ c.in-None.is)),
-      ),
-    ))
+pub returns-in-Some-next : goal.returns-in-Some-next
+returns-in-Some-next g c = record {
+  rename = λ kind.
+      does_next (g.D.Drives.disks c.args.drives.now) (g.D.Drives.disks c.rename_entry.new.drives) c.args.mounted.now c.rename_entry.new.mounted c.args.work.now _ c.rename_entry.result refl
+      (λ image before job j told suits service h.
+      let next = entry_renamed image c.args.mounted.now before job j c.args.work.now c.in-Some-next.found service.stands service.serving kind (may_rename before job j c.args.work.now service.serving kind suits) h
+      (sym c.xfcb.ensures ∙ c.in-None.is)
+      (subst (IsNext c.args.mounted.now.kind (search_of c.args.mounted.now.kind c.args.work.now.job.user c.args.work.now.job.name None) c.args.mounted.now.entries) c.in-Some-next.is c.next.ensures) in (
+        RenamesEntry (file_in next.file.user next.file.name) (name_of (units_done before job j).kind next.file).number (new_file_of_job c.args.work.now.job),
+        (
+          next.done,
+          c.rename_entry.ensures.does image (units_done before job j) next.file told service.stands next.entry next.user next.free,
+        ),
+      ));
+  ended = refl;
+  units = refl;
+  drive = c.rename_entry.ensures.drive;
+  kind = c.rename_entry.ensures.kind;
+  calls = c.rename_entry.ensures.calls;
+  leaves = c.rename_entry.ensures.leaves;
+  cause = c.rename_entry.ensures.cause;
+}
+
+pub returns-in-None-next : goal.returns-in-None-next
+returns-in-None-next g c = record {
+  rename = λ kind.
+      does_next (g.D.Drives.disks c.args.drives.now) (g.D.Drives.disks c.rename_xfcb.new.drives) c.args.mounted.now c.rename_xfcb.new.mounted c.args.work.now _ c.rename_xfcb.result refl
+      (λ image before job j told suits service h. (
+        RenamesXfcb (file_of_job c.args.work.now.job) (new_file_of_job c.args.work.now.job),
+        (
+          xfcb_renamed image c.args.mounted.now before job j c.args.work.now service.stands service.serving kind (may_rename before job j c.args.work.now service.serving kind suits) h (sym c.xfcb.ensures ∙ c.in-None.is)
+              (subst (IsNext c.args.mounted.now.kind (search_of c.args.mounted.now.kind c.args.work.now.job.user c.args.work.now.job.name None) c.args.mounted.now.entries) c.in-None-next.is c.next.ensures),
+          c.rename_xfcb.ensures.does image (units_done before job j) told service.stands (new_xfcb image c.args.mounted.now (units_done before job j) c.args.work.now service.stands (sym c.xfcb.ensures ∙ c.in-None.is)),
+        ),
+      ));
+  ended = refl;
+  units = refl;
+  drive = c.rename_xfcb.ensures.drive;
+  kind = c.rename_xfcb.ensures.kind;
+  calls = c.rename_xfcb.ensures.calls;
+  leaves = c.rename_xfcb.ensures.leaves;
+  cause = c.rename_xfcb.ensures.cause;
+}

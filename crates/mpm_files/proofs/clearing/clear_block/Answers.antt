@@ -1,27 +1,60 @@
-use Rattle.std.proofs.Common.{sym, ◌∙◌}
-use Rattle.mpm_files.proofs.RecordUnits.{clears_none, clears_first, clears_stopped, block_cleared, is_clearing}
+use Rattle.std.proofs.Common.{sym, ◌∙◌, arith}
+use Rattle.mpm_files.proofs.RecordUnits.{clears_none, clears_first, clears_stopped, block_cleared, is_clearing, cleared_if, clears_if}
+use Rattle.mpm_sectors.proofs.LeavesLaws.{leaves_itself}
+use Rattle.mpm_files.proofs.Causing.{cause_none, cause_done, cause_failed}
 use Rattle.mpm_files.proofs.clearing.clear_block.Goals as goal
 
-pub returns-then-not-clears_blocks-clause-does : goal.returns-then-not-clears_blocks-clause-does
-returns-then-not-clears_blocks-clause-does g c = λ image files file n told stands. clears_none (g.D.Drives.disks c.args.drives.now) c.args.mounted.now image files file n _ told stands
+pub returns-then-not-clears_blocks : goal.returns-then-not-clears_blocks
+returns-then-not-clears_blocks g c = record {
+  block = clears_if c.args.mounted.now.kind _ (is_clearing c.args.mounted.now.kind c.kind.result c.clears_blocks.result c.clears_blocks.ensures c.kind.ensures.kind c.if-not-clears_blocks.true);
+  does = λ image files file n told stands. clears_none (g.D.Drives.disks c.args.drives.now) c.args.mounted.now image files file n _ told stands;
+  cleared = λ image files told stands. record { image = image; told = told; stands = stands; cleared_is = tt };
+  calls = omega arith;
+  leaves = leaves_itself g.D.Drives.attached g.D.Drives.disks g.D.Drives.failed_names g.D.Drives.unsynced c.args.mounted.now.drive c.args.cache.now c.args.drives.now c.requires.coherent;
+  cause = cause_none _ _;
+}
 
-pub returns-in-None-clause-does : goal.returns-in-None-clause-does
-returns-in-None-clause-does g c = λ image files file n told stands. clears_none (g.D.Drives.disks c.args.drives.now) c.args.mounted.now image files file n _ told stands
+pub returns-in-None : goal.returns-in-None
+returns-in-None g c = record {
+  block = cleared_if c.args.mounted.now.kind _ _ (is_clearing c.args.mounted.now.kind c.kind.result c.clears_blocks.result c.clears_blocks.ensures c.kind.ensures.kind c.if-not-clears_blocks.false) (sym c.free_block.ensures ∙ c.in-None.is);
+  does = λ image files file n told stands. clears_none (g.D.Drives.disks c.args.drives.now) c.args.mounted.now image files file n _ told stands;
+  cleared = λ image files told stands. record { image = image; told = told; stands = stands; cleared_is = tt };
+  calls = omega arith;
+  leaves = leaves_itself g.D.Drives.attached g.D.Drives.disks g.D.Drives.failed_names g.D.Drives.unsynced c.args.mounted.now.drive c.args.cache.now c.args.drives.now c.requires.coherent;
+  cause = cause_none _ _;
+}
 
-pub returns-in-Ok-clause-does : goal.returns-in-Ok-clause-does
-returns-in-Ok-clause-does g c = λ image files file n told stands.
-    clears_first (g.D.Drives.disks c.args.drives.now) (g.D.Drives.disks c.clear_first.new.drives) c.args.mounted.now image files file n c.in-Some.block _ _ told stands
-    (is_clearing c.args.mounted.now.kind c.kind.result c.clears_blocks.result c.clears_blocks.ensures c.kind.ensures.kind c.if-not-clears_blocks.false) (sym c.free_block.ensures ∙ c.in-Some.is)
-    c.in-Ok.ensures.puts
+pub clear_first-requires-clause-clears : goal.clear_first-requires-clause-clears
+clear_first-requires-clause-clears g c = is_clearing c.args.mounted.now.kind c.kind.result c.clears_blocks.result c.clears_blocks.ensures c.kind.ensures.kind c.if-not-clears_blocks.false
 
-pub returns-in-Ok-clause-cleared : goal.returns-in-Ok-clause-cleared
-returns-in-Ok-clause-cleared g c = λ image files told stands.
-    block_cleared (g.D.Drives.disks c.args.drives.now) (g.D.Drives.disks c.clear_first.new.drives) c.args.mounted.now image files c.in-Some.block _ told stands
-    (is_clearing c.args.mounted.now.kind c.kind.result c.clears_blocks.result c.clears_blocks.ensures c.kind.ensures.kind c.if-not-clears_blocks.false) (sym c.free_block.ensures ∙ c.in-Some.is)
-    c.in-Ok.ensures.puts
+pub clear_first-requires-clause-free : goal.clear_first-requires-clause-free
+clear_first-requires-clause-free g c = sym c.free_block.ensures ∙ c.in-Some.is
 
-pub returns-in-Err-clause-does : goal.returns-in-Err-clause-does
-returns-in-Err-clause-does g c = λ image files file n told stands.
-    clears_stopped (g.D.Drives.disks c.args.drives.now) (g.D.Drives.disks c.clear_first.new.drives) c.args.mounted.now image files file n c.in-Some.block _ told stands
-    (is_clearing c.args.mounted.now.kind c.kind.result c.clears_blocks.result c.clears_blocks.ensures c.kind.ensures.kind c.if-not-clears_blocks.false) (sym c.free_block.ensures ∙ c.in-Some.is)
-    c.in-Err.ensures.puts
+pub returns-in-Ok : goal.returns-in-Ok
+returns-in-Ok g c = record {
+  block = cleared_if c.args.mounted.now.kind _ _ (is_clearing c.args.mounted.now.kind c.kind.result c.clears_blocks.result c.clears_blocks.ensures c.kind.ensures.kind c.if-not-clears_blocks.false) (sym c.free_block.ensures ∙ c.in-Some.is);
+  does = λ image files file n told stands.
+      clears_first (g.D.Drives.disks c.args.drives.now) (g.D.Drives.disks c.clear_first.new.drives) c.args.mounted.now image files file n c.in-Some.block _ _ told stands
+      (is_clearing c.args.mounted.now.kind c.kind.result c.clears_blocks.result c.clears_blocks.ensures c.kind.ensures.kind c.if-not-clears_blocks.false) (sym c.free_block.ensures ∙ c.in-Some.is)
+      c.in-Ok.ensures.puts;
+  cleared = λ image files told stands.
+      block_cleared (g.D.Drives.disks c.args.drives.now) (g.D.Drives.disks c.clear_first.new.drives) c.args.mounted.now image files c.in-Some.block _ told stands
+      (is_clearing c.args.mounted.now.kind c.kind.result c.clears_blocks.result c.clears_blocks.ensures c.kind.ensures.kind c.if-not-clears_blocks.false) (sym c.free_block.ensures ∙ c.in-Some.is)
+      c.in-Ok.ensures.puts;
+  calls = c.clear_first.ensures.calls;
+  leaves = c.clear_first.ensures.leaves;
+  cause = cause_done _ _ _ _ c.in-Ok.ensures.cause;
+}
+
+pub returns-in-Err : goal.returns-in-Err
+returns-in-Err g c = record {
+  block = tt;
+  does = λ image files file n told stands.
+      clears_stopped (g.D.Drives.disks c.args.drives.now) (g.D.Drives.disks c.clear_first.new.drives) c.args.mounted.now image files file n c.in-Some.block _ told stands
+      (is_clearing c.args.mounted.now.kind c.kind.result c.clears_blocks.result c.clears_blocks.ensures c.kind.ensures.kind c.if-not-clears_blocks.false) (sym c.free_block.ensures ∙ c.in-Some.is)
+      c.in-Err.ensures.puts;
+  cleared = λ image files told stands. tt;
+  calls = c.clear_first.ensures.calls;
+  leaves = c.clear_first.ensures.leaves;
+  cause = cause_failed _ _ _ c.in-Err.ensures.cause;
+}

@@ -10,83 +10,131 @@ use Rattle.mpm_files.specs.Standing.{Does}
 use Rattle.mpm_files.proofs.NextDone.{IsDone, does_next, never_next}
 use Rattle.mpm_files.proofs.TestTurns.{test_now, stamp_now, writes_now, tests_few, still_passed, first_passed, test_passed, record_held, has_there, not_back, passes}
 use Rattle.mpm_files.proofs.ReadTurns.{read_now, read_stands, reading_failed}
+use Rattle.mpm_sectors.proofs.LeavesLaws.{leaves_itself, leaves_over}
+use Rattle.mpm_files.proofs.Causing.{cause_none, cause_behind}
 use Rattle.mpm_files.proofs.moving.test_next.Goals as goal
 use Rattle.mpm_files.proofs.moving.test_next.Goals.{then-work-via-then-work, then-work-via-else-work+then-n-gt-LAST, then-work-via-else-work+else-n-gt-LAST+then-count-gt16, then-work-via-else-work+else-n-gt-LAST+else-count-gt16+then-work-count}
 
-pub returns-then-work-clause-testwrite : goal.returns-then-work-clause-testwrite
-returns-then-work-clause-testwrite g c = λ kind. elim c.then-work.branch [
-  | then-work-via-then-work w ↦
-      does_next (g.D.Drives.disks c.args.drives.now) (g.D.Drives.disks c.args.drives.now) c.args.mounted.now c.args.mounted.now c.args.work.now _ _ refl
-      (λ image before job j told suits service h. (
+pub returns-then-work : goal.returns-then-work
+returns-then-work g c = record {
+  testwrite = λ kind. elim c.then-work.branch [
+    | then-work-via-then-work w ↦
+        does_next (g.D.Drives.disks c.args.drives.now) (g.D.Drives.disks c.args.drives.now) c.args.mounted.now c.args.mounted.now c.args.work.now _ _ refl
+        (λ image before job j told suits service h. (
+          PassesRecord (file_of_job c.args.work.now.job) (read_now c.args.work.now),
+          (
+            still_passed before job j c.args.work.now service.serving kind h w.if-work.true,
+            passes (g.D.Drives.disks c.args.drives.now) c.args.mounted.now (units_done before job j) (file_of_job c.args.work.now.job) (read_now c.args.work.now) tt
+                (record { image = image; told = told; stands = service.stands }),
+          ),
+        ))
+    | then-work-via-else-work+then-n-gt-LAST w ↦
+        never_next (g.D.Drives.disks c.args.drives.now) (g.D.Drives.disks c.args.drives.now) c.args.mounted.now c.args.mounted.now c.args.work.now _ _ (λ image before job j suits service h.
+        omega (arith, (tests_few before job j c.args.work.now service.serving kind suits h).number, w.if-n-gt-LAST.true, c.saturating_add-n.ensures))
+    | then-work-via-else-work+else-n-gt-LAST+then-count-gt16 w ↦
+        never_next (g.D.Drives.disks c.args.drives.now) (g.D.Drives.disks c.args.drives.now) c.args.mounted.now c.args.mounted.now c.args.work.now _ _ (λ image before job j suits service h.
+        omega (arith, (tests_few before job j c.args.work.now service.serving kind suits h).count, w.if-count-gt16.true, c.from-count.ensures))
+    | then-work-via-else-work+else-n-gt-LAST+else-count-gt16+then-work-count w ↦
+        never_next (g.D.Drives.disks c.args.drives.now) (g.D.Drives.disks c.args.drives.now) c.args.mounted.now c.args.mounted.now c.args.work.now _ _ (λ image before job j suits service h.
+        omega (arith, (tests_few before job j c.args.work.now service.serving kind suits h).more, w.if-work-count.true, c.from-count.ensures))
+  ];
+  ended = refl;
+  units = refl;
+  drive = refl;
+  kind = refl;
+  calls = omega arith;
+  leaves = leaves_itself g.D.Drives.attached g.D.Drives.disks g.D.Drives.failed_names g.D.Drives.unsynced c.args.mounted.now.drive c.args.cache.now c.args.drives.now c.requires.coherent;
+  cause = cause_none _ _;
+}
+
+pub returns-in-Err : goal.returns-in-Err
+returns-in-Err g c = record {
+  testwrite = λ kind.
+      reading_failed (g.D.Drives.disks c.args.drives.now) (g.D.Drives.disks c.read_record.new.drives) c.args.mounted.now c.args.work.now _ c.in-Err.failed c.read_record.ensures.disks;
+  ended = refl;
+  units = refl;
+  drive = refl;
+  kind = refl;
+  calls = omega (arith, c.read_record.ensures.calls);
+  leaves = c.read_record.ensures.leaves;
+  cause = c.in-Err.ensures.cause;
+}
+
+pub returns-then-ne : goal.returns-then-ne
+returns-then-ne g c = record {
+  testwrite = λ kind.
+      does_next (g.D.Drives.disks c.args.drives.now) (g.D.Drives.disks c.read_record.new.drives) c.args.mounted.now c.args.mounted.now c.args.work.now _ _ refl
+      (λ image before job j told suits service h.
+      let n : read_now c.args.work.now ≡ c.saturating_add-n.result = omega (arith, c.if-n-gt-LAST.false, c.saturating_add-n.ensures) in
+      let there : record_of (units_done before job j) (file_of_job c.args.work.now.job) (read_now c.args.work.now) ≡ Some c.read_record.new.out =
+      subst (λ m. lacks_block c.args.mounted.now (file_of_job c.args.work.now.job) m ≡ false → record_of (units_done before job j) (file_of_job c.args.work.now.job) m ≡ Some c.read_record.new.out) (sym n)
+      (c.in-Ok.ensures.record image (units_done before job j) told service.stands)
+      (record_held image c.args.mounted.now before job j c.args.work.now service.stands service.serving kind h) in
+      let has : has_record (units_done before job j) (file_of_job c.args.work.now.job) (read_now c.args.work.now) (test_now c.args.work.now).expected ≡ false =
+      has_there (units_done before job j) (file_of_job c.args.work.now.job) (read_now c.args.work.now) c.read_record.new.out (test_now c.args.work.now).expected there
+      ∙ ap (bytes_eq c.read_record.new.out) (sym c.bytes_at.ensures) ∙ not_back (bytes_eq c.read_record.new.out c.bytes_at.result) true c.if-ne.ensures in (
         PassesRecord (file_of_job c.args.work.now.job) (read_now c.args.work.now),
         (
-          still_passed before job j c.args.work.now service.serving kind h w.if-work.true,
-          passes (g.D.Drives.disks c.args.drives.now) c.args.mounted.now (units_done before job j) (file_of_job c.args.work.now.job) (read_now c.args.work.now) tt
-              (record { image = image; told = told; stands = service.stands }),
+          first_passed before job j c.args.work.now service.serving kind h c.if-work.false has,
+          passes (g.D.Drives.disks c.read_record.new.drives) c.args.mounted.now (units_done before job j) (file_of_job c.args.work.now.job) (read_now c.args.work.now) tt
+              (read_stands image c.args.mounted.now (units_done before job j) (g.D.Drives.disks c.args.drives.now) (g.D.Drives.disks c.read_record.new.drives) told service.stands c.read_record.ensures.disks),
         ),
-      ))
-  | then-work-via-else-work+then-n-gt-LAST w ↦
-      never_next (g.D.Drives.disks c.args.drives.now) (g.D.Drives.disks c.args.drives.now) c.args.mounted.now c.args.mounted.now c.args.work.now _ _ (λ image before job j suits service h.
-      omega (arith, (tests_few before job j c.args.work.now service.serving kind suits h).number, w.if-n-gt-LAST.true, c.saturating_add-n.ensures))
-  | then-work-via-else-work+else-n-gt-LAST+then-count-gt16 w ↦
-      never_next (g.D.Drives.disks c.args.drives.now) (g.D.Drives.disks c.args.drives.now) c.args.mounted.now c.args.mounted.now c.args.work.now _ _ (λ image before job j suits service h.
-      omega (arith, (tests_few before job j c.args.work.now service.serving kind suits h).count, w.if-count-gt16.true, c.from-count.ensures))
-  | then-work-via-else-work+else-n-gt-LAST+else-count-gt16+then-work-count w ↦
-      never_next (g.D.Drives.disks c.args.drives.now) (g.D.Drives.disks c.args.drives.now) c.args.mounted.now c.args.mounted.now c.args.work.now _ _ (λ image before job j suits service h.
-      omega (arith, (tests_few before job j c.args.work.now service.serving kind suits h).more, w.if-work-count.true, c.from-count.ensures))
-]
+      ));
+  ended = refl;
+  units = refl;
+  drive = refl;
+  kind = refl;
+  calls = omega (arith, c.read_record.ensures.calls);
+  leaves = c.read_record.ensures.leaves;
+  cause = c.in-Ok.ensures.cause;
+}
 
-pub returns-in-Err-clause-testwrite : goal.returns-in-Err-clause-testwrite
-returns-in-Err-clause-testwrite g c = λ kind.
-    reading_failed (g.D.Drives.disks c.args.drives.now) (g.D.Drives.disks c.read_record.new.drives) c.args.mounted.now c.args.work.now _ c.in-Err.failed c.read_record.ensures.disks
+pub put_held-requires : goal.put_held-requires
+put_held-requires g c =
+    let left = c.read_record.ensures.leaves in
+    record {
+      number = omega (arith, c.if-n-gt-LAST.false);
+      size = left.drives c.args.mounted.now.drive ∙ c.requires.size;
+      coherent = left.coherent;
+      apart = left.alone c.requires.apart;
+    }
 
-pub returns-then-ne-clause-testwrite : goal.returns-then-ne-clause-testwrite
-returns-then-ne-clause-testwrite g c = λ kind.
-    does_next (g.D.Drives.disks c.args.drives.now) (g.D.Drives.disks c.read_record.new.drives) c.args.mounted.now c.args.mounted.now c.args.work.now _ _ refl
-    (λ image before job j told suits service h.
-    let n : read_now c.args.work.now ≡ c.saturating_add-n.result = omega (arith, c.if-n-gt-LAST.false, c.saturating_add-n.ensures) in
-    let there : record_of (units_done before job j) (file_of_job c.args.work.now.job) (read_now c.args.work.now) ≡ Some c.read_record.new.out =
-    subst (λ m. lacks_block c.args.mounted.now (file_of_job c.args.work.now.job) m ≡ false → record_of (units_done before job j) (file_of_job c.args.work.now.job) m ≡ Some c.read_record.new.out) (sym n)
-    (c.in-Ok.ensures.record image (units_done before job j) told service.stands)
-    (record_held image c.args.mounted.now before job j c.args.work.now service.stands service.serving kind h) in
-    let has : has_record (units_done before job j) (file_of_job c.args.work.now.job) (read_now c.args.work.now) (test_now c.args.work.now).expected ≡ false =
-    has_there (units_done before job j) (file_of_job c.args.work.now.job) (read_now c.args.work.now) c.read_record.new.out (test_now c.args.work.now).expected there
-    ∙ ap (bytes_eq c.read_record.new.out) (sym c.bytes_at.ensures) ∙ not_back (bytes_eq c.read_record.new.out c.bytes_at.result) true c.if-ne.ensures in (
-      PassesRecord (file_of_job c.args.work.now.job) (read_now c.args.work.now),
-      (
-        first_passed before job j c.args.work.now service.serving kind h c.if-work.false has,
-        passes (g.D.Drives.disks c.read_record.new.drives) c.args.mounted.now (units_done before job j) (file_of_job c.args.work.now.job) (read_now c.args.work.now) tt
-            (read_stands image c.args.mounted.now (units_done before job j) (g.D.Drives.disks c.args.drives.now) (g.D.Drives.disks c.read_record.new.drives) told service.stands c.read_record.ensures.disks),
-      ),
-    ))
-
-pub returns-clause-testwrite : goal.returns-clause-testwrite
-returns-clause-testwrite g c = λ kind.
-    does_next (g.D.Drives.disks c.args.drives.now) (g.D.Drives.disks c.put_held.new.drives) c.args.mounted.now c.put_held.new.mounted c.args.work.now _ c.put_held.result refl
-    (λ image before job j told suits service h.
-    let n : read_now c.args.work.now ≡ c.saturating_add-n.result = omega (arith, c.if-n-gt-LAST.false, c.saturating_add-n.ensures) in
-    let held = record_held image c.args.mounted.now before job j c.args.work.now service.stands service.serving kind h in
-    let there : record_of (units_done before job j) (file_of_job c.args.work.now.job) (read_now c.args.work.now) ≡ Some c.read_record.new.out =
-    subst (λ m. lacks_block c.args.mounted.now (file_of_job c.args.work.now.job) m ≡ false → record_of (units_done before job j) (file_of_job c.args.work.now.job) m ≡ Some c.read_record.new.out) (sym n)
-    (c.in-Ok.ensures.record image (units_done before job j) told service.stands) held in
-    let has : has_record (units_done before job j) (file_of_job c.args.work.now.job) (read_now c.args.work.now) (test_now c.args.work.now).expected ≡ true =
-    has_there (units_done before job j) (file_of_job c.args.work.now.job) (read_now c.args.work.now) c.read_record.new.out (test_now c.args.work.now).expected there
-    ∙ ap (bytes_eq c.read_record.new.out) (sym c.bytes_at.ensures) ∙ not_back (bytes_eq c.read_record.new.out c.bytes_at.result) false c.if-ne.ensures in
-    let moved : c.args.work.now.moved + 1 ≡ c.saturating_add-work.result =
-    omega (arith, c.saturating_add-work.ensures, (tests_few before job j c.args.work.now service.serving kind suits h).moved) in
-    let bytes : c.bytes_at-2.result ≡ (test_now c.args.work.now).bytes = c.bytes_at-2.ensures ∙ ap (λ k. record_at c.args.work.now.job.bytes (k + c.args.work.now.ended)) c.from-count.ensures in (
-      writes_now c.args.work.now,
-      (
-        subst (λ m. IsDone before job j (record c.args.work.now { moved = m; cleared = None }) (writes_now c.args.work.now)) moved
-            (test_passed before job j c.args.work.now service.serving kind h c.if-work.false has),
-        subst (λ m. Does (g.D.Drives.disks c.put_held.new.drives) c.args.mounted.now.drive c.put_held.new.mounted (units_done before job j)
-            (WritesRecord (file_of_job c.args.work.now.job) m (test_now c.args.work.now).bytes (stamp_now c.args.work.now)) c.put_held.result) (sym n)
-            (subst (λ b. Does (g.D.Drives.disks c.put_held.new.drives) c.args.mounted.now.drive c.put_held.new.mounted (units_done before job j)
-            (WritesRecord (file_of_job c.args.work.now.job) c.saturating_add-n.result b (stamp_now c.args.work.now)) c.put_held.result) bytes
-            (subst (λ t. Does (g.D.Drives.disks c.put_held.new.drives) c.args.mounted.now.drive c.put_held.new.mounted (units_done before job j)
-            (WritesRecord (file_of_job c.args.work.now.job) c.saturating_add-n.result c.bytes_at-2.result t) c.put_held.result) c.stamp.ensures
-            (c.put_held.ensures.does image (units_done before job j)
-            (told_image_same (g.D.Drives.disks c.args.drives.now) (g.D.Drives.disks c.read_record.new.drives) c.args.mounted.now.drive c.read_record.ensures.disks ∙ told) service.stands
-            (ap (lacks_block c.args.mounted.now (file_of_job c.args.work.now.job)) (sym n) ∙ held)))),
-      ),
-    ))
+pub returns : goal.returns
+returns g c = record {
+  testwrite = λ kind.
+      does_next (g.D.Drives.disks c.args.drives.now) (g.D.Drives.disks c.put_held.new.drives) c.args.mounted.now c.put_held.new.mounted c.args.work.now _ c.put_held.result refl
+      (λ image before job j told suits service h.
+      let n : read_now c.args.work.now ≡ c.saturating_add-n.result = omega (arith, c.if-n-gt-LAST.false, c.saturating_add-n.ensures) in
+      let held = record_held image c.args.mounted.now before job j c.args.work.now service.stands service.serving kind h in
+      let there : record_of (units_done before job j) (file_of_job c.args.work.now.job) (read_now c.args.work.now) ≡ Some c.read_record.new.out =
+      subst (λ m. lacks_block c.args.mounted.now (file_of_job c.args.work.now.job) m ≡ false → record_of (units_done before job j) (file_of_job c.args.work.now.job) m ≡ Some c.read_record.new.out) (sym n)
+      (c.in-Ok.ensures.record image (units_done before job j) told service.stands) held in
+      let has : has_record (units_done before job j) (file_of_job c.args.work.now.job) (read_now c.args.work.now) (test_now c.args.work.now).expected ≡ true =
+      has_there (units_done before job j) (file_of_job c.args.work.now.job) (read_now c.args.work.now) c.read_record.new.out (test_now c.args.work.now).expected there
+      ∙ ap (bytes_eq c.read_record.new.out) (sym c.bytes_at.ensures) ∙ not_back (bytes_eq c.read_record.new.out c.bytes_at.result) false c.if-ne.ensures in
+      let moved : c.args.work.now.moved + 1 ≡ c.saturating_add-work.result =
+      omega (arith, c.saturating_add-work.ensures, (tests_few before job j c.args.work.now service.serving kind suits h).moved) in
+      let bytes : c.bytes_at-2.result ≡ (test_now c.args.work.now).bytes = c.bytes_at-2.ensures ∙ ap (λ k. record_at c.args.work.now.job.bytes (k + c.args.work.now.ended)) c.from-count.ensures in (
+        writes_now c.args.work.now,
+        (
+          subst (λ m. IsDone before job j (record c.args.work.now { moved = m; cleared = None }) (writes_now c.args.work.now)) moved
+              (test_passed before job j c.args.work.now service.serving kind h c.if-work.false has),
+          subst (λ m. Does (g.D.Drives.disks c.put_held.new.drives) c.args.mounted.now.drive c.put_held.new.mounted (units_done before job j)
+              (WritesRecord (file_of_job c.args.work.now.job) m (test_now c.args.work.now).bytes (stamp_now c.args.work.now)) c.put_held.result) (sym n)
+              (subst (λ b. Does (g.D.Drives.disks c.put_held.new.drives) c.args.mounted.now.drive c.put_held.new.mounted (units_done before job j)
+              (WritesRecord (file_of_job c.args.work.now.job) c.saturating_add-n.result b (stamp_now c.args.work.now)) c.put_held.result) bytes
+              (subst (λ t. Does (g.D.Drives.disks c.put_held.new.drives) c.args.mounted.now.drive c.put_held.new.mounted (units_done before job j)
+              (WritesRecord (file_of_job c.args.work.now.job) c.saturating_add-n.result c.bytes_at-2.result t) c.put_held.result) c.stamp.ensures
+              (c.put_held.ensures.does image (units_done before job j)
+              (told_image_same (g.D.Drives.disks c.args.drives.now) (g.D.Drives.disks c.read_record.new.drives) c.args.mounted.now.drive c.read_record.ensures.disks ∙ told) service.stands
+              (ap (lacks_block c.args.mounted.now (file_of_job c.args.work.now.job)) (sym n) ∙ held)))),
+        ),
+      ));
+  ended = refl;
+  units = refl;
+  drive = c.put_held.ensures.drive;
+  kind = c.put_held.ensures.kind;
+  calls = omega (arith, c.read_record.ensures.calls, c.put_held.ensures.calls);
+  leaves = leaves_over g.D.Drives.attached g.D.Drives.disks g.D.Drives.failed_names g.D.Drives.unsynced c.args.mounted.now.drive c.args.cache.now c.read_record.new.cache c.put_held.new.cache c.args.drives.now c.read_record.new.drives c.put_held.new.drives c.read_record.ensures.leaves c.put_held.ensures.leaves;
+  cause = cause_behind _ _ _ c.put_held.result c.in-Ok.ensures.cause.stays c.put_held.ensures.cause;
+}

@@ -7,57 +7,95 @@ use Rattle.mpm_files.specs.Standing.{Does}
 use Rattle.mpm_files.proofs.NextDone.{does_next, never_next}
 use Rattle.mpm_files.specs.Stepping.{record_next}
 use Rattle.mpm_files.proofs.WriteTurns.{bytes_now, stamp_now, record_ready, number_small, few_moved, fresh_ready, entry_there}
+use Rattle.mpm_sectors.proofs.LeavesLaws.{leaves_itself}
+use Rattle.mpm_files.proofs.Causing.{cause_none}
 use Rattle.mpm_files.proofs.moving.write_record.Goals as goal
 
-pub returns-else-lacks_block-clause-write : goal.returns-else-lacks_block-clause-write
-returns-else-lacks_block-clause-write g c = λ kind step.
-    does_next (g.D.Drives.disks c.args.drives.now) (g.D.Drives.disks c.put_held.new.drives) c.args.mounted.now c.put_held.new.mounted c.args.work.now _ c.put_held.result refl
-    (λ image before job j told suits service h.
-    let n : c.saturating_add-n.result ≡ record_next c.args.work.now = omega (arith, c.if-n-gt-LAST.false, c.saturating_add-n.ensures, c.from.ensures) in
-    let bytes : c.bytes_at.result ≡ bytes_now c.args.work.now = c.bytes_at.ensures ∙ ap (record_at c.args.work.now.job.bytes) c.from-2.ensures in
-    let moment : c.stamp.result ≡ stamp_now c.args.work.now = c.stamp.ensures ∙ ap (stamp_left c.args.work.now.job.stamp) c.from-3.ensures in (
-      WritesRecord (file_of_job c.args.work.now.job) (record_next c.args.work.now) (bytes_now c.args.work.now) (stamp_now c.args.work.now),
-      (
-        record_ready image c.args.mounted.now before job j c.args.work.now service.stands service.serving kind h step,
-        subst (λ m. Does (g.D.Drives.disks c.put_held.new.drives) c.args.mounted.now.drive c.put_held.new.mounted (units_done before job j)
-            (WritesRecord (file_of_job c.args.work.now.job) m (bytes_now c.args.work.now) (stamp_now c.args.work.now)) c.put_held.result) n
-            (subst (λ b. Does (g.D.Drives.disks c.put_held.new.drives) c.args.mounted.now.drive c.put_held.new.mounted (units_done before job j)
-            (WritesRecord (file_of_job c.args.work.now.job) c.saturating_add-n.result b (stamp_now c.args.work.now)) c.put_held.result) bytes
-            (subst (λ t. Does (g.D.Drives.disks c.put_held.new.drives) c.args.mounted.now.drive c.put_held.new.mounted (units_done before job j)
-            (WritesRecord (file_of_job c.args.work.now.job) c.saturating_add-n.result c.bytes_at.result t) c.put_held.result) moment
-            (c.put_held.ensures.does image (units_done before job j) told service.stands (sym c.lacks_block.ensures ∙ c.if-lacks_block.false)))),
-      ),
-    ))
+pub returns-else-lacks_block : goal.returns-else-lacks_block
+returns-else-lacks_block g c = record {
+  write = λ kind step.
+      does_next (g.D.Drives.disks c.args.drives.now) (g.D.Drives.disks c.put_held.new.drives) c.args.mounted.now c.put_held.new.mounted c.args.work.now _ c.put_held.result refl
+      (λ image before job j told suits service h.
+      let n : c.saturating_add-n.result ≡ record_next c.args.work.now = omega (arith, c.if-n-gt-LAST.false, c.saturating_add-n.ensures, c.from.ensures) in
+      let bytes : c.bytes_at.result ≡ bytes_now c.args.work.now = c.bytes_at.ensures ∙ ap (record_at c.args.work.now.job.bytes) c.from-2.ensures in
+      let moment : c.stamp.result ≡ stamp_now c.args.work.now = c.stamp.ensures ∙ ap (stamp_left c.args.work.now.job.stamp) c.from-3.ensures in (
+        WritesRecord (file_of_job c.args.work.now.job) (record_next c.args.work.now) (bytes_now c.args.work.now) (stamp_now c.args.work.now),
+        (
+          record_ready image c.args.mounted.now before job j c.args.work.now service.stands service.serving kind h step,
+          subst (λ m. Does (g.D.Drives.disks c.put_held.new.drives) c.args.mounted.now.drive c.put_held.new.mounted (units_done before job j)
+              (WritesRecord (file_of_job c.args.work.now.job) m (bytes_now c.args.work.now) (stamp_now c.args.work.now)) c.put_held.result) n
+              (subst (λ b. Does (g.D.Drives.disks c.put_held.new.drives) c.args.mounted.now.drive c.put_held.new.mounted (units_done before job j)
+              (WritesRecord (file_of_job c.args.work.now.job) c.saturating_add-n.result b (stamp_now c.args.work.now)) c.put_held.result) bytes
+              (subst (λ t. Does (g.D.Drives.disks c.put_held.new.drives) c.args.mounted.now.drive c.put_held.new.mounted (units_done before job j)
+              (WritesRecord (file_of_job c.args.work.now.job) c.saturating_add-n.result c.bytes_at.result t) c.put_held.result) moment
+              (c.put_held.ensures.does image (units_done before job j) told service.stands (sym c.lacks_block.ensures ∙ c.if-lacks_block.false)))),
+        ),
+      ));
+  ended = refl;
+  units = refl;
+  drive = c.put_held.ensures.drive;
+  kind = c.put_held.ensures.kind;
+  calls = omega (arith, c.put_held.ensures.calls);
+  leaves = c.put_held.ensures.leaves;
+  cause = c.put_held.ensures.cause;
+}
 
-pub returns-then-lacks_block-clause-write : goal.returns-then-lacks_block-clause-write
-returns-then-lacks_block-clause-write g c = λ kind step.
-    does_next (g.D.Drives.disks c.args.drives.now) (g.D.Drives.disks c.put_fresh.new.drives) c.args.mounted.now c.put_fresh.new.mounted c.args.work.now _ c.put_fresh.result refl
-    (λ image before job j told suits service h.
-    let n : c.saturating_add-n.result ≡ record_next c.args.work.now = omega (arith, c.if-n-gt-LAST.false, c.saturating_add-n.ensures, c.from.ensures) in
-    let bytes : c.bytes_at.result ≡ bytes_now c.args.work.now = c.bytes_at.ensures ∙ ap (record_at c.args.work.now.job.bytes) c.from-2.ensures in
-    let moment : c.stamp.result ≡ stamp_now c.args.work.now = c.stamp.ensures ∙ ap (stamp_left c.args.work.now.job.stamp) c.from-3.ensures in (
-      WritesRecord (file_of_job c.args.work.now.job) (record_next c.args.work.now) (bytes_now c.args.work.now) (stamp_now c.args.work.now),
-      (
-        record_ready image c.args.mounted.now before job j c.args.work.now service.stands service.serving kind h step,
-        subst (λ m. Does (g.D.Drives.disks c.put_fresh.new.drives) c.args.mounted.now.drive c.put_fresh.new.mounted (units_done before job j)
-            (WritesRecord (file_of_job c.args.work.now.job) m (bytes_now c.args.work.now) (stamp_now c.args.work.now)) c.put_fresh.result) n
-            (subst (λ b. Does (g.D.Drives.disks c.put_fresh.new.drives) c.args.mounted.now.drive c.put_fresh.new.mounted (units_done before job j)
-            (WritesRecord (file_of_job c.args.work.now.job) c.saturating_add-n.result b (stamp_now c.args.work.now)) c.put_fresh.result) bytes
-            (subst (λ t. Does (g.D.Drives.disks c.put_fresh.new.drives) c.args.mounted.now.drive c.put_fresh.new.mounted (units_done before job j)
-            (WritesRecord (file_of_job c.args.work.now.job) c.saturating_add-n.result c.bytes_at.result t) c.put_fresh.result) moment
-            (c.put_fresh.ensures.does image (units_done before job j) told service.stands
-            (ap (lacks_entry c.args.mounted.now (file_of_job c.args.work.now.job)) n ∙ entry_there c.args.mounted.now c.args.work.now step) (sym c.lacks_block.ensures ∙ c.if-lacks_block.true)
-            (fresh_ready image c.args.mounted.now before job j c.args.work.now service kind h step
-            (ap (lacks_block c.args.mounted.now (file_of_job c.args.work.now.job)) (sym n) ∙ sym c.lacks_block.ensures ∙ c.if-lacks_block.true))))),
-      ),
-    ))
+pub returns-then-lacks_block : goal.returns-then-lacks_block
+returns-then-lacks_block g c = record {
+  write = λ kind step.
+      does_next (g.D.Drives.disks c.args.drives.now) (g.D.Drives.disks c.put_fresh.new.drives) c.args.mounted.now c.put_fresh.new.mounted c.args.work.now _ c.put_fresh.result refl
+      (λ image before job j told suits service h.
+      let n : c.saturating_add-n.result ≡ record_next c.args.work.now = omega (arith, c.if-n-gt-LAST.false, c.saturating_add-n.ensures, c.from.ensures) in
+      let bytes : c.bytes_at.result ≡ bytes_now c.args.work.now = c.bytes_at.ensures ∙ ap (record_at c.args.work.now.job.bytes) c.from-2.ensures in
+      let moment : c.stamp.result ≡ stamp_now c.args.work.now = c.stamp.ensures ∙ ap (stamp_left c.args.work.now.job.stamp) c.from-3.ensures in (
+        WritesRecord (file_of_job c.args.work.now.job) (record_next c.args.work.now) (bytes_now c.args.work.now) (stamp_now c.args.work.now),
+        (
+          record_ready image c.args.mounted.now before job j c.args.work.now service.stands service.serving kind h step,
+          subst (λ m. Does (g.D.Drives.disks c.put_fresh.new.drives) c.args.mounted.now.drive c.put_fresh.new.mounted (units_done before job j)
+              (WritesRecord (file_of_job c.args.work.now.job) m (bytes_now c.args.work.now) (stamp_now c.args.work.now)) c.put_fresh.result) n
+              (subst (λ b. Does (g.D.Drives.disks c.put_fresh.new.drives) c.args.mounted.now.drive c.put_fresh.new.mounted (units_done before job j)
+              (WritesRecord (file_of_job c.args.work.now.job) c.saturating_add-n.result b (stamp_now c.args.work.now)) c.put_fresh.result) bytes
+              (subst (λ t. Does (g.D.Drives.disks c.put_fresh.new.drives) c.args.mounted.now.drive c.put_fresh.new.mounted (units_done before job j)
+              (WritesRecord (file_of_job c.args.work.now.job) c.saturating_add-n.result c.bytes_at.result t) c.put_fresh.result) moment
+              (c.put_fresh.ensures.does image (units_done before job j) told service.stands
+              (ap (lacks_entry c.args.mounted.now (file_of_job c.args.work.now.job)) n ∙ entry_there c.args.mounted.now c.args.work.now step) (sym c.lacks_block.ensures ∙ c.if-lacks_block.true)
+              (fresh_ready image c.args.mounted.now before job j c.args.work.now service kind h step
+              (ap (lacks_block c.args.mounted.now (file_of_job c.args.work.now.job)) (sym n) ∙ sym c.lacks_block.ensures ∙ c.if-lacks_block.true))))),
+        ),
+      ));
+  ended = refl;
+  units = refl;
+  drive = c.put_fresh.ensures.drive;
+  kind = c.put_fresh.ensures.kind;
+  calls = omega (arith, c.put_fresh.ensures.calls);
+  leaves = c.put_fresh.ensures.leaves;
+  cause = c.put_fresh.ensures.cause;
+}
 
-pub returns-then-n-gt-LAST-clause-write : goal.returns-then-n-gt-LAST-clause-write
-returns-then-n-gt-LAST-clause-write g c = λ kind step.
-    never_next (g.D.Drives.disks c.args.drives.now) (g.D.Drives.disks c.args.drives.now) c.args.mounted.now c.args.mounted.now c.args.work.now _ _ (λ image before job j suits service h.
-    omega (arith, number_small before job j c.args.work.now service.serving kind h suits, c.if-n-gt-LAST.true, c.saturating_add-n.ensures, c.from.ensures))
+pub returns-then-n-gt-LAST : goal.returns-then-n-gt-LAST
+returns-then-n-gt-LAST g c = record {
+  write = λ kind step.
+      never_next (g.D.Drives.disks c.args.drives.now) (g.D.Drives.disks c.args.drives.now) c.args.mounted.now c.args.mounted.now c.args.work.now _ _ (λ image before job j suits service h.
+      omega (arith, number_small before job j c.args.work.now service.serving kind h suits, c.if-n-gt-LAST.true, c.saturating_add-n.ensures, c.from.ensures));
+  ended = refl;
+  units = refl;
+  drive = refl;
+  kind = refl;
+  calls = omega arith;
+  leaves = leaves_itself g.D.Drives.attached g.D.Drives.disks g.D.Drives.failed_names g.D.Drives.unsynced c.args.mounted.now.drive c.args.cache.now c.args.drives.now c.requires.coherent;
+  cause = cause_none _ _;
+}
 
-pub returns-then-work-gt31-clause-write : goal.returns-then-work-gt31-clause-write
-returns-then-work-gt31-clause-write g c = λ kind step.
-    never_next (g.D.Drives.disks c.args.drives.now) (g.D.Drives.disks c.args.drives.now) c.args.mounted.now c.args.mounted.now c.args.work.now _ _ (λ image before job j suits service h.
-    omega (arith, few_moved before job j c.args.work.now service.serving kind h suits, c.if-work-gt31.true))
+pub returns-then-work-gt31 : goal.returns-then-work-gt31
+returns-then-work-gt31 g c = record {
+  write = λ kind step.
+      never_next (g.D.Drives.disks c.args.drives.now) (g.D.Drives.disks c.args.drives.now) c.args.mounted.now c.args.mounted.now c.args.work.now _ _ (λ image before job j suits service h.
+      omega (arith, few_moved before job j c.args.work.now service.serving kind h suits, c.if-work-gt31.true));
+  ended = refl;
+  units = refl;
+  drive = refl;
+  kind = refl;
+  calls = omega arith;
+  leaves = leaves_itself g.D.Drives.attached g.D.Drives.disks g.D.Drives.failed_names g.D.Drives.unsynced c.args.mounted.now.drive c.args.cache.now c.args.drives.now c.requires.coherent;
+  cause = cause_none _ _;
+}

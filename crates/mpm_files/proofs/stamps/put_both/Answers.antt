@@ -2,10 +2,10 @@ use Rattle.mpm_blocks.specs.Sectors.{sectors_of}
 use Rattle.mpm_dirent.specs.declared.kinds.Entry.TheVariants.{File}
 use Rattle.mpm_mount.specs.Changes.{exchanged}
 use Rattle.mpm_mount.specs.Directories.{entry_in}
-use Rattle.mpm_mount.proofs.Sorts.{protection_of}
 use Rattle.mpm_mount.specs.Drives.{with_xfcb}
 use Rattle.mpm_files.specs.Units.{second_stamped}
 use Rattle.std.proofs.Common.{refl}
+use Rattle.mpm_mount.specs.Images.{protection_of}
 use Rattle.mpm_files.specs.Plans.{file_of_job}
 use Rattle.mpm_files.proofs.SharedStamps.{still_beside, beside_is, stamped_beside}
 use Rattle.mpm_files.proofs.stamps.put_both.Goals as goal

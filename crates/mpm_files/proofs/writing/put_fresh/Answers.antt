@@ -1,28 +1,93 @@
-use Rattle.std.proofs.Common.{sym, ◌∙◌}
+use Rattle.std.proofs.Common.{sym, ◌∙◌, refl, arith}
 use Rattle.mpm_files.specs.Plans.{file_of_job}
-use Rattle.mpm_files.proofs.RecordUnits.{is_lacking, clear_within, calls_few, fresh_done, fresh_failed}
+use Rattle.mpm_files.proofs.RecordUnits.{is_lacking, clear_within, calls_few, entry_there, block_free, may_take, fresh_done, fresh_failed}
+use Rattle.mpm_sectors.proofs.LeavesLaws.{leaves_itself, leaves_over}
+use Rattle.mpm_files.proofs.Causing.{cause_none, cause_behind}
 use Rattle.mpm_files.proofs.writing.put_fresh.Goals as goal
 
-pub returns-in-Ok-clause-does : goal.returns-in-Ok-clause-does
-returns-in-Ok-clause-does g c = λ image files told stands entry lacks fresh.
-    fresh_done image c.args.mounted.now c.put_taken.new.mounted files (file_of_job c.args.job.now) c.args.written.now.number c.in-Some.found.slot c.in-Some-free_block.block c.in-Some-cleared_of.clear c.index_in-index.result c.in-Some.found.file
-    c.args.written.now.bytes c.args.cleared c.args.written.now.moment (g.D.Drives.disks c.args.drives.now) (g.D.Drives.disks c.put_with_block.new.drives) (g.D.Drives.disks c.put_taken.new.drives) _
-    c.put_taken.result told stands c.in-Some.ensures.found
-    (is_lacking c.args.mounted.now (file_of_job c.args.job.now) c.args.written.now.number c.in-Some.found.slot c.in-Some.found.file c.in-Some.ensures.found lacks)
-    (sym c.free_block.ensures ∙ c.in-Some-free_block.is) (sym c.cleared_of.ensures ∙ c.in-Some-cleared_of.is) fresh c.put_with_block.ensures.long c.index_in-index.ensures.index
-    c.in-Ok.ensures.puts c.put_taken.ensures.puts
+-- nothing was done
 
-pub returns-in-Err-clause-does : goal.returns-in-Err-clause-does
-returns-in-Err-clause-does g c = λ image files told stands entry lacks fresh.
-    fresh_failed image c.args.mounted.now c.args.mounted.now files (file_of_job c.args.job.now) c.args.written.now.number c.in-Some-free_block.block c.in-Some-cleared_of.clear c.index_in-index.result
-    c.args.written.now.bytes c.args.cleared c.args.written.now.moment (g.D.Drives.disks c.args.drives.now) (g.D.Drives.disks c.put_with_block.new.drives) _ told stands
-    (sym c.free_block.ensures ∙ c.in-Some-free_block.is) (sym c.cleared_of.ensures ∙ c.in-Some-cleared_of.is) c.put_with_block.ensures.long c.index_in-index.ensures.within c.in-Err.ensures.puts
+pub returns-in-None : goal.returns-in-None
+returns-in-None g c = record {
+  does = λ image files told stands entry lacks fresh. absurd (entry_there c.args.mounted.now (file_of_job c.args.job.now) c.args.written.now.number c.in-None.ensures.missing entry);
+  drive = refl;
+  kind = refl;
+  calls = omega arith;
+  leaves = leaves_itself g.D.Drives.attached g.D.Drives.disks g.D.Drives.failed_names g.D.Drives.unsynced c.args.mounted.now.drive c.args.cache.now c.args.drives.now c.requires.coherent;
+  cause = cause_none _ _;
+}
+
+pub returns-in-None-free_block : goal.returns-in-None-free_block
+returns-in-None-free_block g c = record {
+  does = λ image files told stands entry lacks fresh. absurd (block_free _ _ c.args.mounted.now c.args.cleared fresh (sym c.free_block.ensures ∙ c.in-None-free_block.is));
+  drive = refl;
+  kind = refl;
+  calls = omega arith;
+  leaves = leaves_itself g.D.Drives.attached g.D.Drives.disks g.D.Drives.failed_names g.D.Drives.unsynced c.args.mounted.now.drive c.args.cache.now c.args.drives.now c.requires.coherent;
+  cause = cause_none _ _;
+}
+
+pub returns-in-None-cleared_of : goal.returns-in-None-cleared_of
+returns-in-None-cleared_of g c = record {
+  does = λ image files told stands entry lacks fresh. absurd (may_take _ _ c.args.mounted.now c.args.cleared c.in-Some-free_block.block fresh (sym c.free_block.ensures ∙ c.in-Some-free_block.is) (sym c.cleared_of.ensures ∙ c.in-None-cleared_of.is));
+  drive = refl;
+  kind = refl;
+  calls = omega arith;
+  leaves = leaves_itself g.D.Drives.attached g.D.Drives.disks g.D.Drives.failed_names g.D.Drives.unsynced c.args.mounted.now.drive c.args.cache.now c.args.drives.now c.requires.coherent;
+  cause = cause_none _ _;
+}
+
+-- the block, and then its entry
+
+pub put_with_block-requires-clause-free : goal.put_with_block-requires-clause-free
+put_with_block-requires-clause-free g c = sym c.free_block.ensures ∙ c.in-Some-free_block.is
 
 pub put_with_block-requires-clause-clear : goal.put_with_block-requires-clause-clear
-put_with_block-requires-clause-clear g c =
-    clear_within c.args.mounted.now.kind c.args.cleared c.in-Some-free_block.block c.in-Some-cleared_of.clear (sym c.cleared_of.ensures ∙ c.in-Some-cleared_of.is)
+put_with_block-requires-clause-clear g c = clear_within c.args.mounted.now.kind c.args.cleared c.in-Some-free_block.block c.in-Some-cleared_of.clear (sym c.cleared_of.ensures ∙ c.in-Some-cleared_of.is)
+
+pub put_with_block-requires-clause-index : goal.put_with_block-requires-clause-index
+put_with_block-requires-clause-index g c = c.index_in-index.ensures.within
 
 pub put_with_block-requires-clause-few : goal.put_with_block-requires-clause-few
-put_with_block-requires-clause-few g c =
-    calls_few c.args.mounted.now.kind c.args.cleared c.in-Some-free_block.block c.in-Some-cleared_of.clear c.index_in-index.result (sym c.cleared_of.ensures ∙ c.in-Some-cleared_of.is)
+put_with_block-requires-clause-few g c = calls_few c.args.mounted.now.kind c.args.cleared c.in-Some-free_block.block c.in-Some-cleared_of.clear c.index_in-index.result (sym c.cleared_of.ensures ∙ c.in-Some-cleared_of.is)
     c.index_in-index.ensures.within
+
+pub put_taken-requires : goal.put_taken-requires
+put_taken-requires g c =
+    let left = c.put_with_block.ensures.leaves in
+    record {
+      size = left.drives c.args.mounted.now.drive ∙ c.requires.size;
+      coherent = left.coherent;
+      apart = left.alone c.requires.apart;
+      entry = c.in-Some.ensures.found;
+      free = sym c.free_block.ensures ∙ c.in-Some-free_block.is;
+    }
+
+pub returns-in-Ok : goal.returns-in-Ok
+returns-in-Ok g c = record {
+  does = λ image files told stands entry lacks fresh.
+      fresh_done image c.args.mounted.now c.put_taken.new.mounted files (file_of_job c.args.job.now) c.args.written.now.number c.in-Some.found.slot c.in-Some-free_block.block c.in-Some-cleared_of.clear c.index_in-index.result c.in-Some.found.file
+      c.args.written.now.bytes c.args.cleared c.args.written.now.moment (g.D.Drives.disks c.args.drives.now) (g.D.Drives.disks c.put_with_block.new.drives) (g.D.Drives.disks c.put_taken.new.drives) _
+      c.put_taken.result told stands c.in-Some.ensures.found
+      (is_lacking c.args.mounted.now (file_of_job c.args.job.now) c.args.written.now.number c.in-Some.found.slot c.in-Some.found.file c.in-Some.ensures.found lacks)
+      (sym c.free_block.ensures ∙ c.in-Some-free_block.is) (sym c.cleared_of.ensures ∙ c.in-Some-cleared_of.is) fresh c.put_with_block.ensures.long c.index_in-index.ensures.index
+      c.in-Ok.ensures.puts c.put_taken.ensures.puts;
+  drive = c.put_taken.ensures.drive;
+  kind = c.put_taken.ensures.kind;
+  calls = omega (arith, c.put_with_block.ensures.calls, c.put_taken.ensures.calls);
+  leaves = leaves_over g.D.Drives.attached g.D.Drives.disks g.D.Drives.failed_names g.D.Drives.unsynced c.args.mounted.now.drive c.args.cache.now c.put_with_block.new.cache c.put_taken.new.cache c.args.drives.now c.put_with_block.new.drives c.put_taken.new.drives c.put_with_block.ensures.leaves c.put_taken.ensures.leaves;
+  cause = cause_behind _ _ _ c.put_taken.result c.in-Ok.ensures.cause.stays c.put_taken.ensures.cause;
+}
+
+pub returns-in-Err : goal.returns-in-Err
+returns-in-Err g c = record {
+  does = λ image files told stands entry lacks fresh.
+      fresh_failed image c.args.mounted.now c.args.mounted.now files (file_of_job c.args.job.now) c.args.written.now.number c.in-Some-free_block.block c.in-Some-cleared_of.clear c.index_in-index.result
+      c.args.written.now.bytes c.args.cleared c.args.written.now.moment (g.D.Drives.disks c.args.drives.now) (g.D.Drives.disks c.put_with_block.new.drives) _ told stands
+      (sym c.free_block.ensures ∙ c.in-Some-free_block.is) (sym c.cleared_of.ensures ∙ c.in-Some-cleared_of.is) c.put_with_block.ensures.long c.index_in-index.ensures.within c.in-Err.ensures.puts;
+  drive = refl;
+  kind = refl;
+  calls = omega (arith, c.put_with_block.ensures.calls);
+  leaves = c.put_with_block.ensures.leaves;
+  cause = c.in-Err.ensures.cause;
+}

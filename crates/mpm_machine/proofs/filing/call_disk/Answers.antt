@@ -1,6 +1,6 @@
 use Rattle.std.proofs.Common.{◌≤◌, sym, subst}
 use Rattle.mpm_procs.specs.declared.process.Process.{Process}
-use Rattle.mpm_machine.proofs.FilingLaws.{disk_is, disk_as_kept, at_once_idle, at_once_owed, bare_still}
+use Rattle.mpm_machine.proofs.FilingLaws.{disk_is, disk_as_kept, disk_has_job, at_once_idle, at_once_owed, bare_still}
 use Rattle.mpm_machine.proofs.ToldLaws.{disk_told}
 use Rattle.mpm_machine.proofs.FailingLaws.{disk_fails, disk_calls}
 use Rattle.mpm_machine.proofs.filing.call_disk.Goals as goal
@@ -47,6 +47,12 @@ returns-clause-as_kept g c =
     disk_as_kept c.args.p c.args.system.now c.args.bdos.now c.call_at_once.new.self c.looked_at-caller.result c.living.result.now c.kept_call.result.now c.now-now.result
     c.call_at_once.new.reply c.call_at_once.result c.looked_at-caller.ensures.process c.living.ensures c.kept_call.ensures c.now-now.ensures.moment c.requires.function
     c.call_at_once.ensures.jobless
+
+pub returns-clause-job : goal.returns-clause-job
+returns-clause-job g c =
+    disk_has_job c.args.p c.args.system.now c.args.bdos.now c.looked_at-caller.result c.living.result.now c.kept_call.result.now c.now-now.result c.call_at_once.result
+    c.looked_at-caller.ensures.process c.living.ensures c.kept_call.ensures c.now-now.ensures.moment
+    (λ images before function its jobless. (c.call_at_once.ensures.idle images before function its jobless).2)
 
 pub returns-clause-unsynced : goal.returns-clause-unsynced
 returns-clause-unsynced g c =

@@ -3,7 +3,6 @@ use Rattle.mpm_base.specs.Calls.{Taken}
 use Rattle.mpm_procs.specs.declared.process.Process.{Process}
 use Rattle.mpm_functions.specs.Functions.{function_of}
 use Rattle.mpm_bdos.specs.Serving.{filing_of}
-use Rattle.mpm_bdos.specs.Turns.{told_images}
 use Rattle.mpm_machine.proofs.FilingLaws.{turns_are, serves_at_entry, entered_as}
 use Rattle.mpm_machine.proofs.filing.start_call.Goals as goal
 
@@ -16,9 +15,9 @@ looked_at-caller-requires-clause-few c =
     subst (λ (one : Process). one.multi ≤ 16) (sym c.living.ensures) (c.requires.whole.sound.fit c.args.p c.requires.lives).few
 
 pub returns-clause-turns : goal.returns-clause-turns
-returns-clause-turns c disks filing function is stands =
-    turns_are (told_images disks) filing c.args.p c.args.system.now c.args.bdos.now function c.looked_at-caller.result c.living.result.now c.kept_call.result.now c.now.result c.start.result
-    c.looked_at-caller.ensures.process c.living.ensures c.kept_call.ensures c.now.ensures.moment is stands.filing_is stands.stand c.start.ensures.turns
+returns-clause-turns c images drives function is stand =
+    turns_are images (filing_of c.args.bdos.now drives) c.args.p c.args.system.now c.args.bdos.now function c.looked_at-caller.result c.living.result.now c.kept_call.result.now c.now.result c.start.result
+    c.looked_at-caller.ensures.process c.living.ensures c.kept_call.ensures c.now.ensures.moment is refl stand c.start.ensures.turns
 
 -- upon drives for which the directories stand, whatever the images are
 pub returns-clause-takes : goal.returns-clause-takes

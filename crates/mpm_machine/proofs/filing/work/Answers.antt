@@ -67,6 +67,7 @@ returns-in_default g c = record {
   kept = record { rest = refl; service = refl; places = λ number _. refl; labels = λ number. refl };
   at_rest = λ less. refl;
   unfailing = λ none. refl;
+  workless = λ less. refl;
   idle = λ idle. (refl, refl, refl, refl);
   few = omega arith;
   cause = record { later = omega arith; stays = refl; failed = tt };

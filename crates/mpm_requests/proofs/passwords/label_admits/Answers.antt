@@ -1,6 +1,6 @@
 use Rattle.std.proofs.Common.{◌∙◌, ap}
 use Rattle.std.specs.Prelude.{option_map}
-use Rattle.mpm_requests.specs.Looking.{label_of}
+use Rattle.mpm_mount.specs.Looking.{label_of}
 use Rattle.mpm_requests.proofs.PasswordLaws.{label_lets_in, no_label_lets_in}
 use Rattle.mpm_requests.proofs.passwords.label_admits.Goals as goal
 

@@ -5,7 +5,7 @@ use Rattle.mpm_top.specs.declared.status.Input.{Input}
 use Rattle.mpm_top.specs.declared.words.Form.TheVariants.{Program, Run}
 use Rattle.mpm_top.specs.Runs.{Contents, host, failed, Holds, StartsOf, EndsAfter}
 use Rattle.mpm_top.proofs.BootLaws.{program_names_nothing, starts_with_contents, ends_with_contents, unless_disk_always, either_way, refusal_early}
-use Rattle.mpm_top.proofs.Syncing.{nothing_attached}
+use Rattle.mpm_top.proofs.Syncing.{nothing_called, none_synced}
 use Rattle.mpm_top.proofs.boot.boot.Goals as goal
 
 pub returns-in-Program-clause-starts : goal.returns-in-Program-clause-starts
@@ -18,7 +18,13 @@ returns-in-Program-clause-starts g c =
     (c.boot_program.ensures.starts found)
 
 pub returns-in-Program-clause-attached : goal.returns-in-Program-clause-attached
-returns-in-Program-clause-attached g c = nothing_attached c.boot_program.result (g.D.Drives.attached c.args.drives.now)
+returns-in-Program-clause-attached g c = nothing_called c.boot_program.result (g.D.Drives.attached c.args.drives.now)
+
+pub returns-in-Program-clause-fresh : goal.returns-in-Program-clause-fresh
+returns-in-Program-clause-fresh g c = none_synced c.boot_program.result (g.D.Drives.unsynced c.args.drives.now) c.boot_program.ensures.no_drive
+
+pub returns-in-Program-clause-unsynced : goal.returns-in-Program-clause-unsynced
+returns-in-Program-clause-unsynced g c = nothing_called c.boot_program.result (g.D.Drives.unsynced c.args.drives.now)
 
 pub returns-in-Program-clause-drive_names : goal.returns-in-Program-clause-drive_names
 returns-in-Program-clause-drive_names g c = either_way c.boot_program.result _ refl

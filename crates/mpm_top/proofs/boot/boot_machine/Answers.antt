@@ -4,7 +4,7 @@ use Rattle.mpm_drives.specs.Stopping.{Failures}
 use Rattle.mpm_machine.proofs.SettlingLaws.{nobody_yet}
 use Rattle.mpm_top.specs.Runs.{host, failed}
 use Rattle.mpm_top.proofs.BootLaws.{no_machine, names_nothing, script_of_file, starts_of_file, ends_unread, ends_unmounted, unless_disk, unless_disk_always, refusal_early}
-use Rattle.mpm_top.proofs.Syncing.{attaches_mounted}
+use Rattle.mpm_top.proofs.Syncing.{keeps_unmounted}
 use Rattle.mpm_top.proofs.boot.boot_machine.Goals as goal
 
 pub returns-in-Err-Fault-clause-reason : goal.returns-in-Err-Fault-clause-reason
@@ -38,12 +38,18 @@ returns-in-Ok-boot-clause-starts g c =
     starts_of_file (host g.F.Files.contents g.D.Drives.disks c.args.files.now c.args.drives.now) c.args.bytes.now c.in-Ok.file c.in-Ok-read_script_of.script
     c.in-Ok-boot.machine.system (g.D.Drives.disks c.boot.new.drives) c.in-Ok-boot.machine.bdos c.in-Ok.ensures.ok
     c.in-Ok-read_script_of.ensures.scripted c.in-Ok-boot.ensures.opening c.in-Ok-boot.ensures.files c.in-Ok-boot.ensures.drives
+    (record { attached = g.D.Drives.attached c.boot.new.drives; disks = g.D.Drives.disks c.boot.new.drives; mounted = c.in-Ok-boot.ensures.mounted })
     (nobody_yet c.in-Ok-boot.machine.system.kernel.disk c.in-Ok.file.disk_turn c.in-Ok-boot.ensures.disk)
 
 pub returns-in-Ok-boot-clause-attached : goal.returns-in-Ok-boot-clause-attached
 returns-in-Ok-boot-clause-attached g c =
-    attaches_mounted c.in-Ok.file.drives (g.D.Drives.attached c.args.drives.now) (g.D.Drives.attached c.boot.new.drives) (g.D.Drives.disks c.args.drives.now) (g.D.Drives.disks c.boot.new.drives)
-    c.in-Ok-boot.machine.bdos.mounted c.boot.ensures.beside c.in-Ok-boot.ensures.drives
+    keeps_unmounted c.in-Ok.file.drives (g.D.Drives.attached c.args.drives.now) (g.D.Drives.attached c.boot.new.drives) (g.D.Drives.disks c.boot.new.drives)
+    c.in-Ok-boot.machine.bdos.mounted c.boot.ensures.beside.drives c.in-Ok-boot.ensures.drives
+
+pub returns-in-Ok-boot-clause-unsynced : goal.returns-in-Ok-boot-clause-unsynced
+returns-in-Ok-boot-clause-unsynced g c =
+    keeps_unmounted c.in-Ok.file.drives (g.D.Drives.unsynced c.args.drives.now) (g.D.Drives.unsynced c.boot.new.drives) (g.D.Drives.disks c.boot.new.drives)
+    c.in-Ok-boot.machine.bdos.mounted c.boot.ensures.unsynced c.in-Ok-boot.ensures.drives
 
 pub returns-in-Ok-boot-clause-missing : goal.returns-in-Ok-boot-clause-missing
 returns-in-Ok-boot-clause-missing g c script named missing =

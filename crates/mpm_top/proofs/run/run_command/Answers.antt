@@ -19,6 +19,8 @@ returns-in-Ok-run_to_end-clause-ran g c is =
     record {
       start = begun c.in-Ok.machine.system starts.drives;
       begins = starts.begins;
+      upon = c.in-Ok.machine.bdos;
+      at_first = starts.at_first;
       steps = c.in-Ok-run_to_end.ensures.steps;
       synced =
           listed_synced (g.D.Drives.disks c.boot.new.drives) c.in-Ok.machine.bdos.mounted (g.D.Drives.unsynced c.run_to_end.new.drives)
@@ -104,7 +106,7 @@ returns-in-Ok-clause-disk_text g c step is =
     (g.S.Sink.written c.args.sink.now) (g.S.Sink.written c.run_to_end.new.sink) (g.S.Sink.faults c.args.sink.now) (g.S.Sink.faults c.run_to_end.new.sink)
     c.stopped.ensures is starts.begins c.in-Err-run_to_end.ensures.within
     (λ told. c.in-Err-run_to_end.ensures.err (drives_listed c.args.asked.form starts.begins.bytes) starts.drives starts.listed (starts.files told))
-    c.in-Err-run_to_end.ensures.stops
+    c.in-Ok.machine.bdos starts.at_first c.in-Err-run_to_end.ensures.stops
     (others_then (image_named (g.D.Drives.disks c.args.drives.now)) (image_named (g.D.Drives.disks c.boot.new.drives)) (image_named (g.D.Drives.disks c.run_to_end.new.drives))
     (drives_listed c.args.asked.form starts.begins.bytes) c.in-Ok.ensures.images
     (c.in-Err-run_to_end.ensures.others (drives_listed c.args.asked.form starts.begins.bytes) starts.listed)))
@@ -117,7 +119,7 @@ returns-in-Ok-clause-write_text g c step is =
     (g.S.Sink.written c.args.sink.now) (g.S.Sink.written c.run_to_end.new.sink) (g.S.Sink.faults c.args.sink.now) (g.S.Sink.faults c.run_to_end.new.sink)
     c.stopped.ensures is starts.begins c.in-Err-run_to_end.ensures.within
     (λ told. c.in-Err-run_to_end.ensures.err (drives_listed c.args.asked.form starts.begins.bytes) starts.drives starts.listed (starts.files told))
-    c.in-Err-run_to_end.ensures.stops
+    c.in-Ok.machine.bdos starts.at_first c.in-Err-run_to_end.ensures.stops
     (others_then (image_named (g.D.Drives.disks c.args.drives.now)) (image_named (g.D.Drives.disks c.boot.new.drives)) (image_named (g.D.Drives.disks c.run_to_end.new.drives))
     (drives_listed c.args.asked.form starts.begins.bytes) c.in-Ok.ensures.images
     (c.in-Err-run_to_end.ensures.others (drives_listed c.args.asked.form starts.begins.bytes) starts.listed))

@@ -45,7 +45,7 @@ pub returns-in-Err-clause-stops : goal.returns-in-Err-clause-stops
 returns-in-Err-clause-stops g c =
     let first = g.S.Sink.written c.args.sink.now in
     let fault = c.in-Err.error.fault in
-    stopped_inside fault c.args.asked.steps c.in-Err.error.step c.args.asked.trace _ _ c.args.machine.now.system first (g.S.Sink.written c.close.new.sink)
+    stopped_inside fault c.args.asked.steps c.in-Err.error.step c.args.asked.trace c.args.machine.now.bdos _ _ c.args.machine.now.system first (g.S.Sink.written c.close.new.sink)
     (g.S.Sink.faults c.args.sink.now) (g.S.Sink.faults c.close.new.sink) c.in-Err.ensures.stops c.new-render.ensures.trace (c.new-render.ensures.fresh first)
     (λ is. ap g.S.Sink.written (c.close.ensures.left is))
     (λ s shows. closed_alike fault c.run.new.render.trace c.args.asked.trace s first (g.S.Sink.written c.close.new.sink) (g.S.Sink.faults c.run.new.sink) (g.S.Sink.faults c.args.sink.now)
@@ -99,7 +99,7 @@ returns-in-Ok-settle-clause-images g c specs on has stand =
 pub returns-in-Ok-settle-clause-synced : goal.returns-in-Ok-settle-clause-synced
 returns-in-Ok-settle-clause-synced g c =
     synced_before (g.D.Drives.unsynced c.settle.new.drives) c.args.machine.now.bdos.mounted c.settle.new.self.bdos.mounted
-    (λ number. c.in-Ok-settle.ensures.keeps.labels number ∙ c.in-Ok.ensures.keeps.labels number) c.in-Ok-settle.ensures.synced
+    (λ number. c.in-Ok-settle.ensures.keeps.labels number ∙ c.in-Ok.ensures.keeps.labels number) c.in-Ok-settle.ensures.synced.syncs.synced
 
 pub returns-in-Ok-settle-clause-attached : goal.returns-in-Ok-settle-clause-attached
 returns-in-Ok-settle-clause-attached g c number = c.in-Ok-settle.ensures.attached number ∙ c.in-Ok.ensures.attached number
@@ -113,7 +113,7 @@ pub returns-in-Ok-settle-clause-steps : goal.returns-in-Ok-settle-clause-steps
 returns-in-Ok-settle-clause-steps g c =
     let first = g.S.Sink.written c.args.sink.now in
     let ran = c.in-Ok.ensures.steps in
-    writes_steps c.args.asked.trace c.args.asked.steps (seen g.S.Sink.written g.S.Sink.faults c.run.new.render c.run.new.sink) c.args.machine.now.system c.run.new.self.system
+    writes_steps c.args.asked.trace c.args.asked.steps c.args.machine.now.bdos c.run.new.self.bdos (seen g.S.Sink.written g.S.Sink.faults c.run.new.render c.run.new.sink) c.args.machine.now.system c.run.new.self.system
     c.settle.new.self.system ran.emitted first (g.S.Sink.written c.settle.new.sink) (c.in-Ok.ensures.trace ∙ c.new-render.ensures.trace) ran.steps (ran.wrote.shown [] first (c.new-render.ensures.fresh first))
     c.in-Ok-settle.ensures.end
 
@@ -154,7 +154,7 @@ returns-clause-stops g c =
     let traces = c.in-Ok.ensures.trace ∙ c.new-render.ensures.trace in
     let shows : Shows c.run.new.render (g.S.Sink.written c.run.new.sink) ran.emitted first =
     subst (λ outputs. Shows c.run.new.render (g.S.Sink.written c.run.new.sink) outputs first) (append-nil ran.emitted) (ran.wrote.shown [] first (c.new-render.ensures.fresh first)) in
-    stopped_behind fault c.args.asked.steps c.args.asked.trace o n c.args.machine.now.system c.run.new.self.system c.settle.new.self.system ran.emitted first (g.S.Sink.written c.close-in-Err-settle.new.sink)
+    stopped_behind fault c.args.asked.steps c.args.asked.trace c.args.machine.now.bdos c.run.new.self.bdos _ o n _ _ c.args.machine.now.system c.run.new.self.system c.settle.new.self.system ran.emitted first (g.S.Sink.written c.close-in-Err-settle.new.sink)
     (g.S.Sink.faults c.args.sink.now) (g.S.Sink.faults c.close-in-Err-settle.new.sink) ran.steps traces shows (λ is. ap g.S.Sink.written (c.close-in-Err-settle.ensures.left is))
     (λ t shown. closed_alike fault c.settle.new.render.trace c.args.asked.trace t first (g.S.Sink.written c.close-in-Err-settle.new.sink) (g.S.Sink.faults c.settle.new.sink)
     (g.S.Sink.faults c.args.sink.now) (g.S.Sink.faults c.close-in-Err-settle.new.sink) (c.in-Err-settle.ensures.trace ∙ traces)
@@ -163,7 +163,7 @@ returns-clause-stops g c =
 
 pub returns-clause-early : goal.returns-clause-early
 returns-clause-early g c zero name =
-    let still = none_run c.args.asked.steps c.args.machine.now.system _ zero c.in-Ok.ensures.steps.steps in
+    let still = none_run c.args.asked.steps c.args.machine.now.bdos c.run.new.self.bdos c.args.machine.now.system _ zero c.in-Ok.ensures.steps.steps in
     images_same (g.D.Drives.disks c.run.new.drives) (g.D.Drives.disks c.settle.new.drives) name
     (c.in-Err-settle.ensures.idle (ap (λ (system : System). system.kernel.disk.served) still ∙ c.requires.idle)).images
     ∙ ap (λ (x : Option Disks). image_named x name) (ap g.D.Drives.disks (c.in-Ok.ensures.still zero))

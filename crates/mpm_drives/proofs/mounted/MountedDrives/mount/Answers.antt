@@ -6,8 +6,7 @@ use Rattle.mpm_machine_file.specs.MachineFiles.{IsDrive}
 use Rattle.mpm_mount.specs.Directories.{Directory}
 use Rattle.mpm_drives.specs.Images.{image_named}
 use Rattle.mpm_drives.specs.Mounted.{number_of, AreMounted, AreSynced}
-use Rattle.mpm_drives.proofs.Syncing.{stays, synced_more}
-use Rattle.mpm_drives.proofs.Mounting.{beside_more, not_listed, others_differ, mounted_kept, mounted_more, mounted_by, stops_from, stops_at, failures_same, taken_more, parted}
+use Rattle.mpm_drives.proofs.Mounting.{beside_more, not_listed, others_differ, mounted_kept, mounted_more, mounted_by, stops_from, stops_at, failures_same, taken_more, parted, stays, synced_more}
 use Rattle.mpm_drives.proofs.mounted.MountedDrives.mount.Goals as goal
 
 pub returns-in-Err-clause-err : goal.returns-in-Err-clause-err

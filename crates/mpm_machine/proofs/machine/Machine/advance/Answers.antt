@@ -117,7 +117,7 @@ returns-in-Err g c =
           (omega (arith, c.steps_done-step.ensures, ran.done, same))
           (failed.images (after done s) first (ran_on c.args.self.now c.run_on-done.new.self done _ _ _ (after done s) s first ran.bdos ran.disk (ran.states s) stands));
       steps = tt;
-      stops = stopped_in_step c.args.most done fault _ _ _ c.args.self.now.system c.run_on-done.new.self.system
+      stops = stopped_in_step c.args.most done fault _ c.run_on-done.new.self.bdos _ _ c.args.self.now.system c.run_on-done.new.self.system
           (omega (arith, ran.count, c.if-done-most.false)) (omega (arith, c.steps_done-step.ensures, ran.done)) ran.steps failed.stops;
       due = tt;
       some = tt;

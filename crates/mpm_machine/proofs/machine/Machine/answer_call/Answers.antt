@@ -27,7 +27,8 @@ returns-clause-told g c =
 pub returns-clause-stops : goal.returns-clause-stops
 returns-clause-stops g c =
     answered_stops c.end_file_call.result c.args.p c.args.self.now.system _ _ c.args.self.now.bdos c.reply-extended.new.reply c.reply-extended.result
-    c.requires.own c.reply-extended.ensures.may c.end_file_call.ensures.wrote.err
+    c.requires.own c.reply-extended.ensures.may
+    (ends_as_kept c.args.self.now.bdos c.reply-extended.new.self c.reply-extended.new.reply c.reply-extended.result c.reply-extended.ensures.comes) c.end_file_call.ensures.wrote.err
 
 pub returns-clause-whole : goal.returns-clause-whole
 returns-clause-whole g c =

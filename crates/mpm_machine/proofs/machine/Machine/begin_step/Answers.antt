@@ -39,6 +39,7 @@ returns-in-Ok g c = record {
   idle = λ off. let i = c.in-Ok.ensures.idle off in (tt, i.1, i.2);
   apart = λ some. let a = c.in-Ok.ensures.apart some in (tt, a.1, a.2);
   kept = c.in-Ok.ensures.kept;
+  at_rest = c.in-Ok.ensures.at_rest;
   calls = c.in-Ok.ensures.calls;
   trace = c.in-Ok.ensures.trace;
   cause = record { stays = c.in-Ok.ensures.cause.stays; failed = tt };
@@ -68,6 +69,7 @@ returns-in-Err g c = record {
   idle = c.in-Err.ensures.idle;
   apart = c.in-Err.ensures.apart;
   kept = c.in-Err.ensures.kept;
+  at_rest = c.in-Err.ensures.at_rest;
   calls = c.in-Err.ensures.calls;
   trace = c.in-Err.ensures.trace;
   cause = record { stays = tt; failed = c.in-Err.ensures.cause.failed };
@@ -107,6 +109,7 @@ returns-in-Ok-begin_alone g c =
       idle = λ off. (tt, refl, refl);
       apart = λ some. (tt, refl, refl);
       kept = λ some. refl;
+      at_rest = λ off. refl;
       calls = λ files stands. omega arith;
       trace = c.in-Ok-begin_alone.ensures.wrote.ok.trace;
       cause = alone_done c.in-Ok-begin_alone.instruction (seen g.S.Sink.written g.S.Sink.faults c.args.render.now c.args.sink.now)
@@ -123,7 +126,7 @@ returns-in-Err-begin_alone g c =
       images = λ files stands. tt;
       stands = λ files stands. alone_still old c.args.self.now.bdos (g.D.Drives.disks c.args.drives.now) files nobody stands;
       step = tt;
-      stops = alone_stops _ _ old nobody c.in-Err-begin_alone.ensures.wrote.err;
+      stops = alone_stops c.args.self.now.bdos _ _ old nobody c.in-Err-begin_alone.ensures.wrote.err;
       served = tt;
       turn_steps = tt;
       whole = tt;
@@ -140,6 +143,7 @@ returns-in-Err-begin_alone g c =
       idle = λ off. (refl, refl, refl);
       apart = λ some. (refl, refl, refl);
       kept = λ some. refl;
+      at_rest = λ off. refl;
       calls = λ files stands. omega arith;
       trace = c.in-Err-begin_alone.ensures.wrote.err.trace;
       cause = alone_failed (seen g.S.Sink.written g.S.Sink.faults c.args.render.now c.args.sink.now)

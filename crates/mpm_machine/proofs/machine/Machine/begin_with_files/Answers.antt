@@ -120,6 +120,10 @@ pub returns-in-Ok-clause-apart : goal.returns-in-Ok-clause-apart
 returns-in-Ok-clause-apart g c some =
     let same = c.call_or_wait.ensures.apart (gate_apart c.args.p c.args.self.now.system c.make_file_call.new.self c.make_file_call.ensures some) in (tt, same.1, same.2)
 
+pub returns-in-Ok-clause-at_rest : goal.returns-in-Ok-clause-at_rest
+returns-in-Ok-clause-at_rest g c off =
+    c.call_or_wait.ensures.at_rest (gate_idle c.args.p c.args.self.now.system c.make_file_call.new.self c.requires.caller c.make_file_call.ensures off)
+
 pub returns-in-Ok-clause-kept : goal.returns-in-Ok-clause-kept
 returns-in-Ok-clause-kept g c some = c.call_or_wait.ensures.kept (gate_apart c.args.p c.args.self.now.system c.make_file_call.new.self c.make_file_call.ensures some)
 
@@ -148,13 +152,17 @@ returns-in-Err-clause-stands g c files stands =
 
 pub returns-in-Err-clause-stops : goal.returns-in-Err-clause-stops
 returns-in-Err-clause-stops g c =
-    gate_stops c.in-Err.fault c.args.p _ _ c.args.self.now.system c.make_file_call.new.self c.requires.caller c.make_file_call.ensures c.in-Err.ensures.stops
+    gate_stops c.in-Err.fault c.args.self.now.bdos c.args.p _ _ c.args.self.now.system c.make_file_call.new.self c.requires.caller c.make_file_call.ensures c.in-Err.ensures.stops
 
 pub returns-in-Err-clause-idle : goal.returns-in-Err-clause-idle
 returns-in-Err-clause-idle g c off = c.in-Err.ensures.idle (gate_idle c.args.p c.args.self.now.system c.make_file_call.new.self c.requires.caller c.make_file_call.ensures off)
 
 pub returns-in-Err-clause-apart : goal.returns-in-Err-clause-apart
 returns-in-Err-clause-apart g c some = c.in-Err.ensures.apart (gate_apart c.args.p c.args.self.now.system c.make_file_call.new.self c.make_file_call.ensures some)
+
+pub returns-in-Err-clause-at_rest : goal.returns-in-Err-clause-at_rest
+returns-in-Err-clause-at_rest g c off =
+    c.call_or_wait.ensures.at_rest (gate_idle c.args.p c.args.self.now.system c.make_file_call.new.self c.requires.caller c.make_file_call.ensures off)
 
 pub returns-in-Err-clause-kept : goal.returns-in-Err-clause-kept
 returns-in-Err-clause-kept g c some = c.call_or_wait.ensures.kept (gate_apart c.args.p c.args.self.now.system c.make_file_call.new.self c.make_file_call.ensures some)

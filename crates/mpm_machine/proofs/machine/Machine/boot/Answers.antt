@@ -1,5 +1,6 @@
 use Rattle.std.proofs.Common.{◌∙◌, sym, subst}
 use Rattle.mpm_bdos.specs.Serving.{Kept}
+use Rattle.mpm_bdos.specs.Syncing.{AreSynced}
 use Rattle.mpm_machine.specs.Holding.{HoldsDrives}
 use Rattle.mpm_machine.proofs.MountedLaws.{holds_again}
 use Rattle.mpm_machine.proofs.FirstFiles.{opens_again}
@@ -50,3 +51,6 @@ pub returns-clause-files : goal.returns-clause-files
 returns-clause-files g c =
     opens_again _ _ c.in-Ok.machine.system.kernel.disk c.begin_residents.new.self.system.kernel.disk c.in-Ok.machine.bdos c.begin_residents.new.self.bdos _ c.begin_residents.ensures.disk c.begin_residents.ensures.bdos
     c.in-Ok.ensures.files
+
+pub returns-clause-fresh : goal.returns-clause-fresh
+returns-clause-fresh g c = subst (λ (k : Kept). AreSynced (g.D.Drives.unsynced c.boot_bare.new.drives) k.mounted) (sym c.begin_residents.ensures.bdos) c.in-Ok.ensures.fresh

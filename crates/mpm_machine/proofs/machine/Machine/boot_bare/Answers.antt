@@ -1,4 +1,4 @@
-use Rattle.mpm_machine.proofs.MountedLaws.{mounted_here, holds_mounted}
+use Rattle.mpm_machine.proofs.MountedLaws.{mounted_here, holds_mounted, fresh_here}
 use Rattle.mpm_machine.proofs.DriveLaws.{mounted_drives}
 use Rattle.mpm_machine.proofs.SettlingLaws.{nobody_yet}
 use Rattle.mpm_machine.proofs.FirstFiles.{opens_on}
@@ -24,3 +24,7 @@ returns-in-Ok-bare-clause-files g c =
     opens_on _ _ _ _ c.in-Ok-bare.machine.system.kernel.disk c.in-Ok-bare.machine.bdos
     (mounted_here _ _ _ _ c.in-Ok.mounted c.into_mounted.result.items c.in-Ok-bare.machine.bdos c.as_slice.ensures c.in-Ok.ensures.mounted c.into_mounted.ensures c.in-Ok-bare.ensures.bdos)
     (nobody_yet c.in-Ok-bare.machine.system.kernel.disk c.args.file.now.disk_turn c.in-Ok-bare.ensures.disk)
+
+pub returns-in-Ok-bare-clause-fresh : goal.returns-in-Ok-bare-clause-fresh
+returns-in-Ok-bare-clause-fresh g c =
+    fresh_here (g.D.Drives.unsynced c.mount.new.drives) c.in-Ok.mounted c.into_mounted.result.items c.in-Ok-bare.machine.bdos c.in-Ok.ensures.fresh c.into_mounted.ensures c.in-Ok-bare.ensures.bdos

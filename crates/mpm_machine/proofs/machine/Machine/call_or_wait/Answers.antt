@@ -11,7 +11,7 @@ use Rattle.mpm_machine.specs.Holding.{HoldsDrives}
 use Rattle.mpm_machine.specs.DiskStep.{files_called, told_at_gate}
 use Rattle.mpm_machine.specs.After.{HasCalled}
 use Rattle.mpm_machine.proofs.DriveLaws.{keeps_still}
-use Rattle.mpm_machine.proofs.AtGateLaws.{IsCalled, waits_steps, waits_ok, waits_told, once_ok, once_told, once_err, once_still, once_images, once_fault, once_stops, once_trace, once_cause, fails_told, between, fails_images, once_calls, served_directly, holds_filed}
+use Rattle.mpm_machine.proofs.AtGateLaws.{IsCalled, waits_steps, waits_ok, waits_told, once_ok, once_told, once_err, once_still, once_images, once_fault, once_stops, once_trace, once_cause, between, fails_images, once_calls, served_directly, holds_filed}
 use Rattle.mpm_machine.proofs.machine.Machine.call_or_wait.Goals as goal
 
 pub wait_for_disk-requires-clause-steps : goal.wait_for_disk-requires-clause-steps
@@ -94,9 +94,9 @@ returns-in-Ok-clause-stands g c files stands =
 
 pub returns-in-Ok-clause-stops : goal.returns-in-Ok-clause-stops
 returns-in-Ok-clause-stops g c =
-    once_stops c.conclude.result c.args.p (seen g.S.Sink.written g.S.Sink.faults c.args.render.now c.args.sink.now)
+    once_stops c.conclude.result c.args.self.now.bdos c.args.p (seen g.S.Sink.written g.S.Sink.faults c.args.render.now c.args.sink.now)
     (seen g.S.Sink.written g.S.Sink.faults c.conclude.new.render c.conclude.new.sink) c.args.self.now.system c.call_files.new.reply c.in-Ok.extended
-    (sym c.is_done_at_once.ensures.done ∙ c.if-not-is_done_at_once.false) c.in-Ok.ensures.told c.conclude.ensures.err
+    (sym c.is_done_at_once.ensures.done ∙ c.if-not-is_done_at_once.false) c.in-Ok.ensures.told c.in-Ok.ensures.as_kept c.conclude.ensures.err
 
 pub returns-in-Ok-clause-unfailing : goal.returns-in-Ok-clause-unfailing
 returns-in-Ok-clause-unfailing g c none =
@@ -120,6 +120,10 @@ returns-in-Ok-clause-apart g c some =
       d.2,
       d.3,
     )
+
+pub returns-in-Ok-clause-at_rest : goal.returns-in-Ok-clause-at_rest
+returns-in-Ok-clause-at_rest g c off =
+    c.conclude.ensures.bdos ∙ (c.call_files.ensures.direct (served_directly c.args.p c.args.self.now.system off (sym c.is_done_at_once.ensures.done ∙ c.if-not-is_done_at_once.false))).1
 
 pub returns-in-Ok-clause-kept : goal.returns-in-Ok-clause-kept
 returns-in-Ok-clause-kept g c some = c.conclude.ensures.bdos ∙ (c.call_files.ensures.direct (c.is_done_at_once.ensures.apart c.if-not-is_done_at_once.false some)).1
@@ -155,7 +159,7 @@ returns-in-Err-clause-images g c filing stands =
     (c.in-Err.ensures.err filing (between c.args.self.now.system c.args.self.now.bdos (g.D.Drives.disks c.args.drives.now) filing stands))
 
 pub returns-in-Err-clause-stops : goal.returns-in-Err-clause-stops
-returns-in-Err-clause-stops g c = fails_told c.args.p (seen g.S.Sink.written g.S.Sink.faults c.args.render.now c.args.sink.now) c.args.self.now.system
+returns-in-Err-clause-stops g c = record { still = refl; job = c.in-Err.ensures.job }
 
 pub returns-in-Err-clause-unfailing : goal.returns-in-Err-clause-unfailing
 returns-in-Err-clause-unfailing g c none = absurd (c.in-Err.ensures.unfailing none)
@@ -167,6 +171,10 @@ returns-in-Err-clause-idle g c off =
 pub returns-in-Err-clause-apart : goal.returns-in-Err-clause-apart
 returns-in-Err-clause-apart g c some =
     absurd (false≢true (c.in-Err.ensures.direct (c.is_done_at_once.ensures.apart c.if-not-is_done_at_once.false some)).0)
+
+pub returns-in-Err-clause-at_rest : goal.returns-in-Err-clause-at_rest
+returns-in-Err-clause-at_rest g c off =
+    (c.call_files.ensures.direct (served_directly c.args.p c.args.self.now.system off (sym c.is_done_at_once.ensures.done ∙ c.if-not-is_done_at_once.false))).1
 
 pub returns-in-Err-clause-kept : goal.returns-in-Err-clause-kept
 returns-in-Err-clause-kept g c some = (c.call_files.ensures.direct (c.is_done_at_once.ensures.apart c.if-not-is_done_at_once.false some)).1

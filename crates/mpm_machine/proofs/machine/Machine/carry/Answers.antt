@@ -1,7 +1,8 @@
 use Rattle.std.proofs.Common.{◌∙◌, refl, sym, ap, arith}
 use Rattle.mpm_service.specs.Disk.{served_process}
+use Rattle.mpm_bdos.proofs.Fitting.{unsynced_same}
 use Rattle.mpm_machine.proofs.DriveLaws.{keeps_still}
-use Rattle.mpm_machine.proofs.SettlingLaws.{nothing_carried, nothing_ends, somebody_served}
+use Rattle.mpm_machine.proofs.SettlingLaws.{nothing_carried, nothing_ends, somebody_served, served_err}
 use Rattle.mpm_machine.proofs.machine.Machine.carry.Goals as goal
 
 pub returns-in-Some : goal.returns-in-Some
@@ -13,20 +14,19 @@ returns-in-Some g c =
       err = carried.err;
       whole = carried.whole;
       end = carried.end;
+      serves = served_err c.carry_call.result c.args.self.now.system c.in-Some.p serves;
       stops = carried.stops;
       trace = carried.trace;
       cause = carried.cause;
       keeps = carried.keeps;
       names = carried.names;
       attached = carried.attached;
-      unsynced = carried.unsynced;
+      called = carried.called;
       bare = carried.bare;
       none = carried.none;
       unfailing = carried.unfailing;
       fits = carried.fits;
       idle = λ none. somebody_served c.args.self.now.system c.in-Some.p _ serves none;
-      still = λ none. somebody_served c.args.self.now.system c.in-Some.p _ serves none;
-      calls = carried.calls;
     }
 
 pub returns-in-None : goal.returns-in-None
@@ -36,19 +36,18 @@ returns-in-None g c =
       ok = λ files stands. nothing_carried files _ c.args.self.now.system c.args.self.now.bdos _ serves stands;
       err = λ files stands. tt;
       whole = c.requires.whole;
-      end = nothing_ends _ c.args.self.now.system serves;
+      end = nothing_ends c.args.self.now.bdos _ c.args.self.now.system serves;
+      serves = tt;
       stops = tt;
       trace = refl;
       cause = record { stays = refl; failed = tt };
       keeps = keeps_still _ _ _ refl;
       names = refl;
       attached = λ number. refl;
-      unsynced = λ number was. was;
+      called = record { unsynced = unsynced_same _ _; calls = omega arith; idle = λ none. refl };
       bare = λ none. none;
       none = λ none. refl;
       unfailing = λ none. tt;
       fits = c.requires.holds.fits;
       idle = λ none. refl;
-      still = λ none. refl;
-      calls = omega arith;
     }

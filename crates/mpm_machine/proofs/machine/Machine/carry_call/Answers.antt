@@ -14,7 +14,8 @@ use Rattle.mpm_machine.specs.Failing.{Working, HaveImagesOf, FailsWithin}
 use Rattle.mpm_machine.specs.Settling.{HasCarried, StopsCarrying, WritesEndOf, StopsEndOf}
 use Rattle.mpm_machine.proofs.FilingLaws.{label_none}
 use Rattle.mpm_machine.proofs.FailingLaws.{turns_fail}
-use Rattle.mpm_machine.proofs.CarryingLaws.{in_call, all_left_turns, own_behind, whole_unserved, nobody_left, never_both}
+use Rattle.mpm_machine.proofs.CarryingLaws.{in_call, all_left_turns, own_behind, whole_unserved, nobody_left, never_both, writes_before, stops_before}
+use Rattle.mpm_machine.proofs.SettlingLaws.{turns_call}
 use Rattle.mpm_machine.proofs.machine.Machine.carry_call.Goals as goal
 
 pub end_call-requires-clause-whole : goal.end_call-requires-clause-whole
@@ -64,11 +65,9 @@ returns-in-Err-clause-none g c none = (c.do_turns.ensures.idle (c.requires.holds
 pub returns-in-Err-clause-unfailing : goal.returns-in-Err-clause-unfailing
 returns-in-Err-clause-unfailing g c none = never_both c.do_turns.result _ _ c.in-Err.is (c.do_turns.ensures.unfailing (c.requires.holds.workless none))
 
-pub returns-in-Err-clause-unsynced : goal.returns-in-Err-clause-unsynced
-returns-in-Err-clause-unsynced g c = c.do_turns.ensures.left.kept_unsynced.owed
-
-pub returns-in-Err-clause-calls : goal.returns-in-Err-clause-calls
-returns-in-Err-clause-calls g c = omega (arith, c.do_turns.ensures.calls, c.finish_disk_call-turns.ensures.turns)
+pub returns-in-Err-clause-called : goal.returns-in-Err-clause-called
+returns-in-Err-clause-called g c =
+    turns_call c.args.self.now.system c.args.p c.args.self.now.bdos _ _ c.finish_disk_call-turns.result c.requires.served c.do_turns.ensures.left.kept_unsynced c.do_turns.ensures.calls c.finish_disk_call-turns.ensures.turns
 
 pub returns-in-Err-clause-cause : goal.returns-in-Err-clause-cause
 returns-in-Err-clause-cause g c = record { stays = tt; failed = (c.in-Err.ensures.cause.failed, refl) }
@@ -93,8 +92,9 @@ pub returns-in-Ok-clause-end : goal.returns-in-Ok-clause-end
 returns-in-Ok-clause-end g c =
     let before = seen g.S.Sink.written g.S.Sink.faults c.args.render.now c.args.sink.now in
     let behind = seen g.S.Sink.written g.S.Sink.faults c.end_call.new.render c.end_call.new.sink in
-    subst (λ (call : Option ℕ). WritesEndOf call before behind c.args.self.now.system c.end_call.new.self.system) (sym c.requires.served)
-    (c.in-Ok.ensures.end c.args.self.now.system (ap (λ (k : Kernel). record c.args.self.now.system { kernel = k }) c.finish_disk_call-turns.ensures.kernel))
+    subst (λ (call : Option ℕ). WritesEndOf c.args.self.now.bdos call before behind c.args.self.now.system c.end_call.new.self.system) (sym c.requires.served)
+    (writes_before c.args.self.now.bdos c.do_turns.new.self c.args.p before behind c.args.self.now.system c.end_call.new.self.system (λ less. (c.do_turns.ensures.idle less).kept)
+    (c.in-Ok.ensures.end c.args.self.now.system (ap (λ (k : Kernel). record c.args.self.now.system { kernel = k }) c.finish_disk_call-turns.ensures.kernel)))
 
 pub returns-in-Ok-clause-keeps : goal.returns-in-Ok-clause-keeps
 returns-in-Ok-clause-keeps g c =
@@ -112,11 +112,9 @@ pub returns-in-Ok-clause-fits : goal.returns-in-Ok-clause-fits
 returns-in-Ok-clause-fits g c =
     subst (λ (k : Kept). FitsDrives g.D.Drives.attached g.D.Drives.disks k.mounted k.cached c.do_turns.new.drives) (sym c.end_call.ensures.kept) c.do_turns.ensures.left.fits
 
-pub returns-in-Ok-clause-unsynced : goal.returns-in-Ok-clause-unsynced
-returns-in-Ok-clause-unsynced g c = c.do_turns.ensures.left.kept_unsynced.owed
-
-pub returns-in-Ok-clause-calls : goal.returns-in-Ok-clause-calls
-returns-in-Ok-clause-calls g c = omega (arith, c.do_turns.ensures.calls, c.finish_disk_call-turns.ensures.turns)
+pub returns-in-Ok-clause-called : goal.returns-in-Ok-clause-called
+returns-in-Ok-clause-called g c =
+    turns_call c.args.self.now.system c.args.p c.args.self.now.bdos _ _ c.finish_disk_call-turns.result c.requires.served c.do_turns.ensures.left.kept_unsynced c.do_turns.ensures.calls c.finish_disk_call-turns.ensures.turns
 
 pub returns-in-Ok-clause-cause : goal.returns-in-Ok-clause-cause
 returns-in-Ok-clause-cause g c =
@@ -142,8 +140,9 @@ pub returns-in-Err-end_call-clause-stops : goal.returns-in-Err-end_call-clause-s
 returns-in-Err-end_call-clause-stops g c =
     let before = seen g.S.Sink.written g.S.Sink.faults c.args.render.now c.args.sink.now in
     let behind = seen g.S.Sink.written g.S.Sink.faults c.end_call.new.render c.end_call.new.sink in
-    subst (λ (call : Option ℕ). StopsEndOf call before behind c.args.self.now.system) (sym c.requires.served)
-    (c.in-Err-end_call.ensures.stops c.args.self.now.system (ap (λ (k : Kernel). record c.args.self.now.system { kernel = k }) c.finish_disk_call-turns.ensures.kernel))
+    subst (λ (call : Option ℕ). StopsEndOf c.args.self.now.bdos call before behind c.args.self.now.system) (sym c.requires.served)
+    (stops_before c.args.self.now.bdos c.do_turns.new.self c.args.p before behind c.args.self.now.system (λ less. (c.do_turns.ensures.idle less).kept)
+    (c.in-Err-end_call.ensures.stops c.args.self.now.system (ap (λ (k : Kernel). record c.args.self.now.system { kernel = k }) c.finish_disk_call-turns.ensures.kernel)))
 
 pub returns-in-Err-end_call-clause-keeps : goal.returns-in-Err-end_call-clause-keeps
 returns-in-Err-end_call-clause-keeps g c =
@@ -161,11 +160,9 @@ pub returns-in-Err-end_call-clause-fits : goal.returns-in-Err-end_call-clause-fi
 returns-in-Err-end_call-clause-fits g c =
     subst (λ (k : Kept). FitsDrives g.D.Drives.attached g.D.Drives.disks k.mounted k.cached c.do_turns.new.drives) (sym c.end_call.ensures.kept) c.do_turns.ensures.left.fits
 
-pub returns-in-Err-end_call-clause-unsynced : goal.returns-in-Err-end_call-clause-unsynced
-returns-in-Err-end_call-clause-unsynced g c = c.do_turns.ensures.left.kept_unsynced.owed
-
-pub returns-in-Err-end_call-clause-calls : goal.returns-in-Err-end_call-clause-calls
-returns-in-Err-end_call-clause-calls g c = omega (arith, c.do_turns.ensures.calls, c.finish_disk_call-turns.ensures.turns)
+pub returns-in-Err-end_call-clause-called : goal.returns-in-Err-end_call-clause-called
+returns-in-Err-end_call-clause-called g c =
+    turns_call c.args.self.now.system c.args.p c.args.self.now.bdos _ _ c.finish_disk_call-turns.result c.requires.served c.do_turns.ensures.left.kept_unsynced c.do_turns.ensures.calls c.finish_disk_call-turns.ensures.turns
 
 pub returns-in-Err-end_call-clause-cause : goal.returns-in-Err-end_call-clause-cause
 returns-in-Err-end_call-clause-cause g c = record { stays = tt; failed = (c.in-Err-end_call.ensures.cause.failed, c.in_default.ensures.cause.stays) }

@@ -5,6 +5,7 @@ use Rattle.mpm_machine.specs.declared.machine.Machine.{Machine}
 use Rattle.mpm_machine.specs.declared.system.System.{System}
 use Rattle.mpm_machine.proofs.EndStepLaws.{ended_sound, ended_still, has_ended, has_ended_to, serving_stopped, serving_stops, ending_stopped, ended_stops, ends_served, ended_begun, ended_filed, ended_own, ended_turn_steps, ended_whole, ended_nobody_due, ended_no_completions, ended_steps, workless_paid}
 use Rattle.mpm_machine.proofs.BehindLaws.{rest_images}
+use Rattle.mpm_machine.proofs.EnterLaws.{paid_is}
 use Rattle.mpm_machine.proofs.CarryingLaws.{keeps_paid, stopped_behind}
 use Rattle.mpm_machine.proofs.machine.Machine.end_step.Goals as goal
 
@@ -67,7 +68,8 @@ returns g c =
     let faults : g.S.Sink.faults c.end_all.new.sink ≡ g.S.Sink.faults c.args.sink.now = ap (λ (f : Faults). f.sink) wrote.faults ∙ c.in_default.ensures.cause.stays in
     let picks = ap (λ (k : Kernel). record paid.system { kernel = k }) c.pick.ensures.kernel in
     let same = λ (some : is_some ended.kernel.disk.served ≡ true). ap (λ (machine : Machine). machine.bdos) (c.pay.ensures.served some) in
-    let step = has_ended instruction o m n old.system served.system ended paid.system new c.in_default.ensures.step same ends wrote c.pay.ensures.system picks in
+    let left = paid_is ended served.bdos paid.bdos c.pay.ensures.rest same c.pay.ensures.filing in
+    let step = has_ended instruction o m n old.system served.system ended paid.system new c.in_default.ensures.step left same ends wrote c.pay.ensures.system picks in
     let so = ends_served instruction served.system ended paid.system new c.in_default.ensures.whole ends c.pay.ensures.system picks in
     record {
       ok = λ disks files stands.

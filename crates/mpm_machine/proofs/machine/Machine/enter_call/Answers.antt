@@ -1,7 +1,7 @@
 use Rattle.std.proofs.Common.{◌∙◌, refl, sym, ap}
 use Rattle.mpm_service.specs.Disk.{served_process}
 use Rattle.mpm_machine.proofs.WorkLaws.{served_by_some, unserved_by_some, not_both}
-use Rattle.mpm_machine.proofs.EnterLaws.{starts_whole, starts_lives, starts_filed, begins_so, begun_is, enters_so, has_entered, enters_whole, owns_entered, nobody_starts, none_enters_so, nobody_entered, unserved_begun, unserved_own, has_entered_nobody, has_entered_still, goes_on}
+use Rattle.mpm_machine.proofs.EnterLaws.{starts_whole, starts_lives, starts_filed, begins_so, begun_is, enters_so, has_entered, never_idle, enters_whole, owns_entered, nobody_starts, none_enters_so, nobody_entered, unserved_begun, unserved_own, has_entered_nobody, has_entered_still, goes_on}
 use Rattle.mpm_machine.proofs.machine.Machine.enter_call.Goals as goal
 
 -- a call is in service
@@ -58,6 +58,7 @@ returns-in-Starts c =
       begun = c.begin_disk_call.ensures.begun;
       own = owns_entered old _ p turns c.args.self.now.bdos new is starts none c.requires.filed begins;
       kept = c.start_call-turns.ensures.kept;
+      idle = λ idle. absurd (never_idle old _ p has.turns has.is none starts idle);
       workless = λ bare less. c.start_call-turns.ensures.workless bare;
       reply = refl;
     }
@@ -79,6 +80,7 @@ returns-in_default c =
       begun = unserved_begun kernel still;
       own = unserved_own kernel c.args.self.now.bdos.service still;
       kept = refl;
+      idle = λ none. refl;
       workless = λ bare less. less;
       reply = refl;
     }

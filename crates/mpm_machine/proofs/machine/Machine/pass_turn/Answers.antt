@@ -85,8 +85,8 @@ returns-then-last-clause-stops g c =
     let works = works_last old.kernel.disk c.turn_disk.result c.in-Work.p c.in-Work.last c.turn_disk.ensures.answer c.in-Work.is c.if-last.true in
     let o = seen g.S.Sink.written g.S.Sink.faults c.args.render.now c.args.sink.now in
     let n = seen g.S.Sink.written g.S.Sink.faults c.answer_call.new.render c.answer_call.new.sink in
-    has_stopped_over c.answer_call.result c.in-Work.p o n old works
-    (subst (λ (passed : System). OnErr c.answer_call.result (HasStoppedAnswering c.in-Work.p o n passed))
+    has_stopped_over c.answer_call.result c.args.self.now.bdos c.in-Work.p o n old works
+    (subst (λ (passed : System). OnErr c.answer_call.result (HasStoppedAnswering c.args.self.now.bdos c.in-Work.p o n passed))
     (passed_is old c.turn_disk.new.self c.turn_disk.ensures.kernel) c.answer_call.ensures.stops)
 
 pub returns-then-last-clause-begun : goal.returns-then-last-clause-begun
@@ -117,7 +117,7 @@ returns-then-last-clause-filed g c =
     filed_if_passed c.answer_call.result c.args.self.now.bdos _ _ c.args.self.now.system c.answer_call.new.self.system c.requires.whole c.requires.filed (returns-then-last-clause-step g c)
 
 pub returns-then-last-clause-stays : goal.returns-then-last-clause-stays
-returns-then-last-clause-stays g c some still =
+returns-then-last-clause-stays g c still =
     let old = c.args.self.now.system in
     absurd (last_is_over old c.in-Work.p (works_last old.kernel.disk c.turn_disk.result c.in-Work.p c.in-Work.last c.turn_disk.ensures.answer c.in-Work.is c.if-last.true) still)
 
@@ -170,7 +170,7 @@ returns-in_default g c =
       whole = subst IsWhole (sym (passed_is old c.turn_disk.new.self c.turn_disk.ensures.kernel)) (whole_passed old c.requires.whole);
       completed = ap (λ (k : Kernel). k.dispatcher.completed) c.turn_disk.ensures.kernel ∙ c.requires.completed;
       kept = refl;
-      stays = λ some still. refl;
+      stays = λ still. refl;
       workless = λ none less. less;
       trace = refl;
       cause = record { later = omega arith; stays = refl; failed = tt };

@@ -4,6 +4,8 @@ use Rattle.mpm_machine.specs.State.{State, StandsWithDrives}
 use Rattle.mpm_machine.specs.Failing.{StopsWithImages}
 use Rattle.mpm_machine.specs.Faults.{Counts, counts, HasFailed}
 use Rattle.mpm_machine.specs.After.{after, EndsInStep, HasRun, HasStoppedIn, ShowsBefore}
+use Rattle.mpm_machine.specs.Chain.{IsChain}
+use Rattle.mpm_machine.proofs.ChainLaws.{chain_of}
 use Rattle.mpm_machine.proofs.NextLaws.{after_nothing, after_both, ends_later, run_nothing, run_both, next_in_run, stopped_later, so_later}
 use Rattle.mpm_machine.proofs.GoingSteps.{interprets_run}
 use Rattle.mpm_machine.proofs.DriveLaws.{keeps_still, keeps_both}
@@ -16,7 +18,7 @@ loop-left-init g c = record {
   stands = λ s first stands.
       let P : State → Type 0 = λ t. StandsWithDrives c.args.self.now c.args.render.now (g.S.Sink.written c.args.sink.now) (g.D.Drives.disks c.args.drives.now) t first in
       subst P (sym (after_nothing s)) stands;
-  ran = run_nothing _ c.args.self.now.system;
+  ran = run_nothing c.args.self.now.bdos _ c.args.self.now.system;
   due = λ some. absurd (omega (arith, some));
   few = omega arith;
   whole = c.requires.whole;
@@ -90,10 +92,11 @@ returns-in-Err g c =
           (c.in-Err.ensures.err (after done s) first there).later (c.in-Err.ensures.images (after done s) first there);
       steps = tt;
       stops =
-          let P : ℕ → Type 0 = λ most. HasStoppedIn most fault step (seen g.S.Sink.written g.S.Sink.faults c.loop-left.render c.loop-left.sink)
+          let P : ℕ → Type 0 = λ most. HasStoppedIn most fault step c.loop-left.self.bdos (seen g.S.Sink.written g.S.Sink.faults c.loop-left.render c.loop-left.sink)
           (seen g.S.Sink.written g.S.Sink.faults c.advance.new.render c.advance.new.sink) c.loop-left.self.system in
           stopped_later c.args.n done fault step _ _ _ c.args.self.now.system c.loop-left.self.system so_far.few so_far.steps so_far.ran
           (subst P left c.in-Err.ensures.stops);
+      chain = tt;
       each = λ s is k below. next_in_run k s c.args.self.now.system is c.requires.whole c.requires.no_completions;
       due = λ some. tt;
       interprets = λ before. tt;
@@ -133,9 +136,12 @@ returns g c =
       shown = λ s first stands. tt;
       images = λ s first stands. tt;
       steps =
-          let P : ℕ → Type 0 = λ k. HasRun k (seen g.S.Sink.written g.S.Sink.faults c.args.render.now c.args.sink.now) (seen g.S.Sink.written g.S.Sink.faults c.loop-left.render c.loop-left.sink) c.args.self.now.system c.loop-left.self.system in
+          let P : ℕ → Type 0 = λ k. HasRun k c.args.self.now.bdos c.loop-left.self.bdos (seen g.S.Sink.written g.S.Sink.faults c.args.render.now c.args.sink.now) (seen g.S.Sink.written g.S.Sink.faults c.loop-left.render c.loop-left.sink) c.args.self.now.system c.loop-left.self.system in
           subst P all so_far.ran;
       stops = tt;
+      chain =
+          let P : ℕ → Type 0 = λ k. IsChain k c.args.self.now.bdos c.loop-left.self.bdos c.args.self.now.system c.loop-left.self.system in
+          subst P all (chain_of done c.args.self.now.bdos c.loop-left.self.bdos c.args.self.now.system (record { system = c.loop-left.self.system; emitted = so_far.ran.emitted }) so_far.ran.steps);
       each = λ s is k below. next_in_run k s c.args.self.now.system is c.requires.whole c.requires.no_completions;
       due = λ some. so_far.due (omega (arith, some, all));
       interprets = interprets_run done _ _ c.args.self.now.system c.loop-left.self.system c.requires.whole so_far.ran;

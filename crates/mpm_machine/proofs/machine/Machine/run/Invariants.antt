@@ -1,4 +1,4 @@
-use Rattle.std.proofs.Common.{◌≡◌, ◌≤◌, ◌<◌, ◌+◌, ◌-◌, ◌*◌, ℕ, true, List, Option}
+use Rattle.std.proofs.Common.{◌≡◌, ◌≤◌, ◌<◌, ◌+◌, ◌*◌, ℕ, true, List, Option}
 use Rattle.mpm_output.specs.Outside.{seen}
 use Rattle.mpm_machine.specs.State.{State, IsWhole, NoCompletions, StandsWithDrives}
 use Rattle.mpm_machine.specs.Holding.{HoldsDrives}
@@ -15,7 +15,7 @@ invariant-loop-left g l = record {
   stands : (s : State) (first : Option (List ℕ))
       → StandsWithDrives l.initial.self l.initial.render (g.S.Sink.written l.initial.sink) (g.D.Drives.disks l.initial.drives) s first
       → StandsWithDrives l.self l.render (g.S.Sink.written l.sink) (g.D.Drives.disks l.drives) (after done s) first;
-  ran : HasRun done (seen g.S.Sink.written g.S.Sink.faults l.initial.render l.initial.sink) (seen g.S.Sink.written g.S.Sink.faults l.render l.sink) l.initial.self.system l.self.system;
+  ran : HasRun done l.initial.self.bdos l.self.bdos (seen g.S.Sink.written g.S.Sink.faults l.initial.render l.initial.sink) (seen g.S.Sink.written g.S.Sink.faults l.render l.sink) l.initial.self.system l.self.system;
   due : 0 < done → NobodyDue l.self.system.kernel;
   few : done ≤ l.n;
   whole : IsWhole l.self.system;

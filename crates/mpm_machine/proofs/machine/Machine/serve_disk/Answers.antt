@@ -1,10 +1,11 @@
 use Rattle.std.proofs.Common.{◌≡◌, ◌∙◌, true, is_some, sym, ap, subst}
+use Rattle.mpm_bdos.specs.Serving.{Kept}
 use Rattle.mpm_machine.specs.declared.machine.Machine.{Machine}
 use Rattle.mpm_machine.specs.DiskStep.{call_entered, files_served}
 use Rattle.mpm_machine.specs.declared.system.System.{System}
 use Rattle.mpm_machine.specs.After.{ServesEntered, EntersFor}
 use Rattle.mpm_machine.proofs.ServeLaws.{still_served}
-use Rattle.mpm_machine.proofs.EnterLaws.{paid_whole, paid_begun, paid_filed, paid_own, entered_behind, has_served_to, has_served, served_filed}
+use Rattle.mpm_machine.proofs.EnterLaws.{paid_whole, paid_begun, paid_filed, paid_own, paid_is, entered_behind, has_served_to, has_served, leaves_served, served_filed}
 use Rattle.mpm_machine.proofs.EndStepLaws.{served_nobody, keeps_then, keeps_entered, keeps_none, workless_paid}
 use Rattle.mpm_machine.proofs.CarryingLaws.{keeps_paid}
 use Rattle.mpm_machine.proofs.machine.Machine.serve_disk.Goals as goal
@@ -37,8 +38,17 @@ pub returns-clause-step : goal.returns-clause-step
 returns-clause-step g c =
     let has = c.enter_call.ensures.entered in
     has_served has.turns _ _ c.args.self.now.system c.pass_turn.new.self.system c.enter_call.new.self.system c.in_default.ensures.step
-    (subst (EntersFor has.turns) c.pay.ensures.system has.its) (subst (ServesEntered c.enter_call.new.self.bdos) c.pay.ensures.system has.entered)
+    (subst (EntersFor has.turns) c.pay.ensures.system has.its) (subst (ServesEntered c.enter_call.new.self.bdos has.turns) c.pay.ensures.system has.entered)
     (has.is ∙ ap (call_entered has.turns) c.pay.ensures.system)
+    (λ none.
+    let old = c.args.self.now.bdos in
+    let passed = c.pass_turn.new.self in
+    let paid = c.pay.new.self.bdos in
+    let same = c.pass_turn.ensures.stays none in
+    let pays = paid_is passed.system passed.bdos paid c.pay.ensures.rest (λ some. ap (λ (machine : Machine). machine.bdos) (c.pay.ensures.served some)) c.pay.ensures.filing in (
+      leaves_served passed.system old passed.bdos paid c.enter_call.new.self.bdos same pays c.enter_call.ensures.kept,
+      λ idle. ap (λ (k : Kept). k.service) (c.enter_call.ensures.idle idle ∙ c.pay.ensures.rest) ∙ ap (λ (k : Kept). k.service) same,
+    ))
 
 pub returns-clause-filed : goal.returns-clause-filed
 returns-clause-filed g c = served_filed _ _ c.args.self.now.system c.enter_call.new.self.system c.requires.whole c.requires.filed (returns-clause-step g c)
@@ -59,7 +69,7 @@ returns-clause-stays g c some still =
     let same = c.pay.ensures.served there in
     let bdos = λ (machine : Machine). machine.bdos in
     ap bdos (c.enter_call.ensures.served (subst (λ (machine : Machine). is_some machine.system.kernel.disk.served ≡ true) (sym same) there))
-    ∙ ap bdos same ∙ c.pass_turn.ensures.stays some still
+    ∙ ap bdos same ∙ c.pass_turn.ensures.stays still
 
 pub returns-clause-workless : goal.returns-clause-workless
 returns-clause-workless g c none less =

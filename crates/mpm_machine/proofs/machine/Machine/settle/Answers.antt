@@ -1,4 +1,4 @@
-use Rattle.std.proofs.Common.{◌≡◌, ◌∙◌, Bool, subst, arith}
+use Rattle.std.proofs.Common.{◌≡◌, ◌∙◌, Bool, inl, subst, arith}
 use Rattle.std.specs.Prelude.{OnOk}
 use Rattle.mpm_port.specs.Texts.{appended}
 use Rattle.mpm_mount.specs.Mounting.{SameDrives}
@@ -6,8 +6,8 @@ use Rattle.mpm_render.specs.Outputs.{closed}
 use Rattle.mpm_output.specs.Outside.{seen}
 use Rattle.mpm_output.proofs.WritingLaws.{on_ok_always}
 use Rattle.mpm_machine.specs.Faults.{itself}
-use Rattle.mpm_machine.specs.Settling.{carried}
-use Rattle.mpm_machine.proofs.SettlingLaws.{carried_shows, carried_system, carried_files, carried_images, stops_carrying, err_seen, err_stops, ok_closes, err_closes, stops_settling, keeps_synced, same_still, same_count, none_counted, sink_alone, cause_behind, ok_so, none_synced, some_synced}
+use Rattle.mpm_machine.specs.Settling.{carried, called}
+use Rattle.mpm_machine.proofs.SettlingLaws.{carried_shows, carried_system, carried_files, carried_images, stops_carrying, err_seen, err_stops, ok_closes, err_closes, keeps_synced, same_still, same_count, none_counted, sink_alone, cause_behind, ok_so}
 use Rattle.mpm_machine.proofs.machine.Machine.settle.Goals as goal
 
 -- the call in service was carried to its end, and lines are closed
@@ -44,33 +44,13 @@ returns-in-Ok-clause-err g c s first stands =
 
 pub returns-in-Ok-clause-end : goal.returns-in-Ok-clause-end
 returns-in-Ok-clause-end g c =
-    ok_closes c.close.result _ (seen g.S.Sink.written g.S.Sink.faults c.carry.new.render c.carry.new.sink) _ c.args.self.now.system c.carry.new.self.system c.in-Ok.ensures.end c.close.ensures.ok
-
-pub returns-in-Ok-clause-stops : goal.returns-in-Ok-clause-stops
-returns-in-Ok-clause-stops g c =
-    err_closes c.close.result _ (seen g.S.Sink.written g.S.Sink.faults c.carry.new.render c.carry.new.sink) (seen g.S.Sink.written g.S.Sink.faults c.close.new.render c.close.new.sink)
-    c.args.self.now.system c.carry.new.self.system c.in-Ok.ensures.end c.close.ensures.err
-    (err_seen c.close.result g.S.Sink.written g.S.Sink.faults c.carry.new.render c.close.new.render c.carry.new.sink c.close.new.sink c.close.ensures.unwritten)
+    ok_closes c.close.result c.args.self.now.bdos _ (seen g.S.Sink.written g.S.Sink.faults c.carry.new.render c.carry.new.sink) _ c.args.self.now.system c.carry.new.self.system c.in-Ok.ensures.end c.close.ensures.ok
 
 pub returns-in-Ok-clause-cause : goal.returns-in-Ok-clause-cause
 returns-in-Ok-clause-cause g c = cause_behind itself _ _ _ c.close.result c.in-Ok.ensures.cause.stays c.close.ensures.cause
 
 pub returns-in-Ok-clause-keeps : goal.returns-in-Ok-clause-keeps
 returns-in-Ok-clause-keeps g c = keeps_synced _ _ _ _ _ c.in-Ok.ensures.keeps c.close.ensures.drives.images
-
-pub returns-in-Ok-clause-syncs : goal.returns-in-Ok-clause-syncs
-returns-in-Ok-clause-syncs g c =
-    some_synced c.close.result c.carry.new.self.bdos.mounted (g.D.Drives.unsynced c.args.drives.now) (g.D.Drives.unsynced c.carry.new.drives) (g.D.Drives.unsynced c.close.new.drives) _ _
-    c.in-Ok.ensures.unsynced c.close.ensures.syncs
-
-pub returns-in-Ok-clause-calls : goal.returns-in-Ok-clause-calls
-returns-in-Ok-clause-calls g c =
-    omega (arith, c.in-Ok.ensures.calls, c.close.ensures.calls, same_count c.args.self.now.bdos.mounted c.carry.new.self.bdos.mounted c.in-Ok.ensures.keeps.labels)
-
-pub returns-in-Ok-clause-all : goal.returns-in-Ok-clause-all
-returns-in-Ok-clause-all g c none =
-    let same = same_count c.args.self.now.bdos.mounted c.carry.new.self.bdos.mounted c.in-Ok.ensures.keeps.labels in
-    ok_so c.close.result _ _ (λ all. omega (arith, all, same, c.in-Ok.ensures.still none)) c.close.ensures.all
 
 pub returns-in-Ok-clause-idle : goal.returns-in-Ok-clause-idle
 returns-in-Ok-clause-idle g c none =
@@ -92,7 +72,20 @@ pub returns-in-Ok-clause-trace : goal.returns-in-Ok-clause-trace
 returns-in-Ok-clause-trace g c = c.close.ensures.trace ∙ c.in-Ok.ensures.trace
 
 pub returns-in-Ok-clause-synced : goal.returns-in-Ok-clause-synced
-returns-in-Ok-clause-synced g c = c.close.ensures.synced
+returns-in-Ok-clause-synced g c =
+    ok_so c.close.result _ _ (λ syncs. record { between = called g.D.Drives.unsynced c.carry.new.drives c.carry.new.steps; turns = c.in-Ok.ensures.called; syncs = syncs }) c.close.ensures.synced
+
+pub returns-in-Ok-clause-stops : goal.returns-in-Ok-clause-stops
+returns-in-Ok-clause-stops g c =
+    err_closes c.close.result c.args.self.now.bdos c.carry.new.self.bdos.mounted _ (seen g.S.Sink.written g.S.Sink.faults c.carry.new.render c.carry.new.sink)
+    (seen g.S.Sink.written g.S.Sink.faults c.close.new.render c.close.new.sink) _ (called g.D.Drives.unsynced c.carry.new.drives c.carry.new.steps) _
+    c.args.self.now.system c.carry.new.self.system c.in-Ok.ensures.end c.close.ensures.err
+    (err_seen c.close.result g.S.Sink.written g.S.Sink.faults c.carry.new.render c.close.new.render c.carry.new.sink c.close.new.sink c.close.ensures.unwritten)
+    c.in-Ok.ensures.called c.close.ensures.syncs
+
+pub returns-in-Ok-clause-calls : goal.returns-in-Ok-clause-calls
+returns-in-Ok-clause-calls g c =
+    omega (arith, c.in-Ok.ensures.called.calls, c.close.ensures.calls, same_count c.args.self.now.bdos.mounted c.carry.new.self.bdos.mounted c.in-Ok.ensures.keeps.labels)
 
 -- or it stopped
 
@@ -101,14 +94,10 @@ returns-in-Err-clause-err g c s first stands =
     stops_carrying c.in-Err.fault s _ _ _ _ _ first stands.system.parts c.in-Err.ensures.trace stands.system.shown (c.in-Err.ensures.err s.files stands.files)
 
 pub returns-in-Err-clause-stops : goal.returns-in-Err-clause-stops
-returns-in-Err-clause-stops g c = stops_settling c.in-Err.fault _ _ c.args.self.now.system c.carry.new.self.system c.in-Err.ensures.stops
-
-pub returns-in-Err-clause-syncs : goal.returns-in-Err-clause-syncs
-returns-in-Err-clause-syncs g c =
-    none_synced c.in-Err.fault c.carry.new.self.bdos.mounted (g.D.Drives.unsynced c.args.drives.now) (g.D.Drives.unsynced c.carry.new.drives) c.in-Err.ensures.unsynced
+returns-in-Err-clause-stops g c = inl (record { serves = c.in-Err.ensures.serves; text = c.in-Err.ensures.stops; called = c.in-Err.ensures.called })
 
 pub returns-in-Err-clause-calls : goal.returns-in-Err-clause-calls
-returns-in-Err-clause-calls g c = omega (arith, c.in-Err.ensures.calls)
+returns-in-Err-clause-calls g c = omega (arith, c.in-Err.ensures.called.calls)
 
 pub returns-in-Err-clause-idle : goal.returns-in-Err-clause-idle
 returns-in-Err-clause-idle g c none = same_still g.D.Drives.attached g.D.Drives.disks g.D.Drives.failed_names c.args.drives.now c.carry.new.drives (c.in-Err.ensures.idle none)
@@ -139,9 +128,6 @@ returns-in-Err-clause-keeps g c = c.in-Err.ensures.keeps
 
 pub returns-in-Err-clause-synced : goal.returns-in-Err-clause-synced
 returns-in-Err-clause-synced g c = tt
-
-pub returns-in-Err-clause-all : goal.returns-in-Err-clause-all
-returns-in-Err-clause-all g c none = tt
 
 pub returns-in-Err-clause-names : goal.returns-in-Err-clause-names
 returns-in-Err-clause-names g c = c.in-Err.ensures.names

@@ -2,14 +2,15 @@ use Rattle.std.proofs.Common.{◌∙◌, Ok, sym, ap, subst, arith}
 use Rattle.mpm_mount.specs.Directories.{Directory}
 use Rattle.std.specs.Prelude.{List, Option, is_some}
 use Rattle.mpm_service.specs.declared.service.Served.{Served}
-use Rattle.std.proofs.lemmas.Bool.{false≢true}
+use Rattle.std.proofs.lemmas.Bool.{false≢true, true_from_ne_false}
 use Rattle.mpm_output.specs.Outside.{seen}
 use Rattle.mpm_bdos.specs.Serving.{Kept}
+use Rattle.mpm_bdos.specs.Turns.{has_work}
 use Rattle.mpm_machine.specs.Mounting.{HasNoDrive, KeepsMounted}
 use Rattle.mpm_machine.specs.Stepping.{files_begun}
 use Rattle.mpm_machine.proofs.DriveLaws.{keeps_both}
-use Rattle.mpm_machine.proofs.FilesStepLaws.{has_stepped, begun_as_before, ended_as_before, has_stepped_to, begun_has_stopped, disk_has_stopped, ended_has_stopped, begun_stops_by, ended_stops_by}
-use Rattle.mpm_machine.proofs.TakeStepLaws.{does_nothing, turn_worked, begun_worked, not_at_once, step_calls, turn_calls, turn_fails_so, write_stops, begun_stops_on, work_cause, begun_cause, begun_fails, ended_fails, ended_stays, holds_ended}
+use Rattle.mpm_machine.proofs.FilesStepLaws.{has_stepped, stays_served, begun_as_before, ended_as_before, stopped_as_before, has_stepped_to, begun_has_stopped, disk_has_stopped, ended_has_stopped, begun_stops_by, ended_stops_by}
+use Rattle.mpm_machine.proofs.TakeStepLaws.{does_nothing, no_turn, turn_worked, begun_worked, begun_apart, not_at_once, step_calls, turn_calls, turn_fails_so, write_stops, begun_stops_on, work_cause, begun_cause, begun_fails, ended_fails, ended_stays, holds_ended}
 use Rattle.mpm_machine.proofs.machine.Machine.take_step.Goals as goal
 
 pub end_step-requires-clause-begun : goal.end_step-requires-clause-begun
@@ -32,7 +33,9 @@ returns-in-Err-clause-images g c files stands =
 
 pub returns-in-Err-clause-stops : goal.returns-in-Err-clause-stops
 returns-in-Err-clause-stops g c =
-    disk_has_stopped (seen g.S.Sink.written g.S.Sink.faults c.args.render.now c.args.sink.now) c.args.self.now.system c.requires.whole c.requires.no_completions (turn_worked c.args.self.now.system (λ none. false≢true (c.in-Err.ensures.idle none).0))
+    disk_has_stopped c.args.self.now.bdos (seen g.S.Sink.written g.S.Sink.faults c.args.render.now c.args.sink.now) c.args.self.now.system
+    (turn_worked c.args.self.now.system (λ none. false≢true (c.in-Err.ensures.idle none).0))
+    (true_from_ne_false (has_work c.args.self.now.bdos.service) (λ less. false≢true (c.in-Err.ensures.workless less)))
 
 pub returns-in-Err-clause-unfailing : goal.returns-in-Err-clause-unfailing
 returns-in-Err-clause-unfailing g c none =
@@ -72,7 +75,10 @@ returns-in-Err-begin_step-clause-images g c files stands =
 
 pub returns-in-Err-begin_step-clause-stops : goal.returns-in-Err-begin_step-clause-stops
 returns-in-Err-begin_step-clause-stops g c =
-    begun_has_stopped c.in-Err-begin_step.fault _ _ c.args.self.now.system c.requires.whole c.requires.no_completions (begun_worked c.in-Err-begin_step.fault c.args.self.now.system (λ none. (c.in-Err-begin_step.ensures.idle none).0)) c.in-Err-begin_step.ensures.stops
+    begun_has_stopped c.in-Err-begin_step.fault c.args.self.now.bdos c.work.new.bdos _ _ c.args.self.now.system c.requires.whole c.requires.no_completions
+    (begun_worked c.in-Err-begin_step.fault c.args.self.now.system (λ none. (c.in-Err-begin_step.ensures.idle none).0))
+    (begun_apart c.in-Err-begin_step.fault c.args.self.now.system (λ some. (c.in-Err-begin_step.ensures.apart some).0)) c.work.ensures.kept
+    (λ off. (c.work.ensures.idle off).3) c.in-Err-begin_step.ensures.stops
 
 pub returns-in-Err-begin_step-clause-unfailing : goal.returns-in-Err-begin_step-clause-unfailing
 returns-in-Err-begin_step-clause-unfailing g c none =
@@ -127,7 +133,11 @@ returns-in-Err-end_step-clause-images g c files stands =
 
 pub returns-in-Err-end_step-clause-stops : goal.returns-in-Err-end_step-clause-stops
 returns-in-Err-end_step-clause-stops g c =
-    ended_has_stopped c.in-Ok.instruction _ (seen g.S.Sink.written g.S.Sink.faults c.begin_step.new.render c.begin_step.new.sink) _ c.args.self.now.system c.begin_step.new.self.system c.requires.whole c.requires.no_completions c.in-Ok.ensures.step c.in-Err-end_step.ensures.stops
+    ended_has_stopped c.in-Ok.instruction _ (seen g.S.Sink.written g.S.Sink.faults c.begin_step.new.render c.begin_step.new.sink) _ c.args.self.now.system c.begin_step.new.self.system c.requires.whole c.requires.no_completions
+    (begun_as_before c.args.self.now.bdos c.work.new.bdos c.in-Ok.instruction _ _ c.args.self.now.system c.begin_step.new.self.system c.work.ensures.kept
+    (λ off. (c.work.ensures.idle off).3) c.in-Ok.ensures.step)
+    (stopped_as_before c.args.self.now.bdos c.work.new.bdos c.begin_step.new.self.bdos c.in-Ok.instruction _ _ c.begin_step.new.self.system
+    c.work.ensures.at_rest (λ some. c.begin_step.ensures.kept (sym (ap (λ (call : Option Served). is_some call) c.in-Ok.ensures.served) ∙ some)) c.in-Err-end_step.ensures.stops)
 
 pub returns-in-Err-end_step-clause-cause : goal.returns-in-Err-end_step-clause-cause
 returns-in-Err-end_step-clause-cause g c =
@@ -173,11 +183,19 @@ returns-in-Ok-end_step-clause-ok g c files stands =
 
 pub returns-in-Ok-end_step-clause-step : goal.returns-in-Ok-end_step-clause-step
 returns-in-Ok-end_step-clause-step g c =
-    has_stepped c.in-Ok.instruction _ (seen g.S.Sink.written g.S.Sink.faults c.begin_step.new.render c.begin_step.new.sink) _ c.args.self.now.system c.begin_step.new.self.system c.end_step.new.self.system c.requires.whole c.requires.no_completions
-    (begun_as_before c.args.self.now.bdos c.work.new.bdos c.in-Ok.instruction _ _ c.args.self.now.system c.begin_step.new.self.system c.work.ensures.kept c.in-Ok.ensures.step)
-    (ended_as_before c.args.self.now.bdos c.work.new.bdos c.begin_step.new.self.bdos c.in-Ok.instruction _ _ c.begin_step.new.self.system c.end_step.new.self.system
-    c.work.ensures.at_rest (λ some. c.begin_step.ensures.kept (sym (ap (λ (call : Option Served). is_some call) c.in-Ok.ensures.served) ∙ some)) c.in-Ok-end_step.ensures.step)
-    (λ less some still. c.end_step.ensures.stays (ap (λ (call : Option Served). is_some call) c.in-Ok.ensures.served ∙ some) still ∙ c.begin_step.ensures.kept some ∙ c.work.ensures.at_rest less)
+    let old = c.args.self.now in
+    let worked = c.work.new.bdos in
+    let begun = c.begin_step.new.self in
+    let ended = c.in-Ok-end_step.ensures.step in
+    let served = c.in-Ok.ensures.served in
+    has_stepped c.in-Ok.instruction _ (seen g.S.Sink.written g.S.Sink.faults c.begin_step.new.render c.begin_step.new.sink) _ old.system begun.system c.end_step.new.self.system
+    c.requires.whole c.requires.no_completions
+    (begun_as_before old.bdos worked c.in-Ok.instruction _ _ old.system begun.system c.work.ensures.kept (λ off. (c.work.ensures.idle off).3) c.in-Ok.ensures.step) ended
+    (ended_as_before old.bdos worked begun.bdos begun.system ended.telling.at_disk c.work.ensures.at_rest
+    (λ some. c.begin_step.ensures.kept (sym (ap (λ (call : Option Served). is_some call) served) ∙ some)) ended.as_kept)
+    (λ some still. stays_served old.bdos worked c.end_step.new.self.bdos old.system c.work.ensures.kept (λ none. (c.work.ensures.idle none).3) c.work.ensures.at_rest
+    (c.end_step.ensures.stays (ap (λ (call : Option Served). is_some call) served ∙ some) still ∙ c.begin_step.ensures.kept some))
+    served (λ none off. c.begin_step.ensures.at_rest off ∙ (c.work.ensures.idle (no_turn old.system none)).3)
 
 pub returns-in-Ok-end_step-clause-holds : goal.returns-in-Ok-end_step-clause-holds
 returns-in-Ok-end_step-clause-holds g c =

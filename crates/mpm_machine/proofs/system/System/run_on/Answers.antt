@@ -58,9 +58,9 @@ returns-clause-states c s is within =
     (quiet_steps c.run_process.result c.quiet_for-most.result c.args.self.now (omega (arith, c.run_process.ensures.count)) c.quiet_for-most.ensures.quiet) (fewer_can c.run_process.result c.quiet_for-most.result c.args.self.now.kernel.disk c.run_process.ensures.count c.quiet_for-most.ensures.passing) within is
 
 pub returns-clause-steps : goal.returns-clause-steps
-returns-clause-steps c =
+returns-clause-steps c kept =
     let on = runs_on c.args.self.now c.in-Some.p c.in-Some-segment.seg c.requires.whole c.in-Some.ensures.running c.in-Some.ensures.first (sym c.segment.ensures ∙ c.in-Some-segment.is) c.requires.no_completions c.if-self.false in
-    moved_steps c.run_process.result c.in-Some.p c.in-Some-segment.seg c.args.self.now c.run_process.new.self c.requires.whole on
+    moved_steps c.run_process.result c.in-Some.p c.in-Some-segment.seg kept c.args.self.now c.run_process.new.self c.requires.whole on
     c.run_process.ensures.moved
     (quiet_steps c.run_process.result c.quiet_for-most.result c.args.self.now (omega (arith, c.run_process.ensures.count)) c.quiet_for-most.ensures.quiet) (fewer_can c.run_process.result c.quiet_for-most.result c.args.self.now.kernel.disk c.run_process.ensures.count c.quiet_for-most.ensures.passing)
 
@@ -83,7 +83,7 @@ returns-in_default-clause-states c s is within =
     idle_state c.idle.result c.args.self.now c.idle.new.self s on within c.idle.ensures.system is
 
 pub returns-in_default-clause-steps : goal.returns-in_default-clause-steps
-returns-in_default-clause-steps c =
+returns-in_default-clause-steps c kept =
     let on : Idles c.args.self.now c.idle.result = record {
       idle = c.idle.ensures.idle;
       no_completions = c.requires.no_completions;
@@ -92,7 +92,7 @@ returns-in_default-clause-steps c =
       passing = fewer_can c.idle.result c.quiet_for-most.result c.args.self.now.kernel.disk c.idle.ensures.count c.quiet_for-most.ensures.passing;
       quiet = quiet_steps c.idle.result c.quiet_for-most.result c.args.self.now (omega (arith, c.idle.ensures.count)) c.quiet_for-most.ensures.quiet;
     } in
-    idle_steps c.idle.result c.args.self.now c.idle.new.self c.requires.whole on c.idle.ensures.system
+    idle_steps c.idle.result kept c.args.self.now c.idle.new.self c.requires.whole on c.idle.ensures.system
 
 pub returns-in_default-clause-due : goal.returns-in_default-clause-due
 returns-in_default-clause-due c some =
@@ -110,13 +110,13 @@ pub returns-in_default-segment-clause-states : goal.returns-in_default-segment-c
 returns-in_default-segment-clause-states c s is within = still_state c.args.self.now s is
 
 pub returns-in_default-segment-clause-steps : goal.returns-in_default-segment-clause-steps
-returns-in_default-segment-clause-steps c = still_steps c.args.self.now
+returns-in_default-segment-clause-steps c kept = still_steps kept c.args.self.now
 
 pub returns-then-self-clause-states : goal.returns-then-self-clause-states
 returns-then-self-clause-states c s is within = still_state c.args.self.now s is
 
 pub returns-then-self-clause-steps : goal.returns-then-self-clause-steps
-returns-then-self-clause-steps c = still_steps c.args.self.now
+returns-then-self-clause-steps c kept = still_steps kept c.args.self.now
 
 pub returns-clause-disk : goal.returns-clause-disk
 returns-clause-disk c = moved_disk c.run_process.result c.in-Some.p c.in-Some-segment.seg c.args.self.now c.run_process.new.self c.run_process.ensures.moved

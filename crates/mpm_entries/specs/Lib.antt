@@ -1,0 +1,3 @@
+pub mod Protections
+pub mod Sizes
+pub mod Telling

@@ -1,0 +1,13 @@
+//! What the directory entries of a file tell a call, and what a call makes of an XFCB or of the label. (MP/M II Programmer's Guide,
+//! "File Control Block Definition", "Extended File Control Blocks", "Directory Labels".)
+#![tactic(auto)]
+
+mod keeping;
+mod protection;
+mod sizes;
+mod telling;
+
+pub use keeping::{label_there, xfcb_there};
+pub use protection::Protection;
+pub use sizes::size;
+pub use telling::{found_bytes, free_bytes, open_block, position_block, record_count, xfcb_block};

@@ -1,5 +1,0 @@
-use Rattle.mpm_bdos.specs.Turns.{FitsDrives}
-use Rattle.mpm_file_trials.proofs.scene.repeats.Given as goal
-
-abbrev pub invariant-loop-call : goal.invariant-loop-call
-invariant-loop-call g l = FitsDrives g.D.Drives.attached g.D.Drives.disks l.bdos.mounted l.bdos.cached l.drives

@@ -1,4 +1,0 @@
-use Rattle.mpm_file_trials.proofs.scene.serves_in_turns.Goals as goal
-
-pub start-turns-requires-clause-caller : goal.start-turns-requires-clause-caller
-start-turns-requires-clause-caller g c = c.requires.caller _

@@ -1,0 +1,159 @@
+use Rattle.std.proofs.Common.{◌≡◌, ◌⊎◌, ◌∙◌, sym, inl, inr, arith}
+use Rattle.mpm_files.specs.declared.jobs.JobKind.TheVariants.{Read, Write, TestWrite, Make, Delete, Rename, Attributes, Label, Xfcb, Nothing}
+use Rattle.mpm_files.proofs.turning.do_next.Goals as goal
+
+-- one of three
+
+one_of : {A B C P : Type 0} → A ⊎ (B ⊎ C) → (A → P) → (B → P) → (C → P) → P
+one_of (inl a) f g h = f a
+one_of (inr (inl b)) f g h = g b
+one_of (inr (inr e)) f g h = h e
+
+pub returns-in-Read : goal.returns-in-Read
+returns-in-Read g c =
+    let next = c.read_next.ensures in
+    record {
+      does = next.read c.in-Read.is;
+      ended = next.ended;
+      units = next.units;
+      drive = next.drive;
+      kind = next.kind;
+      calls = omega (arith, next.calls);
+      reads = λ is. next.calls;
+      reads_only = λ is. next.unsynced;
+      cached = λ is. next.cached;
+      leaves = next.leaves;
+      cause = next.cause;
+    }
+
+-- the others read nothing
+
+pub returns-in-Write : goal.returns-in-Write
+returns-in-Write g c =
+    let next = c.write_next.ensures in
+    let never : c.args.work.now.job.kind ≡ Read → ⊥ = λ is. let no : Read ≡ Write = sym is ∙ c.in-Write.is in absurd (cc) in
+    record {
+      does = next.write c.in-Write.is;
+      ended = next.ended;
+      units = next.units;
+      drive = next.drive;
+      kind = next.kind;
+      calls = omega (arith, next.calls);
+      reads = λ is. absurd (never is);
+      reads_only = λ is. absurd (never is);
+      cached = λ is. absurd (never is);
+      leaves = next.leaves;
+      cause = next.cause;
+    }
+
+pub returns-in-TestWrite : goal.returns-in-TestWrite
+returns-in-TestWrite g c =
+    let next = c.test_next.ensures in
+    let never : c.args.work.now.job.kind ≡ Read → ⊥ = λ is. let no : Read ≡ TestWrite = sym is ∙ c.in-TestWrite.is in absurd (cc) in
+    record {
+      does = next.testwrite c.in-TestWrite.is;
+      ended = next.ended;
+      units = next.units;
+      drive = next.drive;
+      kind = next.kind;
+      calls = omega (arith, next.calls);
+      reads = λ is. absurd (never is);
+      reads_only = λ is. absurd (never is);
+      cached = λ is. absurd (never is);
+      leaves = next.leaves;
+      cause = next.cause;
+    }
+
+pub returns-in-Make : goal.returns-in-Make
+returns-in-Make g c =
+    let next = c.make_next.ensures in
+    let never : c.args.work.now.job.kind ≡ Read → ⊥ = λ is. let no : Read ≡ Make = sym is ∙ c.in-Make.is in absurd (cc) in
+    record {
+      does = next.make c.in-Make.is;
+      ended = next.ended;
+      units = next.units;
+      drive = next.drive;
+      kind = next.kind;
+      calls = omega (arith, next.calls);
+      reads = λ is. absurd (never is);
+      reads_only = λ is. absurd (never is);
+      cached = λ is. absurd (never is);
+      leaves = next.leaves;
+      cause = next.cause;
+    }
+
+pub returns-in-Delete : goal.returns-in-Delete
+returns-in-Delete g c =
+    let next = c.delete_next.ensures in
+    let never : c.args.work.now.job.kind ≡ Read → ⊥ = λ is. let no : Read ≡ Delete = sym is ∙ c.in-Delete.is in absurd (cc) in
+    record {
+      does = next.delete c.in-Delete.is;
+      ended = next.ended;
+      units = next.units;
+      drive = next.drive;
+      kind = next.kind;
+      calls = omega (arith, next.calls);
+      reads = λ is. absurd (never is);
+      reads_only = λ is. absurd (never is);
+      cached = λ is. absurd (never is);
+      leaves = next.leaves;
+      cause = next.cause;
+    }
+
+pub returns-in-Rename : goal.returns-in-Rename
+returns-in-Rename g c =
+    let next = c.rename_next.ensures in
+    let never : c.args.work.now.job.kind ≡ Read → ⊥ = λ is. let no : Read ≡ Rename = sym is ∙ c.in-Rename.is in absurd (cc) in
+    record {
+      does = next.rename c.in-Rename.is;
+      ended = next.ended;
+      units = next.units;
+      drive = next.drive;
+      kind = next.kind;
+      calls = omega (arith, next.calls);
+      reads = λ is. absurd (never is);
+      reads_only = λ is. absurd (never is);
+      cached = λ is. absurd (never is);
+      leaves = next.leaves;
+      cause = next.cause;
+    }
+
+pub returns-in-Attributes : goal.returns-in-Attributes
+returns-in-Attributes g c =
+    let next = c.set_next.ensures in
+    let never : c.args.work.now.job.kind ≡ Read → ⊥ = λ is. let no : Read ≡ Attributes = sym is ∙ c.in-Attributes.is in absurd (cc) in
+    record {
+      does = next.attributes c.in-Attributes.is;
+      ended = next.ended;
+      units = next.units;
+      drive = next.drive;
+      kind = next.kind;
+      calls = omega (arith, next.calls);
+      reads = λ is. absurd (never is);
+      reads_only = λ is. absurd (never is);
+      cached = λ is. absurd (never is);
+      leaves = next.leaves;
+      cause = next.cause;
+    }
+
+pub returns-in-Label : goal.returns-in-Label
+returns-in-Label g c =
+    let next = c.put_next.ensures in
+    let never : c.args.work.now.job.kind ≡ Read → ⊥ = λ is.
+    one_of c.in-Label.is
+    (λ label. let no : Read ≡ Label = sym is ∙ label in absurd (cc))
+    (λ xfcb. let no : Read ≡ Xfcb = sym is ∙ xfcb in absurd (cc))
+    (λ nothing. let no : Read ≡ Nothing = sym is ∙ nothing in absurd (cc)) in
+    record {
+      does = one_of c.in-Label.is next.label next.xfcb next.nothing;
+      ended = next.ended;
+      units = next.units;
+      drive = next.drive;
+      kind = next.kind;
+      calls = omega (arith, next.calls);
+      reads = λ is. absurd (never is);
+      reads_only = λ is. absurd (never is);
+      cached = λ is. absurd (never is);
+      leaves = next.leaves;
+      cause = next.cause;
+    }

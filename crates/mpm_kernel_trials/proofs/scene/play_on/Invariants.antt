@@ -1,5 +1,0 @@
-use Rattle.mpm_kernel.specs.Kernel.{IsSound}
-use Rattle.mpm_kernel_trials.proofs.scene.play_on.Given as goal
-
-abbrev pub invariant-loop-number : goal.invariant-loop-number
-invariant-loop-number l = IsSound l.kernel

@@ -1,5 +1,0 @@
-use Rattle.mpm_kernel.specs.Kernel.{IsSound}
-use Rattle.mpm_kernel_trials.proofs.scene.press.Given as goal
-
-abbrev pub invariant-loop-time : goal.invariant-loop-time
-invariant-loop-time l = IsSound l.kernel

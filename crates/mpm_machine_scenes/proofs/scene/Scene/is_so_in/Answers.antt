@@ -1,0 +1,32 @@
+use Rattle.std.proofs.Common.{◌∙◌, ℕ, ◌<◌, ◌≤◌, ◌+◌, ◌*◌, List, Some, length, get_or, sym, subst, arith}
+use Rattle.mpm_script.specs.declared.event.Timed.{Timed}
+use Rattle.mpm_machine_file.specs.declared.machine_file.MachineFile.{MachineFile}
+use Rattle.mpm_machine_file.specs.MachineFiles.{IsMachine}
+use Rattle.mpm_port.specs.MemoryDisks.{size_of, disks_of}
+use Rattle.mpm_machine.specs.declared.system.System.{System}
+use Rattle.mpm_machine.specs.Holding.{HoldsDrives}
+use Rattle.mpm_machine.proofs.MountedLaws.{holds_again}
+use Rattle.mpm_machine.specs.Opening.{booted, IsBare, MayPlace}
+use Rattle.mpm_machine.proofs.PlacedLaws.{may_place_booted}
+use Rattle.mpm_machine_scenes.proofs.scene.Scene.is_so_in.Goals as goal
+
+-- a program can be placed into each segment that has room for it
+may_place : (file : MachineFile) (events : List Timed) (seg size : ℕ) → IsMachine file → IsBare (booted file events) → seg < length file.segments
+    → size + 640 ≤ 256 * (get_or file.segments seg (record { base = 0; pages = 0 })).pages → MayPlace (booted file events) seg 0 size
+unfolding booted
+may_place file events seg size limits bare there room =
+    may_place_booted file events seg 0 size limits.some_console limits.consoles limits.printers (omega (arith, limits.segments)) bare.whole.script
+    limits.each_segment there limits.some_console room
+
+pub place_both-placed-requires-clause-free : goal.place_both-placed-requires-clause-free
+place_both-placed-requires-clause-free c =
+    λ seg size there room. subst (λ (system : System). MayPlace system seg 0 size) (sym c.in-Ok.ensures.booted)
+    (may_place c.args.file.now c.in_ok-script.script seg size c.requires (subst IsBare c.in-Ok.ensures.booted c.in-Ok.ensures.bare) there room)
+
+-- its drives are held, whether programs were placed or not
+pub is_seen-requires-clause-holds : goal.is_seen-requires-clause-holds
+is_seen-requires-clause-holds c =
+    let kernel = c.place_both-placed.new.machine.system.kernel in
+    let same = c.place_both-placed.ensures.disk ∙ c.in-Ok.ensures.disk in
+    subst (λ kept. HoldsDrives size_of (λ d. Some (disks_of d)) kernel kept c.boot_bare.new.drives) (sym c.place_both-placed.ensures.bdos)
+    (holds_again size_of (λ d. Some (disks_of d)) c.in-Ok.machine.system.kernel kernel c.args.file.now.disk_turn c.in-Ok.machine.bdos c.boot_bare.new.drives same c.in-Ok.ensures.holds)

@@ -1,0 +1,63 @@
+use Rattle.std.proofs.Common.{List, sym, subst}
+use Rattle.mpm_top.specs.declared.status.Input.TheVariants.{ScriptText}
+use Rattle.mpm_script.specs.Reading.{Faults}
+use Rattle.mpm_script.specs.Scripts.{script_of}
+use Rattle.mpm_script.specs.declared.error.ScriptError.{ScriptError}
+use Rattle.mpm_script.specs.declared.event.Timed.{Timed}
+use Rattle.mpm_top.specs.Runs.{Holds}
+use Rattle.mpm_top.proofs.StatusLaws.{unfetched_unread}
+use Rattle.mpm_top.proofs.boot.read_named.Goals as goal
+
+-- the file wasn't fetched
+
+pub returns-in-Err : goal.returns-in-Err
+returns-in-Err g c =
+    let did = c.in-Err.ensures in
+    record {
+      events = tt;
+      refusal = did.refusal;
+      reason = unfetched_unread (g.F.Files.contents c.args.files.now) c.args.name.now (g.F.Files.failed_names c.args.files.now) (g.F.Files.failed_names c.fetch.new.files) c.in-Err.status did.reason;
+      names = did.names;
+      missing = did.missing;
+      files = c.fetch.ensures.files;
+    }
+
+-- it was, and its text is read or has a bad line, or there was no memory
+
+pub returns-in-Ok-read_script : goal.returns-in-Ok-read_script
+returns-in-Ok-read_script g c =
+    let did = c.in-Ok.ensures in
+    record {
+      events = record {
+        text = c.as_slice.result.now;
+        contents_are = subst (Holds (g.F.Files.contents c.args.files.now) ScriptText c.args.name.now) (sym c.as_slice.ensures.value) did.contents_are;
+        read = c.in-Ok-read_script.ensures.ok;
+      };
+      refusal = tt;
+      reason = tt;
+      names = did.names;
+      missing = did.missing;
+      files = c.fetch.ensures.files;
+    }
+
+pub returns-in-Err-Fault : goal.returns-in-Err-Fault
+returns-in-Err-Fault g c =
+    let did = c.in-Ok.ensures in
+    let bad = subst (λ (error : ScriptError). Faults {A = List Timed} error (script_of c.as_slice.result.now)) c.in-Err-Fault.field-0-is c.in-Err-Fault.ensures.fault in
+    record {
+      events = tt;
+      refusal = tt;
+      reason = record {
+        text = c.as_slice.result.now;
+        contents_are = subst (Holds (g.F.Files.contents c.args.files.now) ScriptText c.args.name.now) (sym c.as_slice.ensures.value) did.contents_are;
+        bad = bad;
+      };
+      names = did.names;
+      missing = λ missing. absurd (did.missing missing);
+      files = c.fetch.ensures.files;
+    }
+
+pub returns : goal.returns
+returns g c =
+    let did = c.in-Ok.ensures in
+    record { events = tt; refusal = tt; reason = tt; names = did.names; missing = λ missing. absurd (did.missing missing); files = c.fetch.ensures.files }

@@ -1,0 +1,6 @@
+use Rattle.std.specs.Prelude.{IsSome}
+use Rattle.mpm_port.specs.MemoryDisks.{size_of}
+use Rattle.mpm_turn_scenes.proofs.turns.call_up_to.Given as goal
+
+abbrev pub invariant-loop : goal.invariant-loop
+invariant-loop l = IsSome (size_of l.drives 0)

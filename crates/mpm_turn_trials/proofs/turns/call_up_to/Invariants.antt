@@ -1,6 +1,0 @@
-use Rattle.std.specs.Prelude.{IsSome}
-use Rattle.mpm_port.specs.MemoryDisks.{size_of}
-use Rattle.mpm_turn_trials.proofs.turns.call_up_to.Given as goal
-
-abbrev pub invariant-loop : goal.invariant-loop
-invariant-loop l = IsSome (size_of l.drives 0)

@@ -1,6 +1,0 @@
-use Rattle.std.specs.Prelude.{IsSome}
-use Rattle.mpm_port.specs.MemoryDisks.{size_of}
-use Rattle.mpm_turn_trials.proofs.turns.first_in.Given as goal
-
-abbrev pub invariant-loop-call : goal.invariant-loop-call
-invariant-loop-call l = IsSome (size_of l.drives 0)

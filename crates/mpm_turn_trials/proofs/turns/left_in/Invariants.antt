@@ -1,4 +1,0 @@
-use Rattle.mpm_turn_trials.proofs.turns.left_in.Given as goal
-
-abbrev pub ghosts-done : goal.ghosts-done
-ghosts-done a = record { name = a.blank.name; parts = a.blank.parts }
