@@ -1,4 +1,5 @@
--- How many items pass a test, one behind the other; and how many numbers there are below a bound, none of them twice.
+-- How many items pass a test, one behind the other; how many numbers there are below a bound, none of them twice; and how many of some
+-- are left behind one of them.
 use Rattle.std.proofs.Common.{◌≡◌, ℕ, zero, suc, ◌+◌, ◌<◌, ◌≤◌, Bool, true, false, ◌==◌, if◌then◌else◌, List, [], ◌∷◌, length, refl, arith}
 use Rattle.std.specs.Prelude.{count_by, nat_lt}
 use Rattle.std.proofs.lemmas.Bool.Decides.{nat_tests}
@@ -47,3 +48,8 @@ all_below (x ∷ xs) n below =
 pub few_numbers : (xs : List ℕ) (n : ℕ) → ((q : ℕ) → count_by (λ x. x == q) xs ≤ 1) → ((q : ℕ) → 0 < count_by (λ x. x == q) xs → q < n)
     → length xs ≤ n
 few_numbers xs n once below = omega (arith, few_below xs n once, all_below xs n below)
+
+pub less_by : (k count : ℕ) → k < count → (left : ℕ) × (k + 1 + left ≡ count)
+less_by k zero h = absurd (omega arith)
+less_by zero (suc count) h = (count, omega arith)
+less_by (suc k) (suc count) h = let rest = less_by k count (omega arith) in (rest.0, omega (arith, rest.1))

@@ -3,3 +3,5 @@ pub mod Choices
 pub mod Widths
 pub mod Lists
 pub mod Options
+pub mod Tests
+pub mod Results

@@ -13,16 +13,17 @@ use Rattle.mpm_functions.specs.Refusals.{refused_extended, IsOfRow}
 use Rattle.mpm_fcb.specs.declared.block.ControlBlock.{ControlBlock}
 use Rattle.mpm_fcb.specs.Blocks.{block_of, bytes_of}
 use Rattle.mpm_fcb.proofs.Back.{bytes_back}
-use Rattle.mpm_files.specs.declared.errors.RecordError.TheVariants.{UnwrittenData}
+use Rattle.mpm_functions.specs.declared.errors.RecordError.TheVariants.{UnwrittenData}
 use Rattle.mpm_requests.specs.declared.caller.Caller.{Caller}
 use Rattle.mpm_requests.specs.Subjects.{IsNamed}
-use Rattle.mpm_bdos.specs.declared.ends.RecordEnd.TheVariants.{Failing}
-use Rattle.mpm_bdos.specs.Replies.{where_changed}
+use Rattle.mpm_functions.specs.declared.ends.RecordEnd.TheVariants.{Failing}
+use Rattle.mpm_directories.specs.Direct.{where_changed}
 use Rattle.mpm_bdos.specs.Serving.{InService}
-use Rattle.mpm_bdos.specs.Records.{done_by}
+use Rattle.mpm_functions.specs.Ends.{done_by}
 use Rattle.mpm_bdos.specs.Ending.{is_reading}
 use Rattle.mpm_bdos.specs.Turns.{drive_served, without_work}
-use Rattle.mpm_bdos.specs.Answering.{IsOfDrive, AreParts, MayPlace, IsCoded, MayAmount, MayGrant, MayAnswer, MayTellIn, IsTold, IsEntered, HasEntered}
+use Rattle.mpm_bdos.specs.Answering.{IsOfDrive, AreParts, MayPlace, MayGrant, MayAnswer, IsTold, IsEntered, HasEntered}
+use Rattle.mpm_entries.specs.Granting.{IsCoded, MayAmount, MayTellIn}
 use Rattle.mpm_bdos.proofs.FinishLaws.{unchanged}
 use Rattle.mpm_bdos.proofs.Started.{nothing_some}
 

@@ -20,7 +20,8 @@ use Rattle.mpm_requests.specs.Filing.{Situation, block}
 use Rattle.mpm_requests.specs.Subjects.{drive_number, drive_at, own_file, key_of, file_of, item_number, key_named, open_key, open_mode, open_file, opened_in, subject_by, subject, subject_key, first_by, first_record, given_password, mode_in, mode_by}
 use Rattle.mpm_functions.specs.Refusals.{refusals_of}
 use Rattle.mpm_requests.specs.Refusals.{applies, refusal_of}
-use Rattle.mpm_bdos.specs.Records.{Locking, locking, unlocking}
+use Rattle.mpm_bdos.specs.Records.{Locking, locking}
+use Rattle.mpm_locks.specs.Locks.{unlocking}
 use Rattle.mpm_bdos.specs.Jobs.{job_by, call_turns, turned}
 use Rattle.mpm_bdos.specs.Changes.{is_among, is_deleted, deleted_by, locking_of, opens_by}
 use Rattle.mpm_bdos.specs.Replies.{end_after, opened_as, granted_of}

@@ -6,7 +6,7 @@ use Rattle.mpm_port.specs.Causes.{Rose, HasCause}
 use Rattle.mpm_port.specs.Disks.{Disks}
 use Rattle.mpm_mount.specs.Drives.{Drive}
 use Rattle.mpm_mount.specs.Directories.{Directory}
-use Rattle.mpm_files.specs.declared.jobs.Job.{Job}
+use Rattle.mpm_jobs.specs.declared.jobs.Job.{Job}
 use Rattle.mpm_files.specs.declared.work.Work.{Work}
 use Rattle.mpm_bdos.proofs.Fitting.{there_label, stays_same, stays_again, unsynced_same}
 use Rattle.mpm_base.specs.Calls.{Taken}
@@ -20,7 +20,8 @@ use Rattle.mpm_functions.specs.declared.functions.FileFunction.TheVariants.{Rese
 use Rattle.mpm_functions.specs.declared.refusals.Refusal.{Refusal}
 use Rattle.mpm_requests.specs.Refusals.{refusal_of}
 use Rattle.mpm_bdos.specs.Jobs.{job_by, unless_refused, job_of}
-use Rattle.mpm_bdos.specs.Serving.{InService, Kept, Serves, WorksOn, StandEach, directory_at}
+use Rattle.mpm_bdos.specs.Serving.{InService, Kept, Serves, WorksOn, StandEach}
+use Rattle.mpm_directories.specs.Places.{directory_at}
 use Rattle.mpm_requests.specs.Asking.{StandsWhere}
 use Rattle.mpm_bdos.specs.Turns.{FitsDrives, IsIdle, KeepsImages, KeepsUnsynced, TurnKeeps, drive_served, has_work, labelled, without_work}
 use Rattle.mpm_bdos.specs.AtOnce.{TurnsLeave, ChangesAlone, IsAtRest, has_job}

@@ -9,8 +9,10 @@ use Rattle.mpm_mount.specs.Directories.{Directory}
 use Rattle.mpm_mount.specs.Images.{drive_of}
 use Rattle.mpm_functions.specs.declared.functions.DirectFunction.{DirectFunction}
 use Rattle.mpm_functions.specs.declared.refusals.Extended.{Extended}
-use Rattle.mpm_bdos.specs.Direct.{Directly, ComesDirectly, IsToldDirectly, is_protected, direct_by, direct}
-use Rattle.mpm_bdos.specs.Serving.{Kept, StandEach, filing_of, kind_at}
+use Rattle.mpm_directories.specs.Direct.{Directly, ComesDirectly, IsToldDirectly, is_protected, direct_by}
+use Rattle.mpm_bdos.specs.Direct.{direct}
+use Rattle.mpm_bdos.specs.Serving.{Kept, StandEach, filing_of}
+use Rattle.mpm_directories.specs.Places.{kind_at}
 use Rattle.mpm_requests.specs.Asking.{StandsWhere}
 
 -- a directory and the drive that it stands for are of one kind
@@ -29,6 +31,13 @@ unfolding direct
 direct_told images kept drives drive call function stand =
     ap (λ kinds. direct_by kinds (is_protected kept.protected) drive call function)
     (fun_ext (λ number. same_kind number (images number) (slice_index_or kept.mounted number None) (slice_index_or drives number None) (stand.each number)))
+
+-- and by the places of these, as they are lent
+pub by_places : {X : Type 0} (part : Directly → X) (places mounted : List (Option Directory)) (protected : List Bool) (drive : ℕ) (call : Taken) (function : DirectFunction) (value : X)
+    → places ≡ mounted → value ≡ part (direct_by (kind_at places) (is_protected protected) drive call function)
+    → value ≡ part (direct_by (kind_at mounted) (is_protected protected) drive call function)
+by_places part places mounted protected drive call function value same told =
+    told ∙ ap (λ all. part (direct_by (kind_at all) (is_protected protected) drive call function)) same
 
 -- a part of what such a call comes to, by its number
 pub part_told : {X : Type 0} (part : Directly → X) (kept now : Kept) (drive : ℕ) (call : Taken) (function : DirectFunction) (found : Option DirectFunction) (value : X)

@@ -1,15 +1,15 @@
 -- What the records of a call come to, by its work behind its last turn, is what its turns have come to.
-use Rattle.std.proofs.Common.{◌≡◌, ◌∙◌, ℕ, zero, suc, ◌+◌, ◌-◌, ◌≤◌, ◌<◌, ◌==◌, Bool, true, false, cond, List, Option, Some, None, IfSome, refl, sym, ap, subst, arith, eqb-true}
-use Rattle.std.specs.Prelude.{is_some, nat_lt, min}
+use Rattle.std.proofs.Common.{◌≡◌, ◌∙◌, ℕ, zero, suc, ◌+◌, ◌≤◌, ◌<◌, ◌==◌, Bool, true, false, cond, List, Option, Some, None, IfSome, refl, sym, ap, subst, arith, eqb-true}
+use Rattle.std.specs.Prelude.{is_some, nat_lt}
 use Rattle.std.proofs.lemmas.Bool.{false≢true}
 use Rattle.std.proofs.lemmas.Bool.Decides.{nat_tests}
 use Rattle.std.proofs.lemmas.Option.{same_Some}
 use Rattle.mpm_mount.specs.Drives.{Drive}
 use Rattle.mpm_mount.specs.Directories.{Directory}
-use Rattle.mpm_files.specs.declared.errors.RecordError.{RecordError}
-use Rattle.mpm_files.specs.declared.jobs.Job.{Job}
+use Rattle.mpm_functions.specs.declared.errors.RecordError.{RecordError}
+use Rattle.mpm_jobs.specs.declared.jobs.Job.{Job}
 use Rattle.mpm_files.specs.declared.work.Work.{Work}
-use Rattle.mpm_files.specs.declared.jobs.JobKind.TheVariants as kinds
+use Rattle.mpm_jobs.specs.declared.jobs.JobKind.TheVariants as kinds
 use Rattle.mpm_files.specs.Plans.{file_of_job, turns_of}
 use Rattle.mpm_files.specs.Serving.{IsServing}
 use Rattle.mpm_files.proofs.Missed.{error_told}
@@ -19,12 +19,14 @@ use Rattle.mpm_requests.specs.Filing.{Situation, block}
 use Rattle.mpm_mount.specs.Looking.{data_byte}
 use Rattle.mpm_requests.specs.Subjects.{drive_at, first_record}
 use Rattle.mpm_requests.specs.Refusals.{makes_xfcb, refusal_of}
-use Rattle.mpm_bdos.specs.declared.ends.RecordEnd.{RecordEnd}
-use Rattle.mpm_bdos.specs.Records.{end_by, coded}
-use Rattle.mpm_bdos.specs.Jobs.{is_cut_at, count_until, free_count, reading_job, writing_job, testing_job, with_one, with_protection, job_on, made_xfcb, making_job, where_some, job_by, unless_refused, job_of, turns_by, call_turns, Turned, turned_by, turned}
+use Rattle.mpm_functions.specs.Ends.{end_by}
+use Rattle.mpm_bdos.specs.Jobs.{is_cut_at, free_count, reading_job, writing_job, testing_job, job_on, made_xfcb, making_job, job_by, unless_refused, job_of, turns_by, call_turns, Turned, turned_by, turned}
+use Rattle.mpm_locks.specs.Locks.{count_until}
+use Rattle.mpm_entries.specs.Protections.{with_protection}
+use Rattle.mpm_jobs.specs.Jobs.{with_one, where_some}
 use Rattle.mpm_bdos.specs.Replies.{is_cut_by, end_after}
-use Rattle.mpm_bdos.specs.Ending.{IsSound, FewDone, is_cut_short, count_of, moved_by, error_of, ended}
-use Rattle.mpm_bdos.specs.Answering.{IsCoded}
+use Rattle.mpm_bdos.specs.Ending.{IsSound, is_cut_short, count_of, moved_by, error_of, ended}
+use Rattle.mpm_entries.specs.Granting.{FewDone}
 use Rattle.mpm_bdos.specs.Serving.{WorksOn}
 use Rattle.mpm_bdos.proofs.MovedLaws.{is_on_records, fewer_moved, most_moved, fails_on_records}
 
@@ -246,16 +248,3 @@ pub ended_few : (s : Situation) (image : List ℕ) (directory : Option Directory
 unfolding ended
 ended_few s image directory work none sound works some =
     few_by s (job_of s) work (sym (own_job s none)) (subst (λ j. Says (drive_at s) (job_of s) j work) (last_turn s) (says s image directory work sound works)) some
-
--- so many are told, and never more than that
-pub told_whole : (function : FileFunction) (moved multi : ℕ) (end : Option RecordEnd) (value : ℕ) → IfSome end (λ end. moved < multi) → value ≡ coded function (min moved (multi - 1)) end
-    → value ≡ coded function moved end
-told_whole function moved multi None value few is = is
-told_whole function moved multi (Some end) value few is = is ∙ ap (λ n. coded function n (Some end)) (at_most moved multi few)
-  where
-    at_most : (n most : ℕ) → n < most → min n (most - 1) ≡ n
-    at_most n most h = omega (arith, h)
-
-pub coded_within : (function : FileFunction) (moved multi : ℕ) (end : Option RecordEnd) (value : ℕ) → 1 ≤ multi → value ≡ coded function (min moved (multi - 1)) end → IsCoded multi function value
-coded_within function moved multi None value some is = record { end = None; done = multi; few = refl; is = is }
-coded_within function moved multi (Some end) value some is = record { end = Some end; done = min moved (multi - 1); few = omega (arith, some); is = is }

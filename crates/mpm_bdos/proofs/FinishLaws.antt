@@ -12,11 +12,11 @@ use Rattle.mpm_opens.specs.Opens.{OpenFiles}
 use Rattle.mpm_fcb.specs.Blocks.{block_of, bytes_of}
 use Rattle.mpm_fcb.specs.Positions.{sequential_record}
 use Rattle.mpm_fcb.proofs.Back.{bytes_back}
-use Rattle.mpm_files.specs.declared.jobs.Job.{Job}
+use Rattle.mpm_jobs.specs.declared.jobs.Job.{Job}
 use Rattle.mpm_files.specs.declared.work.Work.{Work}
 use Rattle.mpm_files.specs.Serving.{units_done}
 use Rattle.mpm_requests.specs.declared.caller.Caller.{Caller}
-use Rattle.mpm_bdos.specs.declared.granting.Granted.{Granted}
+use Rattle.mpm_entries.specs.declared.granting.Granted.{Granted}
 use Rattle.mpm_functions.specs.declared.refusals.Refusal.{Refusal}
 use Rattle.mpm_functions.specs.declared.refusals.Extended.{Extended}
 use Rattle.mpm_requests.specs.Filing.{LastSearch, Filing, Situation, block, HaveUsers}
@@ -25,11 +25,15 @@ use Rattle.mpm_functions.specs.Refusals.{answered, refused_value, refused_extend
 use Rattle.mpm_requests.specs.Refusals.{refusal_of}
 use Rattle.mpm_bdos.specs.Jobs.{job_of, call_turns, Turned, turned_by, turned}
 use Rattle.mpm_marks.specs.Driving.{protected_by, marks_by, freed_by}
-use Rattle.mpm_bdos.specs.Changes.{protected_then, searches_by, search_of_call, filing_after}
-use Rattle.mpm_bdos.specs.Replies.{granted_of, value_by, block_by, bytes_by, where_changed, answer_after}
+use Rattle.mpm_bdos.specs.Changes.{protected_then, search_of_call, filing_after}
+use Rattle.mpm_requests.specs.Searches.{searches_by}
+use Rattle.mpm_bdos.specs.Replies.{granted_of, bytes_by, answer_after}
+use Rattle.mpm_directories.specs.Direct.{where_changed}
+use Rattle.mpm_entries.specs.Granting.{value_by, block_by}
 use Rattle.mpm_bdos.specs.Outcomes.{Outcome, refused_outcome, granted_outcome, outcome_by, file_call}
 use Rattle.mpm_requests.specs.Asking.{called, StandsFor, StandsWhere}
-use Rattle.mpm_bdos.specs.Serving.{IsCaller, InService, Kept, StandEach, WorksOn, IsCallOf, Serves, directory_at, filing_of}
+use Rattle.mpm_bdos.specs.Serving.{IsCaller, InService, Kept, StandEach, WorksOn, IsCallOf, Serves, filing_of}
+use Rattle.mpm_directories.specs.Places.{directory_at}
 use Rattle.mpm_bdos.specs.Replying.{is_on_drives, IsAnswering, IsReplied}
 use Rattle.mpm_bdos.specs.Finishing.{serving, IsFinished, ComesTo}
 use Rattle.mpm_bdos.proofs.EndingLaws.{own_job}

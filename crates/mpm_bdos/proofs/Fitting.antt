@@ -12,7 +12,7 @@ use Rattle.mpm_cache.specs.Coherent.{HaveOwnImages, AreApart}
 use Rattle.mpm_cache.proofs.AliasLaws.{apart_after}
 use Rattle.mpm_sectors.specs.Writes.{Elsewhere}
 use Rattle.mpm_mount.specs.Directories.{Directory, IsDirectory}
-use Rattle.mpm_bdos.specs.Serving.{directory_at, AreInPlace}
+use Rattle.mpm_directories.specs.Places.{directory_at, AreInPlace}
 use Rattle.mpm_bdos.specs.Syncing.{AreAttached}
 use Rattle.mpm_bdos.specs.Turns.{FitsDrives, KeepsImages, KeepsUnsynced, StaysBeside, HasLeft, has_directory, labelled}
 

@@ -9,13 +9,14 @@ use Rattle.mpm_opens.specs.declared.kinds.RecordLock.{RecordLock}
 use Rattle.mpm_opens.specs.declared.kinds.LockDone.TheVariants.{Locked, Other, ProcessLimit, NoRoom}
 use Rattle.mpm_opens.specs.Locks.{owner_of, where_owned, lock_answer}
 use Rattle.mpm_opens.specs.Opens.{OpenFiles, locked}
-use Rattle.mpm_files.specs.declared.errors.RecordError.{RecordError}
-use Rattle.mpm_files.specs.Plans.{read_error}
-use Rattle.mpm_bdos.specs.declared.ends.RecordEnd.{RecordEnd}
-use Rattle.mpm_bdos.specs.declared.ends.RecordEnd.TheVariants.{LockedOff}
+use Rattle.mpm_functions.specs.declared.errors.RecordError.{RecordError}
+use Rattle.mpm_mount.specs.Records.{read_error}
+use Rattle.mpm_functions.specs.declared.ends.RecordEnd.{RecordEnd}
+use Rattle.mpm_functions.specs.declared.ends.RecordEnd.TheVariants.{LockedOff}
 use Rattle.mpm_functions.specs.declared.functions.FileFunction.TheVariants.{LockRecord}
 use Rattle.mpm_requests.specs.Subjects.{file_of}
-use Rattle.mpm_bdos.specs.Records.{Asked, Locking, is_another, is_locked_off, end_of, unless_ended, locking, refused_lock, lock_end}
+use Rattle.mpm_bdos.specs.Records.{Asked, Locking, end_of, unless_ended, locking}
+use Rattle.mpm_locks.specs.Locks.{is_another, is_locked_off, refused_lock, lock_end}
 use Rattle.mpm_bdos.proofs.LockEnds.{lock_ends}
 
 -- who asks for the lock of a record

@@ -5,13 +5,14 @@ use Rattle.std.proofs.lemmas.Bool.{true≢false, false≢true, le-ltb}
 use Rattle.std.proofs.lemmas.List.Sums.{sum_by-append, sum_by-cons}
 use Rattle.std.proofs.lemmas.List.FromFn.{length-map-range_with_len}
 use Rattle.mpm_mount.specs.Drives.{FileName, Drive}
-use Rattle.mpm_files.specs.declared.errors.RecordError.{RecordError}
-use Rattle.mpm_files.specs.declared.errors.RecordError.TheVariants.{Mismatch}
-use Rattle.mpm_files.specs.declared.jobs.JobKind.{JobKind}
-use Rattle.mpm_files.specs.declared.jobs.JobKind.TheVariants.{Read, Write, TestWrite, Make, Delete, Rename, Attributes, Label, Xfcb, Nothing}
-use Rattle.mpm_files.specs.declared.jobs.Job.{Job}
+use Rattle.mpm_functions.specs.declared.errors.RecordError.{RecordError}
+use Rattle.mpm_functions.specs.declared.errors.RecordError.TheVariants.{Mismatch}
+use Rattle.mpm_jobs.specs.declared.jobs.JobKind.{JobKind}
+use Rattle.mpm_jobs.specs.declared.jobs.JobKind.TheVariants.{Read, Write, TestWrite, Make, Delete, Rename, Attributes, Label, Xfcb, Nothing}
+use Rattle.mpm_jobs.specs.declared.jobs.Job.{Job}
 use Rattle.mpm_files.specs.Units.{FileUnit, ReadsRecord, PassesRecord, AddsEntry, ClearsBlock, WritesRecord, applied, all_applied}
-use Rattle.mpm_files.specs.Plans.{Plan, Test, behind, failing, unless_failing, file_of_job, read_error, reading, needs_entry, needs_block, clears_blocks, write_error, write_units, writing, has_record, passing, testing, record_at, records_of_job, test_at, tests_of_job, plan_by, plan_of, turns_of}
+use Rattle.mpm_files.specs.Plans.{Plan, Test, behind, failing, unless_failing, file_of_job, reading, needs_entry, needs_block, clears_blocks, write_error, write_units, writing, has_record, passing, testing, record_at, records_of_job, test_at, tests_of_job, plan_by, plan_of, turns_of}
+use Rattle.mpm_mount.specs.Records.{read_error}
 use Rattle.mpm_files.specs.Serving.{records_moved, moved_after, error_after}
 use Rattle.mpm_bdos.proofs.RecordLaws.{one_written}
 

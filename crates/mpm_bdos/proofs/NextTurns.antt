@@ -1,9 +1,10 @@
 -- A turn of the call in service, by the situation in which the call entered.
-use Rattle.std.proofs.Common.{◌≡◌, ◌≢◌, ℕ, zero, suc, ◌<◌, ◌⊎◌, Bool, true, false, List, [], ◌∷◌, Option, Some, None, Result, Ok, Err, IfSome, refl, sym, ap, subst, ◌∙◌, arith, length, inl, inr}
+use Rattle.std.proofs.Common.{◌≡◌, ◌≢◌, ℕ, zero, suc, ◌<◌, ◌⊎◌, Bool, true, false, List, [], ◌∷◌, Option, Some, None, Result, Ok, IfSome, refl, sym, ap, subst, ◌∙◌, arith, length, inl, inr}
 use Rattle.std.specs.Prelude.{IfOk, OnOk, OnErr, is_some, option_map, unwrap_or, nat_lt, slice_set, slice_index_or, if◌then◌else◌}
 use Rattle.std.proofs.lemmas.Bool.{true≢false, cases_eq}
 use Rattle.std.proofs.lemmas.Bool.Decides.{nat_tests}
 use Rattle.std.proofs.lemmas.Result.{on_ok_weaker, on_err_weaker}
+use Rattle.mpm_base.proofs.Results.{on_ok}
 use Rattle.std.proofs.lemmas.Option.{same_Some}
 use Rattle.mpm_base.specs.declared.kind.Kind.{Kind}
 use Rattle.mpm_base.specs.declared.kind.Kind.TheVariants.{Ibm3740, Hd4, Hd8}
@@ -12,7 +13,7 @@ use Rattle.mpm_blocks.specs.Geometries.{geometry_of}
 use Rattle.mpm_blocks.specs.Sectors.{told_image}
 use Rattle.mpm_mount.specs.Drives.{Drive}
 use Rattle.mpm_mount.specs.Directories.{Directory}
-use Rattle.mpm_files.specs.declared.jobs.Job.{Job}
+use Rattle.mpm_jobs.specs.declared.jobs.Job.{Job}
 use Rattle.mpm_files.specs.declared.turning.Progress.{Progress}
 use Rattle.mpm_files.specs.declared.turning.Progress.TheVariants.{Again, Done}
 use Rattle.mpm_files.specs.declared.work.Work.{Work}
@@ -25,7 +26,8 @@ use Rattle.mpm_requests.specs.Subjects.{drive_number, drive_at}
 use Rattle.mpm_bdos.specs.Jobs.{job_of, turns_by, call_turns, turned_by, turned}
 use Rattle.mpm_bdos.specs.Changes.{drives_by}
 use Rattle.mpm_bdos.specs.Outcomes.{drives_after}
-use Rattle.mpm_bdos.specs.Serving.{InService, Kept, StandEach, WorksOn, IsCallOf, Serves, directory_at, filing_of}
+use Rattle.mpm_bdos.specs.Serving.{InService, Kept, StandEach, WorksOn, IsCallOf, Serves, filing_of}
+use Rattle.mpm_directories.specs.Places.{directory_at}
 use Rattle.mpm_requests.specs.Asking.{StandsWhere}
 use Rattle.mpm_bdos.specs.Turns.{IsWorkingOn, IsServing, IsContainedAt, IsServiceContained, TurnKeeps, KeepsImages, StopsWithin, IsIdle, told_images, progress_after, drive_served, has_work, has_directory, without_work}
 
@@ -288,10 +290,6 @@ idle_work images kept s j is serves =
     ap has_work serves.there
     ∙ no_work (images (drive_number s)) (directory_at kept.mounted (drive_number s)) (drive_at s) j serves.service.work
     (subst (λ found. WorksOn (images (drive_number s)) (directory_at kept.mounted (drive_number s)) (drive_at s) found j serves.service.work) is serves.works)
-
-on_ok : {A E P : Type 0} (result : Result A E) → P → OnOk result P
-on_ok (Ok answer) so = so
-on_ok (Err error) so = tt
 
 -- the turn of a call in service, by whether it has a job
 pub next_served : {D E : Type 0} (disks : D → Option Disks) (old new : Kept) (drives now : D) (s : Situation) (j steps later : ℕ) (result : Result Progress E)

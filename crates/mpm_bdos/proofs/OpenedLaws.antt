@@ -10,9 +10,9 @@ use Rattle.mpm_opens.specs.declared.kinds.Mode.TheVariants.{ReadOnly}
 use Rattle.mpm_mount.specs.Attributes.{first_attributes}
 use Rattle.mpm_mount.specs.Files.{where_there}
 use Rattle.mpm_guard.specs.Passwords.{is_admitted}
-use Rattle.mpm_files.specs.declared.jobs.JobKind.{JobKind}
-use Rattle.mpm_files.specs.declared.jobs.JobKind.TheVariants.{Nothing}
-use Rattle.mpm_files.specs.declared.jobs.Job.{Job}
+use Rattle.mpm_jobs.specs.declared.jobs.JobKind.{JobKind}
+use Rattle.mpm_jobs.specs.declared.jobs.JobKind.TheVariants.{Nothing}
+use Rattle.mpm_jobs.specs.declared.jobs.Job.{Job}
 use Rattle.mpm_files.specs.Units.{Idles, first_stamped, stages, last_of, applied, all_applied}
 use Rattle.mpm_files.specs.Plans.{file_of_job, plan_by, plan_of, turns_of}
 use Rattle.mpm_files.specs.Serving.{units_done}

@@ -1,8 +1,7 @@
 -- Jobs as they are made of what was looked up are those of the call.
-use Rattle.std.proofs.Common.{◌≡◌, ◌≢◌, ◌∙◌, ℕ, ◌*◌, ◌==◌, ◌&&◌, not, Bool, true, false, cond, List, Option, Some, None, take, sym, refl, ap, arith}
+use Rattle.std.proofs.Common.{◌≡◌, ◌≢◌, ◌∙◌, ℕ, ◌*◌, ◌&&◌, not, Bool, true, cond, List, Option, Some, None, take, sym, refl, ap}
 use Rattle.std.specs.Prelude.{unwrap_or, if◌then◌else◌}
 use Rattle.std.specs.FinMap.{get}
-use Rattle.std.proofs.lemmas.Bool.Decides.{nat_tests}
 use Rattle.mpm_base.specs.Calls.{byte_in, eight_at}
 use Rattle.mpm_dirent.specs.Names.{plain}
 use Rattle.mpm_mount.specs.Drives.{FileName, Protection, Drive}
@@ -11,8 +10,8 @@ use Rattle.mpm_guard.specs.Passwords.{has_bit}
 use Rattle.mpm_opens.specs.declared.kinds.FileKey.{FileKey}
 use Rattle.mpm_fcb.specs.declared.block.ControlBlock.{ControlBlock}
 use Rattle.mpm_fcb.specs.Names.{new_name_of, has_f6}
-use Rattle.mpm_files.specs.declared.jobs.JobKind.TheVariants as kinds
-use Rattle.mpm_files.specs.declared.jobs.Job.{Job}
+use Rattle.mpm_jobs.specs.declared.jobs.JobKind.TheVariants as kinds
+use Rattle.mpm_jobs.specs.declared.jobs.Job.{Job}
 use Rattle.mpm_functions.specs.declared.functions.FileFunction.{FileFunction}
 use Rattle.mpm_functions.specs.declared.functions.FileFunction.TheVariants.{ResetDisks, OpenFile, CloseFile, SearchFirst, SearchNext, DeleteFile, ReadSequential, WriteSequential, MakeFile, RenameFile, ProtectDisk, SetAttributes, ReadRandom, WriteRandom, FileSize, ResetDrives, AccessDrives, FreeDrives, TestAndWrite, LockRecord, UnlockRecord, FreeSpace, FlushBuffers, SetLabel, LabelData, ReadXfcb, WriteXfcb}
 use Rattle.mpm_bdos.specs.declared.planning.About.{About}
@@ -20,36 +19,17 @@ use Rattle.mpm_requests.specs.Filing.{Situation, block}
 use Rattle.mpm_mount.specs.Looking.{data_byte}
 use Rattle.mpm_requests.specs.Subjects.{drive_at, subject, subject_key, first_record, has_written}
 use Rattle.mpm_requests.specs.Refusals.{makes_xfcb}
-use Rattle.mpm_bdos.specs.Records.{is_locked_off}
-use Rattle.mpm_bdos.specs.Jobs.{job_for, stamp_where, with_records, with_stamp, with_bytes, with_one, with_new_name, with_protection, testing_bytes, where_some, is_tested_off, is_cut_at, count_until, free_count, reading_job, writing_job, testing_job, labelling_job, guarding_job, job_by}
-use Rattle.mpm_entries.specs.Protections.{no_protection, kept_by_label, given_xfcb, with_first_stamp, label_put, xfcb_put}
-use Rattle.mpm_bdos.specs.Ending.{is_moving}
+use Rattle.mpm_locks.specs.Locks.{is_locked_off, count_until}
+use Rattle.mpm_jobs.specs.Jobs.{job_for, stamp_where, with_records, with_stamp, with_bytes, with_one, with_new_name, testing_bytes, where_some}
+use Rattle.mpm_entries.specs.Protections.{with_protection, no_protection, kept_by_label, given_xfcb, with_first_stamp, label_put, xfcb_put}
+use Rattle.mpm_bdos.specs.Jobs.{is_tested_off, is_cut_at, free_count, reading_job, writing_job, testing_job, labelling_job, guarding_job, job_by}
+use Rattle.mpm_entries.specs.Granting.{is_moving}
 use Rattle.mpm_bdos.specs.Planning.{IsAbout, stamp_on, written, tested}
 use Rattle.mpm_bdos.proofs.NamedFiles.{subject_name}
 
 pub making_so : (makes asks : Bool) (xfcb wanted : Protection) (job : Job) → makes ≡ asks → xfcb ≡ wanted
     → cond makes (with_one (with_protection xfcb job)) job ≡ cond asks (with_one (with_protection wanted job)) job
 making_so makes asks xfcb wanted job e f = λ i. cond (e i) (with_one (with_protection (f i) job)) job
-
--- a label and an XFCB that are put
-pub put_so : (asked : ℕ) (password wanted : List ℕ) (old there : Protection) → password ≡ wanted → old ≡ there → label_put asked password old ≡ label_put asked wanted there
-put_so asked password wanted old there e f = λ i. label_put asked (e i) (f i)
-
-pub xfcb_so : (asked : ℕ) (password wanted : List ℕ) (old there : Protection) → password ≡ wanted → old ≡ there → xfcb_put asked password old ≡ xfcb_put asked wanted there
-xfcb_so asked password wanted old there e f = λ i. xfcb_put asked (e i) (f i)
-
--- so many records, or none
-pub none_of : (count : ℕ) (job : Job) → count ≡ 0 → None ≡ where_some count job
-none_of count job e = ap (λ b. cond b None (Some job)) (is_zero count e)
-  where
-    is_zero : (n : ℕ) → n ≡ 0 → true ≡ (n == 0)
-    is_zero n e = grind (arith, nat_tests)
-
-pub some_of : (count : ℕ) (job : Job) → count ≢ 0 → Some job ≡ where_some count job
-some_of count job e = ap (λ b. cond b None (Some job)) (not_zero count e)
-  where
-    not_zero : (n : ℕ) → n ≢ 0 → false ≡ (n == 0)
-    not_zero n e = grind (arith, nat_tests)
 
 pub written_so : (drive : Drive) (count counted : ℕ) (stamp : Option (List ℕ)) (name bytes moment : List ℕ) (about : About) → count ≡ counted → stamp ≡ stamp_on drive moment about
     → where_some count (with_bytes (take (128 * count) bytes) (with_stamp stamp (with_records about.first count (job_for kinds.Write about.file.user name))))

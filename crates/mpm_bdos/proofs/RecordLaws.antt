@@ -7,16 +7,17 @@ use Rattle.std.proofs.lemmas.List.Sums.{sum_by-append}
 use Rattle.mpm_mount.specs.Drives.{Drive, extent_at, visible_of, free_records, free_entries}
 use Rattle.mpm_opens.specs.declared.kinds.FileKey.{FileKey}
 use Rattle.mpm_opens.specs.Opens.{OpenFiles}
-use Rattle.mpm_files.specs.declared.errors.RecordError.TheVariants.{UnwrittenExtent, UnwrittenData, NoDirectorySpace, NoDataBlock}
+use Rattle.mpm_functions.specs.declared.errors.RecordError.TheVariants.{UnwrittenExtent, UnwrittenData, NoDirectorySpace, NoDataBlock}
 use Rattle.mpm_files.specs.Units.{FileUnit, ReadsRecord, AddsEntry, ClearsBlock, WritesRecord, all_applied}
 use Rattle.mpm_files.specs.Plans.{Plan, behind, unless_failing, when, clears_blocks, needs_entry, needs_block, write_units, reading, writing}
 use Rattle.mpm_files.specs.Serving.{records_moved}
-use Rattle.mpm_bdos.specs.declared.ends.Ended.{Ended}
-use Rattle.mpm_bdos.specs.declared.ends.RecordEnd.TheVariants.{Failing, LockedOff}
+use Rattle.mpm_functions.specs.declared.ends.Ended.{Ended}
+use Rattle.mpm_functions.specs.declared.ends.RecordEnd.TheVariants.{Failing, LockedOff}
 use Rattle.mpm_functions.specs.declared.functions.FileFunction.TheVariants.{ReadSequential, WriteSequential, ReadRandom, WriteRandom}
 use Rattle.mpm_requests.specs.Subjects.{file_of}
-use Rattle.mpm_bdos.specs.Records.{is_locked_off, ends, ends_of, end_of, end_by, one_done, ended_by, writing_ended, reading_ended}
-use Rattle.mpm_bdos.specs.Jobs.{count_until}
+use Rattle.mpm_locks.specs.Locks.{is_locked_off, count_until}
+use Rattle.mpm_bdos.specs.Records.{ends, end_of, one_done, ended_by, writing_ended, reading_ended}
+use Rattle.mpm_functions.specs.Ends.{ends_of, end_by}
 
 -- what a plan comes to whose records were cut, or not
 abbrev pub planned : Plan → Bool → Ended

@@ -8,7 +8,8 @@ use Rattle.mpm_mount.specs.Faults.{first_fault}
 use Rattle.mpm_mount.specs.Directories.{Directory, IsDirectory, Stands}
 use Rattle.mpm_mount.specs.Mounting.{drive_in}
 use Rattle.mpm_mount.proofs.ImageWith.{IsReadBack, each_back, image_with, has_entries}
-use Rattle.mpm_bdos.specs.Serving.{AreInPlace, StandForSome, directory_at}
+use Rattle.mpm_directories.specs.Places.{AreInPlace, directory_at}
+use Rattle.mpm_bdos.specs.Serving.{StandForSome}
 use Rattle.mpm_requests.specs.Asking.{StandsWhere}
 
 -- a directory without a fault, each entry of which is read back

@@ -13,7 +13,7 @@ use Rattle.mpm_mount.specs.Directories.{Directory, Stands}
 use Rattle.mpm_mount.proofs.LookedUp.{kind_of}
 use Rattle.mpm_fcb.specs.declared.block.ControlBlock.{ControlBlock}
 use Rattle.mpm_fcb.specs.Positions.{sequential_record}
-use Rattle.mpm_files.specs.declared.jobs.Job.{Job}
+use Rattle.mpm_jobs.specs.declared.jobs.Job.{Job}
 use Rattle.mpm_files.specs.declared.work.Work.{Work}
 use Rattle.mpm_files.specs.Units.{all_applied}
 use Rattle.mpm_files.specs.Plans.{plan_of}
@@ -32,7 +32,8 @@ use Rattle.mpm_bdos.specs.Outcomes.{drives_after}
 use Rattle.mpm_bdos.specs.Ending.{IsSound}
 use Rattle.mpm_bdos.specs.Planning.{IsAbout}
 use Rattle.mpm_requests.specs.Asking.{StandsFor, unnamed_refusal, StandsWhere}
-use Rattle.mpm_bdos.specs.Serving.{IsCaller, InService, Kept, StandEach, directory_at, WorksOn, Serves}
+use Rattle.mpm_bdos.specs.Serving.{IsCaller, InService, Kept, StandEach, WorksOn, Serves}
+use Rattle.mpm_directories.specs.Places.{directory_at}
 use Rattle.mpm_bdos.specs.Starting.{entering, about_in, Begins, Enters, EntersAmong, turns_where}
 use Rattle.mpm_bdos.proofs.NamedFiles.{subject_name}
 use Rattle.mpm_bdos.proofs.Suited.{IsCall, each_suits, low_first}

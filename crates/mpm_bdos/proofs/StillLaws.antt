@@ -4,8 +4,8 @@ use Rattle.std.specs.Prelude.{is_some, slice_index_or, unwrap_or, replicate}
 use Rattle.std.proofs.lemmas.Bool.{false≢true}
 use Rattle.mpm_mount.specs.Drives.{FileName, Drive}
 use Rattle.mpm_opens.specs.declared.kinds.FileKey.{FileKey}
-use Rattle.mpm_files.specs.declared.jobs.JobKind.TheVariants as kinds
-use Rattle.mpm_files.specs.declared.jobs.Job.{Job}
+use Rattle.mpm_jobs.specs.declared.jobs.JobKind.TheVariants as kinds
+use Rattle.mpm_jobs.specs.declared.jobs.Job.{Job}
 use Rattle.mpm_files.specs.Plans.{file_of_job, turns_of}
 use Rattle.mpm_files.specs.Serving.{units_done}
 use Rattle.mpm_guard.specs.Passwords.{has_bit}
@@ -16,7 +16,8 @@ use Rattle.mpm_requests.specs.Filing.{LastSearch, Situation, block}
 use Rattle.mpm_mount.specs.Looking.{data_byte}
 use Rattle.mpm_requests.specs.Subjects.{drive_number, blank_drive, drive_at, own_file, last_search, open_key, opened_in, subject_by, subject, found_by, found}
 use Rattle.mpm_requests.specs.Refusals.{refusal_of}
-use Rattle.mpm_bdos.specs.Jobs.{stamp_where, with_stamp, job_on, job_by, job_of, turns_by, call_turns, turned_by, turned}
+use Rattle.mpm_jobs.specs.Jobs.{stamp_where, with_stamp}
+use Rattle.mpm_bdos.specs.Jobs.{job_on, job_by, job_of, turns_by, call_turns, turned_by, turned}
 use Rattle.mpm_requests.specs.Asking.{asked_of}
 use Rattle.mpm_bdos.proofs.EndingLaws.{own_job}
 use Rattle.mpm_bdos.proofs.NamedFiles.{subject_name}

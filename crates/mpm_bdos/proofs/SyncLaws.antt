@@ -4,7 +4,7 @@ use Rattle.std.specs.Prelude.{is_some, if◌then◌else◌}
 use Rattle.std.proofs.lemmas.Bool.{cases_eq, false≢true}
 use Rattle.std.proofs.lemmas.List.Sums.{count_by_more_yes, sum_by_more, sum_by-take-le}
 use Rattle.mpm_mount.specs.Directories.{Directory}
-use Rattle.mpm_bdos.specs.Serving.{AreInPlace, directory_at}
+use Rattle.mpm_directories.specs.Places.{AreInPlace, directory_at}
 use Rattle.mpm_bdos.specs.Syncing.{StopsAtDrive, mounted_count}
 use Rattle.mpm_bdos.proofs.Fitting.{in_place}
 

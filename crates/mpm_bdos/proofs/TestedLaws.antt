@@ -6,19 +6,21 @@ use Rattle.std.proofs.lemmas.List.Sums.{sum_by-append}
 use Rattle.mpm_mount.specs.Drives.{FileName, Drive, extent_at, visible_of}
 use Rattle.mpm_opens.specs.declared.kinds.FileKey.{FileKey}
 use Rattle.mpm_opens.specs.Opens.{OpenFiles}
-use Rattle.mpm_files.specs.declared.errors.RecordError.{RecordError}
-use Rattle.mpm_files.specs.declared.errors.RecordError.TheVariants.{UnwrittenExtent, UnwrittenData, Mismatch}
+use Rattle.mpm_functions.specs.declared.errors.RecordError.{RecordError}
+use Rattle.mpm_functions.specs.declared.errors.RecordError.TheVariants.{UnwrittenExtent, UnwrittenData, Mismatch}
 use Rattle.mpm_files.specs.Units.{FileUnit, PassesRecord, WritesRecord, applied}
-use Rattle.mpm_files.specs.Plans.{Plan, Test, behind, unless_failing, read_error, has_record, passing, testing}
+use Rattle.mpm_files.specs.Plans.{Plan, Test, behind, unless_failing, has_record, passing, testing}
+use Rattle.mpm_mount.specs.Records.{read_error}
 use Rattle.mpm_files.specs.Serving.{records_moved}
 use Rattle.mpm_files.proofs.Needs.{IsWhole}
 use Rattle.mpm_files.proofs.Tested.{same_reads, still_whole}
-use Rattle.mpm_bdos.specs.declared.ends.RecordEnd.{RecordEnd}
-use Rattle.mpm_bdos.specs.declared.ends.Ended.{Ended}
-use Rattle.mpm_bdos.specs.declared.ends.RecordEnd.TheVariants.{Failing, LockedOff}
+use Rattle.mpm_functions.specs.declared.ends.RecordEnd.{RecordEnd}
+use Rattle.mpm_functions.specs.declared.ends.Ended.{Ended}
+use Rattle.mpm_functions.specs.declared.ends.RecordEnd.TheVariants.{Failing, LockedOff}
 use Rattle.mpm_requests.specs.Subjects.{file_of}
-use Rattle.mpm_bdos.specs.Records.{is_locked_off, ends, ends_of, end_of, end_by, one_done, ended_by, testing_ended}
-use Rattle.mpm_bdos.specs.Jobs.{count_until}
+use Rattle.mpm_locks.specs.Locks.{is_locked_off, count_until}
+use Rattle.mpm_bdos.specs.Records.{ends, end_of, one_done, ended_by, testing_ended}
+use Rattle.mpm_functions.specs.Ends.{ends_of, end_by}
 use Rattle.mpm_bdos.proofs.RecordLaws.{planned, one_more, is_cut}
 
 -- records from one that has other bytes on: none is moved

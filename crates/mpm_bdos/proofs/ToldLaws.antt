@@ -14,17 +14,17 @@ use Rattle.mpm_opens.specs.declared.kinds.Mode.TheVariants.{Unlocked}
 use Rattle.mpm_opens.specs.Kinds.{is_same_mode}
 use Rattle.mpm_opens.specs.Opens.{OpenFiles, locked}
 use Rattle.mpm_mount.specs.Files.{where_there}
-use Rattle.mpm_files.specs.declared.errors.RecordError.{RecordError}
-use Rattle.mpm_files.specs.declared.errors.RecordError.TheVariants.{UnwrittenExtent, UnwrittenData, NoDirectorySpace, NoDataBlock, Mismatch}
-use Rattle.mpm_files.specs.declared.jobs.JobKind.TheVariants as kinds
-use Rattle.mpm_files.specs.declared.jobs.Job.{Job}
+use Rattle.mpm_functions.specs.declared.errors.RecordError.{RecordError}
+use Rattle.mpm_functions.specs.declared.errors.RecordError.TheVariants.{UnwrittenExtent, UnwrittenData, NoDirectorySpace, NoDataBlock, Mismatch}
+use Rattle.mpm_jobs.specs.declared.jobs.JobKind.TheVariants as kinds
+use Rattle.mpm_jobs.specs.declared.jobs.Job.{Job}
 use Rattle.mpm_files.specs.declared.work.Work.{Work}
 use Rattle.mpm_files.specs.Units.{ReadsRecord, stages, last_of, applied}
 use Rattle.mpm_files.specs.Plans.{Plan, file_of_job, behind, unless_failing, reading, plan_by, plan_of, turns_of}
 use Rattle.mpm_files.specs.Serving.{records_moved, moved_after, all_read, records_after, IsServing}
 use Rattle.mpm_files.specs.Turning.{Suits}
-use Rattle.mpm_bdos.specs.declared.ends.RecordEnd.{RecordEnd}
-use Rattle.mpm_bdos.specs.declared.ends.RecordEnd.TheVariants.{Failing}
+use Rattle.mpm_functions.specs.declared.ends.RecordEnd.{RecordEnd}
+use Rattle.mpm_functions.specs.declared.ends.RecordEnd.TheVariants.{Failing}
 use Rattle.mpm_functions.specs.declared.functions.FileFunction.{FileFunction}
 use Rattle.mpm_functions.specs.declared.functions.FileFunction.TheVariants.{ResetDisks, OpenFile, CloseFile, SearchFirst, SearchNext, DeleteFile, ReadSequential, WriteSequential, MakeFile, RenameFile, ProtectDisk, SetAttributes, ReadRandom, WriteRandom, FileSize, ResetDrives, AccessDrives, FreeDrives, TestAndWrite, LockRecord, UnlockRecord, FreeSpace, FlushBuffers, SetLabel, LabelData, ReadXfcb, WriteXfcb}
 use Rattle.mpm_requests.specs.Filing.{Situation, block}
@@ -32,12 +32,14 @@ use Rattle.mpm_fcb.specs.Positions.{random_record}
 use Rattle.mpm_requests.specs.Subjects.{drive_at, subject_key, first_by, first_record, open_mode}
 use Rattle.mpm_functions.specs.Refusals.{refusals_of}
 use Rattle.mpm_requests.specs.Refusals.{applies, refusal_of}
-use Rattle.mpm_bdos.specs.Records.{Locking, error_code_of, unless_ended, end_of, end_by, locking, coded, done_by}
+use Rattle.mpm_bdos.specs.Records.{Locking, unless_ended, end_of, locking}
+use Rattle.mpm_functions.specs.Ends.{error_code_of, end_by, coded, done_by}
 use Rattle.mpm_bdos.specs.Jobs.{free_count, reading_job, writing_job, testing_job, job_by, job_of, turns_by, call_turns, Turned, turned_by, turned}
 use Rattle.mpm_bdos.specs.Changes.{locking_of}
-use Rattle.mpm_bdos.specs.Replies.{is_cut_by, end_after, position_by, granted_of, value_by}
+use Rattle.mpm_bdos.specs.Replies.{is_cut_by, end_after, granted_of}
+use Rattle.mpm_entries.specs.Granting.{position_by, value_by, FewDone, is_moving, IsPlaced}
 use Rattle.mpm_bdos.specs.Replies as replies
-use Rattle.mpm_bdos.specs.Ending.{IsSound, FewDone, ended, is_moving, is_reading, HasRead, IsPlaced}
+use Rattle.mpm_bdos.specs.Ending.{IsSound, ended, is_reading, HasRead}
 use Rattle.mpm_bdos.specs.Leaving.{nothing_locked}
 use Rattle.mpm_bdos.specs.Serving.{WorksOn}
 use Rattle.mpm_bdos.specs.Replying.{IsServed}

@@ -6,7 +6,7 @@ use Rattle.mpm_port.specs.Disks.{Disks}
 use Rattle.mpm_cache.specs.declared.cache.Place.{Place}
 use Rattle.mpm_mount.specs.Drives.{Drive}
 use Rattle.mpm_mount.specs.Directories.{Directory}
-use Rattle.mpm_files.specs.declared.jobs.Job.{Job}
+use Rattle.mpm_jobs.specs.declared.jobs.Job.{Job}
 use Rattle.mpm_files.specs.declared.turning.Progress.{Progress}
 use Rattle.mpm_files.specs.declared.work.Work.{Work}
 use Rattle.mpm_files.specs.Plans.{turns_of}

@@ -19,7 +19,7 @@ use Rattle.mpm_requests.specs.declared.subjects.OpenItem.{OpenItem}
 use Rattle.mpm_requests.specs.Subjects.{first_by}
 use Rattle.mpm_requests.specs.Filing.{HaveUsers}
 use Rattle.mpm_requests.proofs.OwnItems.{HasUser, user_at}
-use Rattle.mpm_bdos.specs.Records.{unlocking}
+use Rattle.mpm_locks.specs.Locks.{unlocking}
 use Rattle.mpm_bdos.specs.Changes.{is_among}
 use Rattle.mpm_bdos.specs.Leaving.{unlocked_where, left_by}
 

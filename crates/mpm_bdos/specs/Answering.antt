@@ -1,21 +1,20 @@
 -- What a call that the disk serves may be answered, whatever is on the drives: one that is refused by a refusal of its row; another
 -- one with bytes at its DMA address, so many as its function reads or tells, and with its file control block, which keeps all but what
 -- its function tells in it. (MP/M II Programmer's Guide, "BDOS Function Calls", "BDOS Error Handling".)
-use Rattle.std.specs.Prelude.{◌≡◌, ℕ, ◌*◌, ◌<◌, ◌≤◌, List, [], Option, Some, None, IfSome, length}
+use Rattle.std.specs.Prelude.{◌≡◌, ℕ, ◌*◌, ◌≤◌, List, [], Option, Some, None, IfSome, length}
 use Rattle.mpm_base.specs.Calls.{Taken, Answer, answering}
 use Rattle.mpm_functions.specs.declared.functions.FileFunction.{FileFunction}
-use Rattle.mpm_functions.specs.declared.functions.FileFunction.TheVariants.{OpenFile, SearchFirst, SearchNext, ReadSequential, WriteSequential, MakeFile, ReadRandom, WriteRandom, FileSize, TestAndWrite, LockRecord, FreeSpace, LabelData, ReadXfcb}
+use Rattle.mpm_functions.specs.declared.functions.FileFunction.TheVariants.{SearchFirst, SearchNext, ReadSequential, ReadRandom, FreeSpace}
 use Rattle.mpm_functions.specs.declared.refusals.Refusal.{Refusal}
 use Rattle.mpm_functions.specs.declared.refusals.Extended.{Extended}
 use Rattle.mpm_functions.specs.Refusals.{answered, refused_value, refused_extended, IsOfRow}
 use Rattle.mpm_fcb.specs.declared.block.ControlBlock.{ControlBlock}
 use Rattle.mpm_fcb.specs.Blocks.{block_of, bytes_of}
 use Rattle.mpm_requests.specs.declared.caller.Caller.{Caller}
-use Rattle.mpm_entries.specs.Telling.{TellsOpened, TellsPosition, TellsSize, TellsXfcb}
 use Rattle.mpm_requests.specs.Subjects.{IsNamed}
-use Rattle.mpm_bdos.specs.declared.ends.RecordEnd.{RecordEnd}
-use Rattle.mpm_bdos.specs.Records.{coded, done_by}
+use Rattle.mpm_functions.specs.Ends.{done_by}
 use Rattle.mpm_bdos.specs.Serving.{InService}
+use Rattle.mpm_entries.specs.Granting.{MayTellIn, MayAmount}
 
 -- bytes in whole parts of one size, at most so many of them
 pub record AreParts (size most : ℕ) (bytes : List ℕ) : Type 0 where
@@ -32,48 +31,12 @@ MayPlace SearchNext multi value bytes = AreParts 128 1 bytes
 MayPlace FreeSpace multi value bytes = AreParts 3 1 bytes
 MayPlace function multi value bytes = bytes ≡ []
 
--- what is told in a file control block, which keeps all else, by the call's function
-abbrev pub MayTellIn : FileFunction → ControlBlock → ControlBlock → Type 0
-MayTellIn OpenFile given block = TellsOpened given block
-MayTellIn ReadSequential given block = TellsPosition given block
-MayTellIn WriteSequential given block = TellsPosition given block
-MayTellIn MakeFile given block = TellsOpened given block
-MayTellIn ReadRandom given block = TellsPosition given block
-MayTellIn WriteRandom given block = TellsPosition given block
-MayTellIn FileSize given block = TellsSize given block
-MayTellIn TestAndWrite given block = TellsPosition given block
-MayTellIn ReadXfcb given block = TellsXfcb given block
-MayTellIn function given block = ⊥
-
 -- the 36 bytes of such a block
 pub record IsTold (function : FileFunction) (given bytes : List ℕ) : Type 0 where
   pub block : ControlBlock
   pub tells : MayTellIn function (block_of given) block
   pub is : bytes ≡ bytes_of block
   pub size : length bytes ≡ 36
-
--- of so many records all are done, or something ends them before the last
-abbrev pub AreDone : ℕ → ℕ → Option RecordEnd → Type 0
-AreDone multi done None = done ≡ multi
-AreDone multi done (Some end) = done < multi
-
--- how many records are done, and the code of what ended them; 0 where all are
-pub record IsCoded (multi : ℕ) (function : FileFunction) (value : ℕ) : Type 0 where
-  pub end : Option RecordEnd
-  pub done : ℕ
-  pub few : AreDone multi done end
-  pub is : value ≡ coded function done end
-
--- what a call on records comes to, or a label's data byte; another call answers 0
-abbrev pub MayAmount : FileFunction → ℕ → ℕ → Type 0
-MayAmount ReadSequential multi value = IsCoded multi ReadSequential value
-MayAmount WriteSequential multi value = IsCoded multi WriteSequential value
-MayAmount ReadRandom multi value = IsCoded multi ReadRandom value
-MayAmount WriteRandom multi value = IsCoded multi WriteRandom value
-MayAmount TestAndWrite multi value = IsCoded multi TestAndWrite value
-MayAmount LockRecord multi value = IsCoded multi LockRecord value
-MayAmount LabelData multi value = value < 256
-MayAmount function multi value = value ≡ 0
 
 -- a call that isn't refused, by its caller's multi-sector count, the file control block that it gave and its DMA address
 pub record MayGrant (multi : ℕ) (function : FileFunction) (given : List ℕ) (dma : ℕ) (answer : Answer) : Type 0 where

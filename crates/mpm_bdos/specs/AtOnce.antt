@@ -6,7 +6,8 @@ use Rattle.mpm_functions.specs.declared.functions.FileFunction.{FileFunction}
 use Rattle.mpm_functions.specs.declared.functions.FileFunction.TheVariants.{OpenFile, DeleteFile, ReadSequential, WriteSequential, MakeFile, RenameFile, SetAttributes, ReadRandom, WriteRandom, TestAndWrite, SetLabel, WriteXfcb}
 use Rattle.mpm_requests.specs.Filing.{Situation}
 use Rattle.mpm_bdos.specs.Jobs.{job_of, call_turns}
-use Rattle.mpm_bdos.specs.Serving.{Kept, StandEach, directory_at}
+use Rattle.mpm_bdos.specs.Serving.{Kept, StandEach}
+use Rattle.mpm_directories.specs.Places.{directory_at}
 use Rattle.mpm_bdos.specs.Turns.{FitsDrives, KeepsImages, KeepsUnsynced, StaysBeside, TurnKeeps, StopsWithin, drive_served}
 
 -- what some turns of the call in service leave of what is kept, of the drives and of their images

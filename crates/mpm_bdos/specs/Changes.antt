@@ -1,25 +1,25 @@
 -- What a call that isn't refused makes of drives, open files, marks, protection and searches, by what its turns have come to.
-use Rattle.std.specs.Prelude.{ℕ, ◌==◌, ◌&&◌, Bool, false, List, Option, Some, None, option_map, map, replicate, slice_set, if◌then◌else◌}
+use Rattle.std.specs.Prelude.{ℕ, ◌==◌, ◌&&◌, Bool, false, List, Option, Some, None, map, replicate, slice_set, if◌then◌else◌}
 use Rattle.std.specs.List.{list_any}
-use Rattle.mpm_dirent.specs.Names.{plain}
 use Rattle.mpm_opens.specs.declared.kinds.FileKey.{FileKey}
 use Rattle.mpm_opens.specs.declared.kinds.Mode.TheVariants.{Unlocked}
 use Rattle.mpm_opens.specs.Kinds.{is_same_mode, is_file}
 use Rattle.mpm_opens.specs.Items.{file_where, is_given_back}
 use Rattle.mpm_opens.specs.Opens.{OpenFiles, added, given_back, closed, written}
 use Rattle.mpm_functions.specs.declared.functions.FileFunction.{FileFunction}
-use Rattle.mpm_functions.specs.declared.functions.FileFunction.TheVariants.{OpenFile, CloseFile, SearchNext, DeleteFile, WriteSequential, MakeFile, RenameFile, WriteRandom, FreeDrives, TestAndWrite, LockRecord, UnlockRecord}
+use Rattle.mpm_functions.specs.declared.functions.FileFunction.TheVariants.{OpenFile, CloseFile, DeleteFile, WriteSequential, MakeFile, RenameFile, WriteRandom, FreeDrives, TestAndWrite, LockRecord, UnlockRecord}
 use Rattle.mpm_mount.specs.Drives.{FileName, Drive}
 use Rattle.mpm_mount.specs.Files.{is_same_file}
-use Rattle.mpm_fcb.specs.declared.block.ControlBlock.{ControlBlock}
 use Rattle.mpm_fcb.specs.Names.{has_f5}
 use Rattle.mpm_marks.specs.Driving.{marks_by, protected_by}
-use Rattle.mpm_files.specs.declared.jobs.Job.{Job}
+use Rattle.mpm_jobs.specs.declared.jobs.Job.{Job}
 use Rattle.mpm_requests.specs.Filing.{LastSearch, Filing, Situation, block}
 use Rattle.mpm_requests.specs.Subjects.{last_search, drive_number, drive_at, is_mounted, open_mode, subject_key, file_of, first_record, mode_by, found, deleted_in, names_drive}
 use Rattle.mpm_bdos.specs.declared.releasing.Deletion.{Deletion}
-use Rattle.mpm_bdos.specs.Records.{Locking, locking, unlocking}
+use Rattle.mpm_bdos.specs.Records.{Locking, locking}
+use Rattle.mpm_locks.specs.Locks.{unlocking}
 use Rattle.mpm_bdos.specs.Jobs.{Turned, job_of}
+use Rattle.mpm_requests.specs.Searches.{search_by, searches_by}
 
 -- records are locked by way of a file that is open in unlocked mode; in others nothing is done
 unfoldable pub locking_of : Situation → Locking
@@ -71,19 +71,6 @@ opens_by s t function = s.filing.opens
 
 unfoldable pub protected_then : Situation → List Bool
 protected_then s = protected_by s.filing.protected (is_mounted s.filing s.caller.drive) s.caller.drive s.call.word s.function
-
--- the caller's search, where it found something
-abbrev pub finding : FileName × ℕ → LastSearch → LastSearch
-finding entry search = record search { found = entry }
-
-abbrev pub search_by : Option LastSearch → ℕ → ℕ → ControlBlock → FileName × ℕ → FileFunction → Option LastSearch
-search_by last drive user b entry SearchNext = option_map (finding entry) last
-search_by last drive user b entry function =
-    Some (record { drive = drive; user = user; pattern = plain b.name; extent = b.ex; found = entry })
-
-abbrev pub searches_by : List (Option LastSearch) → ℕ → (FileName × ℕ → Option LastSearch) → Option (FileName × ℕ) → List (Option LastSearch)
-searches_by searches p search None = searches
-searches_by searches p search (Some entry) = slice_set searches p (search entry)
 
 abbrev pub search_of_call : Situation → FileName × ℕ → Option LastSearch
 search_of_call s entry = search_by (last_search s) (drive_number s) s.caller.user (block s) entry s.function

@@ -1,17 +1,15 @@
 -- What the records of a call come to, by the work of its job behind its last turn.
-use Rattle.std.specs.Prelude.{◌≡◌, ℕ, ◌<◌, ◌≤◌, Bool, true, false, List, Option, Some, None, IfSome, length, nat_lt}
+use Rattle.std.specs.Prelude.{◌≡◌, ℕ, Bool, true, false, List, Option, Some, None, length, nat_lt}
 use Rattle.std.specs.FinMap.{get}
 use Rattle.mpm_mount.specs.Drives.{FileName, PhysicalExtent, Drive, IsOfImage}
-use Rattle.mpm_files.specs.declared.errors.RecordError.{RecordError}
-use Rattle.mpm_files.specs.declared.jobs.Job.{Job}
+use Rattle.mpm_functions.specs.declared.errors.RecordError.{RecordError}
+use Rattle.mpm_jobs.specs.declared.jobs.Job.{Job}
 use Rattle.mpm_files.specs.declared.work.Work.{Work}
 use Rattle.mpm_files.specs.Serving.{with_records, told_error}
-use Rattle.mpm_bdos.specs.declared.ends.Ended.{Ended}
+use Rattle.mpm_functions.specs.declared.ends.Ended.{Ended}
 use Rattle.mpm_functions.specs.declared.functions.FileFunction.{FileFunction}
 use Rattle.mpm_functions.specs.declared.functions.FileFunction.TheVariants.{ReadSequential, WriteSequential, ReadRandom, WriteRandom, TestAndWrite}
-use Rattle.mpm_bdos.specs.declared.granting.Granted.{Granted}
-use Rattle.mpm_bdos.specs.Records.{end_by}
-use Rattle.mpm_bdos.specs.Replies.{does_stay, position_of}
+use Rattle.mpm_functions.specs.Ends.{end_by}
 
 -- it was cut where its job has fewer records than it names
 abbrev pub is_cut_short : FileFunction → ℕ → ℕ → Bool
@@ -35,15 +33,6 @@ error_of (Some work) = told_error work
 unfoldable pub ended : FileFunction → ℕ → Option Work → Ended
 ended function multi work = record { moved = moved_by work; end = end_by (error_of work) (is_cut_short function (count_of work) multi) }
 
--- the calls whose job is on records: they move on a file's position
-abbrev pub is_moving : FileFunction → Bool
-is_moving ReadSequential = true
-is_moving WriteSequential = true
-is_moving ReadRandom = true
-is_moving WriteRandom = true
-is_moving TestAndWrite = true
-is_moving function = false
-
 -- calls that read records, and the records that stand at the front of their job's bytes, so many as are done
 abbrev pub is_reading : FileFunction → Bool
 is_reading ReadSequential = true
@@ -59,14 +48,6 @@ pub record IsRead (done : ℕ) (work : Work) (records : List (List ℕ)) : Type 
 abbrev pub HasRead : ℕ → Option Work → List (List ℕ) → Type 0
 HasRead done None records = ⊥
 HasRead done (Some work) records = IsRead done work records
-
--- where something ended the records of a call, fewer are done than it names
-abbrev pub FewDone : ℕ → Ended → Type 0
-FewDone multi ended = IfSome ended.end (λ end. ended.moved < multi)
-
--- where its block doesn't stay, the position behind a call is one that a block can have
-abbrev pub IsPlaced : Granted → Type 0
-IsPlaced g = does_stay g.ended.moved g.ended.end ≡ false → position_of g ≤ 262271
 
 -- each directory entry of a file is such as the drive of an image has
 pub record IsSound (drive : Drive) : Type 0 where

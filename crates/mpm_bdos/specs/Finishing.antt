@@ -7,7 +7,8 @@ use Rattle.mpm_functions.specs.declared.refusals.Extended.{Extended}
 use Rattle.mpm_requests.specs.Filing.{LastSearch, Situation}
 use Rattle.mpm_requests.specs.Subjects.{found}
 use Rattle.mpm_bdos.specs.Jobs.{call_turns, turned}
-use Rattle.mpm_bdos.specs.Changes.{protected_then, opens_by, searches_by, search_of_call}
+use Rattle.mpm_bdos.specs.Changes.{protected_then, opens_by, search_of_call}
+use Rattle.mpm_requests.specs.Searches.{searches_by}
 use Rattle.mpm_marks.specs.Driving.{marks_by}
 use Rattle.mpm_bdos.specs.Replies.{answer_after}
 use Rattle.mpm_bdos.specs.Outcomes.{file_call}

@@ -1,8 +1,7 @@
 -- What a call that isn't refused does on its drive, and what so many of its turns have come to.
-use Rattle.std.specs.Prelude.{ℕ, zero, suc, ◌+◌, ◌*◌, ◌==◌, ◌&&◌, not, Bool, List, [], ◌++◌, Option, Some, None, is_some, option_map, unwrap_or, length, take, drop, replicate, if◌then◌else◌}
+use Rattle.std.specs.Prelude.{ℕ, ◌*◌, ◌&&◌, not, Bool, List, [], Option, Some, None, is_some, option_map, unwrap_or, take, if◌then◌else◌}
 use Rattle.std.specs.FinMap.{get}
 use Rattle.mpm_base.specs.Calls.{byte_in, eight_at}
-use Rattle.mpm_base.specs.Lists.{zeros}
 use Rattle.mpm_opens.specs.declared.kinds.FileKey.{FileKey}
 use Rattle.mpm_opens.specs.Opens.{OpenFiles}
 use Rattle.mpm_functions.specs.declared.functions.FileFunction.{FileFunction}
@@ -11,42 +10,24 @@ use Rattle.mpm_functions.specs.declared.refusals.Refusal.{Refusal}
 use Rattle.mpm_mount.specs.Drives.{Protection, Drive}
 use Rattle.mpm_guard.specs.Passwords.{has_bit}
 use Rattle.mpm_fcb.specs.Names.{new_name_of, has_f6}
-use Rattle.mpm_files.specs.declared.errors.RecordError.{RecordError}
-use Rattle.mpm_files.specs.declared.jobs.JobKind.{JobKind}
-use Rattle.mpm_files.specs.declared.jobs.JobKind.TheVariants as kinds
-use Rattle.mpm_files.specs.declared.jobs.Job.{Job}
-use Rattle.mpm_files.specs.Plans.{read_error, turns_of}
+use Rattle.mpm_functions.specs.declared.errors.RecordError.{RecordError}
+use Rattle.mpm_jobs.specs.declared.jobs.JobKind.{JobKind}
+use Rattle.mpm_jobs.specs.declared.jobs.JobKind.TheVariants as kinds
+use Rattle.mpm_jobs.specs.declared.jobs.Job.{Job}
+use Rattle.mpm_mount.specs.Records.{read_error}
+use Rattle.mpm_files.specs.Plans.{turns_of}
 use Rattle.mpm_files.specs.Serving.{units_done, moved_after, error_after, records_after}
 use Rattle.mpm_requests.specs.Filing.{Situation, block}
 use Rattle.mpm_mount.specs.Looking.{data_byte}
 use Rattle.mpm_requests.specs.Subjects.{file_of, drive_at, subject, subject_key, first_record, has_written}
 use Rattle.mpm_requests.specs.Refusals.{makes_xfcb, refusal_of}
-use Rattle.mpm_entries.specs.Protections.{protection_bytes, no_protection, given_xfcb, with_first_stamp, label_put, xfcb_put}
-use Rattle.mpm_bdos.specs.Records.{is_locked_off}
+use Rattle.mpm_entries.specs.Protections.{no_protection, given_xfcb, with_first_stamp, label_put, xfcb_put, with_protection}
+use Rattle.mpm_locks.specs.Locks.{is_locked_off, count_until}
+use Rattle.mpm_jobs.specs.Jobs.{job_for, stamp_where, with_records, with_stamp, with_bytes, testing_bytes, where_some, with_one, with_new_name}
 
--- the room of a job's bytes: the 4,096 that count at most, and zeros behind them
-unfoldable pub filled : List ℕ → List ℕ
-filled bytes = take 4096 bytes ++ drop (length bytes) (replicate 4096 0)
-
--- a job on a user's file of a name, and on the call's file
-abbrev pub job_for : JobKind → ℕ → List ℕ → Job
-job_for kind user name = record {
-  kind = kind;
-  user = user;
-  name = name;
-  new_name = zeros 11;
-  first = 0;
-  count = 0;
-  stamp = None;
-  bytes = filled [];
-}
-
+-- a job on the call's file
 abbrev pub job_on : Situation → JobKind → Job
 job_on s kind = job_for kind (subject s).user (block s).name
-
--- a stamp, where it is asked for
-abbrev pub stamp_where : Bool → List ℕ → Option (List ℕ)
-stamp_where test moment = if test then Some moment else None
 
 -- a record that another process has locked ends a call that writes before it; one that is tested is read first, so that it ends the
 -- call by that where it isn't there
@@ -58,27 +39,12 @@ abbrev pub is_cut_at : Situation → FileFunction → ℕ → Bool
 is_cut_at s TestAndWrite n = is_tested_off (drive_at s) s.filing.opens s.caller.process (subject_key s) n
 is_cut_at s function n = is_locked_off s.filing.opens s.caller.process (subject_key s) n
 
--- how many numbers from one on come before the first that passes a test
-unfoldable pub count_until : (ℕ → Bool) → ℕ → ℕ → ℕ
-count_until stops n zero = 0
-count_until stops n (suc count) = if stops n then 0 else suc (count_until stops (n + 1) count)
-
 unfoldable pub free_count : Situation → ℕ
 free_count s = count_until (is_cut_at s s.function) (first_record s) s.caller.multi
 
 -- the second stamp comes with the first record that is written by way of an open file, where the label has 20h
 abbrev pub writing_stamp : Situation → Option (List ℕ)
 writing_stamp s = stamp_where (has_bit 0x20 (data_byte (drive_at s)) && not (has_written s)) s.moment
-
--- a job on so many records from one on, with a stamp, and with bytes
-abbrev pub with_records : ℕ → ℕ → Job → Job
-with_records first count job = record job { first = first; count = count }
-
-abbrev pub with_stamp : Option (List ℕ) → Job → Job
-with_stamp stamp job = record job { stamp = stamp }
-
-abbrev pub with_bytes : List ℕ → Job → Job
-with_bytes bytes job = record job { bytes = filled bytes }
 
 abbrev pub reading_job : Situation → Job
 reading_job s = with_records (first_record s) s.caller.multi (job_on s kinds.Read)
@@ -87,31 +53,16 @@ abbrev pub writing_job : Situation → ℕ → Job
 writing_job s count =
     with_bytes (take (128 * count) s.call.bytes) (with_stamp (writing_stamp s) (with_records (first_record s) count (job_on s kinds.Write)))
 
--- of the bytes of records that are tested, those that the first of them must have, and then those that these get
-unfoldable pub testing_bytes : List ℕ → ℕ → ℕ → List ℕ
-testing_bytes bytes records count = take (128 * count) bytes ++ take (128 * count) (drop (128 * records) bytes)
-
 abbrev pub testing_job : Situation → ℕ → Job
 testing_job s count =
     with_bytes (testing_bytes s.call.bytes s.caller.multi count)
     (with_stamp (writing_stamp s) (with_records (first_record s) count (job_on s kinds.TestWrite)))
-
--- none where there is no record to do
-abbrev pub where_some : ℕ → Job → Option Job
-where_some count job = if count == 0 then None else (Some job)
 
 -- the call gives them with F6', the label asks with 10h
 abbrev pub made_xfcb : Situation → Protection
 made_xfcb s =
     with_first_stamp (has_bit 0x10 (data_byte (drive_at s))) s.moment
     (given_xfcb (has_f6 (block s)) (byte_in s.call 8) (eight_at s.call 0))
-
--- a job that puts an XFCB or a label
-abbrev pub with_protection : Protection → Job → Job
-with_protection p job = with_bytes (protection_bytes p) job
-
-abbrev pub with_one : Job → Job
-with_one job = record job { count = 1 }
 
 abbrev pub making_job : Situation → Job
 making_job s =
@@ -120,9 +71,6 @@ making_job s =
 -- the label that is made or changed
 abbrev pub label_there : Situation → Protection
 label_there s = unwrap_or (option_map (λ label. label.protection) (drive_at s).label) no_protection
-
-abbrev pub with_new_name : List ℕ → Job → Job
-with_new_name name job = record job { new_name = name }
 
 abbrev pub labelling_job : Situation → Job
 labelling_job s =

@@ -16,13 +16,16 @@ use Rattle.mpm_requests.specs.declared.asking.Asked.{Asked}
 use Rattle.mpm_requests.specs.declared.subjects.OpenItem.{OpenItem}
 use Rattle.mpm_requests.specs.Subjects.{first_by}
 use Rattle.mpm_requests.specs.Asking.{key_asked, mode_needed}
-use Rattle.mpm_bdos.specs.declared.ends.Ended.{Ended}
-use Rattle.mpm_bdos.specs.declared.granting.OpenedAs.{OpenedAs}
-use Rattle.mpm_bdos.specs.declared.granting.Granted.{Granted}
-use Rattle.mpm_bdos.specs.Records.{Locking, locking, unlocking, done_by}
+use Rattle.mpm_functions.specs.declared.ends.Ended.{Ended}
+use Rattle.mpm_entries.specs.declared.granting.OpenedAs.{OpenedAs}
+use Rattle.mpm_entries.specs.declared.granting.Granted.{Granted}
+use Rattle.mpm_bdos.specs.Records.{Locking, locking}
+use Rattle.mpm_locks.specs.Locks.{unlocking}
+use Rattle.mpm_functions.specs.Ends.{done_by}
 use Rattle.mpm_bdos.specs.Changes.{is_among}
-use Rattle.mpm_bdos.specs.Replies.{opened_as, value_by}
-use Rattle.mpm_bdos.specs.Ending.{moved_by, ended, is_moving, is_reading, HasRead, FewDone, IsPlaced}
+use Rattle.mpm_bdos.specs.Replies.{opened_as}
+use Rattle.mpm_entries.specs.Granting.{value_by, is_moving, FewDone, IsPlaced}
+use Rattle.mpm_bdos.specs.Ending.{moved_by, ended, is_reading, HasRead}
 
 -- records are locked by way of a file that is open in unlocked mode; in others nothing is done
 abbrev pub nothing_locked : OpenFiles → Locking

@@ -16,12 +16,7 @@ use Rattle.mpm_requests.specs.Refusals.{refusal_of}
 use Rattle.mpm_bdos.specs.Jobs.{Turned, job_of, call_turns, turned}
 use Rattle.mpm_bdos.specs.Changes.{drives_by, filing_after}
 use Rattle.mpm_bdos.specs.Replies.{answer_after}
-
--- what becomes of the caller's current drive and DMA address: nothing, another drive, or both as at its beginning
-pub data CallerChange : Type 0 where
-  Stays : CallerChange
-  Selects : ℕ → CallerChange
-  Resets : CallerChange
+use Rattle.mpm_directories.specs.Direct.{CallerChange, Stays, Resets}
 
 -- all that a call changes, its reply, and its extended error
 pub record Outcome : Type 0 where

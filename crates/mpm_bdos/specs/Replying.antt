@@ -13,7 +13,8 @@ use Rattle.mpm_requests.specs.Filing.{LastSearch, Situation, block, HaveUsers}
 use Rattle.mpm_requests.specs.Subjects.{drive_at, found}
 use Rattle.mpm_requests.specs.Refusals.{refusal_of}
 use Rattle.mpm_bdos.specs.Jobs.{job_of, call_turns, turned}
-use Rattle.mpm_bdos.specs.Changes.{deleted_by, opens_by, searches_by, search_of_call}
+use Rattle.mpm_bdos.specs.Changes.{deleted_by, opens_by, search_of_call}
+use Rattle.mpm_requests.specs.Searches.{searches_by}
 use Rattle.mpm_bdos.specs.Replies.{answer_after}
 use Rattle.mpm_bdos.specs.Serving.{IsCaller, WorksOn}
 use Rattle.mpm_bdos.specs.Ending.{IsSound}

@@ -1,6 +1,5 @@
 -- What is kept between file calls; a file call in service; and what the mounted drives stand for with some of its turns ended.
-use Rattle.std.specs.Prelude.{◌≡◌, ℕ, ◌<◌, ◌≤◌, Bool, List, [], ◌∷◌, Option, Some, None, IfSome, ⊤, length, option_map, replicate, slice_index_or, slice_set}
-use Rattle.mpm_base.specs.declared.kind.Kind.{Kind}
+use Rattle.std.specs.Prelude.{◌≡◌, ℕ, ◌<◌, ◌≤◌, Bool, List, [], Option, Some, None, IfSome, ⊤, slice_index_or}
 use Rattle.mpm_base.specs.Calls.{Taken}
 use Rattle.mpm_opens.specs.declared.kinds.FileKey.{FileKey}
 use Rattle.mpm_opens.specs.Opens.{OpenFiles, none_open}
@@ -8,10 +7,10 @@ use Rattle.mpm_cache.specs.declared.cache.Place.{Place}
 use Rattle.mpm_functions.specs.declared.functions.FileFunction.{FileFunction}
 use Rattle.mpm_functions.specs.declared.refusals.Refusal.{Refusal}
 use Rattle.mpm_mount.specs.Drives.{Drive}
-use Rattle.mpm_mount.specs.Directories.{Directory, IsDirectory}
+use Rattle.mpm_mount.specs.Directories.{Directory}
 use Rattle.mpm_marks.specs.Marks.{no_marks}
 use Rattle.mpm_marks.specs.Protected.{none_protected}
-use Rattle.mpm_files.specs.declared.jobs.Job.{Job}
+use Rattle.mpm_jobs.specs.declared.jobs.Job.{Job}
 use Rattle.mpm_files.specs.declared.work.Work.{Work}
 use Rattle.mpm_files.specs.Serving.{IsInService}
 use Rattle.mpm_files.specs.Turning.{Suits}
@@ -25,6 +24,7 @@ use Rattle.mpm_bdos.specs.Jobs.{job_of}
 use Rattle.mpm_bdos.specs.Changes.{deleted_by}
 use Rattle.mpm_bdos.specs.Ending.{IsSound}
 use Rattle.mpm_bdos.specs.Outcomes.{drives_after}
+use Rattle.mpm_directories.specs.Places.{directory_at}
 
 -- a caller's user and multi-sector count are in their ranges
 pub record IsCaller (caller : Caller) : Type 0 where
@@ -52,27 +52,6 @@ pub record Kept : Type 0 where
   pub marks : List ℕ
   pub searches : List (Option LastSearch)
   pub service : Option InService
-
--- a directory in a place, if one is there; it is of the drive with the place's number, and without a fault; and there are places
--- for sixteen drives
-abbrev pub directory_at : List (Option Directory) → ℕ → Option Directory
-directory_at mounted number = slice_index_or mounted number None
-
-abbrev pub kind_at : List (Option Directory) → ℕ → Option Kind
-kind_at mounted number = option_map (λ directory. directory.kind) (directory_at mounted number)
-
-pub record AreInPlace (mounted : List (Option Directory)) : Type 0 where
-  pub places : length mounted ≡ 16
-  pub each : (number : ℕ) → IfSome (directory_at mounted number) (λ directory. directory.drive ≡ number)
-  pub directories : (number : ℕ) → IfSome (directory_at mounted number) (λ directory. IsDirectory directory.kind directory.entries)
-
--- directories that come into the places of their drives, the first where there are two; and into sixteen that are free
-unfoldable pub all_put : List Directory → List (Option Directory) → List (Option Directory)
-all_put [] places = places
-all_put (directory ∷ directories) places = slice_set (all_put directories places) directory.drive (Some directory)
-
-abbrev pub in_places : List Directory → List (Option Directory)
-in_places directories = all_put directories (replicate 16 None)
 
 -- before the first call
 abbrev pub nothing_kept : List (Option Directory) → Kept

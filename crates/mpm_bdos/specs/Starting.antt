@@ -19,7 +19,8 @@ use Rattle.mpm_requests.specs.Filing.{Situation}
 use Rattle.mpm_requests.specs.Subjects.{drive_number, drive_at, first_by}
 use Rattle.mpm_bdos.specs.Jobs.{job_of}
 use Rattle.mpm_requests.specs.Asking.{called}
-use Rattle.mpm_bdos.specs.Serving.{InService, Kept, directory_at, WorksOn, IsCallOf}
+use Rattle.mpm_bdos.specs.Serving.{InService, Kept, WorksOn, IsCallOf}
+use Rattle.mpm_directories.specs.Places.{directory_at}
 
 -- a process as it calls
 abbrev pub caller_of : ℕ → Process → Caller

@@ -1,7 +1,7 @@
 -- What was written to the mounted drives is brought to where it stays, on one after another.
 use Rattle.std.specs.Prelude.{◌≡◌, ℕ, ◌+◌, ◌<◌, ◌≤◌, Bool, true, false, List, Option, IsSome, IfSome, is_some, count_by, take}
 use Rattle.mpm_mount.specs.Directories.{Directory}
-use Rattle.mpm_bdos.specs.Serving.{directory_at}
+use Rattle.mpm_directories.specs.Places.{directory_at}
 
 -- each of them is attached
 abbrev pub AreAttached : (ℕ → Option ℕ) → List (Option Directory) → Type 0

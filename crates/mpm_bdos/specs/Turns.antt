@@ -9,8 +9,8 @@ use Rattle.mpm_cache.specs.Coherent.{IsCoherent, AreApart}
 use Rattle.mpm_sectors.specs.Disks.{Leaves}
 use Rattle.mpm_mount.specs.Drives.{Drive}
 use Rattle.mpm_mount.specs.Directories.{Directory}
-use Rattle.mpm_files.specs.declared.jobs.Job.{Job}
-use Rattle.mpm_files.specs.declared.jobs.JobKind.TheVariants as kinds
+use Rattle.mpm_jobs.specs.declared.jobs.Job.{Job}
+use Rattle.mpm_jobs.specs.declared.jobs.JobKind.TheVariants as kinds
 use Rattle.mpm_files.specs.declared.turning.Progress.{Progress}
 use Rattle.mpm_files.specs.declared.turning.Progress.TheVariants.{Again, Done}
 use Rattle.mpm_files.specs.declared.work.Work.{Work}
@@ -18,7 +18,8 @@ use Rattle.mpm_files.specs.Turning.{InService as IsInServiceOn, Contained, IsNex
 use Rattle.mpm_requests.specs.Filing.{Situation}
 use Rattle.mpm_requests.specs.Subjects.{drive_number, drive_at}
 use Rattle.mpm_bdos.specs.Jobs.{job_of}
-use Rattle.mpm_bdos.specs.Serving.{InService, Kept, directory_at}
+use Rattle.mpm_bdos.specs.Serving.{InService, Kept}
+use Rattle.mpm_directories.specs.Places.{directory_at}
 
 -- each mounted drive is attached to an image of its kind's size; what is cached is what the images have; no two have one image
 abbrev pub has_directory : List (Option Directory) → ℕ → Bool

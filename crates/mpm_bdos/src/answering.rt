@@ -6,19 +6,20 @@ ghost use Rattle.mpm_mount.specs.Files.{where_there};
 ghost use Rattle.mpm_fcb.specs.Blocks.{block_of, bytes_of};
 ghost use Rattle.mpm_fcb.specs.Positions.{three_bytes};
 ghost use Rattle.mpm_entries.specs.Telling.{found_bytes};
-ghost use Rattle.mpm_bdos.specs.Answering.{AreParts, IsCoded, MayAmount, MayPlace, MayGrant};
+ghost use Rattle.mpm_bdos.specs.Answering.{AreParts, MayPlace, MayGrant};
+ghost use Rattle.mpm_entries.specs.Granting.{IsCoded, MayAmount};
 ghost use Rattle.mpm_bdos.specs.Ending as ending;
-ghost use Rattle.mpm_bdos.specs.Records.{done_by};
+ghost use Rattle.mpm_entries.specs.Granting as granting;
+ghost use Rattle.mpm_functions.specs.Ends.{done_by};
 ghost use Rattle.mpm_bdos.specs.Replies as spec;
+ghost use Rattle.mpm_directories.specs.Direct as directly;
 
-use crate::ends::done_by as records_done;
-use crate::granting::{Granted, block, value};
 use crate::replies::read_bytes;
 use mpm_base::Reply;
-use mpm_entries::free_bytes;
+use mpm_entries::{Granted, free_bytes, reply_block, reply_value};
 use mpm_fcb::ControlBlock;
 use mpm_files::Work;
-use mpm_functions::FileFunction;
+use mpm_functions::{FileFunction, done_by as records_done};
 use mpm_mount::Mounted;
 
 /// The value of a reading that finds no record: its code, with no record done.
@@ -132,7 +133,7 @@ fn answer_bytes(
 /// Places a file control block where it changes.
 fn place_block(reply: &mut Reply, old: &[u8; 36], block: &ControlBlock)
     requires { reply.old.fcb ≡ None }
-    ensures all { reply.new ≡ record reply.old { fcb = spec.where_changed old.now (bytes_of block.now) } }
+    ensures all { reply.new ≡ record reply.old { fcb = directly.where_changed old.now (bytes_of block.now) } }
     ensures size { length (bytes_of block.now) ≡ 36 }
     ensures given { length old.now ≡ 36 }
 {
@@ -160,13 +161,13 @@ pub(crate) fn answer(
     requires few { multi ≤ 16 }
     requires block { granted.now.block ≡ block_of fcb.now }
     ensures all { (image : List ℕ) (drive : Drive) (records : List (List ℕ)) (found : Option (FileName × ℕ)) → Stands image mounted.now drive
-        → ending.FewDone multi granted.now.ended → (ending.is_moving granted.now.function ≡ true → ending.IsPlaced granted.now)
-        → (ending.is_reading granted.now.function ≡ true → ending.HasRead (done_by multi (spec.value_by drive granted.now granted.now.function)) work.now records)
+        → granting.FewDone multi granted.now.ended → (granting.is_moving granted.now.function ≡ true → granting.IsPlaced granted.now)
+        → (ending.is_reading granted.now.function ≡ true → ending.HasRead (done_by multi (granting.value_by drive granted.now granted.now.function)) work.now records)
         → where_there told.now (λ bytes. bytes) ≡ found_bytes drive found
         → reply.new ≡ spec.answer_by drive granted.now records found fcb.now dma }
     ensures may { MayGrant multi granted.now.function fcb.now dma reply.new }
 {
-    let value = value(granted, multi, mounted);
+    let value = reply_value(granted, multi, mounted);
     answer_bytes(
         reply,
         value,
@@ -177,5 +178,5 @@ pub(crate) fn answer(
         work,
         told,
     );
-    place_block(reply, fcb, &block(granted, mounted));
+    place_block(reply, fcb, &reply_block(granted, mounted));
 }

@@ -28,7 +28,8 @@ impl Bdos {
     ghost use Rattle.mpm_functions.specs.Functions.{function_of};
     ghost use Rattle.mpm_requests.specs.Subjects.{drive_number};
     ghost use Rattle.mpm_bdos.specs.Jobs.{call_turns};
-    ghost use Rattle.mpm_bdos.specs.Serving.{IsCaller, StandEach, StandForSome, Serves, directory_at};
+    ghost use Rattle.mpm_bdos.specs.Serving.{IsCaller, StandEach, StandForSome, Serves};
+    ghost use Rattle.mpm_directories.specs.Places.{directory_at};
     ghost use Rattle.mpm_bdos.specs.Turns.{FitsDrives, KeepsUnsynced, StaysBeside, has_work, labelled, told_images};
     ghost use Rattle.mpm_bdos.specs.Starting.{caller_of, entering};
     ghost use Rattle.mpm_bdos.specs.Finishing.{ComesTo};

@@ -5,19 +5,20 @@ ghost use Rattle.mpm_cache.specs.Coherent.{IsCoherent, HasNoAlias};
 ghost use Rattle.mpm_files.specs.declared.turning.Progress.TheVariants as progress;
 ghost use Rattle.mpm_files.specs.Serving.{turns_in};
 ghost use Rattle.mpm_mount.specs.Drives.{Drive};
-ghost use Rattle.mpm_bdos.specs.Direct.{ComesDirectly, IsToldDirectly, is_protected, direct};
+ghost use Rattle.mpm_directories.specs.Direct.{ComesDirectly, IsToldDirectly, is_protected};
+ghost use Rattle.mpm_bdos.specs.Direct.{direct};
 ghost use Rattle.mpm_functions.specs.Functions.{direct_of};
 ghost use Rattle.mpm_requests.specs.Filing.{Situation};
 ghost use Rattle.mpm_bdos.specs.Outcomes.{left_by, without_search};
 ghost use Rattle.mpm_bdos.specs.Jobs.{call_turns};
 ghost use Rattle.mpm_bdos.specs.Turns.{FitsDrives, KeepsImages, KeepsUnsynced, StaysBeside, TurnKeeps, StopsWithin, ServesReading, ServesCached, HasCountedIn, OfWork, IsIdle, told_images, progress_after, drive_served, has_work};
 
-use crate::direct::do_directly;
 use crate::directories::Directories;
 use crate::service::Service;
 use crate::turning::turn_service;
 use mpm_base::{Call, Pid, Reply, Steps};
 use mpm_cache::{Cache, OutOfMemory};
+use mpm_directories::do_directly;
 use mpm_files::Progress;
 use mpm_functions::{DirectFunction, Extended};
 use mpm_marks::{Marks, Protected};
@@ -64,7 +65,8 @@ impl Model for Bdos {
 
 impl Bdos {
     ghost use Rattle.mpm_opens.specs.Opens.{AreOpen};
-    ghost use Rattle.mpm_bdos.specs.Serving.{AreInPlace, StandEach, Serves, directory_at, kind_at, filing_of, nothing_kept};
+    ghost use Rattle.mpm_directories.specs.Places.{AreInPlace, directory_at, kind_at};
+    ghost use Rattle.mpm_bdos.specs.Serving.{StandEach, Serves, filing_of, nothing_kept};
     ghost use Rattle.std.specs.Option.{option_copied};
 
     /// Nothing is open, marked, sought or protected, nothing is cached, and no call is in service. Of the sixteen drives those
@@ -117,7 +119,7 @@ impl Bdos {
     {
         match DirectFunction::of(call.function) {
             Some(function) => do_directly(
-                &self.mounted,
+                self.mounted.places(),
                 &self.protected,
                 function,
                 process.drive,

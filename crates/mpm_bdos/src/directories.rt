@@ -1,8 +1,8 @@
 ghost use Rattle.std.specs.Prelude.{◌≡◌, ◌<◌, true, None, is_some, slice_index_or};
 ghost use Rattle.std.specs.Option.{option_copied};
-ghost use Rattle.mpm_bdos.specs.Serving.{AreInPlace, StandForSome, kind_at};
+ghost use Rattle.mpm_directories.specs.Places.{AreInPlace};
+ghost use Rattle.mpm_bdos.specs.Serving.{StandForSome};
 
-use mpm_base::Kind;
 use mpm_mount::Mounted;
 use std::marker::Model;
 
@@ -15,7 +15,7 @@ pub(crate) struct Directories {
 impl Model for Directories {
     ghost use Rattle.std.specs.Prelude.{List, Option};
     ghost use Rattle.mpm_mount.specs.Directories.{Directory};
-    ghost use Rattle.mpm_bdos.specs.Serving.{AreInPlace};
+    ghost use Rattle.mpm_directories.specs.Places.{AreInPlace};
 
     ghost Value = { List (Option Directory) };
 
@@ -31,6 +31,13 @@ impl Directories {
         ensures { result ≡ places.items }
     {
         Directories { places }
+    }
+
+    /// The places, as they are.
+    pub(crate) fn places(&self) -> &[Option<Mounted>]
+        ensures { result.now ≡ self.now }
+    {
+        self.places.as_slice()
     }
 
     /// The directory of a drive, where it is mounted; none above the sixteenth is.
@@ -55,16 +62,6 @@ impl Directories {
             self.places[place].is_some()
         } else {
             false
-        }
-    }
-
-    /// The kind of a drive, where it is mounted; none above the sixteenth is.
-    pub(crate) fn kind(&self, drive: u8) -> Option<Kind>
-        ensures { result ≡ kind_at self.now drive }
-    {
-        match self.get(drive) {
-            Some(mounted) => Some(mounted.kind()),
-            None => None,
         }
     }
 }

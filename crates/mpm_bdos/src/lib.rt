@@ -5,17 +5,12 @@
 mod answering;
 mod at_once;
 mod bdos;
-mod changes;
-mod direct;
 mod directories;
-mod ends;
+mod ending;
 mod finishing;
-mod granting;
-mod jobs;
-mod keeping;
 mod leaving;
-mod places;
 mod planning;
+mod records;
 mod releasing;
 mod replies;
 mod replying;
@@ -25,7 +20,8 @@ mod syncing;
 mod turning;
 
 pub use bdos::Bdos;
-pub use ends::RecordEnd;
-pub use mpm_functions::{Answered, DirectFunction, Extended, FileFunction, Refusal, refusals_of};
+pub use mpm_directories::in_places;
+pub use mpm_functions::{
+    Answered, DirectFunction, Extended, FileFunction, RecordEnd, Refusal, refusals_of,
+};
 pub use mpm_requests::Caller;
-pub use places::in_places;

@@ -1,4 +1,4 @@
-ghost use Rattle.std.specs.Prelude.{◌≡◌, ◌==◌, ◌&&◌, ◌<◌, ℕ, List, length, map};
+ghost use Rattle.std.specs.Prelude.{◌≡◌, ◌==◌, ◌&&◌, ℕ, List, length, map};
 ghost use Rattle.mpm_mount.specs.Drives.{Drive};
 ghost use Rattle.mpm_mount.specs.Directories.{Stands};
 ghost use Rattle.mpm_opens.specs.Items.{place_at, file_where, is_given_back};

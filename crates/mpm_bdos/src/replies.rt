@@ -6,24 +6,11 @@ ghost use Rattle.mpm_mount.specs.Files.{where_there};
 ghost use Rattle.mpm_entries.specs.Telling as telling;
 ghost use Rattle.mpm_requests.specs.Asking.{found_as};
 ghost use Rattle.mpm_bdos.specs.Ending.{IsRead};
-ghost use Rattle.mpm_bdos.specs.Replies as spec;
 
 use mpm_entries::found_bytes;
 use mpm_files::Work;
-use mpm_functions::FileFunction;
 use mpm_mount::Mounted;
 use mpm_requests::FoundEntry;
-
-/// The position behind a call on records from one on, of which so many were moved.
-pub(crate) fn position_behind(function: FileFunction, first: u32, moved: u8) -> u32
-    requires { first ≤ 16777216 }
-    ensures { result ≡ spec.position_by function first moved }
-{
-    match function {
-        FileFunction::ReadSequential | FileFunction::WriteSequential => first + u32::from(moved),
-        _ => first,
-    }
-}
 
 /// The entry that a search found, as it tells it.
 pub(crate) fn told_found(mounted: &Mounted, found: &Option<FoundEntry>) -> Option<[u8; 128]>

@@ -12,8 +12,7 @@ ghost use Rattle.mpm_requests.specs.Filing.{HaveUsers};
 ghost use Rattle.mpm_bdos.specs.Replying.{IsAnswering, IsReplied};
 
 use crate::answering::answer;
-use crate::granting::moved_by;
-use crate::keeping::keep_found;
+use crate::ending::moved_by;
 use crate::leaving::{grant, leave};
 use crate::replies::told_found;
 use mpm_base::{Call, Reply};
@@ -22,7 +21,7 @@ use mpm_functions::FileFunction;
 use mpm_marks::Protected;
 use mpm_mount::Mounted;
 use mpm_opens::{FileKey, Opens};
-use mpm_requests::{Asked, Caller, FoundEntry, Searches, ask, found, subject_key};
+use mpm_requests::{Asked, Caller, FoundEntry, Searches, ask, found, keep_found, subject_key};
 
 /// Answers a call on a mounted drive, which isn't refused, and does what it leaves of open files and of locks.
 pub(crate) fn answer_mounted(

@@ -368,7 +368,8 @@ impl Bdos {
     ghost use Rattle.mpm_functions.specs.declared.functions.FileFunction as functions;
     ghost use Rattle.mpm_functions.specs.Functions.{function_of};
     ghost use Rattle.mpm_bdos.specs.Jobs.{call_turns};
-    ghost use Rattle.mpm_bdos.specs.Serving.{IsCaller, StandEach, StandForSome, Serves, directory_at};
+    ghost use Rattle.mpm_bdos.specs.Serving.{IsCaller, StandEach, StandForSome, Serves};
+    ghost use Rattle.mpm_directories.specs.Places.{directory_at};
     ghost use Rattle.mpm_requests.specs.Subjects.{drive_number};
     ghost use Rattle.mpm_bdos.specs.Turns.{drive_served, has_work};
     ghost use Rattle.mpm_bdos.specs.Answering.{HasEntered};

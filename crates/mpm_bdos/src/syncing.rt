@@ -1,7 +1,7 @@
 ghost use Rattle.std.specs.Prelude.{◌≡◌, ◌≢◌, ℕ, ◌≤◌, ◌<◌, ◌+◌, true, false, None, IsSome, IfSome, OnOk, OnErr, is_some, if◌then◌else◌};
 ghost use Rattle.mpm_port.specs.Causes.{HasCause};
 ghost use Rattle.mpm_mount.specs.Mounting.{SameDrives};
-ghost use Rattle.mpm_bdos.specs.Serving.{directory_at};
+ghost use Rattle.mpm_directories.specs.Places.{directory_at};
 ghost use Rattle.mpm_bdos.specs.Syncing.{AreAttached, AreSynced, StopsAtDrive, mounted_count};
 
 use crate::bdos::Bdos;
@@ -65,7 +65,7 @@ impl Bdos {
     ghost use Rattle.std.specs.Prelude.{◌≡◌, ℕ, ◌≤◌, ◌<◌, ◌+◌, false, None, OnOk, OnErr};
     ghost use Rattle.mpm_port.specs.Causes.{HasCause};
     ghost use Rattle.mpm_mount.specs.Mounting.{SameDrives};
-    ghost use Rattle.mpm_bdos.specs.Serving.{directory_at};
+    ghost use Rattle.mpm_directories.specs.Places.{directory_at};
     ghost use Rattle.mpm_bdos.specs.Syncing.{AreSynced, StopsAtDrive, mounted_count};
     ghost use Rattle.mpm_bdos.specs.Turns.{FitsDrives};
 

@@ -5,13 +5,13 @@ ghost use Rattle.mpm_blocks.specs.Geometries.{geometry_of};
 ghost use Rattle.mpm_cache.specs.Coherent.{IsCoherent, HasNoAlias};
 ghost use Rattle.mpm_mount.specs.Directories.{IsDirectory};
 ghost use Rattle.mpm_mount.specs.Drives.{Drive};
-ghost use Rattle.mpm_files.specs.declared.jobs.Job.{Job};
-ghost use Rattle.mpm_files.specs.declared.jobs.JobKind.TheVariants as kinds;
+ghost use Rattle.mpm_jobs.specs.declared.jobs.Job.{Job};
+ghost use Rattle.mpm_jobs.specs.declared.jobs.JobKind.TheVariants as kinds;
 ghost use Rattle.mpm_files.specs.declared.turning.Progress.TheVariants as progress;
 ghost use Rattle.mpm_files.specs.Plans.{turns_of};
 ghost use Rattle.mpm_files.specs.Serving.{turns_in};
 ghost use Rattle.mpm_files.specs.Turning.{Suits, IsNextCached};
-ghost use Rattle.mpm_bdos.specs.Serving.{directory_at};
+ghost use Rattle.mpm_directories.specs.Places.{directory_at};
 ghost use Rattle.mpm_bdos.specs.Turns.{FitsDrives, KeepsImages, KeepsUnsynced, StaysBeside, progress_after, labelled, HasLeft, IsWorking, IsWorkingOn, IsContainedAt, IsServing, IsServiceContained, IsReading, IsReadingCached, ServesReading, ServesCached, IsCounted, HasCounted, HasCountedIn, WhereMounted, OfWork, IsIdle, has_work, drive_served, without_work};
 
 use crate::directories::Directories;

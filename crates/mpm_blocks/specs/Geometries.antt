@@ -1,6 +1,7 @@
 -- The kinds of disks, each a row: their sizes, their disk parameter blocks, and where their sectors are. (CP/M Alteration Guide, "Disk
 -- Parameter Tables"; MP/M II System Guide, "Disk Definition Tables".)
 use Rattle.std.specs.Prelude.{ℕ, ◌+◌, ◌-◌, ◌*◌, ◌/◌, ◌%◌, List, [], ◌∷◌, ◌++◌, true, false, slice_index}
+use Rattle.mpm_base.specs.Words.{word_bytes}
 use Rattle.mpm_base.specs.declared.kind.Kind.{Kind}
 use Rattle.mpm_base.specs.declared.kind.Kind.TheVariants.{Ibm3740, Hd4, Hd8}
 use Rattle.mpm_blocks.specs.declared.parameters.Geometry.{Geometry}
@@ -18,10 +19,6 @@ last_block kind = (geometry_of kind).dsm
 -- how many records of 128 bytes a block has
 abbrev pub block_records : Kind → ℕ
 block_records kind = (geometry_of kind).block / 128
-
--- the two bytes of a word, the low one first
-abbrev pub word_bytes : ℕ → List ℕ
-word_bytes word = word % 256 ∷ word / 256 ∷ []
 
 -- a disk parameter block: the records of a track, the block shift and the block mask, the extent mask, the last block, the
 -- last directory entry, the bits of the directory's blocks, the directory entries that are checked, and the system's tracks

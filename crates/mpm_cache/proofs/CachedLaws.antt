@@ -8,6 +8,7 @@ use Rattle.std.proofs.lemmas.Bool.{false≢true, eqb-true, eq-eqb, false_from_ne
 use Rattle.std.proofs.lemmas.Map.{lookup-remove_entry}
 use Rattle.lru.specs.LruCache.{LruCache, lru_cache, promoted, put_entries}
 use Rattle.lru.proofs.CallerLemmas.{Contains-lookup_entry}
+use Rattle.mpm_base.proofs.Tests.{one_test}
 use Rattle.mpm_cache.specs.declared.cache.Place.{Place}
 use Rattle.mpm_cache.specs.Cached.{is_at, cached_at, used, put_first, IsPut, taken_out, SameCached, HasRoom, Keeps, Forgets}
 
@@ -24,12 +25,6 @@ known_same d s o p h = let two = and_parts (d == o) (s == p) h in (eqb-true d o 
 pub same_known : (d s o p : ℕ) → d ≡ o → s ≡ p → is_at d s (at o p) ≡ true
 same_known d s o p h k = and_from (d == o) (s == p) (eq-eqb d o h) (eq-eqb s p k)
 
-alike : (a b : Bool) → (a ≡ true → b ≡ true) → (b ≡ true → a ≡ true) → a ≡ b
-alike true true f g = refl
-alike true false f g = absurd (false≢true (f refl))
-alike false true f g = absurd (false≢true (g refl))
-alike false false f g = refl
-
 swapped : (x y : Place) → same_place x y ≡ true → same_place y x ≡ true
 swapped x y h = let two = known_same x.drive x.sector y.drive y.sector h in same_known y.drive y.sector x.drive x.sector (sym two.0) (sym two.1)
 
@@ -42,8 +37,8 @@ through x y z h k =
 pub same_place_laws : IsEquivalence same_place
 same_place_laws = record {
   refl = λ x. same_known x.drive x.sector x.drive x.sector refl refl;
-  symm = λ x y. alike (same_place x y) (same_place y x) (swapped x y) (swapped y x);
-  congr = λ x y z h. alike (same_place x z) (same_place y z) (λ k. through y x z (swapped x y h) k) (λ k. through x y z h k);
+  symm = λ x y. one_test (same_place x y) (same_place y x) (swapped x y) (swapped y x);
+  congr = λ x y z h. one_test (same_place x z) (same_place y z) (λ k. through y x z (swapped x y h) k) (λ k. through x y z h k);
 }
 
 -- a place that is one sector is no other

@@ -5,7 +5,8 @@ use Rattle.std.proofs.lemmas.List.{get_or-drop, get_or-replicate, take_all}
 use Rattle.std.proofs.lemmas.List.FromFn.{fill_by_all}
 use Rattle.std.proofs.lemmas.List.Concat.{flat_map-cons}
 use Rattle.byteorder.specs.Endian.{IsRead, little_number, little_bytes}
-use Rattle.mpm_dirent.specs.Entries.{word_at, blocks_of, word_bytes, map_of}
+use Rattle.mpm_dirent.specs.Entries.{word_at, blocks_of, map_of}
+use Rattle.mpm_base.specs.Words.{word_bytes}
 use Rattle.mpm_dirent.specs.Proper.{MapFits}
 
 -- a list of a known length, element by element

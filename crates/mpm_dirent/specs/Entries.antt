@@ -1,7 +1,8 @@
 -- Directory entries of 32 bytes, read and written. (MP/M II Programmer's Guide, "Directory Entries" and "Extended File
 -- Control Blocks".)
-use Rattle.std.specs.Prelude.{ℕ, ◌+◌, ◌-◌, ◌*◌, ◌/◌, ◌%◌, Bool, List, [], ◌∷◌, ◌++◌, ◌==◌, nat_lt, map, take, drop, replicate, slice_index, if◌then◌else◌}
+use Rattle.std.specs.Prelude.{ℕ, ◌+◌, ◌-◌, ◌*◌, Bool, List, ◌∷◌, ◌++◌, ◌==◌, nat_lt, map, take, drop, replicate, slice_index, if◌then◌else◌}
 use Rattle.std.specs.List.{range_with_len, flat_map}
+use Rattle.mpm_base.specs.Words.{word_bytes}
 use Rattle.mpm_dirent.specs.declared.kinds.Entry.{Entry}
 use Rattle.mpm_dirent.specs.declared.kinds.Entry.TheVariants.{Free, File, Xfcb, Label, Kept}
 use Rattle.mpm_dirent.specs.declared.kinds.FileEntry.{FileEntry}
@@ -20,10 +21,6 @@ word_at bytes place = slice_index bytes (2 * place) + 256 * slice_index bytes (2
 unfoldable pub blocks_of : List ℕ → Bool → List ℕ
 blocks_of map_bytes wide =
     if wide then map (word_at map_bytes) (range_with_len 0 8) ++ replicate 8 0 else map_bytes
-
--- the two bytes of a word, the low one first
-abbrev pub word_bytes : ℕ → List ℕ
-word_bytes word = word % 256 ∷ word / 256 ∷ []
 
 -- the sixteen bytes of a map: its numbers, or where it is wide the first eight as words
 unfoldable pub map_of : List ℕ → Bool → List ℕ

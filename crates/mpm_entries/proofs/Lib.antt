@@ -1,2 +1,4 @@
 pub mod SizeLaws
 pub mod Told
+pub mod CodedLaws
+pub mod PutLaws

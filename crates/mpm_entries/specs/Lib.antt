@@ -1,3 +1,4 @@
 pub mod Protections
 pub mod Sizes
 pub mod Telling
+pub mod Granting

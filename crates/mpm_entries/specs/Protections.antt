@@ -6,6 +6,8 @@ use Rattle.mpm_mount.specs.Drives.{Protection, DirectoryLabel}
 use Rattle.mpm_guard.specs.Passwords.{decode_byte, encoded, has_bit}
 use Rattle.mpm_fcb.specs.declared.block.ControlBlock.{ControlBlock}
 use Rattle.mpm_fcb.specs.Opening.{with_xfcb}
+use Rattle.mpm_jobs.specs.declared.jobs.Job.{Job}
+use Rattle.mpm_jobs.specs.Jobs.{with_bytes}
 
 -- an XFCB or a label as a job has it
 abbrev pub protection_bytes : Protection → List ℕ
@@ -41,3 +43,7 @@ xfcb_put asked password p = record (with_new_password asked password p) { mode =
 
 abbrev pub told_xfcb : Protection → ControlBlock → ControlBlock
 told_xfcb xfcb b = with_xfcb b xfcb.mode xfcb.first xfcb.second
+
+-- a job that puts an XFCB or a label
+abbrev pub with_protection : Protection → Job → Job
+with_protection p job = with_bytes (protection_bytes p) job

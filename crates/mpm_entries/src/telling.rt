@@ -15,7 +15,7 @@ ghost use Rattle.mpm_entries.specs.Telling as spec;
 use crate::keeping::xfcb_there;
 use mpm_dirent::{Entry, FileEntry, plain_name, write_entry};
 use mpm_fcb::{ControlBlock, three_bytes, with_attributes};
-use mpm_mount::{Mounted, attributes, attributes_of, count, last_extent};
+use mpm_mount::{Mounted, attributes, attributes_of, extent_count, last_extent};
 use mpm_opens::Mode;
 
 /// A directory entry as a search tells it, by its last extent, at most 2,047, and that one's record count.
@@ -98,7 +98,7 @@ pub fn record_count(mounted: &Mounted, user: u8, name: &[u8; 11], extent: u16) -
     ensures { (image : List ℕ) (drive : Drive) → Stands image mounted.now drive
         → result ≡ spec.record_count drive (record { user = user; name = plain name.now }) extent }
 {
-    count(mounted, user, name, extent).unwrap_or(0)
+    extent_count(mounted, user, name, extent).unwrap_or(0)
 }
 
 /// The attributes of a user's file, none where it isn't there.

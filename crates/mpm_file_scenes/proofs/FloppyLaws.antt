@@ -7,7 +7,7 @@ use Rattle.mpm_blocks.specs.Geometries.{geometry_of}
 use Rattle.mpm_cache.specs.declared.cache.Place.{Place}
 use Rattle.mpm_cache.specs.Coherent.{IsCoherent, HasNoAlias, HaveOwnImages}
 use Rattle.mpm_mount.specs.Directories.{Directory}
-use Rattle.mpm_bdos.specs.Serving.{directory_at, all_put, in_places}
+use Rattle.mpm_directories.specs.Places.{directory_at, all_put, in_places}
 use Rattle.mpm_bdos.specs.Turns.{FitsDrives}
 use Rattle.mpm_file_scenes.specs.Floppies.{AreFloppies}
 

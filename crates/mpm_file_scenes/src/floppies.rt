@@ -2,7 +2,7 @@
 ghost use Rattle.std.specs.Prelude.{◌≡◌, ◌≤◌, IfOk};
 ghost use Rattle.mpm_port.specs.Causes.{Rose};
 ghost use Rattle.mpm_base.specs.declared.kind.Kind.TheVariants.{Ibm3740};
-ghost use Rattle.mpm_bdos.specs.Serving.{AreInPlace};
+ghost use Rattle.mpm_directories.specs.Places.{AreInPlace};
 ghost use Rattle.mpm_file_scenes.specs.Floppies.{AreFloppies};
 
 use mpm_base::Kind;

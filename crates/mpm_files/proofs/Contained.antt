@@ -9,12 +9,13 @@ use Rattle.mpm_base.proofs.Choices.{either}
 use Rattle.mpm_mount.specs.Drives.{FileName, Drive, extents_of}
 use Rattle.mpm_mount.specs.Files.{is_same_file, entries_named, is_entry_of, has_file, is_fitting}
 use Rattle.mpm_mount.proofs.Names.{one_file}
-use Rattle.mpm_files.specs.declared.errors.RecordError.{RecordError}
-use Rattle.mpm_files.specs.declared.jobs.JobKind.{JobKind}
-use Rattle.mpm_files.specs.declared.jobs.JobKind.TheVariants.{Read, Write, TestWrite, Make, Delete, Rename, Attributes, Label, Xfcb, Nothing}
-use Rattle.mpm_files.specs.declared.jobs.Job.{Job}
+use Rattle.mpm_functions.specs.declared.errors.RecordError.{RecordError}
+use Rattle.mpm_jobs.specs.declared.jobs.JobKind.{JobKind}
+use Rattle.mpm_jobs.specs.declared.jobs.JobKind.TheVariants.{Read, Write, TestWrite, Make, Delete, Rename, Attributes, Label, Xfcb, Nothing}
+use Rattle.mpm_jobs.specs.declared.jobs.Job.{Job}
 use Rattle.mpm_files.specs.Units.{FileUnit, Idles, ReadsRecord, PassesRecord, AddsEntry, ClearsBlock, WritesRecord, RenamesEntry, PutsXfcb, RemovesXfcb, RenamesXfcb, stages, applied, all_applied}
-use Rattle.mpm_files.specs.Plans.{Plan, Test, behind, unless_failing, when, file_of_job, new_file_of_job, read_error, write_error, needs_entry, needs_block, clears_blocks, write_units, reading, writing, has_record, passing, testing, of_entries, of_xfcb, deleting_entry, deleting, renaming, protection_in, records_of_job, tests_of_job, plan_by, plan_of, unit_at}
+use Rattle.mpm_files.specs.Plans.{Plan, Test, behind, unless_failing, when, file_of_job, new_file_of_job, write_error, needs_entry, needs_block, clears_blocks, write_units, reading, writing, has_record, passing, testing, of_entries, of_xfcb, deleting_entry, deleting, renaming, protection_in, records_of_job, tests_of_job, plan_by, plan_of, unit_at}
+use Rattle.mpm_mount.specs.Records.{read_error}
 use Rattle.mpm_files.specs.Serving.{units_done}
 use Rattle.mpm_files.specs.Containment.{Keeps, SameRecords, IsWithin, IsContained, unit_names, names_label, names_by, names, is_label_job}
 use Rattle.mpm_files.proofs.Keeping.{keeps_itself, keeps_after, keeps_wider, all_so}

@@ -26,8 +26,8 @@ use Rattle.mpm_mount.proofs.Orders.{file_total}
 use Rattle.mpm_mount.proofs.NextFound.{next_found, next_none, is_sought_pair}
 use Rattle.mpm_mount.proofs.LookedUp.{xfcb_found, xfcb_missing, kind_of}
 use Rattle.mpm_mount.proofs.Replaced.{and_all}
-use Rattle.mpm_files.specs.declared.jobs.JobKind.TheVariants.{Delete}
-use Rattle.mpm_files.specs.declared.jobs.Job.{Job}
+use Rattle.mpm_jobs.specs.declared.jobs.JobKind.TheVariants.{Delete}
+use Rattle.mpm_jobs.specs.declared.jobs.Job.{Job}
 use Rattle.mpm_files.specs.declared.work.Work.{Work}
 use Rattle.mpm_files.specs.Units.{FileUnit, Idles, RemovesEntry, RemovesXfcb, stages, last_of, applied}
 use Rattle.mpm_files.specs.Plans.{plan_of, file_of_job, when, each, of_xfcb, deleting_entry, deleting}

@@ -8,12 +8,13 @@ use Rattle.mpm_mount.specs.Drives.{FileName, entry_cmp, file_cmp, PhysicalExtent
 use Rattle.mpm_names.specs.Matching.{does_match}
 use Rattle.mpm_mount.specs.Files.{entries_named}
 use Rattle.mpm_mount.proofs.Orders.{entry_total}
-use Rattle.mpm_files.specs.declared.jobs.JobKind.{JobKind}
-use Rattle.mpm_files.specs.declared.jobs.JobKind.TheVariants.{Write, Delete}
-use Rattle.mpm_files.specs.declared.jobs.Job.{Job}
+use Rattle.mpm_jobs.specs.declared.jobs.JobKind.{JobKind}
+use Rattle.mpm_jobs.specs.declared.jobs.JobKind.TheVariants.{Write, Delete}
+use Rattle.mpm_jobs.specs.declared.jobs.Job.{Job}
 use Rattle.mpm_files.specs.Units.{ClearsBlock, WritesRecord, RemovesEntry, RenamesEntry, RemovesXfcb, RenamesXfcb, zero_record, applied, all_applied, stages, last_of}
-use Rattle.mpm_files.specs.declared.errors.RecordError.TheVariants.{UnwrittenData, NoDataBlock}
-use Rattle.mpm_files.specs.Plans.{plan_of, writing, deleting, renaming, only, read_error}
+use Rattle.mpm_functions.specs.declared.errors.RecordError.TheVariants.{UnwrittenData, NoDataBlock}
+use Rattle.mpm_files.specs.Plans.{plan_of, writing, deleting, renaming, only}
+use Rattle.mpm_mount.specs.Records.{read_error}
 use Rattle.mpm_files.specs.Serving.{units_done}
 
 -- the file `A`, empty, and what it is the only one on

@@ -6,10 +6,11 @@ use Rattle.std.proofs.lemmas.Bool.{true≢false}
 use Rattle.mpm_blocks.specs.Geometries.{geometry_of, last_block, block_records}
 use Rattle.mpm_mount.specs.Drives.{FileName, PhysicalExtent, Drive, places, entry_number, entry_name, free_records, free_entries}
 use Rattle.mpm_mount.proofs.Still.{nonzero}
-use Rattle.mpm_files.specs.declared.errors.RecordError.{RecordError}
-use Rattle.mpm_files.specs.declared.errors.RecordError.TheVariants.{Mismatch, NoDirectorySpace, NoDataBlock}
+use Rattle.mpm_functions.specs.declared.errors.RecordError.{RecordError}
+use Rattle.mpm_functions.specs.declared.errors.RecordError.TheVariants.{Mismatch, NoDirectorySpace, NoDataBlock}
 use Rattle.mpm_files.specs.Units.{FileUnit, Idles, ReadsRecord, PassesRecord, AddsEntry, ClearsBlock, WritesRecord, RemovesEntry, SetsAttributes, RenamesEntry, PutsXfcb, RemovesXfcb, RenamesXfcb, PutsLabel, new_entry, stages, last_of, applied, all_applied}
-use Rattle.mpm_files.specs.Plans.{Plan, Test, failing, behind, unless_failing, read_error, reading, needs_entry, has_block, needs_block, clears_blocks, write_error, write_units, writing, has_record, passing, testing, when}
+use Rattle.mpm_files.specs.Plans.{Plan, Test, failing, behind, unless_failing, reading, needs_entry, has_block, needs_block, clears_blocks, write_error, write_units, writing, has_record, passing, testing, when}
+use Rattle.mpm_mount.specs.Records.{read_error}
 use Rattle.mpm_files.proofs.Recorded.{held, put_new, none_held}
 
 -- a property of each unit and the drive that those before it left

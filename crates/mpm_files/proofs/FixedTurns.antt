@@ -6,9 +6,9 @@ use Rattle.std.proofs.lemmas.List.{drop_all}
 use Rattle.std.proofs.lemmas.Bool.{cases_lt}
 use Rattle.mpm_base.specs.Counts.{one_if}
 use Rattle.mpm_mount.specs.Drives.{Drive, free_entries}
-use Rattle.mpm_files.specs.declared.jobs.JobKind.{JobKind}
-use Rattle.mpm_files.specs.declared.jobs.JobKind.TheVariants.{Make, Label, Xfcb, Nothing}
-use Rattle.mpm_files.specs.declared.jobs.Job.{Job}
+use Rattle.mpm_jobs.specs.declared.jobs.JobKind.{JobKind}
+use Rattle.mpm_jobs.specs.declared.jobs.JobKind.TheVariants.{Make, Label, Xfcb, Nothing}
+use Rattle.mpm_jobs.specs.declared.jobs.Job.{Job}
 use Rattle.mpm_files.specs.declared.work.Work.{Work}
 use Rattle.mpm_files.specs.Units.{FileUnit, Idles, PutsXfcb, PutsLabel, AddsEntry, applied}
 use Rattle.mpm_files.specs.Plans.{plan_by, plan_of, file_of_job, protection_in, making, when}

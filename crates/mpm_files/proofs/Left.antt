@@ -3,7 +3,7 @@ use Rattle.std.proofs.Common.{◌≡◌, ℕ, suc, zero, ◌+◌, ◌<◌, false
 use Rattle.std.specs.Prelude.{slice_index_or}
 use Rattle.std.proofs.lemmas.List.{append_assoc}
 use Rattle.mpm_mount.specs.Drives.{FileName, Drive}
-use Rattle.mpm_files.specs.declared.errors.RecordError.{RecordError}
+use Rattle.mpm_functions.specs.declared.errors.RecordError.{RecordError}
 use Rattle.mpm_files.specs.Units.{FileUnit, all_applied}
 use Rattle.mpm_files.specs.Plans.{Plan, behind, unless_failing, write_error, write_units, writing}
 use Rattle.mpm_files.specs.Serving.{left_writing, Follows}

@@ -4,8 +4,8 @@ use Rattle.std.specs.Prelude.{is_some, slice_index_or}
 use Rattle.std.specs.FinMap.{get}
 use Rattle.mpm_base.specs.Counts.{one_if}
 use Rattle.mpm_mount.specs.Drives.{Drive, entry_number, entry_name, free_entries}
-use Rattle.mpm_files.specs.declared.jobs.JobKind.TheVariants.{Make}
-use Rattle.mpm_files.specs.declared.jobs.Job.{Job}
+use Rattle.mpm_jobs.specs.declared.jobs.JobKind.TheVariants.{Make}
+use Rattle.mpm_jobs.specs.declared.jobs.Job.{Job}
 use Rattle.mpm_files.specs.declared.work.Work.{Work}
 use Rattle.mpm_files.specs.Units.{Idles, AddsEntry, stages, last_of, applied}
 use Rattle.mpm_files.specs.Plans.{plan_of, plan_by, file_of_job, unit_at}

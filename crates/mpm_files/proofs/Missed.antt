@@ -5,15 +5,16 @@ use Rattle.std.specs.List.{list_any}
 use Rattle.std.proofs.lemmas.Bool.{le-ltb}
 use Rattle.std.proofs.lemmas.List.FromFn.{length-map-range_with_len}
 use Rattle.mpm_mount.specs.Drives.{FileName, Drive}
-use Rattle.mpm_files.specs.declared.errors.RecordError.{RecordError}
-use Rattle.mpm_files.specs.declared.errors.RecordError.TheVariants.{Mismatch}
-use Rattle.mpm_files.specs.declared.jobs.JobKind.{JobKind}
-use Rattle.mpm_files.specs.declared.jobs.JobKind.TheVariants.{Read, Write, TestWrite, Make, Delete, Rename, Attributes, Label, Xfcb, Nothing}
-use Rattle.mpm_files.specs.declared.jobs.Job.{Job}
+use Rattle.mpm_functions.specs.declared.errors.RecordError.{RecordError}
+use Rattle.mpm_functions.specs.declared.errors.RecordError.TheVariants.{Mismatch}
+use Rattle.mpm_jobs.specs.declared.jobs.JobKind.{JobKind}
+use Rattle.mpm_jobs.specs.declared.jobs.JobKind.TheVariants.{Read, Write, TestWrite, Make, Delete, Rename, Attributes, Label, Xfcb, Nothing}
+use Rattle.mpm_jobs.specs.declared.jobs.Job.{Job}
 use Rattle.mpm_files.specs.declared.counting.Count.{Count}
 use Rattle.mpm_files.specs.declared.work.Work.{Work}
 use Rattle.mpm_files.specs.Units.{FileUnit, PassesRecord, WritesRecord, applied}
-use Rattle.mpm_files.specs.Plans.{Plan, Test, behind, unless_failing, file_of_job, read_error, reading, has_record, passing, testing, test_at, tests_of_job, plan_by, plan_of, turns_of}
+use Rattle.mpm_files.specs.Plans.{Plan, Test, behind, unless_failing, file_of_job, reading, has_record, passing, testing, test_at, tests_of_job, plan_by, plan_of, turns_of}
+use Rattle.mpm_mount.specs.Records.{read_error}
 use Rattle.mpm_files.specs.Counting.{unless_refused, read_count}
 use Rattle.mpm_files.specs.Serving.{is_passing, missed_by, error_after, untested_by, untested_plan, turns_in, IsServing, told_error}
 use Rattle.mpm_files.proofs.Needs.{IsWhole}

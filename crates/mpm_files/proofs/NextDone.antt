@@ -13,7 +13,7 @@ use Rattle.mpm_mount.specs.Drives.{Drive}
 use Rattle.mpm_mount.specs.Changes.{exchanged}
 use Rattle.mpm_mount.specs.Searching.{search_of, IsNext}
 use Rattle.mpm_mount.specs.Directories.{Directory, Stands, entry_in}
-use Rattle.mpm_files.specs.declared.jobs.Job.{Job}
+use Rattle.mpm_jobs.specs.declared.jobs.Job.{Job}
 use Rattle.mpm_files.specs.declared.work.Work.{Work}
 use Rattle.mpm_files.specs.Units.{FileUnit, last_of, stages, applied}
 use Rattle.mpm_files.specs.Plans.{file_of_job, needs_entry, plan_of, unit_at}

@@ -1,5 +1,6 @@
 -- The next unit of a deletion: the first entry that fits goes, and then the XFCB of a file that has no entry any more.
 use Rattle.std.proofs.Common.{◌≡◌, ℕ, ◌<◌, ◌≤◌, Bool, true, false, cond, ◌==◌, ◌&&◌, ◌||◌, not, List, [], ◌∷◌, ◌++◌, Option, Some, None, map, length, refl, sym, ap, subst, ◌∙◌, arith}
+use Rattle.mpm_base.proofs.Tests.{one_test}
 use Rattle.std.specs.Prelude.{is_some, sum_by, if◌then◌else◌}
 use Rattle.std.specs.List.{list_any, filter}
 use Rattle.std.specs.List as lists
@@ -15,7 +16,7 @@ use Rattle.mpm_base.specs.Counts.{one_if}
 use Rattle.mpm_mount.specs.Drives.{FileName, entry_cmp, Protection, Drive, without_extent}
 use Rattle.mpm_mount.specs.Files.{is_same_file, entries_named, is_entry_of, has_file, is_fitting}
 use Rattle.mpm_mount.proofs.Orders.{entry_total, entry_same, file_total}
-use Rattle.mpm_mount.proofs.Names.{one_file, is_itself, entry_parts, files_differ, same_back, one_test}
+use Rattle.mpm_mount.proofs.Names.{one_file, is_itself, entry_parts, files_differ, same_back}
 use Rattle.mpm_files.specs.Units.{FileUnit, RemovesEntry, RemovesXfcb, stages, last_of, applied}
 use Rattle.mpm_files.specs.Plans.{when, of_xfcb, deleting_entry, deleting}
 use Rattle.mpm_files.specs.Serving.{Follows}

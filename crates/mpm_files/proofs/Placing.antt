@@ -28,7 +28,7 @@ use Rattle.mpm_mount.proofs.Puts.{ranges_at, still_changed, still_renamed, still
 use Rattle.mpm_mount.proofs.LookedUp.{nowhere, extent_found, xfcb_found, xfcb_missing, label_found, label_missing, free_slot_found, kind_of}
 use Rattle.mpm_mount.proofs.FreeEntries.{no_free_slot}
 use Rattle.mpm_mount.proofs.Distinct.{xfcb_by, label_by}
-use Rattle.mpm_files.specs.declared.jobs.Job.{Job}
+use Rattle.mpm_jobs.specs.declared.jobs.Job.{Job}
 use Rattle.mpm_files.specs.Units.{FileUnit, AddsEntry, SetsAttributes, RenamesEntry, PutsXfcb, RenamesXfcb, PutsLabel, new_entry, with_attributes, stages, last_of, applied}
 use Rattle.mpm_files.specs.Plans.{file_of_job, new_file_of_job, protection_in}
 use Rattle.mpm_files.specs.Standing.{StandsOn, Does}

@@ -15,18 +15,20 @@ use Rattle.mpm_mount.specs.Attributes.{attributes_in}
 use Rattle.mpm_mount.proofs.FreeEntries.{free_entries_same}
 use Rattle.mpm_mount.proofs.FreeRecords.{free_records_same}
 use Rattle.mpm_mount.proofs.LookedUp.{kind_of}
-use Rattle.mpm_files.specs.declared.errors.RecordError.{RecordError}
-use Rattle.mpm_files.specs.declared.jobs.JobKind.{JobKind}
-use Rattle.mpm_files.specs.declared.jobs.JobKind.TheVariants.{Read, Write, TestWrite, Make, Delete, Rename, Attributes, Label, Xfcb, Nothing}
-use Rattle.mpm_files.specs.declared.jobs.Job.{Job}
+use Rattle.mpm_functions.specs.declared.errors.RecordError.{RecordError}
+use Rattle.mpm_jobs.specs.declared.jobs.JobKind.{JobKind}
+use Rattle.mpm_jobs.specs.declared.jobs.JobKind.TheVariants.{Read, Write, TestWrite, Make, Delete, Rename, Attributes, Label, Xfcb, Nothing}
+use Rattle.mpm_jobs.specs.declared.jobs.Job.{Job}
 use Rattle.mpm_files.specs.declared.counting.Count.{Count}
 use Rattle.mpm_files.specs.Units.{FileUnit, AddsEntry, ReadsRecord, PassesRecord, WritesRecord, SetsAttributes, PutsXfcb, applied, all_applied}
-use Rattle.mpm_files.specs.Plans.{Plan, Test, behind, unless_failing, when, file_of_job, new_file_of_job, record_at, read_error, reading, needs_entry, needs_block, has_record, passing, testing, test_at, each, of_entries, protection_in, records_of_job, tests_of_job, plan_by, plan_of}
-use Rattle.mpm_files.specs.Counting.{unless_refused, same_entry, same_block, entry_more, block_more, room_error, record_units, read_count, write_count, lacks_entry, lacks_block, record_error, unit_count_by, unit_count}
+use Rattle.mpm_files.specs.Plans.{Plan, Test, behind, unless_failing, when, file_of_job, new_file_of_job, record_at, reading, needs_entry, needs_block, has_record, passing, testing, test_at, each, of_entries, protection_in, records_of_job, tests_of_job, plan_by, plan_of}
+use Rattle.mpm_mount.specs.Records.{read_error, record_error}
+use Rattle.mpm_files.specs.Counting.{unless_refused, same_entry, same_block, entry_more, block_more, room_error, record_units, read_count, write_count, lacks_entry, lacks_block, unit_count_by, unit_count}
 use Rattle.mpm_files.specs.Serving.{Follows, all_read, left_writing, left_reading, left_passing, left_testing, is_later, left_setting, left_by, left_of, untested_by, untested_plan, with_records, missed_by, IsServing, IsInService, begun}
 use Rattle.mpm_files.proofs.Left.{writing_first}
 use Rattle.mpm_files.proofs.WriteCounts.{count_of, counted_writing}
-use Rattle.mpm_files.proofs.Tied.{entry_needed, block_needed, read_error_same, image_whole}
+use Rattle.mpm_files.proofs.Tied.{entry_needed, block_needed, image_whole}
+use Rattle.mpm_mount.proofs.ReadErrors.{read_error_same}
 use Rattle.mpm_files.proofs.Tested.{counted_reading, reads_alike, testing_counted}
 use Rattle.mpm_files.proofs.CountedEntries.{entries_counted, renaming_counted, deletion_counted}
 

@@ -1,8 +1,9 @@
 -- Records that are read, counted one after the other.
-use Rattle.std.proofs.Common.{◌≡◌, ℕ, zero, suc, ◌+◌, ◌<◌, Option, Some, None, sym, ap, ◌∙◌, arith}
-use Rattle.mpm_files.specs.declared.errors.RecordError.{RecordError}
+use Rattle.std.proofs.Common.{◌≡◌, ℕ, suc, ◌+◌, ◌<◌, Option, Some, None, sym, ap, ◌∙◌, arith}
+use Rattle.mpm_functions.specs.declared.errors.RecordError.{RecordError}
 use Rattle.mpm_files.specs.declared.counting.Count.{Count}
 use Rattle.mpm_files.specs.Counting.{counted, unless_refused, read_count}
+use Rattle.mpm_base.proofs.CountLaws.{less_by}
 
 -- so many were counted, and what is left
 abbrev pub ReadTo : (ℕ → Option RecordError) → ℕ → ℕ → ℕ → Type 0
@@ -30,11 +31,6 @@ one_read errors n count k before none left h =
     let next : n + k + 1 ≡ n + (k + 1) = omega arith in
     next_first errors n count k left before h ∙ ap (λ e. counted k (unless_refused e 1 (read_count errors (n + k + 1) left))) none
     ∙ counted_both k 1 (read_count errors (n + k + 1) left) ∙ ap (λ m. counted (k + 1) (read_count errors m left)) next
-
-pub less_by : (k count : ℕ) → k < count → (left : ℕ) × (k + 1 + left ≡ count)
-less_by k zero h = absurd (omega arith)
-less_by zero (suc count) h = (count, omega arith)
-less_by (suc k) (suc count) h = let rest = less_by k count (omega arith) in (rest.0, omega (arith, rest.1))
 
 pub read_stop : (errors : ℕ → Option RecordError) (n count k : ℕ) (error : RecordError) → ReadTo errors n count k → k < count → errors (n + k) ≡ Some error
     → record { units = k; error = Some error } ≡ read_count errors n count

@@ -12,12 +12,13 @@ use Rattle.mpm_blocks.proofs.ToldImages.{told_image_same}
 use Rattle.mpm_mount.specs.Drives.{FileName, Drive, extent_at, visible_of}
 use Rattle.mpm_mount.specs.Directories.{Directory, Stands}
 use Rattle.mpm_mount.specs.Files.{where_there}
-use Rattle.mpm_files.specs.declared.errors.RecordError.TheVariants.{UnwrittenExtent, UnwrittenData}
-use Rattle.mpm_files.specs.declared.jobs.JobKind.TheVariants.{Read}
-use Rattle.mpm_files.specs.declared.jobs.Job.{Job}
+use Rattle.mpm_functions.specs.declared.errors.RecordError.TheVariants.{UnwrittenExtent, UnwrittenData}
+use Rattle.mpm_jobs.specs.declared.jobs.JobKind.TheVariants.{Read}
+use Rattle.mpm_jobs.specs.declared.jobs.Job.{Job}
 use Rattle.mpm_files.specs.declared.work.Work.{Work}
 use Rattle.mpm_files.specs.Units.{FileUnit, Idles, ReadsRecord, PassesRecord, AddsEntry, ClearsBlock, WritesRecord, RemovesEntry, SetsAttributes, RenamesEntry, PutsXfcb, RemovesXfcb, RenamesXfcb, PutsLabel, stages, last_of, applied}
-use Rattle.mpm_files.specs.Plans.{file_of_job, read_error, behind, reading, plan_by, plan_of, unit_at}
+use Rattle.mpm_files.specs.Plans.{file_of_job, behind, reading, plan_by, plan_of, unit_at}
+use Rattle.mpm_mount.specs.Records.{read_error}
 use Rattle.mpm_files.specs.Serving.{units_done, records_moved, record_read, all_read, records_after, with_records, missed_by, has_missed, left_reading, Follows, IsServing}
 use Rattle.mpm_files.specs.Standing.{StandsOn}
 use Rattle.mpm_files.specs.Turning.{Suits, DoesNext, one_ended, with_record_read}

@@ -20,14 +20,16 @@ use Rattle.mpm_mount.proofs.KeptRecords.{place_within}
 use Rattle.mpm_mount.proofs.Ranges.{map_at}
 use Rattle.mpm_sectors.specs.declared.disk.Disk.{Disk}
 use Rattle.mpm_files.specs.Units.{ReadsRecord, holds_block, stages}
-use Rattle.mpm_files.specs.Plans.{read_error, has_block, needs_block}
-use Rattle.mpm_files.specs.Counting.{number_in, lacks_block_at, lacks_block, record_error}
+use Rattle.mpm_mount.specs.Records.{read_error, record_error}
+use Rattle.mpm_files.specs.Plans.{has_block, needs_block}
+use Rattle.mpm_files.specs.Counting.{number_in, lacks_block_at, lacks_block}
 use Rattle.mpm_files.specs.Lookups.{HasEntry, IsHeldAt, sector_at, record_sector}
 use Rattle.mpm_files.specs.Standing.{Does}
 use Rattle.mpm_files.proofs.StandingLaws.{goes_nowhere, stays, does}
 use Rattle.mpm_files.proofs.HeldRecords.{index_within, held_inside}
 use Rattle.mpm_files.proofs.RecordUnits.{lacks_is}
-use Rattle.mpm_files.proofs.Tied.{block_needed, read_in, read_by_tests, read_tested, read_error_same}
+use Rattle.mpm_files.proofs.Tied.{block_needed}
+use Rattle.mpm_mount.proofs.ReadErrors.{read_in, read_by_tests, read_tested, read_error_same}
 
 -- a record of a block that is held
 held_contents : (sectors : Sectors) (kind : Kind) (n : ℕ) (b : Bool) (block : ℕ) → (block == 0) ≡ b → b ≡ false

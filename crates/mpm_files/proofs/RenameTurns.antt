@@ -22,8 +22,8 @@ use Rattle.mpm_mount.proofs.Sorts.{xfcb_freed}
 use Rattle.mpm_mount.proofs.LookedUp.{xfcb_found, xfcb_missing, kind_of}
 use Rattle.mpm_mount.proofs.OneFile.{lowest_found, lowest_missing}
 use Rattle.mpm_mount.proofs.Names.{one_file, entries_differ, same_back}
-use Rattle.mpm_files.specs.declared.jobs.JobKind.TheVariants.{Rename}
-use Rattle.mpm_files.specs.declared.jobs.Job.{Job}
+use Rattle.mpm_jobs.specs.declared.jobs.JobKind.TheVariants.{Rename}
+use Rattle.mpm_jobs.specs.declared.jobs.Job.{Job}
 use Rattle.mpm_files.specs.declared.work.Work.{Work}
 use Rattle.mpm_files.specs.Units.{FileUnit, Idles, ReadsRecord, PassesRecord, AddsEntry, ClearsBlock, WritesRecord, RemovesEntry, SetsAttributes, RenamesEntry, PutsXfcb, RemovesXfcb, RenamesXfcb, PutsLabel, stages, last_of, applied, all_applied}
 use Rattle.mpm_files.specs.Plans.{plan_of, file_of_job, new_file_of_job, each, when, of_xfcb, of_entries, renaming, plan_by, unit_at}

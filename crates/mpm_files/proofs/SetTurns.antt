@@ -21,8 +21,8 @@ use Rattle.mpm_mount.proofs.NextFound.{is_sought_pair, next_found, next_none}
 use Rattle.mpm_mount.proofs.OneFile.{extents_sought, first_filtered, none_filtered}
 use Rattle.mpm_mount.proofs.Names.{one_file, is_itself}
 use Rattle.mpm_mount.proofs.LookedUp.{kind_of}
-use Rattle.mpm_files.specs.declared.jobs.JobKind.TheVariants.{Attributes}
-use Rattle.mpm_files.specs.declared.jobs.Job.{Job}
+use Rattle.mpm_jobs.specs.declared.jobs.JobKind.TheVariants.{Attributes}
+use Rattle.mpm_jobs.specs.declared.jobs.Job.{Job}
 use Rattle.mpm_files.specs.declared.work.Work.{Work}
 use Rattle.mpm_files.specs.Units.{FileUnit, Idles, SetsAttributes, applied}
 use Rattle.mpm_files.specs.Plans.{plan_of, file_of_job, each}

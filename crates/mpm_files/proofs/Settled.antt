@@ -13,8 +13,8 @@ use Rattle.mpm_mount.specs.Files.{where_there, is_same_file, entries_named, is_e
 use Rattle.mpm_mount.specs.Attributes.{attributes_in}
 use Rattle.mpm_mount.proofs.Orders.{entry_total}
 use Rattle.mpm_mount.proofs.Names.{one_file, entry_parts, entries_differ}
-use Rattle.mpm_files.specs.declared.jobs.JobKind.TheVariants.{Make, Delete, Rename, Attributes}
-use Rattle.mpm_files.specs.declared.jobs.Job.{Job}
+use Rattle.mpm_jobs.specs.declared.jobs.JobKind.TheVariants.{Make, Delete, Rename, Attributes}
+use Rattle.mpm_jobs.specs.declared.jobs.Job.{Job}
 use Rattle.mpm_files.specs.Units.{FileUnit, AddsEntry, RemovesEntry, SetsAttributes, RenamesEntry, PutsXfcb, RemovesXfcb, RenamesXfcb, with_attributes, stages, last_of, applied, all_applied}
 use Rattle.mpm_files.specs.Plans.{each, of_entries, of_xfcb, deleting_entry, deleting, renaming, making, file_of_job, new_file_of_job, protection_in, plan_by, plan_of, turns_of}
 use Rattle.mpm_files.specs.Serving.{units_done}

@@ -1,5 +1,5 @@
 -- The turns of a job that tests records and writes them.
-use Rattle.std.proofs.Common.{◌≡◌, ◌⊎◌, inl, inr, ℕ, suc, ◌+◌, ◌-◌, ◌≤◌, ◌<◌, Bool, true, false, not, ◌||◌, List, [], ◌∷◌, ◌++◌, Option, Some, None, Ok, take, drop, length, refl, sym, ap, subst, ◌∙◌, arith, add-zero}
+use Rattle.std.proofs.Common.{◌≡◌, ◌⊎◌, inl, inr, ℕ, suc, ◌+◌, ◌-◌, ◌≤◌, ◌<◌, Bool, true, false, ◌||◌, List, [], ◌∷◌, ◌++◌, Option, Some, None, Ok, take, drop, length, refl, sym, ap, subst, ◌∙◌, arith, add-zero}
 use Rattle.std.specs.Prelude.{bytes_eq, if◌then◌else◌}
 use Rattle.std.specs.List.{list_any}
 use Rattle.std.proofs.lemmas.Bool.{cases_lt}
@@ -11,18 +11,19 @@ use Rattle.mpm_mount.specs.Directories.{Directory, Stands}
 use Rattle.mpm_mount.specs.Files.{where_there}
 use Rattle.mpm_mount.proofs.UsedBlocks.{or_last}
 use Rattle.mpm_mount.proofs.Ranges.{or_none}
-use Rattle.mpm_files.specs.declared.jobs.JobKind.TheVariants.{TestWrite}
-use Rattle.mpm_files.specs.declared.jobs.Job.{Job}
+use Rattle.mpm_jobs.specs.declared.jobs.JobKind.TheVariants.{TestWrite}
+use Rattle.mpm_jobs.specs.declared.jobs.Job.{Job}
 use Rattle.mpm_files.specs.declared.work.Work.{Work}
 use Rattle.mpm_files.specs.Units.{FileUnit, Idles, PassesRecord, WritesRecord, stages, applied}
-use Rattle.mpm_files.specs.Plans.{Test, file_of_job, read_error, has_record, test_at, tests_of_job, plan_by, plan_of, unit_at}
+use Rattle.mpm_files.specs.Plans.{Test, file_of_job, has_record, test_at, tests_of_job, plan_by, plan_of, unit_at}
+use Rattle.mpm_mount.specs.Records.{read_error}
 use Rattle.mpm_files.specs.Counting.{lacks_block}
 use Rattle.mpm_files.specs.Serving.{units_done, records_after, with_records, is_passing, missed_by, has_missed, left_passing, left_testing, stamp_left, Follows, IsServing}
 use Rattle.mpm_files.specs.Standing.{StandsOn, Does}
 use Rattle.mpm_files.specs.Turning.{Suits, one_ended}
 use Rattle.mpm_files.proofs.StandingLaws.{goes_nowhere, does}
 use Rattle.mpm_files.proofs.RecordReads.{is_readable}
-use Rattle.mpm_files.proofs.Tied.{read_error_same}
+use Rattle.mpm_mount.proofs.ReadErrors.{read_error_same}
 use Rattle.mpm_files.proofs.NextUnits.{Next, next_of, passes_left, match_left, mismatch_left, items_left}
 use Rattle.mpm_files.proofs.Served.{take_more, left_as, serves_on}
 use Rattle.mpm_files.proofs.NextDone.{IsDone}
@@ -244,10 +245,6 @@ record_held image d before job j work stands serving is h =
 
 pub has_there : (files : Drive) (file : FileName) (n : ℕ) (there expected : List ℕ) → record_of files file n ≡ Some there → has_record files file n expected ≡ bytes_eq there expected
 has_there files file n there expected is = ap (λ (o : Option (List ℕ)). bytes_eq (where_there o (λ bytes. bytes)) expected) is
-
-pub not_back : (b c : Bool) → c ≡ not b → b ≡ not c
-not_back true c is = ap not (sym is)
-not_back false c is = ap not (sym is)
 
 -- passing changes nothing
 pub passes : {A E : Type 0} (disks : Option Disks) (d : Directory) (files : Drive) (file : FileName) (n : ℕ) (x : A) → StandsOn disks d files

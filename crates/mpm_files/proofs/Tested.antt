@@ -6,17 +6,18 @@ use Rattle.std.proofs.lemmas.Bool.{true≢false, cases_eq}
 use Rattle.std.proofs.lemmas.Bool.Decides.{nat_tests}
 use Rattle.mpm_base.specs.declared.kind.Kind.{Kind}
 use Rattle.mpm_mount.specs.Drives.{FileName, PhysicalExtent, Drive, entry_number, entry_name, extent_at, count_in, block_place, places, visible_of}
-use Rattle.mpm_files.specs.declared.errors.RecordError.{RecordError}
-use Rattle.mpm_files.specs.declared.errors.RecordError.TheVariants.{Mismatch}
+use Rattle.mpm_functions.specs.declared.errors.RecordError.{RecordError}
+use Rattle.mpm_functions.specs.declared.errors.RecordError.TheVariants.{Mismatch}
 use Rattle.mpm_files.specs.declared.counting.Count.{Count}
 use Rattle.mpm_files.specs.Units.{FileUnit, ReadsRecord, PassesRecord, WritesRecord, is_raising, raised, holds_block, applied}
-use Rattle.mpm_files.specs.Plans.{Plan, Test, behind, unless_failing, read_error, reading, has_record, passing, testing}
+use Rattle.mpm_files.specs.Plans.{Plan, Test, behind, unless_failing, reading, has_record, passing, testing}
+use Rattle.mpm_mount.specs.Records.{read_error}
 use Rattle.mpm_files.specs.Counting.{unless_refused, read_count}
 use Rattle.mpm_files.proofs.Needs.{IsWhole}
 use Rattle.mpm_files.proofs.Within.{unit_keeps}
 use Rattle.mpm_files.proofs.Writes.{Written, record_written}
 use Rattle.mpm_files.proofs.WriteCounts.{count_of, counted_behind}
-use Rattle.mpm_files.proofs.Tied.{read_in, read_by_tests, read_tested}
+use Rattle.mpm_mount.proofs.ReadErrors.{read_in, read_by_tests, read_tested}
 use Rattle.mpm_files.proofs.RecordReads.{tests_pass}
 
 -- what is counted is how many are read, and why no more are

@@ -4,18 +4,19 @@ use Rattle.std.specs.Prelude.{is_some, if◌then◌else◌}
 use Rattle.std.specs.FinMap.{get}
 use Rattle.std.proofs.lemmas.Bool.{true≢false}
 use Rattle.mpm_mount.specs.Drives.{FileName, PhysicalExtent, Drive, entry_name, extent_at, visible_of}
-use Rattle.mpm_files.specs.declared.errors.RecordError.{RecordError}
-use Rattle.mpm_files.specs.declared.errors.RecordError.TheVariants.{Mismatch}
-use Rattle.mpm_files.specs.declared.jobs.JobKind.TheVariants.{Write, TestWrite}
-use Rattle.mpm_files.specs.declared.jobs.Job.{Job}
+use Rattle.mpm_functions.specs.declared.errors.RecordError.{RecordError}
+use Rattle.mpm_functions.specs.declared.errors.RecordError.TheVariants.{Mismatch}
+use Rattle.mpm_jobs.specs.declared.jobs.JobKind.TheVariants.{Write, TestWrite}
+use Rattle.mpm_jobs.specs.declared.jobs.Job.{Job}
 use Rattle.mpm_files.specs.Units.{FileUnit, AddsEntry, ClearsBlock, PassesRecord, WritesRecord, stages, last_of, applied, all_applied}
-use Rattle.mpm_files.specs.Plans.{Plan, Test, behind, unless_failing, read_error, needs_entry, needs_block, clears_blocks, write_units, has_record, passing, testing, file_of_job, records_of_job, tests_of_job, plan_by, plan_of, turns_of}
+use Rattle.mpm_files.specs.Plans.{Plan, Test, behind, unless_failing, needs_entry, needs_block, clears_blocks, write_units, has_record, passing, testing, file_of_job, records_of_job, tests_of_job, plan_by, plan_of, turns_of}
+use Rattle.mpm_mount.specs.Records.{read_error}
 use Rattle.mpm_files.specs.Serving.{units_done}
 use Rattle.mpm_files.specs.Containment.{IsShown}
 use Rattle.mpm_files.proofs.Needs.{IsWhole, Done, record_done}
 use Rattle.mpm_files.proofs.NextUnits.{alone_units, never}
 use Rattle.mpm_files.proofs.TurnLaws.{all_turns}
-use Rattle.mpm_files.proofs.Tied.{read_in}
+use Rattle.mpm_mount.proofs.ReadErrors.{read_in}
 use Rattle.mpm_files.proofs.Tested.{still_whole}
 use Rattle.mpm_files.proofs.VisibleRecords.{UnitsShow, units_show, shown_through, writing_shown}
 

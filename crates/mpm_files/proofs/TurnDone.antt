@@ -6,7 +6,7 @@ use Rattle.mpm_blocks.specs.Sectors.{told_image}
 use Rattle.mpm_mount.specs.Drives.{Drive}
 use Rattle.mpm_mount.specs.Images.{files_of}
 use Rattle.mpm_mount.specs.Directories.{Directory, Stands}
-use Rattle.mpm_files.specs.declared.jobs.Job.{Job}
+use Rattle.mpm_jobs.specs.declared.jobs.Job.{Job}
 use Rattle.mpm_files.specs.declared.work.Work.{Work}
 use Rattle.mpm_files.specs.Units.{stages}
 use Rattle.mpm_files.specs.Plans.{file_of_job, plan_of, turns_of, unit_at, needs_entry}

@@ -2,7 +2,7 @@
 use Rattle.std.proofs.Common.{◌≡◌, ℕ, suc, zero, List, [], ◌∷◌, ◌++◌, None, take, refl, ap, arith, take_all}
 use Rattle.std.specs.Prelude.{slice_index_or}
 use Rattle.mpm_mount.specs.Drives.{FileName, Drive}
-use Rattle.mpm_files.specs.declared.jobs.Job.{Job}
+use Rattle.mpm_jobs.specs.declared.jobs.Job.{Job}
 use Rattle.mpm_files.specs.Units.{FileUnit, Idles, stages, last_of, applied, all_applied}
 use Rattle.mpm_files.specs.Plans.{plan_of, file_of_job, turns_of, unit_at}
 use Rattle.mpm_files.specs.Serving.{units_done}

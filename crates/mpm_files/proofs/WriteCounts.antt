@@ -8,7 +8,7 @@ use Rattle.mpm_base.specs.declared.kind.Kind.TheVariants.{Ibm3740, Hd4, Hd8}
 use Rattle.mpm_base.specs.Counts.{one_if}
 use Rattle.mpm_blocks.specs.Geometries.{block_records}
 use Rattle.mpm_mount.specs.Drives.{FileName, Drive, entry_number, block_place, free_records, free_entries}
-use Rattle.mpm_files.specs.declared.errors.RecordError.{RecordError}
+use Rattle.mpm_functions.specs.declared.errors.RecordError.{RecordError}
 use Rattle.mpm_files.specs.declared.counting.Count.{Count}
 use Rattle.mpm_files.specs.Units.{FileUnit, AddsEntry, ClearsBlock, WritesRecord, all_applied}
 use Rattle.mpm_files.specs.Plans.{Plan, behind, unless_failing, needs_entry, needs_block, clears_blocks, when, write_error, write_units, writing}

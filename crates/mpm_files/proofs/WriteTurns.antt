@@ -7,8 +7,8 @@ use Rattle.std.proofs.lemmas.List.FromFn.{length-map-range_with_len}
 use Rattle.mpm_mount.specs.Drives.{FileName, PhysicalExtent, Drive, entry_name, free_records, free_entries}
 use Rattle.mpm_mount.specs.Directories.{Directory, Stands, free_block}
 use Rattle.mpm_mount.proofs.FreeRecords.{no_free_block}
-use Rattle.mpm_files.specs.declared.jobs.JobKind.TheVariants.{Write}
-use Rattle.mpm_files.specs.declared.jobs.Job.{Job}
+use Rattle.mpm_jobs.specs.declared.jobs.JobKind.TheVariants.{Write}
+use Rattle.mpm_jobs.specs.declared.jobs.Job.{Job}
 use Rattle.mpm_files.specs.declared.moving.Step.{Step}
 use Rattle.mpm_files.specs.declared.moving.Step.TheVariants.{Entry, Block, Record}
 use Rattle.mpm_files.specs.declared.work.Work.{Work}

@@ -5,10 +5,11 @@ use Rattle.std.proofs.lemmas.Bool.{lt-ltb}
 use Rattle.mpm_base.specs.declared.kind.Kind.{Kind}
 use Rattle.mpm_base.specs.Counts.{one_if}
 use Rattle.mpm_blocks.specs.Geometries.{block_records}
-use Rattle.mpm_files.specs.declared.errors.RecordError.{RecordError}
+use Rattle.mpm_functions.specs.declared.errors.RecordError.{RecordError}
 use Rattle.mpm_files.specs.declared.counting.Count.{Count}
 use Rattle.mpm_files.specs.Counting.{counted, unless_refused, entry_more, block_more, room_error, record_units, write_count}
-use Rattle.mpm_files.proofs.ReadCounts.{counted_both, less_by, nothing_more}
+use Rattle.mpm_files.proofs.ReadCounts.{counted_both, nothing_more}
+use Rattle.mpm_base.proofs.CountLaws.{less_by}
 
 -- so many records were counted, of so many units, and what is left
 abbrev pub WrittenTo : Kind → (ℕ → Bool) → (ℕ → Bool) → ℕ → ℕ → ℕ → ℕ → ℕ → ℕ → ℕ → ℕ → Type 0

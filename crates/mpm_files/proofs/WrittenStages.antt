@@ -19,7 +19,7 @@ use Rattle.mpm_mount.proofs.Still.{file_injective}
 use Rattle.mpm_files.specs.Units.{WritesRecord, is_raising, raised, holds_block, fresh_records, with_fresh_block, rewritten, written_extents, with_stamp, stages}
 use Rattle.mpm_files.specs.Lookups.{HasEntry}
 use Rattle.mpm_files.specs.Standing.{with_record, with_taken, raises}
-use Rattle.mpm_files.proofs.Tied.{held_at}
+use Rattle.mpm_mount.proofs.ReadErrors.{held_at}
 use Rattle.mpm_files.proofs.Recorded.{at_itself}
 use Rattle.mpm_files.proofs.FoundEntries.{entry_named}
 

@@ -1,25 +1,25 @@
 -- How many units a job comes to, counted in the directory before its first turn.
-use Rattle.std.specs.Prelude.{ℕ, zero, suc, ◌+◌, ◌-◌, ◌/◌, ◌%◌, ◌==◌, ◌&&◌, ◌||◌, not, Bool, true, false, Option, Some, None, is_some, nat_lt, nat_le, count_by, List, if◌then◌else◌}
+use Rattle.std.specs.Prelude.{ℕ, zero, suc, ◌+◌, ◌-◌, ◌/◌, ◌==◌, ◌&&◌, not, Bool, true, false, Option, Some, None, is_some, count_by, List, if◌then◌else◌}
 use Rattle.std.specs.List.{list_any}
 use Rattle.mpm_base.specs.declared.kind.Kind.{Kind}
 use Rattle.mpm_base.specs.Counts.{one_if}
 use Rattle.mpm_blocks.specs.Geometries.{block_records}
 use Rattle.mpm_dirent.specs.declared.kinds.Entry.{Entry}
 use Rattle.mpm_dirent.specs.declared.kinds.Entry.TheVariants.{Free, File, Xfcb, Label, Kept}
-use Rattle.mpm_dirent.specs.declared.kinds.FileEntry.{FileEntry}
 use Rattle.mpm_mount.specs.Drives.{FileName, entry_number, block_place}
-use Rattle.mpm_mount.specs.Faults.{extent_of, block_at}
+use Rattle.mpm_mount.specs.Faults.{block_at}
 use Rattle.mpm_mount.specs.Directories.{Directory, entry_in, extent_slot, xfcb_slot, free_records_in, free_entries_in}
 use Rattle.mpm_mount.specs.Files.{is_fitting, file_in, is_part_of}
-use Rattle.mpm_files.specs.declared.errors.RecordError.{RecordError}
-use Rattle.mpm_files.specs.declared.errors.RecordError.TheVariants.{UnwrittenExtent, UnwrittenData, NoDirectorySpace, NoDataBlock}
-use Rattle.mpm_files.specs.declared.jobs.JobKind.{JobKind}
-use Rattle.mpm_files.specs.declared.jobs.JobKind.TheVariants as kinds
-use Rattle.mpm_files.specs.declared.jobs.Job.{Job}
+use Rattle.mpm_functions.specs.declared.errors.RecordError.{RecordError}
+use Rattle.mpm_functions.specs.declared.errors.RecordError.TheVariants.{NoDirectorySpace, NoDataBlock}
+use Rattle.mpm_jobs.specs.declared.jobs.JobKind.{JobKind}
+use Rattle.mpm_jobs.specs.declared.jobs.JobKind.TheVariants as kinds
+use Rattle.mpm_jobs.specs.declared.jobs.Job.{Job}
 use Rattle.mpm_files.specs.declared.counting.Count.{Count}
 use Rattle.mpm_files.specs.declared.searching.Sought.{Sought}
 use Rattle.mpm_files.specs.declared.searching.Sought.TheVariants.{OfFile, Deleted}
 use Rattle.mpm_files.specs.Plans.{file_of_job, new_file_of_job, clears_blocks}
+use Rattle.mpm_mount.specs.Records.{record_error}
 
 -- units of a record before those of others, or none where it can't be done
 abbrev pub counted : ℕ → Count → Count
@@ -82,29 +82,6 @@ lacks_block_at d n (Some slot) = number_in d.kind n (entry_in d slot) == 0
 
 abbrev pub lacks_block : Directory → FileName → ℕ → Bool
 lacks_block d file n = lacks_block_at d n (extent_slot d file (n / 128))
-
--- what keeps it from being read
-abbrev pub count_there : FileEntry → ℕ → ℕ
-count_there f extent = if extent == extent_of f then f.rc else 128
-
-abbrev pub file_error : Kind → ℕ → FileEntry → Option RecordError
-file_error kind n f =
-    if nat_lt (extent_of f) (n / 128) then Some UnwrittenExtent
-    else (if nat_le (count_there f (n / 128)) (n % 128) || (block_at f (block_place kind n) == 0) then Some UnwrittenData else None)
-
-abbrev pub error_in : Kind → ℕ → Entry → Option RecordError
-error_in kind n (File f) = file_error kind n f
-error_in kind n Free = Some UnwrittenExtent
-error_in kind n (Xfcb x) = Some UnwrittenExtent
-error_in kind n (Label l) = Some UnwrittenExtent
-error_in kind n (Kept bytes) = Some UnwrittenExtent
-
-abbrev pub error_at : Directory → ℕ → Option ℕ → Option RecordError
-error_at d n None = Some UnwrittenExtent
-error_at d n (Some slot) = error_in d.kind n (entry_in d slot)
-
-abbrev pub record_error : Directory → FileName → ℕ → Option RecordError
-record_error d file n = error_at d n (extent_slot d file (n / 128))
 
 -- which directory entries are counted: those of a job's file, those that a deletion removes
 abbrev pub is_deleted : Directory → ℕ → List ℕ → Entry → Bool

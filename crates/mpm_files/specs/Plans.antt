@@ -6,15 +6,16 @@ use Rattle.std.specs.FinMap.{get}
 use Rattle.mpm_base.specs.declared.kind.Kind.{Kind}
 use Rattle.mpm_dirent.specs.Names.{plain}
 use Rattle.mpm_blocks.specs.Geometries.{geometry_of}
-use Rattle.mpm_mount.specs.Drives.{FileName, PhysicalExtent, Protection, Drive, entry_name, extents_of, extent_at, record_of, visible_of, free_records, free_entries}
+use Rattle.mpm_mount.specs.Drives.{FileName, PhysicalExtent, Protection, Drive, entry_name, extents_of, record_of, free_records, free_entries}
 use Rattle.mpm_mount.specs.Attributes.{attributes_in}
 use Rattle.mpm_mount.specs.Files.{entries_named, is_entry_of, is_fitting, where_there}
-use Rattle.mpm_files.specs.declared.errors.RecordError.{RecordError}
-use Rattle.mpm_files.specs.declared.errors.RecordError.TheVariants.{UnwrittenExtent, UnwrittenData, Mismatch, NoDirectorySpace, NoDataBlock}
-use Rattle.mpm_files.specs.declared.jobs.JobKind.{JobKind}
-use Rattle.mpm_files.specs.declared.jobs.JobKind.TheVariants.{Read, Write, TestWrite, Make, Delete, Rename, Attributes, Label, Xfcb, Nothing}
-use Rattle.mpm_files.specs.declared.jobs.Job.{Job}
+use Rattle.mpm_functions.specs.declared.errors.RecordError.{RecordError}
+use Rattle.mpm_functions.specs.declared.errors.RecordError.TheVariants.{Mismatch, NoDirectorySpace, NoDataBlock}
+use Rattle.mpm_jobs.specs.declared.jobs.JobKind.{JobKind}
+use Rattle.mpm_jobs.specs.declared.jobs.JobKind.TheVariants.{Read, Write, TestWrite, Make, Delete, Rename, Attributes, Label, Xfcb, Nothing}
+use Rattle.mpm_jobs.specs.declared.jobs.Job.{Job}
 use Rattle.mpm_files.specs.Units.{FileUnit, Idles, ReadsRecord, PassesRecord, AddsEntry, ClearsBlock, WritesRecord, RemovesEntry, SetsAttributes, RenamesEntry, PutsXfcb, RemovesXfcb, RenamesXfcb, PutsLabel, holds_block, applied, all_applied}
+use Rattle.mpm_mount.specs.Records.{read_error}
 
 -- the units of a call, and why it ends after them, where a record can't be done
 pub record Plan : Type 0 where
@@ -48,12 +49,6 @@ new_file_of_job job = record { user = job.user; name = plain job.new_name }
 -- a record's 128 bytes among those of a job
 abbrev pub record_at : List ℕ → ℕ → List ℕ
 record_at bytes k = slice_range bytes (128 * k) (128 * k + 128)
-
--- what keeps a record from being read. ("Function 20: Read Sequential", "Function 33: Read Random".)
-abbrev pub read_error : Drive → FileName → ℕ → Option RecordError
-read_error drive file n =
-    if not (is_some (extent_at drive file (n / 128))) then Some UnwrittenExtent
-    else (if not (is_some (visible_of drive file n)) then Some UnwrittenData else None)
 
 unfoldable pub reading : Drive → FileName → ℕ → ℕ → Plan
 reading drive file n zero = only []

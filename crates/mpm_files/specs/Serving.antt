@@ -10,11 +10,11 @@ use Rattle.mpm_mount.specs.Drives.{FileName, Drive, entry_number, extents_of, vi
 use Rattle.mpm_mount.specs.Directories.{Directory, Stands, free_block}
 use Rattle.mpm_mount.specs.Files.{where_there, entries_named, has_file}
 use Rattle.mpm_mount.specs.Attributes.{attributes_in}
-use Rattle.mpm_files.specs.declared.errors.RecordError.{RecordError}
-use Rattle.mpm_files.specs.declared.errors.RecordError.TheVariants.{UnwrittenExtent, UnwrittenData, Mismatch, NoDirectorySpace, NoDataBlock}
-use Rattle.mpm_files.specs.declared.jobs.JobKind.{JobKind}
-use Rattle.mpm_files.specs.declared.jobs.JobKind.TheVariants.{Read, Write, TestWrite, Make, Delete, Rename, Attributes, Label, Xfcb, Nothing}
-use Rattle.mpm_files.specs.declared.jobs.Job.{Job}
+use Rattle.mpm_functions.specs.declared.errors.RecordError.{RecordError}
+use Rattle.mpm_functions.specs.declared.errors.RecordError.TheVariants.{UnwrittenExtent, UnwrittenData, Mismatch, NoDirectorySpace, NoDataBlock}
+use Rattle.mpm_jobs.specs.declared.jobs.JobKind.{JobKind}
+use Rattle.mpm_jobs.specs.declared.jobs.JobKind.TheVariants.{Read, Write, TestWrite, Make, Delete, Rename, Attributes, Label, Xfcb, Nothing}
+use Rattle.mpm_jobs.specs.declared.jobs.Job.{Job}
 use Rattle.mpm_files.specs.declared.counting.Count.{Count}
 use Rattle.mpm_files.specs.declared.work.Work.{Work}
 use Rattle.mpm_files.specs.Units.{FileUnit, Idles, ReadsRecord, PassesRecord, AddsEntry, ClearsBlock, WritesRecord, RemovesEntry, SetsAttributes, RenamesEntry, PutsXfcb, RemovesXfcb, RenamesXfcb, PutsLabel, zero_record, applied, all_applied}

@@ -18,9 +18,9 @@ use Rattle.mpm_mount.specs.Drives.{Drive, free_entries}
 use Rattle.mpm_mount.specs.Directories.{Directory, entry_in, xfcb_slot}
 use Rattle.mpm_mount.specs.Searching.{IsUnambiguous}
 use Rattle.mpm_mount.specs.Files.{is_same_file, has_file, file_in, is_part_of}
-use Rattle.mpm_files.specs.declared.jobs.JobKind.{JobKind}
-use Rattle.mpm_files.specs.declared.jobs.JobKind.TheVariants.{Read, Write, TestWrite, Make, Delete, Rename, Attributes, Label, Xfcb, Nothing}
-use Rattle.mpm_files.specs.declared.jobs.Job.{Job}
+use Rattle.mpm_jobs.specs.declared.jobs.JobKind.{JobKind}
+use Rattle.mpm_jobs.specs.declared.jobs.JobKind.TheVariants.{Read, Write, TestWrite, Make, Delete, Rename, Attributes, Label, Xfcb, Nothing}
+use Rattle.mpm_jobs.specs.declared.jobs.Job.{Job}
 use Rattle.mpm_files.specs.declared.work.Work.{Work}
 use Rattle.mpm_files.specs.Plans.{plan_of, file_of_job, new_file_of_job, protection_in, unit_at}
 use Rattle.mpm_files.specs.Serving.{units_done, IsInService}

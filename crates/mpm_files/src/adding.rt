@@ -14,12 +14,12 @@ ghost use Rattle.mpm_files.specs.Units.{AddsEntry};
 ghost use Rattle.mpm_files.specs.Plans.{file_of_job};
 
 use crate::entries::put_entry;
-use crate::jobs::Job;
 use crate::marking::marked;
 use crate::renaming::file_at;
 use mpm_base::Steps;
 use mpm_cache::Cache;
 use mpm_dirent::{Entry, FileEntry};
+use mpm_jobs::Job;
 use mpm_mount::{Mounted, lowest_entry};
 use mpm_port::{Drives, Failed};
 use std::sync::ledger::Ledger;

@@ -12,11 +12,10 @@ ghost use Rattle.mpm_files.specs.Plans as plans;
 ghost use Rattle.mpm_files.specs.Standing.{Does, StandsCleared};
 
 use crate::entries::disk_of;
-use crate::records::block_records;
 use mpm_base::{Kind, Steps};
 use mpm_blocks::geometry;
 use mpm_cache::Cache;
-use mpm_mount::Mounted;
+use mpm_mount::{Mounted, block_records};
 use mpm_port::{Drives, Failed};
 use std::sync::ledger::Ledger;
 

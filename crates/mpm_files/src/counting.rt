@@ -1,16 +1,17 @@
-ghost use Rattle.std.specs.Prelude.{◌≡◌, ◌+◌, ◌-◌, ◌<◌, ◌≤◌, Some, None, false, if◌then◌else◌};
+ghost use Rattle.std.specs.Prelude.{◌≡◌, ◌+◌, ◌-◌, ◌≤◌, Some, None, false, if◌then◌else◌};
 ghost use Rattle.mpm_base.specs.Counts.{one_if};
-ghost use Rattle.mpm_blocks.specs.Geometries.{block_records};
+ghost use Rattle.mpm_blocks.specs.Geometries as geometries;
 ghost use Rattle.mpm_mount.specs.Directories as directory;
 ghost use Rattle.mpm_files.specs.Plans as plans;
 ghost use Rattle.mpm_files.specs.Counting as spec;
+ghost use Rattle.mpm_mount.specs.Records as records;
 
-use crate::errors::RecordError;
-use crate::jobs::Job;
 use crate::records;
 use mpm_base::Kind;
 use mpm_blocks::geometry;
-use mpm_mount::Mounted;
+use mpm_functions::RecordError;
+use mpm_jobs::Job;
+use mpm_mount::{Mounted, block_place, block_records};
 
 /// How many units a job has, and why it ends after them.
 #[derive(Clone, Copy, Debug, PartialEq, Eq)]
@@ -57,7 +58,7 @@ struct Needs {
 pub(crate) fn count_reads(mounted: &Mounted, job: &Job) -> Count
     requires first { job.now.first ≤ 262271 }
     requires count { job.now.count ≤ 16 }
-    ensures { result ≡ spec.read_count (spec.record_error mounted.now (plans.file_of_job job.now)) job.now.first job.now.count }
+    ensures { result ≡ spec.read_count (records.record_error mounted.now (plans.file_of_job job.now)) job.now.first job.now.count }
 {
     let count = u32::from(job.count);
     for k in 0..count {
@@ -97,13 +98,9 @@ impl Room {
     /// What is free after it is written.
     fn after(self, needs: Needs, kind: Kind) -> Room
         ensures entries { result.entries ≡ self.entries - one_if needs.entry }
-        ensures records { result.records ≡ self.records - (if needs.block then block_records kind else 0) }
+        ensures records { result.records ≡ self.records - (if needs.block then geometries.block_records kind else 0) }
     {
-        let records = if needs.block {
-            records::block_records(kind)
-        } else {
-            0
-        };
+        let records = if needs.block { block_records(kind) } else { 0 };
         Room {
             entries: self.entries.saturating_sub(u32::from(needs.entry)),
             records: self.records.saturating_sub(records),
@@ -133,7 +130,7 @@ fn are_in_one_entry(kind: Kind, m: u32, n: u32) -> bool
 fn are_in_one_block(kind: Kind, m: u32, n: u32) -> bool
     ensures { result ≡ spec.same_block kind m n }
 {
-    are_in_one_entry(kind, m, n) && records::block_place(kind, m) == records::block_place(kind, n)
+    are_in_one_entry(kind, m, n) && block_place(kind, m) == block_place(kind, n)
 }
 
 /// What record n of a job needs, behind others of the job or as the first.

@@ -6,10 +6,10 @@ ghost use Rattle.mpm_mount.specs.Directories.{extent_slot, xfcb_slot};
 ghost use Rattle.mpm_files.specs.Plans.{file_of_job};
 ghost use Rattle.mpm_files.specs.Lookups.{HasEntry, HasXfcb, IsHeldAt};
 
-use crate::jobs::Job;
-use crate::records::{block_place, block_records, slot_of};
+use crate::records::slot_of;
 use mpm_dirent::{Entry, FileEntry, XfcbEntry};
-use mpm_mount::Mounted;
+use mpm_jobs::Job;
+use mpm_mount::{Mounted, block_place, block_records};
 
 /// The directory entry of a record, and its slot.
 #[derive(Clone, Copy)]

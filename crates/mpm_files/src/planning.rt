@@ -5,9 +5,9 @@ ghost use Rattle.mpm_files.specs.Counting.{unit_count, renamed_count};
 ghost use Rattle.mpm_files.specs.Serving.{begun, turns_in, IsInService};
 
 use crate::counting::{Count, count_reads, count_writes};
-use crate::jobs::{Job, JobKind};
 use crate::searching::{Sought, count_entries};
 use crate::work::Work;
+use mpm_jobs::{Job, JobKind};
 use mpm_mount::Mounted;
 
 /// How many units a job has, and why it ends after them.

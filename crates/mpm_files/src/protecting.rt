@@ -14,10 +14,10 @@ ghost use Rattle.mpm_files.specs.Plans.{file_of_job, protection_in};
 ghost use Rattle.mpm_files.specs.Turning.{xfcb_of_job, label_of_job};
 
 use crate::entries::put_entry;
-use crate::jobs::Job;
 use mpm_base::Steps;
 use mpm_cache::Cache;
 use mpm_dirent::{Entry, LabelEntry, XfcbEntry, plain_name};
+use mpm_jobs::Job;
 use mpm_mount::Mounted;
 use mpm_port::{Drives, Failed};
 use std::sync::ledger::Ledger;

@@ -9,15 +9,16 @@ ghost use Rattle.mpm_cache.specs.Coherent.{IsCoherent};
 ghost use Rattle.mpm_sectors.specs.Disks.{Leaves};
 ghost use Rattle.mpm_files.specs.Units.{ReadsRecord};
 ghost use Rattle.mpm_files.specs.Plans.{file_of_job};
-ghost use Rattle.mpm_files.specs.Counting.{lacks_block, record_error};
+ghost use Rattle.mpm_files.specs.Counting.{lacks_block};
+ghost use Rattle.mpm_mount.specs.Records.{record_error};
 ghost use Rattle.mpm_files.specs.Lookups.{IsRecordCached};
 ghost use Rattle.mpm_files.specs.Standing.{Does};
 
 use crate::entries::disk_of;
-use crate::jobs::Job;
 use crate::lookups::{find_entry, held_sector};
 use mpm_base::Steps;
 use mpm_cache::Cache;
+use mpm_jobs::Job;
 use mpm_mount::Mounted;
 use mpm_port::{Drives, Failed};
 use std::sync::ledger::Ledger;

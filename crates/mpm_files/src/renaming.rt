@@ -18,12 +18,12 @@ ghost use Rattle.mpm_files.specs.Plans.{file_of_job, new_file_of_job};
 ghost use Rattle.mpm_files.specs.Turning.{IsFileAt};
 
 use crate::entries::put_entry;
-use crate::jobs::Job;
 use crate::lookups::find_xfcb;
 use crate::marking::{attributes_over, marked};
 use mpm_base::Steps;
 use mpm_cache::Cache;
 use mpm_dirent::{Entry, FileEntry, XfcbEntry, plain_name};
+use mpm_jobs::Job;
 use mpm_mount::{Mounted, last_extent};
 use mpm_port::{Drives, Failed};
 use std::sync::ledger::Ledger;

@@ -4,9 +4,9 @@ ghost use Rattle.mpm_dirent.specs.Names as names;
 ghost use Rattle.mpm_mount.specs.Files as lookups;
 ghost use Rattle.mpm_files.specs.Counting as spec;
 
-use crate::jobs::Job;
 use mpm_blocks::geometry;
 use mpm_dirent::{Entry, plain_name};
+use mpm_jobs::Job;
 use mpm_mount::Mounted;
 use mpm_names::matches;
 

@@ -17,11 +17,11 @@ ghost use Rattle.mpm_files.specs.Lookups.{HasXfcb, stamped_in, stamped_entry};
 ghost use Rattle.mpm_files.specs.Standing.{GoesThrough, Does};
 
 use crate::entries::{put_entries, put_entry};
-use crate::jobs::Job;
 use crate::lookups::{FoundXfcb, find_xfcb, find_xfcb_beside};
 use mpm_base::Steps;
 use mpm_cache::Cache;
 use mpm_dirent::{Entry, FileEntry, XfcbEntry};
+use mpm_jobs::Job;
 use mpm_mount::Mounted;
 use mpm_port::{Drives, Failed};
 use std::sync::ledger::Ledger;

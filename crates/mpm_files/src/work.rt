@@ -1,8 +1,8 @@
 ghost use Rattle.std.specs.Prelude.{◌≡◌};
 ghost use Rattle.mpm_files.specs.Serving.{turns_in, told_error, error_code};
 
-use crate::errors::RecordError;
-use crate::jobs::Job;
+use mpm_functions::RecordError;
+use mpm_jobs::Job;
 use mpm_mount::Found;
 
 /// A job that is in service on a drive, and how far it is: a unit a turn.

@@ -21,14 +21,13 @@ ghost use Rattle.mpm_files.specs.Standing.{Does, GoesThrough, HasFreshBlock};
 
 use crate::clearing::{CLEARED, clears_blocks};
 use crate::entries::disk_of;
-use crate::jobs::Job;
 use crate::lookups::{FoundEntry, find_entry, held_sector, index_in};
-use crate::records::block_place;
 use crate::stamps::{Stamp, put_stamp, put_stamped};
 use mpm_base::Steps;
 use mpm_cache::Cache;
 use mpm_dirent::FileEntry;
-use mpm_mount::{Mounted, last_extent};
+use mpm_jobs::Job;
+use mpm_mount::{Mounted, block_place, last_extent};
 use mpm_port::{Drives, Failed};
 use std::sync::ledger::Ledger;
 

@@ -1,3 +1,4 @@
 pub mod Functions
 pub mod Refusals
 pub mod Order
+pub mod Ends

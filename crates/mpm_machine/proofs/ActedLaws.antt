@@ -66,7 +66,7 @@ whole_outcome Held reply call p seg system w h = (whole_popped p seg system w h)
 whole_outcome Retry reply call p seg system w h = w
 
 -- the gate step of a call
-whole_gate_step : (p seg : ℕ) (system : System) → IsWhole system → Lives system.kernel.dispatcher.procs p → IsReady system.kernel.dispatcher p
+pub whole_gate_step : (p seg : ℕ) (system : System) → IsWhole system → Lives system.kernel.dispatcher.procs p → IsReady system.kernel.dispatcher p
     → IsWhole (gate_step p seg system).system
 unfolding gate_step
 whole_gate_step p seg system w h ready =

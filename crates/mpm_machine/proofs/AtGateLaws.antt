@@ -19,10 +19,11 @@ use Rattle.mpm_output.specs.Writing.{Wrote, Stopped}
 use Rattle.mpm_output.proofs.WritingLaws.{wrote_nothing}
 use Rattle.mpm_functions.specs.declared.functions.FileFunction.{FileFunction}
 use Rattle.mpm_functions.specs.declared.refusals.Extended.{Extended}
-use Rattle.mpm_bdos.specs.Direct.{Directly}
+use Rattle.mpm_directories.specs.Direct.{Directly}
 use Rattle.mpm_requests.specs.Filing.{Filing, Situation}
 use Rattle.mpm_functions.specs.Functions.{function_of}
-use Rattle.mpm_bdos.specs.Serving.{Kept, InService, Serves, directory_at}
+use Rattle.mpm_bdos.specs.Serving.{Kept, InService, Serves}
+use Rattle.mpm_directories.specs.Places.{directory_at}
 use Rattle.mpm_bdos.specs.Turns.{FitsDrives, has_work, labelled, told_images}
 use Rattle.mpm_bdos.proofs.ServedLaws.{none_before}
 use Rattle.mpm_machine.specs.declared.system.System.{System}
@@ -93,7 +94,7 @@ pub waits_ok : (p : ℕ) (o : Outside) (old new : System) (kept : Kept) (disks :
 waits_ok p o old new kept disks files waits is stands =
     (waits_called (told_at_gate p old files) p o old new waits is, waits_stands p old new kept disks files waits is stands)
 
-pub waits_told : {kept : Kept} (p : ℕ) (o : Outside) (old new : System) → is_done_at_once p old ≡ false → new ≡ with_kernel (waiting_for_disk p) old → HasToldAtGate kept p o o old new
+pub waits_told : {kept : Kept} (p : ℕ) (o : Outside) (old new : System) → is_done_at_once p old ≡ false → new ≡ with_kernel (waiting_for_disk p) old → HasToldAtGate kept kept p o o old new
 waits_told {kept} p o old new waits is =
     let any = something_told p old in
     let told = told_of (call_of old.kernel.dispatcher.procs p) any.0 any.1 in
@@ -101,7 +102,7 @@ waits_told {kept} p o old new waits is =
       told = told;
       of_call = refl;
       tells = any.2;
-      as_kept = waits_as_kept kept p old any.0 any.1 (not_none (function_of (call_of old.kernel.dispatcher.procs p).function) (old.kernel.disk.turn_steps == 0) waits)
+      as_kept = waits_as_kept kept kept p old any.0 any.1 (not_none (function_of (call_of old.kernel.dispatcher.procs p).function) (old.kernel.disk.turn_steps == 0) waits)
           (or_parts (is_none (function_of (call_of old.kernel.dispatcher.procs p).function)) (old.kernel.disk.turn_steps == 0) waits).1;
       called = waits_called told p o old new waits is;
     }
@@ -187,13 +188,13 @@ once_ok (Ok a) p o n old new kept kept' disks disks' files reply extended s is_r
 
 -- and whatever is on the drives
 
-pub once_told : {A E : Type 0} (kept : Kept) (r : Result A E) (p : ℕ) (o n : Outside) (old new : System) (reply : Answer) (extended : Option Extended) → is_done_at_once p old ≡ true
-    → IsToldOf p old reply extended → IsToldAsKept kept p old reply extended
+pub once_told : {A E : Type 0} (kept left : Kept) (r : Result A E) (p : ℕ) (o n : Outside) (old new : System) (reply : Answer) (extended : Option Extended) → is_done_at_once p old ≡ true
+    → IsToldOf p old reply extended → IsToldAsKept kept left p old reply extended
     → OnOk r (new ≡ (concluded (told_of (call_of old.kernel.dispatcher.procs p) reply extended) p old).system)
     → OnOk r (Wrote o n (concluded (told_of (call_of old.kernel.dispatcher.procs p) reply extended) p old).emitted)
-    → OnOk r (HasToldAtGate kept p o n old new)
-once_told kept (Err e) p o n old new reply extended done tells as_kept is wrote = tt
-once_told kept (Ok a) p o n old new reply extended done tells as_kept is wrote =
+    → OnOk r (HasToldAtGate kept left p o n old new)
+once_told kept left (Err e) p o n old new reply extended done tells as_kept is wrote = tt
+once_told kept left (Ok a) p o n old new reply extended done tells as_kept is wrote =
     let told = told_of (call_of old.kernel.dispatcher.procs p) reply extended in
     record { told = told; of_call = refl; tells = tells; as_kept = as_kept; called = called_so told p o n old new done is wrote }
 
@@ -246,15 +247,15 @@ pub once_fault : {A : Type 0} (r : Result A StepFault) (o n : Outside) (emitted 
 once_fault (Ok a) o n emitted failed = tt
 once_fault (Err fault) o n emitted failed = failed.0
 
-pub once_stops : {A : Type 0} (r : Result A StepFault) (kept : Kept) (p : ℕ) (o n : Outside) (old : System) (reply : Answer) (extended : Option Extended) → is_done_at_once p old ≡ true
-    → IsToldOf p old reply extended → IsToldAsKept kept p old reply extended
+pub once_stops : {A : Type 0} (r : Result A StepFault) (kept left : Kept) (p : ℕ) (o n : Outside) (old : System) (reply : Answer) (extended : Option Extended) → is_done_at_once p old ≡ true
+    → IsToldOf p old reply extended → IsToldAsKept kept left p old reply extended
     → SinkFailed r o n (concluded (told_of (call_of old.kernel.dispatcher.procs p) reply extended) p old).emitted
     → IfErr r (λ fault. HasStoppedAtGate fault kept p o n old)
-once_stops (Ok a) kept p o n old reply extended done tells as_kept failed = tt
-once_stops (Err WriteFault) kept p o n old reply extended done tells as_kept failed =
+once_stops (Ok a) kept left p o n old reply extended done tells as_kept failed = tt
+once_stops (Err WriteFault) kept left p o n old reply extended done tells as_kept failed =
     let told = told_of (call_of old.kernel.dispatcher.procs p) reply extended in
-    record { told = told; of_call = refl; tells = tells; as_kept = as_kept; stops = stops_so WriteFault told p o n old done refl failed.1 }
-once_stops (Err DiskFault) kept p o n old reply extended done tells as_kept failed = absurd (disk_is_no_sink failed.0)
+    record { told = told; of_call = refl; tells = tells; left = left; as_kept = as_kept; stops = stops_so WriteFault told p o n old done refl failed.1 }
+once_stops (Err DiskFault) kept left p o n old reply extended done tells as_kept failed = absurd (disk_is_no_sink failed.0)
   where
     disk_is_no_sink : DiskFault ≡ WriteFault → ⊥
     disk_is_no_sink is = cc

@@ -35,8 +35,7 @@ use Rattle.mpm_kernel.specs.Columns.{spoke}
 use Rattle.mpm_xdos.specs.Procedures.{entered, entering}
 use Rattle.mpm_output.specs.Texts.{error_text}
 use Rattle.mpm_functions.specs.declared.refusals.Extended.{Extended}
-use Rattle.mpm_bdos.specs.Direct.{Directly}
-use Rattle.mpm_bdos.specs.Outcomes.{CallerChange, Stays, Selects, Resets}
+use Rattle.mpm_directories.specs.Direct.{Directly, CallerChange, Stays, Selects, Resets}
 use Rattle.mpm_machine.specs.FileCalls.{with_caller, reply_by, file_replied, error_told, told_then, error_met, answered_by, concluded}
 use Rattle.mpm_machine.specs.DiskStep.{ready_again, call_over, step_passed, over_after, served_by, disk_served, entered_by, entered_unless, call_entered}
 use Rattle.mpm_machine.proofs.FileLaws.{whole_told, whole_caller}

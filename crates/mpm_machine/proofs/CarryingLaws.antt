@@ -18,7 +18,7 @@ use Rattle.mpm_render.specs.Outputs.{Output}
 use Rattle.mpm_output.specs.Outside.{Outside, TheSink}
 use Rattle.mpm_output.specs.Writing.{Wrote, Stopped}
 use Rattle.mpm_output.proofs.WritingLaws.{wrote_after, fails_within, fails_before, stopped_cause}
-use Rattle.mpm_bdos.specs.Direct.{Directly}
+use Rattle.mpm_directories.specs.Direct.{Directly}
 use Rattle.mpm_requests.specs.Filing.{Situation}
 use Rattle.mpm_bdos.specs.Jobs.{call_turns}
 use Rattle.mpm_bdos.specs.Outcomes.{file_call}
@@ -285,12 +285,13 @@ unfolding over_at_end
 told_system p system before one two three four told is a b c d =
     ended_system told p before one two three four (a ∙ ap (λ (x : System). (call_over told p x).system) is) b c d
 
-pub ends_told : (kept : Filed) (p : ℕ) (system before : System) (told : Directly) → system ≡ turns_passed before → IsOfCall (Some p) told system → IsToldIn (Some p) told system
-    → IsOverAsKept kept (Some p) told → IsEndBy kept (Some p) before (ended_with told p before)
-ends_told kept p system before told is of_call tells as_kept = record {
+pub ends_told : (kept left : Filed) (p : ℕ) (system before : System) (told : Directly) → system ≡ turns_passed before → IsOfCall (Some p) told system → IsToldIn (Some p) told system
+    → IsOverAsKept kept left (Some p) told → IsEndBy kept (Some p) before (ended_with told p before)
+ends_told kept left p system before told is of_call tells as_kept = record {
   told = told;
   of_call = subst (λ (x : System). IsOfCall (Some p) told x) is of_call;
   tells = subst (λ (x : System). IsToldIn (Some p) told x) is tells;
+  left = left;
   as_kept = as_kept;
   is = refl;
 }
@@ -303,7 +304,8 @@ end_before old worked p before change rests end = record {
   told = end.told;
   of_call = end.of_call;
   tells = end.tells;
-  as_kept = over_as_before old worked worked (Some p) end.told rests (λ some. refl) end.as_kept;
+  left = end.left;
+  as_kept = over_as_before old worked worked end.left (Some p) end.told rests (λ some. refl) end.as_kept;
   is = end.is;
 }
 

@@ -1,8 +1,7 @@
 -- Steps in a row are a chain of systems.
 use Rattle.std.proofs.Common.{◌≡◌, ◌∙◌, ℕ, zero, suc, ◌+◌, ◌<◌, ◌≤◌, true, false, List, [], inl, inr, refl, sym, ap, subst, arith}
 use Rattle.std.specs.Prelude.{nat_lt, if◌then◌else◌}
-use Rattle.std.proofs.lemmas.Bool.{cases_eq, cond-true, cond-false}
-use Rattle.std.proofs.lemmas.Bool.Decides.{nat_tests}
+use Rattle.std.proofs.lemmas.Bool.{cases_eq, cond-true, cond-false, lt-ltb, le-ltb}
 use Rattle.mpm_render.specs.Outputs.{Output}
 use Rattle.mpm_bdos.specs.Serving.{Kept}
 use Rattle.mpm_machine.specs.declared.system.System.{System}
@@ -14,17 +13,11 @@ use Rattle.mpm_machine.specs.Chain.{IsChain}
 abbrev with_last : {A : Type 0} → ℕ → (ℕ → A) → A → ℕ → A
 with_last n f a k = if nat_lt k n then f k else a
 
-below : (k n : ℕ) → k < n → nat_lt k n ≡ true
-below k n less = grind (arith, nat_tests)
-
-not_below : (k n : ℕ) → n ≤ k → nat_lt k n ≡ false
-not_below k n from = grind (arith, nat_tests)
-
 before_last : {A : Type 0} (n : ℕ) (f : ℕ → A) (a : A) (k : ℕ) → k < n → with_last n f a k ≡ f k
-before_last n f a k less = cond-true (nat_lt k n) _ _ (below k n less)
+before_last n f a k less = cond-true (nat_lt k n) _ _ (lt-ltb k n less)
 
 at_last : {A : Type 0} (n : ℕ) (f : ℕ → A) (a : A) (k : ℕ) → n ≤ k → with_last n f a k ≡ a
-at_last n f a k from = cond-false (nat_lt k n) _ _ (not_below k n from)
+at_last n f a k from = cond-false (nat_lt k n) _ _ (le-ltb k n from)
 
 -- a step is that of the same system and the same change, and upon the same
 made_same : (one other : System) (upon kept upon' kept' : Kept) (system new : System) (emitted said : List Output) → other ≡ one → upon' ≡ upon → kept' ≡ kept → new ≡ system

@@ -10,7 +10,7 @@ use Rattle.mpm_service.specs.declared.service.Turn.TheVariants.{Idle, Passing, W
 use Rattle.mpm_kernel.specs.Disk.{with_disk, waiting_for_disk, ready_again as made_ready_again, IsOver}
 use Rattle.mpm_kernel.proofs.DiskLaws.{sound_waiting_for_disk, sound_turned, sound_begun_call, sound_ready_again, over_turned}
 use Rattle.mpm_kernel.proofs.HomeLaws.{homes_stay}
-use Rattle.mpm_bdos.specs.Direct.{Directly}
+use Rattle.mpm_directories.specs.Direct.{Directly}
 use Rattle.mpm_machine.specs.declared.system.System.{System}
 use Rattle.mpm_machine.specs.State.{Change, IsWhole}
 use Rattle.mpm_machine.specs.FileCalls.{concluded}

@@ -11,7 +11,8 @@ use Rattle.mpm_machine_file.proofs.OrderLaws.{IsApart, AreApart, apart_from_diff
 use Rattle.mpm_mount.specs.Directories.{Directory}
 use Rattle.mpm_drives.specs.Images.{Images}
 use Rattle.mpm_drives.specs.Mounted.{number_of, IsNamed, AreMounted}
-use Rattle.mpm_bdos.specs.Serving.{Kept, directory_at, all_put, in_places, nothing_kept}
+use Rattle.mpm_bdos.specs.Serving.{Kept, nothing_kept}
+use Rattle.mpm_directories.specs.Places.{directory_at, all_put, in_places}
 use Rattle.mpm_bdos.specs.Turns.{StaysBeside, labelled}
 use Rattle.mpm_bdos.proofs.Fitting.{stays_same, stays_again}
 use Rattle.mpm_bdos.proofs.AtOnceLaws.{still_there}

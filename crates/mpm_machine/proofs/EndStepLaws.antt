@@ -13,8 +13,9 @@ use Rattle.mpm_output.specs.Writing.{Wrote, Stopped}
 use Rattle.mpm_output.proofs.WritingLaws.{wrote_after, fails_before, fails_within}
 use Rattle.mpm_output.specs.Outside.{Outside, TheSink}
 use Rattle.mpm_render.specs.Outputs.{Output}
-use Rattle.mpm_bdos.specs.Direct.{Directly}
-use Rattle.mpm_bdos.specs.Serving.{Kept, InService, StandEach, Serves, directory_at, filing_of}
+use Rattle.mpm_directories.specs.Direct.{Directly}
+use Rattle.mpm_bdos.specs.Serving.{Kept, InService, StandEach, Serves, filing_of}
+use Rattle.mpm_directories.specs.Places.{directory_at}
 use Rattle.mpm_bdos.specs.Jobs.{call_turns}
 use Rattle.mpm_bdos.specs.Turns.{has_work}
 use Rattle.mpm_functions.specs.declared.functions.FileFunction.{FileFunction}
@@ -125,16 +126,18 @@ leaves_behind telling old served ended kept kept' kept'' is ends leaves pays =
 pub has_ended : {kept kept' kept'' : Kept} (instruction : Bool) (o m n : Outside) (old served ended paid new : System) → HasServed kept kept' o m old served
     → kept'' ≡ kept_paid ended kept' → (is_some ended.kernel.disk.served ≡ true → kept'' ≡ kept') → ended ≡ (records_out (with_ends served)).system → Wrote m n (records_out (with_ends served)).emitted → paid ≡ all_paid ended
     → new ≡ record paid { kernel = with_dispatcher (picked instruction) paid.kernel } → HasEndedStep kept kept'' instruction o n old new
-has_ended {kept} {kept'} {kept''} instruction o m n old served ended paid new has left same ends wrote pays picks =
+has_ended {kept} {kept'} {kept''} instruction o m n old served ended paid new has gives same ends wrote pays picks =
     let done = rest_done instruction has.telling o m n old served new has.system has.wrote wrote (ended_so instruction served ended paid new ends pays picks) in
     record {
       telling = has.telling;
       turns = has.turns;
       of_call = has.of_call;
       tells = has.tells;
+      left = has.left;
       as_kept = has.as_kept;
+      passes = has.passes;
       entered = entered_then o m old served ended has ends same;
-      leaves = λ none. leaves_behind has.telling old served ended kept kept' kept'' has.system ends (has.leaves none) left;
+      leaves = leaves_behind has.telling old served ended has.left kept' kept'' has.system ends has.leaves gives;
       system = done.0;
       wrote = done.1;
     }
@@ -286,6 +289,7 @@ serving_stops instruction o n old stopped =
       turns = enters_for_any paid;
       of_call = stopped.of_call;
       tells = stopped.tells;
+      left = stopped.left;
       as_kept = stopped.as_kept;
       stops = served_stops instruction telling o n old stopped.stops;
     }
@@ -302,6 +306,7 @@ ended_stops instruction o m n old served has stopped = record {
   turns = has.turns;
   of_call = has.of_call;
   tells = has.tells;
+  left = has.left;
   as_kept = has.as_kept;
   stops = ends_stop instruction has.telling o m n old served has.system has.wrote stopped;
 }

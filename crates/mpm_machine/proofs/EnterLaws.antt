@@ -19,7 +19,7 @@ use Rattle.mpm_kernel.specs.Disk.{with_disk}
 use Rattle.mpm_output.specs.Outside.{Outside}
 use Rattle.mpm_output.specs.Writing.{Wrote}
 use Rattle.mpm_output.proofs.WritingLaws.{wrote_nothing}
-use Rattle.mpm_bdos.specs.Direct.{Directly}
+use Rattle.mpm_directories.specs.Direct.{Directly}
 use Rattle.mpm_functions.specs.declared.functions.FileFunction.{FileFunction}
 use Rattle.mpm_bdos.specs.Answering.{HasEntered}
 use Rattle.mpm_requests.specs.Filing.{Filing, Situation}
@@ -446,33 +446,34 @@ entered_behind passed paid new kept kept' kept'' disks files is stands rest same
     (subst (λ (system : System). StandsForFiles system.kernel.disk kept' disks (given_back passed.owed files)) (sym is)
     (pays passed kept kept' disks files stands rest same left)))
 
-pub has_served : {kept kept' : Kept} (turns : ℕ) (o n : Outside) (old passed new : System) (has : HasPassed kept o n old passed) → EntersFor turns (all_paid passed)
+pub has_served : {kept left kept' : Kept} (turns : ℕ) (o n : Outside) (old passed new : System) (has : HasPassed kept left o n old passed) → EntersFor turns (all_paid passed)
     → ServesEntered kept' turns (all_paid passed) → new ≡ call_entered turns (all_paid passed)
-    → (process_over old ≡ None → (kept' ≡ record (kept_paid passed kept) { service = kept'.service }) × (new.kernel.disk.served ≡ None → kept'.service ≡ kept.service))
+    → (process_over old ≡ None → left ≡ kept) → kept' ≡ record (kept_paid passed left) { service = kept'.service } → (new.kernel.disk.served ≡ None → kept'.service ≡ left.service)
     → HasServed kept kept' o n old new
 unfolding entered_after
-has_served {kept} {kept'} turns o n old passed new has enters entered is leaves = record {
+has_served {kept} {left} {kept'} turns o n old passed new has enters entered is passes leaves service = record {
   telling = record { at_gate = nothing_told; at_disk = has.told; turns = turns };
   turns = subst (λ (system : System). EntersFor turns (all_paid system)) has.system enters;
   of_call = has.of_call;
   tells = has.tells;
+  left = left;
   as_kept = has.as_kept;
+  passes = passes;
   entered = subst (λ (system : System). ServesEntered kept' turns (all_paid system)) has.system entered;
-  leaves = λ none.
+  leaves =
       let behind : new ≡ call_entered turns (all_paid (disk_served has.told old).system) = is ∙ ap (λ (system : System). call_entered turns (all_paid system)) has.system in
       record {
-        is = (leaves none).0 ∙ ap (λ (system : System). record (kept_paid system kept) { service = kept'.service }) has.system;
-        service = λ idle. (leaves none).1 (ap (λ (system : System). system.kernel.disk.served) behind ∙ idle);
+        is = leaves ∙ ap (λ (system : System). record (kept_paid system left) { service = kept'.service }) has.system;
+        service = λ idle. service (ap (λ (system : System). system.kernel.disk.served) behind ∙ idle);
       };
   system = is ∙ ap (λ (system : System). call_entered turns (all_paid system)) has.system;
   wrote = has.wrote;
 }
 
 -- of what is kept
-pub leaves_served : (passed : System) (old kept paid new : Kept) → kept ≡ old → paid ≡ kept_paid passed kept → new ≡ record paid { service = new.service }
-    → new ≡ record (kept_paid passed old) { service = new.service }
-leaves_served passed old kept paid new same pays enters =
-    enters ∙ ap (λ (k : Kept). record k { service = new.service }) (pays ∙ ap (kept_paid passed) same)
+pub leaves_served : (passed : System) (left paid new : Kept) → paid ≡ kept_paid passed left → new ≡ record paid { service = new.service }
+    → new ≡ record (kept_paid passed left) { service = new.service }
+leaves_served passed left paid new pays enters = enters ∙ ap (λ (k : Kept). record k { service = new.service }) pays
 
 -- where nobody was in service as it began
 pub none_served : (told : Directly) (system : System) → system.kernel.disk.served ≡ None → disk_served told system ≡ silent system
@@ -503,26 +504,26 @@ nothing_passes files o old kept disks none stands =
           (record { stands = worked_between old.kernel.disk.turn_steps old.kernel.disk.served kept disks files none stands.stands }),
     )
 
-pub has_passed_none : (kept : Kept) (o : Outside) (old : System) → old.kernel.disk.served ≡ None → HasPassed kept o o old old
+pub has_passed_none : (kept : Kept) (o : Outside) (old : System) → old.kernel.disk.served ≡ None → HasPassed kept kept o o old old
 has_passed_none kept o old none =
     let is = none_served nothing_told old none in
     record {
       told = nothing_told;
       of_call = subst (λ (over : Option ℕ). IsOfCall over nothing_told old) (sym (none_over old none)) tt;
       tells = subst (λ (over : Option ℕ). IsToldIn over nothing_told old) (sym (none_over old none)) tt;
-      as_kept = subst (λ (over : Option ℕ). IsOverAsKept kept over nothing_told) (sym (none_over old none)) tt;
+      as_kept = subst (λ (over : Option ℕ). IsOverAsKept kept kept over nothing_told) (sym (none_over old none)) tt;
       system = sym (ap (λ (c : Change). c.system) is);
       wrote = subst (λ (c : Change). Wrote o o c.emitted) (sym is) (wrote_nothing o);
     }
 
 -- who is at the disk keeps a call that it serves
 
-pub passed_filed : {kept : Kept} (o n : Outside) (old new : System) → IsWhole old → AreFiled old.kernel → HasPassed kept o n old new → AreFiled new.kernel
+pub passed_filed : {kept left : Kept} (o n : Outside) (old new : System) → IsWhole old → AreFiled old.kernel → HasPassed kept left o n old new → AreFiled new.kernel
 passed_filed o n old new w filed has = filed_still old.kernel new.kernel (subst (SystemKeepsCalls old) (sym has.system) (calls_disk_served has.told old w)) filed
 
-pub filed_if_passed : {A E : Type 0} (r : Result A E) (kept : Kept) (o n : Outside) (old new : System) → IsWhole old → AreFiled old.kernel → OnOk r (HasPassed kept o n old new) → OnOk r (AreFiled new.kernel)
-filed_if_passed (Ok a) kept o n old new w filed has = passed_filed o n old new w filed has
-filed_if_passed (Err e) kept o n old new w filed has = tt
+pub filed_if_passed : {A E : Type 0} (r : Result A E) (kept left : Kept) (o n : Outside) (old new : System) → IsWhole old → AreFiled old.kernel → OnOk r (HasPassed kept left o n old new) → OnOk r (AreFiled new.kernel)
+filed_if_passed (Ok a) kept left o n old new w filed has = passed_filed o n old new w filed has
+filed_if_passed (Err e) kept left o n old new w filed has = tt
 
 calls_paid : (system : System) → SystemKeepsCalls system (all_paid system)
 unfolding all_paid

@@ -14,7 +14,7 @@ use Rattle.mpm_procs.specs.Table.{process_in, call_of}
 use Rattle.mpm_procs.specs.declared.process.Process.{Process}
 use Rattle.mpm_mount.specs.Drives.{Drive}
 use Rattle.mpm_mount.specs.Directories.{Directory, Stands}
-use Rattle.mpm_files.specs.declared.jobs.Job.{Job}
+use Rattle.mpm_jobs.specs.declared.jobs.Job.{Job}
 use Rattle.mpm_files.specs.Units.{stages}
 use Rattle.mpm_files.specs.Plans.{unit_at}
 use Rattle.mpm_files.specs.Serving.{units_done}
@@ -27,7 +27,8 @@ use Rattle.mpm_requests.specs.Filing.{Filing, Situation}
 use Rattle.mpm_requests.specs.Subjects.{drive_number, blank_drive, drive_at}
 use Rattle.mpm_bdos.specs.Jobs.{call_turns, job_of}
 use Rattle.mpm_bdos.specs.Outcomes.{drives_after}
-use Rattle.mpm_bdos.specs.Serving.{Kept, Serves, StandEach, directory_at}
+use Rattle.mpm_bdos.specs.Serving.{Kept, Serves, StandEach}
+use Rattle.mpm_directories.specs.Places.{directory_at}
 use Rattle.mpm_requests.specs.Asking.{StandsWhere}
 use Rattle.mpm_bdos.specs.Starting.{caller_of, entering as entering_here}
 use Rattle.mpm_bdos.specs.Turns.{KeepsImages, StopsWithin, drive_served, labelled, told_images, has_directory}

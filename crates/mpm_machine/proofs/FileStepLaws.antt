@@ -11,8 +11,7 @@ use Rattle.mpm_processor.specs.declared.gate.Gate.TheVariants.{End, Call, Return
 use Rattle.mpm_residents.specs.declared.native.Native.{Native}
 use Rattle.mpm_residents.specs.Natives.{native_in}
 use Rattle.mpm_functions.specs.declared.refusals.Extended.{Extended}
-use Rattle.mpm_bdos.specs.Outcomes.{CallerChange, Stays, Selects, Resets}
-use Rattle.mpm_bdos.specs.Direct.{Directly}
+use Rattle.mpm_directories.specs.Direct.{CallerChange, Stays, Selects, Resets, Directly}
 use Rattle.mpm_bdos.specs.Serving.{Kept}
 use Rattle.mpm_machine.specs.declared.system.System.{System}
 use Rattle.mpm_machine.specs.State.{Change, IsWhole, NoCompletions, HasRoomForAll, speaking}
@@ -264,8 +263,10 @@ is_made_still kept system change w handed alone passes is =
     let here = passes told in
     record {
       made = made;
-      as_kept = subst (λ (c : Option ℕ). IsAsKept kept c told (made_in c system)) (sym alone) tt;
-      over_as_kept = subst (λ (c : Option ℕ). IsOverAsKept kept c made.step.telling.at_disk) (sym (nobody told)) tt;
+      begun = kept;
+      left = kept;
+      as_kept = subst (λ (c : Option ℕ). IsAsKept kept kept c told (made_in c system)) (sym alone) tt;
+      over_as_kept = subst (λ (c : Option ℕ). IsOverAsKept kept kept c made.step.telling.at_disk) (sym (nobody told)) tt;
       entered = record {
         serves = λ function p images drives enters stand. absurd (nobody_starts made.step.telling.at_disk begun function p here.still enters);
         takes = λ function p images drives enters stand. absurd (nobody_starts made.step.telling.at_disk begun function p here.still enters);
@@ -275,5 +276,7 @@ is_made_still kept system change w handed alone passes is =
         passing = λ none. refl;
         workless = λ less. refl;
       };
-      leaves = λ none off. rest_keeps made.step.telling begun kept here.done here.nobody here.off here.still;
+      rests = λ none off. refl;
+      passes = λ over. refl;
+      leaves = rest_keeps made.step.telling begun kept here.paid here.nobody here.off here.still;
     }

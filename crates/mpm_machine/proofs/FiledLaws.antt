@@ -24,8 +24,7 @@ use Rattle.mpm_residents.specs.declared.native.Native.{Native}
 use Rattle.mpm_residents.specs.Natives.{native_in}
 use Rattle.mpm_output.specs.Texts.{error_text}
 use Rattle.mpm_functions.specs.declared.refusals.Extended.{Extended}
-use Rattle.mpm_bdos.specs.Outcomes.{CallerChange, Stays, Selects, Resets}
-use Rattle.mpm_bdos.specs.Direct.{Directly}
+use Rattle.mpm_directories.specs.Direct.{CallerChange, Stays, Selects, Resets, Directly}
 use Rattle.mpm_machine.specs.declared.system.System.{System}
 use Rattle.mpm_machine.specs.State.{Change, IsWhole, speaking}
 use Rattle.mpm_machine.specs.Ending.{ended}

@@ -1,5 +1,5 @@
 -- A step of the machine is what it begins with and the rest of it, by what its file calls may tell, and by what is on the drives.
-use Rattle.std.specs.Prelude.{is_some, option_and_then, option_map}
+use Rattle.std.specs.Prelude.{◌⊎◌, is_some, option_and_then, option_map}
 use Rattle.std.proofs.Math.Path.{fun_ext}
 use Rattle.std.proofs.Common.{◌≡◌, ◌∙◌, ℕ, Bool, true, false, ◌++◌, ◌==◌, List, [], Option, Some, None, inl, inr, refl, sym, ap, subst}
 use Rattle.mpm_port.specs.Disks.{Disks}
@@ -14,13 +14,12 @@ use Rattle.mpm_output.proofs.WritingLaws.{wrote_after, fails_before, fails_withi
 use Rattle.mpm_functions.specs.declared.functions.FileFunction.{FileFunction}
 use Rattle.mpm_functions.specs.declared.functions.DirectFunction.{DirectFunction}
 use Rattle.mpm_functions.specs.declared.refusals.Extended.{Extended}
-use Rattle.mpm_bdos.specs.Direct.{Directly, ComesDirectly, is_protected}
+use Rattle.mpm_directories.specs.Direct.{Directly, ComesDirectly, is_protected}
 use Rattle.mpm_functions.specs.Functions.{direct_of, function_of}
-use Rattle.mpm_requests.specs.Filing.{Situation}
 use Rattle.mpm_service.specs.Disk.{turn_answer, served_process}
 use Rattle.mpm_service.specs.declared.service.Served.{Served}
-use Rattle.mpm_bdos.specs.Jobs.{job_of}
-use Rattle.mpm_bdos.specs.Serving.{Kept, Serves, directory_at, kind_at}
+use Rattle.mpm_bdos.specs.Serving.{Kept, Serves}
+use Rattle.mpm_directories.specs.Places.{directory_at, kind_at}
 use Rattle.mpm_bdos.specs.Turns.{TurnKeeps, has_work, labelled}
 use Rattle.mpm_bdos.proofs.NextTurns.{idle_work}
 use Rattle.mpm_machine.specs.declared.system.System.{System}
@@ -104,13 +103,19 @@ wrote_same o n a b is wrote = subst (Wrote o n) is wrote
 change_is : (new : System) (change : Change) → new ≡ change.system → record { system = new; emitted = change.emitted } ≡ change
 change_is new change is = ap (λ (s : System). let c : Change = record { system = s; emitted = change.emitted } in c) is
 
+-- where none was in service, none is over
+none_over_then : (old middle begun : System) → middle ≡ begun → middle.kernel.disk.served ≡ old.kernel.disk.served → (old.kernel.disk.served ≡ None) ⊎ (process_over begun ≡ None)
+    → process_over middle ≡ None
+none_over_then old middle begun here served (inl none) = none_over middle (served ∙ none)
+none_over_then old middle begun here served (inr still) = subst (λ (s : System). process_over s ≡ None) (sym here) still
+
 -- whatever is on the drives
 
-pub has_stepped : {kept between kept' : Kept} (instruction : Bool) (o m n : Outside) (old middle new : System) → IsWhole old → NoCompletions old → HasBegunStep kept instruction o m old middle
-    → (ended : HasEndedStep between kept' instruction m n middle new) → IsOverAsKept kept (process_over middle) ended.telling.at_disk
+pub has_stepped : {kept between kept' : Kept} (instruction : Bool) (o m n : Outside) (old middle new : System) → IsWhole old → NoCompletions old → HasBegunStep kept between instruction o m old middle
+    → (ended : HasEndedStep between kept' instruction m n middle new) → IsOverAsKept kept ended.left (process_over middle) ended.telling.at_disk
     → (is_some old.kernel.disk.served ≡ true → process_over middle ≡ None → StaysInService kept kept' old)
     → middle.kernel.disk.served ≡ old.kernel.disk.served → (old.kernel.disk.served ≡ None → works_at_once (file_caller old) old ≡ false → between ≡ kept) → HasStepped kept kept' o n old new
-has_stepped {kept} {between} {kept'} instruction o m n old middle new w handed begun ended over stays served same =
+has_stepped {kept} {between} {kept'} instruction o m n old middle new w handed begun ended over stays served rests =
     let telling = joined begun.told ended.telling in
     let change = step_with telling old in
     let P : System → Type 0 = λ s. IsOfCall (process_over s) ended.telling.at_disk s in
@@ -119,20 +124,23 @@ has_stepped {kept} {between} {kept'} instruction o m n old middle new w handed b
     let is = whole_system instruction begun.told ended.telling old middle new begun.instruction_is begun.system ended.system in
     let by = made_as telling old (record { system = new; emitted = change.emitted }) (subst R begun.system ended.turns) w handed begun.of_call (subst P begun.system ended.of_call) begun.tells
     (subst Q begun.system ended.tells) (change_is new change is) in
+    let here : middle ≡ (begun_as by.made.step.telling.at_gate old).system = begun.system ∙ ap (λ (t : Telling). (begun_as t.at_gate old).system) (sym by.telling_is) in
     record {
       emitted = change.emitted;
       is = record {
         made = by.made;
-        as_kept = subst (λ (t : Telling). IsAsKept kept (file_caller old) t.at_gate (made_in (file_caller old) old)) (sym by.telling_is) begun.as_kept;
-        over_as_kept = subst (λ (t : Telling). IsOverAsKept kept (process_over (begun_as t.at_gate old).system) t.at_disk) (sym by.telling_is)
-            (subst (λ (s : System). IsOverAsKept kept (process_over s) ended.telling.at_disk) begun.system over);
+        begun = between;
+        left = ended.left;
+        as_kept = subst (λ (t : Telling). IsAsKept kept between (file_caller old) t.at_gate (made_in (file_caller old) old)) (sym by.telling_is) begun.as_kept;
+        over_as_kept = subst (λ (t : Telling). IsOverAsKept kept ended.left (process_over (begun_as t.at_gate old).system) t.at_disk) (sym by.telling_is)
+            (subst (λ (s : System). IsOverAsKept kept ended.left (process_over s) ended.telling.at_disk) begun.system over);
         entered = subst (λ (t : Telling). ServesEntered kept' t.turns (paid_after t.at_disk (begun_as t.at_gate old).system)) (sym by.telling_is)
             (subst (λ (s : System). ServesEntered kept' ended.telling.turns (paid_after ended.telling.at_disk s)) begun.system ended.entered);
-        stays = λ some still. stays some (subst (λ (s : System). process_over s ≡ None)
-            (sym (begun.system ∙ ap (λ (t : Telling). (begun_as t.at_gate old).system) (sym by.telling_is))) still);
-        leaves = λ none off. subst (λ (t : Telling). LeavesKept t kept kept' (begun_as t.at_gate old).system) (sym by.telling_is)
-            (subst (LeavesKept telling kept kept') begun.system (leaves_joined begun.told ended.telling kept kept' middle
-            (subst (λ (k : Kept). LeavesKept ended.telling k kept' middle) (same none off) (ended.leaves (none_over middle (served ∙ none))))));
+        stays = λ some still. stays some (subst (λ (s : System). process_over s ≡ None) (sym here) still);
+        rests = rests;
+        passes = λ none. ended.passes (none_over_then old middle (begun_as by.made.step.telling.at_gate old).system here served none);
+        leaves = subst (λ (t : Telling). LeavesKept t ended.left kept' (begun_as t.at_gate old).system) (sym by.telling_is)
+            (subst (LeavesKept telling ended.left kept') begun.system (leaves_joined begun.told ended.telling ended.left kept' middle ended.leaves));
       };
       wrote = wrote_same o n _ change.emitted (whole_emitted instruction begun.told ended.telling old middle begun.instruction_is begun.system)
           (wrote_after o m n (begun_as begun.told old).emitted (rest_of instruction ended.telling (silent middle)).emitted begun.wrote ended.wrote);
@@ -154,15 +162,15 @@ same_label None (Some new) same = absurd (cc)
 same_label (Some old) None same = absurd (cc)
 same_label (Some old) (Some new) same = ap (option_map (λ (label : ℕ × Kind). label.1)) same
 
-told_as_before : (old new : Kept) (p : ℕ) (system : System) (answer : Answer) (extended : Option Extended) → TurnKeeps old new
-    → ((system.kernel.disk.turn_steps == 0) ≡ true → new ≡ old) → IsToldAsKept new p system answer extended → IsToldAsKept old p system answer extended
+told_as_before : (old new left : Kept) (p : ℕ) (system : System) (answer : Answer) (extended : Option Extended) → TurnKeeps old new
+    → ((system.kernel.disk.turn_steps == 0) ≡ true → new ≡ old) → IsToldAsKept new left p system answer extended → IsToldAsKept old left p system answer extended
 unfolding IsToldAsKept
-told_as_before old new p system answer extended keeps still told =
+told_as_before old new left p system answer extended keeps still told =
     let number = (call_of system.kernel.dispatcher.procs p).function in
     by_function (function_of number) (direct_of number) told
   where
-    by_function : (served : Option FileFunction) (found : Option DirectFunction) → TellsAsKept served found new p system answer extended → TellsAsKept served found old p system answer extended
-    by_function (Some function) found so = λ once. subst (λ (kept : Kept). ComesWithoutJob function kept p system answer extended) (still once) (so once)
+    by_function : (served : Option FileFunction) (found : Option DirectFunction) → TellsAsKept served found new left p system answer extended → TellsAsKept served found old left p system answer extended
+    by_function (Some function) found so = λ once. subst (λ (kept : Kept). ComesWithoutJob function kept left p system answer extended) (still once) (so once)
     by_function None None so = tt
     by_function None (Some function) so =
         let procs = system.kernel.dispatcher.procs in
@@ -172,40 +180,35 @@ told_as_before old new p system answer extended keeps still told =
         (fun_ext (λ number. same_label (directory_at old.mounted number) (directory_at new.mounted number) (keeps.labels number)))
         (subst (λ (all : List Bool). ComesDirectly (kind_at new.mounted) (is_protected all) drive function call answer extended) (ap (λ (k : Kept). k.protected) keeps.rest) so)
 
-kept_as_before : (old new : Kept) (whose : Option ℕ) (told : Directly) (system : System) → TurnKeeps old new → (works_in_turn system ≡ false → new ≡ old)
-    → IsAsKept new whose told (made_in whose system) → IsAsKept old whose told (made_in whose system)
-kept_as_before old new None told system keeps still is = tt
-kept_as_before old new (Some p) told system keeps still is =
-    told_as_before old new p (call_made p system) told.answer told.extended keeps
+kept_as_before : (old new left : Kept) (whose : Option ℕ) (told : Directly) (system : System) → TurnKeeps old new → (works_in_turn system ≡ false → new ≡ old)
+    → IsAsKept new left whose told (made_in whose system) → IsAsKept old left whose told (made_in whose system)
+kept_as_before old new left None told system keeps still is = tt
+kept_as_before old new left (Some p) told system keeps still is =
+    told_as_before old new left p (call_made p system) told.answer told.extended keeps
     (λ once. still (never_turns system (ap (λ (n : ℕ). n == 0) (sym (made_serves p system).steps) ∙ once))) is
 
-pub begun_as_before : (old new : Kept) (instruction : Bool) (o n : Outside) (system middle : System) → TurnKeeps old new → (works_in_turn system ≡ false → new ≡ old)
-    → HasBegunStep new instruction o n system middle → HasBegunStep old instruction o n system middle
-begun_as_before old new instruction o n system middle keeps still begun = record {
+pub begun_as_before : (old new left : Kept) (instruction : Bool) (o n : Outside) (system middle : System) → TurnKeeps old new → (works_in_turn system ≡ false → new ≡ old)
+    → HasBegunStep new left instruction o n system middle → HasBegunStep old left instruction o n system middle
+begun_as_before old new left instruction o n system middle keeps still begun = record {
   told = begun.told;
   of_call = begun.of_call;
   tells = begun.tells;
-  as_kept = kept_as_before old new (file_caller system) begun.told system keeps still begun.as_kept;
+  as_kept = kept_as_before old new left (file_caller system) begun.told system keeps still begun.as_kept;
   instruction_is = begun.instruction_is;
   system = begun.system;
   wrote = begun.wrote;
 }
 
 -- so one that is over and has no job: where it is in service neither its turn nor what a step begins with changes anything that is kept
-ends_before : (old worked middle : Kept) (answer : Answer) (extended : Option Extended) → (has_work old.service ≡ false → worked ≡ old) → middle ≡ worked
-    → EndsWithoutJob middle answer extended → EndsWithoutJob old answer extended
-ends_before old worked middle answer extended rests same ends =
-    let still : (images : ℕ → List ℕ) (s : Situation) → Serves images old s 0 → job_of s ≡ None → Serves images middle s 0 =
-    λ images s serves none. subst (λ (kept : Kept). Serves images kept s 0) (sym (same ∙ rests (idle_work images old s 0 none serves))) serves in
-    record {
-      answer_is = λ images s serves none. ends.answer_is images s (still images s serves none) none;
-      extended_is = λ images s serves none. ends.extended_is images s (still images s serves none) none;
-    }
+ends_before : (old worked middle left : Kept) (answer : Answer) (extended : Option Extended) → (has_work old.service ≡ false → worked ≡ old) → middle ≡ worked
+    → EndsWithoutJob middle left answer extended → EndsWithoutJob old left answer extended
+ends_before old worked middle left answer extended rests same ends =
+    λ images s serves none. ends images s (subst (λ (kept : Kept). Serves images kept s 0) (sym (same ∙ rests (idle_work images old s 0 none serves))) serves) none
 
-pub over_as_before : (old worked middle : Kept) (over : Option ℕ) (told : Directly) → (has_work old.service ≡ false → worked ≡ old) → (is_some over ≡ true → middle ≡ worked)
-    → IsOverAsKept middle over told → IsOverAsKept old over told
-over_as_before old worked middle None told rests same is = tt
-over_as_before old worked middle (Some p) told rests same is = ends_before old worked middle told.answer told.extended rests (same refl) is
+pub over_as_before : (old worked middle left : Kept) (over : Option ℕ) (told : Directly) → (has_work old.service ≡ false → worked ≡ old) → (is_some over ≡ true → middle ≡ worked)
+    → IsOverAsKept middle left over told → IsOverAsKept old left over told
+over_as_before old worked middle left None told rests same is = tt
+over_as_before old worked middle left (Some p) told rests same is = ends_before old worked middle left told.answer told.extended rests (same refl) is
 
 served_if_some : (served : Option Served) (f : ℕ → Option ℕ) → is_some (option_and_then f (option_map (λ (call : Served). call.p) served)) ≡ true → is_some served ≡ true
 served_if_some None f some = some
@@ -215,10 +218,10 @@ served_if_over : (system : System) → is_some (process_over system) ≡ true �
 unfolding process_over served_process
 served_if_over system some = served_if_some system.kernel.disk.served (λ p. over_by (turn_answer system.kernel.disk)) some
 
-pub ended_as_before : (old worked begun : Kept) (middle : System) (told : Directly) → (has_work old.service ≡ false → worked ≡ old)
-    → (is_some middle.kernel.disk.served ≡ true → begun ≡ worked) → IsOverAsKept begun (process_over middle) told → IsOverAsKept old (process_over middle) told
-ended_as_before old worked begun middle told rests same is =
-    over_as_before old worked begun (process_over middle) told rests (λ some. same (served_if_over middle some)) is
+pub ended_as_before : (old worked begun left : Kept) (middle : System) (told : Directly) → (has_work old.service ≡ false → worked ≡ old)
+    → (is_some middle.kernel.disk.served ≡ true → begun ≡ worked) → IsOverAsKept begun left (process_over middle) told → IsOverAsKept old left (process_over middle) told
+ended_as_before old worked begun left middle told rests same is =
+    over_as_before old worked begun left (process_over middle) told rests (λ some. same (served_if_over middle some)) is
 
 pub stopped_as_before : (old worked begun : Kept) (instruction : Bool) (o n : Outside) (middle : System) → (has_work old.service ≡ false → worked ≡ old)
     → (is_some middle.kernel.disk.served ≡ true → begun ≡ worked) → HasEndedToStop begun instruction o n middle → HasEndedToStop old instruction o n middle
@@ -227,7 +230,8 @@ stopped_as_before old worked begun instruction o n middle rests same ended = rec
   turns = ended.turns;
   of_call = ended.of_call;
   tells = ended.tells;
-  as_kept = ended_as_before old worked begun middle ended.telling.at_disk rests same ended.as_kept;
+  left = ended.left;
+  as_kept = ended_as_before old worked begun ended.left middle ended.telling.at_disk rests same ended.as_kept;
   stops = ended.stops;
 }
 
@@ -255,8 +259,10 @@ begun_has_stopped WriteFault kept worked o n old w handed works apart keeps stil
     record {
       change = change;
       made = by.made;
-      as_kept = subst (λ (t : Telling). IsAsKept kept (file_caller old) t.at_gate (made_in (file_caller old) old)) (sym by.telling_is)
-          (kept_as_before kept worked (file_caller old) begun.told old keeps still begun.as_kept);
+      begun = begun.left;
+      left = begun.left;
+      as_kept = subst (λ (t : Telling). IsAsKept kept begun.left (file_caller old) t.at_gate (made_in (file_caller old) old)) (sym by.telling_is)
+          (kept_as_before kept worked begun.left (file_caller old) begun.told old keeps still begun.as_kept);
       over_as_kept = inl (subst (λ (t : Telling). Stopped o n (begun_as t.at_gate old).emitted) (sym by.telling_is) begun.stops);
       text = fails_same TheSink o n _ change.emitted (whole_emitted i begun.told rest old middle refl refl)
           (fails_before TheSink o n (begun_as begun.told old).emitted (rest_of i rest (silent middle)).emitted begun.stops);
@@ -269,9 +275,9 @@ pub disk_has_stopped : (kept : Kept) (o : Outside) (old : System) → does_work 
 disk_has_stopped kept o old works work = (refl, record { works = works; job = inr work })
 
 -- or the rest of it
-pub ended_has_stopped : {kept : Kept} (instruction : Bool) (o m n : Outside) (old middle : System) → IsWhole old → NoCompletions old → HasBegunStep kept instruction o m old middle
+pub ended_has_stopped : {kept between : Kept} (instruction : Bool) (o m n : Outside) (old middle : System) → IsWhole old → NoCompletions old → HasBegunStep kept between instruction o m old middle
     → HasEndedToStop kept instruction m n middle → HasStopped WriteFault kept o n old
-ended_has_stopped {kept} instruction o m n old middle w handed begun ended =
+ended_has_stopped {kept} {between} instruction o m n old middle w handed begun ended =
     let telling = joined begun.told ended.telling in
     let change = step_with telling old in
     let P : System → Type 0 = λ s. IsOfCall (process_over s) ended.telling.at_disk s in
@@ -281,9 +287,11 @@ ended_has_stopped {kept} instruction o m n old middle w handed begun ended =
     record {
       change = change;
       made = by.made;
-      as_kept = subst (λ (t : Telling). IsAsKept kept (file_caller old) t.at_gate (made_in (file_caller old) old)) (sym by.telling_is) begun.as_kept;
-      over_as_kept = inr (subst (λ (t : Telling). IsOverAsKept kept (process_over (begun_as t.at_gate old).system) t.at_disk) (sym by.telling_is)
-          (subst (λ (s : System). IsOverAsKept kept (process_over s) ended.telling.at_disk) begun.system ended.as_kept));
+      begun = between;
+      left = ended.left;
+      as_kept = subst (λ (t : Telling). IsAsKept kept between (file_caller old) t.at_gate (made_in (file_caller old) old)) (sym by.telling_is) begun.as_kept;
+      over_as_kept = inr (subst (λ (t : Telling). IsOverAsKept kept ended.left (process_over (begun_as t.at_gate old).system) t.at_disk) (sym by.telling_is)
+          (subst (λ (s : System). IsOverAsKept kept ended.left (process_over s) ended.telling.at_disk) begun.system ended.as_kept));
       text = fails_same TheSink o n _ change.emitted (whole_emitted instruction begun.told ended.telling old middle begun.instruction_is begun.system)
           (fails_within TheSink o m n (begun_as begun.told old).emitted (rest_of instruction ended.telling (silent middle)).emitted [] begun.wrote ended.stops);
     }

@@ -23,10 +23,12 @@ use Rattle.mpm_requests.specs.Filing.{Filing, Situation}
 use Rattle.mpm_bdos.specs.AtOnce.{IsJobless}
 use Rattle.mpm_bdos.specs.Finishing.{ComesTo}
 use Rattle.mpm_bdos.specs.Jobs.{turned, call_turns}
-use Rattle.mpm_bdos.specs.Outcomes.{CallerChange, Stays, Selects, Resets, caller_by, file_call, outcome_by as served_by}
+use Rattle.mpm_directories.specs.Direct.{CallerChange, Stays, Selects, Resets, Directly, parameters_told, direct_by, is_protected, where_mounted, selected}
+use Rattle.mpm_bdos.specs.Outcomes.{caller_by, file_call, outcome_by as served_by}
 use Rattle.mpm_requests.specs.Refusals.{refusal_of}
-use Rattle.mpm_bdos.specs.Direct.{Directly, parameters_told, direct, direct_by, kind_of, is_protected, where_mounted, selected}
-use Rattle.mpm_bdos.specs.Serving.{Kept, InService, StandEach, Serves, directory_at, filing_of}
+use Rattle.mpm_bdos.specs.Direct.{direct, kind_of}
+use Rattle.mpm_bdos.specs.Serving.{Kept, InService, StandEach, Serves, filing_of}
+use Rattle.mpm_directories.specs.Places.{directory_at}
 use Rattle.mpm_bdos.specs.Answering.{HasEntered}
 use Rattle.mpm_bdos.specs.Starting.{caller_of, entering as entering_here}
 use Rattle.mpm_bdos.specs.Turns.{KeepsUnsynced, labelled, told_images}
@@ -299,7 +301,7 @@ pub disk_as_kept : {E : Type 0} (p : ℕ) (system : System) (kept new : Kept) (c
     → ((images : ℕ → List ℕ) (before : List (Option Drive)) (function : FileFunction) → function_of call.function ≡ Some function
     → IsJobless images kept.mounted (entering_here kept before (caller_of p caller) function call (stamp moment))
     → IfOk result (ComesTo images (entering_here kept before (caller_of p caller) function call (stamp moment)) new answer))
-    → IfOk result (IsToldAsKept kept p system answer)
+    → IfOk result (IsToldAsKept kept new p system answer)
 unfolding IsToldAsKept
 disk_as_kept p system kept new caller process call moment answer (Err error) looks lives calls at some jobless = tt
 disk_as_kept p system kept new caller process call moment answer (Ok extended) looks lives calls at some jobless =
@@ -309,14 +311,10 @@ disk_as_kept p system kept new caller process call moment answer (Ok extended) l
     let here : List (Option Drive) → Situation = λ drives. entering_here kept drives (caller_of p caller) function call (stamp moment) in
     let is : (drives : List (Option Drive)) → here drives ≡ situation_of (filing_of kept drives) function p system =
     λ drives. situation_is (filing_of kept drives) p system kept function caller process call moment refl looks lives calls at in
-    let comes : (images : ℕ → List ℕ) (drives : List (Option Drive)) → IsJobless images kept.mounted (situation_of (filing_of kept drives) function p system)
-    → ComesTo images (here drives) new answer extended =
-    λ images drives none. jobless images drives function its (subst (IsJobless images kept.mounted) (sym (is drives)) none) in
-    let so : ComesWithoutJob function kept p system answer extended = record {
-      answer_is = λ images drives none. (comes images drives none).answer_is ∙ ap (λ (s : Situation). (file_call s).answer) (is drives);
-      extended_is = λ images drives none. (comes images drives none).extended_is ∙ ap (λ (s : Situation). (file_call s).extended) (is drives);
-    } in
-    subst (λ f. TellsAsKept f (direct_of (call_of system.kernel.dispatcher.procs p).function) kept p system answer extended) (sym found.1) (λ once. so)
+    let so : ComesWithoutJob function kept new p system answer extended =
+    λ images drives none. subst (λ (s : Situation). ComesTo images s new answer extended) (is drives)
+    (jobless images drives function its (subst (IsJobless images kept.mounted) (sym (is drives)) none)) in
+    subst (λ f. TellsAsKept f (direct_of (call_of system.kernel.dispatcher.procs p).function) kept new p system answer extended) (sym found.1) (λ once. so)
 
 -- and where a drive fails, it has one
 pub disk_has_job : {E : Type 0} (p : ℕ) (system : System) (kept : Kept) (caller process : Process) (call : Taken) (moment : Moment) (result : Result (Option Extended) E)

@@ -13,7 +13,8 @@ use Rattle.mpm_drives.specs.Images.{ToldImage, Untold, Missing, Bytes, Images}
 use Rattle.mpm_drives.specs.Mounted.{NumberedDrive, IsImageOf, HasDirectory, AreMounted, AreTold, bytes_if, drives_on, placed}
 use Rattle.mpm_drives.proofs.Opening.{drives_are}
 use Rattle.mpm_service.specs.Disk.{DiskService}
-use Rattle.mpm_bdos.specs.Serving.{Kept, StandEach, directory_at, all_put, in_places, nothing_kept}
+use Rattle.mpm_bdos.specs.Serving.{Kept, StandEach, nothing_kept}
+use Rattle.mpm_directories.specs.Places.{directory_at, all_put, in_places}
 use Rattle.mpm_requests.specs.Asking.{StandsWhere}
 use Rattle.mpm_bdos.specs.Turns.{told_images}
 use Rattle.mpm_machine.specs.Files.{Between, StandsBetween, StandsForFiles}

@@ -6,8 +6,7 @@ use Rattle.std.specs.Option.{option_map}
 use Rattle.mpm_base.proofs.Choices.{either}
 use Rattle.mpm_base.proofs.CountLaws.{one_if_true}
 use Rattle.mpm_base.specs.Calls.{Answer}
-use Rattle.mpm_bdos.specs.Direct.{Directly}
-use Rattle.mpm_bdos.specs.Outcomes.{CallerChange, Resets, Selects, Stays}
+use Rattle.mpm_directories.specs.Direct.{Directly, CallerChange, Resets, Selects, Stays}
 use Rattle.mpm_functions.specs.declared.refusals.Extended.{Extended}
 use Rattle.mpm_cli.specs.Interpreters.{Interpreter, call_at, next_call}
 use Rattle.mpm_cli.specs.declared.table.Row.{Row}

@@ -6,7 +6,7 @@ use Rattle.mpm_kernel.specs.Kernel.{Kernel}
 use Rattle.mpm_kernel.specs.Disk.{with_disk}
 use Rattle.mpm_kernel.proofs.DiskLaws.{sound_passed_by}
 use Rattle.mpm_kernel.proofs.HomeLaws.{homes_stay}
-use Rattle.mpm_bdos.specs.Direct.{Directly}
+use Rattle.mpm_directories.specs.Direct.{Directly}
 use Rattle.mpm_bdos.specs.Serving.{Kept}
 use Rattle.mpm_machine.specs.declared.system.System.{System}
 use Rattle.mpm_machine.specs.State.{State, Change, IsWhole, NoCompletions, NobodyAborted, silent}
@@ -60,7 +60,7 @@ passes_idle told system n on =
     subst (λ (c : Change). Passes c.system)
     (sym (begun_quiet told (later system n) begun (nobody_calls (later system n) idle.running) (none_comes begun (on.quiet n (omega arith))) (nothing_acted begun idle.running) on.no_completions.answered))
     (record {
-      done = handed_idle system (system.steps + n + 1) n on.no_completions;
+      paid = (handed_idle system (system.steps + n + 1) n on.no_completions).paid;
       nobody = on.settled;
       off = on.none_deferred;
       still = still_ahead n system.kernel.disk on.passing;

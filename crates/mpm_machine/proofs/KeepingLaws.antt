@@ -38,8 +38,7 @@ use Rattle.mpm_cli.specs.declared.act.Act.TheVariants.{Ask, Place, Patch, Begin,
 use Rattle.mpm_interrupts.specs.Interrupts.{due_taken}
 use Rattle.mpm_output.specs.Texts.{illegal_text}
 use Rattle.mpm_functions.specs.declared.refusals.Extended.{Extended}
-use Rattle.mpm_bdos.specs.Direct.{Directly}
-use Rattle.mpm_bdos.specs.Outcomes.{CallerChange, Stays, Selects, Resets}
+use Rattle.mpm_directories.specs.Direct.{Directly, CallerChange, Stays, Selects, Resets}
 use Rattle.mpm_machine.specs.declared.system.System.{System}
 use Rattle.mpm_machine.specs.State.{Change, speaking}
 use Rattle.mpm_machine.specs.Ending.{ended}

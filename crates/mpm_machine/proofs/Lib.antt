@@ -14,6 +14,7 @@ pub mod NobodyDueLaws
 pub mod FileLaws
 pub mod TakenLaws
 pub mod CallLaws
+pub mod OwnCallLaws
 pub mod ResidingLaws
 pub mod PlacedLaws
 pub mod LoadingLaws
@@ -59,6 +60,7 @@ pub mod WorkLaws
 pub mod HoldingLaws
 pub mod FilesStepLaws
 pub mod TakeStepLaws
+pub mod OwnCallStepLaws
 pub mod MountedLaws
 pub mod FirstFiles
 pub mod DriveLaws

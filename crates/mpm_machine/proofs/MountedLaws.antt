@@ -19,10 +19,11 @@ use Rattle.mpm_machine_file.proofs.OrderLaws.{IsApart, AreApart as SpecsApart, a
 use Rattle.mpm_mount.specs.Directories.{Directory}
 use Rattle.mpm_drives.specs.Images.{Untold, Images}
 use Rattle.mpm_drives.specs.Mounted.{number_of, IsNamed, AreMounted, AreSynced as FreshOf}
-use Rattle.mpm_bdos.specs.Serving.{Kept, directory_at, all_put, in_places, nothing_kept}
+use Rattle.mpm_bdos.specs.Serving.{Kept, nothing_kept}
+use Rattle.mpm_directories.specs.Places.{directory_at, all_put, in_places}
 use Rattle.mpm_bdos.specs.Syncing.{AreSynced}
 use Rattle.mpm_bdos.specs.Turns.{FitsDrives, has_directory, has_work}
-use Rattle.mpm_bdos.proofs.Placed.{set_each, no_place}
+use Rattle.mpm_directories.proofs.Placed.{set_each, no_place}
 use Rattle.mpm_service.specs.Disk.{DiskService, no_service}
 use Rattle.mpm_service.specs.Places.{at_disk}
 use Rattle.mpm_service.specs.declared.service.Served.{Served}

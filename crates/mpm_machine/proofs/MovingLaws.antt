@@ -27,7 +27,7 @@ use Rattle.mpm_machine.specs.Step.{instructed, executed, instruction_at, acted_a
 use Rattle.mpm_machine.specs.FileCalls.{file_caller}
 use Rattle.mpm_machine.specs.Files.{AreWithin}
 use Rattle.mpm_machine.specs.Stepping.{Telling, begun_as, step_with}
-use Rattle.mpm_bdos.specs.Direct.{Directly}
+use Rattle.mpm_directories.specs.Direct.{Directly}
 use Rattle.mpm_bdos.specs.Serving.{Kept}
 use Rattle.mpm_service.specs.Disk.{DiskService}
 use Rattle.mpm_service.specs.Ahead.{passed_by}
@@ -237,7 +237,7 @@ passes_view told system p seg n view below on can quiet passing alone =
     subst (λ (c : Change). Passes c.system)
     (sym (begun_quiet told (with_view system p view n) (unpassed system p (moved seg view) n) alone (quiet_view system p n view quiet) (acted_view system p seg n view below on can) on.no_completions.answered))
     (record {
-      done = handed_unpassed system p n (moved seg view) on.no_completions;
+      paid = (handed_unpassed system p n (moved seg view) on.no_completions).paid;
       nobody = nobody_view system.kernel (moved seg view).devices (passed_by n system.kernel.disk) p (moved seg view).regs below on.settled;
       off = on.none_deferred;
       still = still_ahead n system.kernel.disk passing;

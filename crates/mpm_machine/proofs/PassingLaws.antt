@@ -12,13 +12,13 @@ use Rattle.mpm_service.specs.declared.service.Turn.{Turn}
 use Rattle.mpm_service.specs.declared.service.Turn.TheVariants.{Idle, Passing, Work, Starts}
 use Rattle.mpm_render.specs.Outputs.{Output}
 use Rattle.mpm_functions.specs.declared.functions.FileFunction.{FileFunction}
-use Rattle.mpm_bdos.specs.Direct.{Directly}
+use Rattle.mpm_directories.specs.Direct.{Directly}
 use Rattle.mpm_machine.specs.declared.system.System.{System}
 use Rattle.mpm_machine.specs.Owing.{nobody_owes}
 use Rattle.mpm_machine.specs.State.{Change, silent, NoCompletions, NobodyAborted}
 use Rattle.mpm_machine.specs.Due.{with_ends}
 use Rattle.mpm_machine.specs.Files.{Files, Between, Within, AreWithin}
-use Rattle.mpm_machine.specs.Step.{dispatched, with_records}
+use Rattle.mpm_machine.specs.Step.{dispatched, with_records, records_out}
 use Rattle.mpm_machine.specs.DiskStep.{step_passed, disk_served, over_by, process_over, owed_then, all_paid, call_entered}
 use Rattle.mpm_machine.specs.Stepping.{Telling, paid_after, entered_after, ended_after, rest_of}
 use Rattle.mpm_machine.specs.After.{EntersService}
@@ -108,18 +108,22 @@ still_served (Some call) first turn_steps still none = absurd (never (is_last_st
     never true call still none = false≢true still
     never false call still none = cc
 
-pub paid_passed : (system : System) → NoCompletions system → is_still (turn_answer system.kernel.disk) ≡ true → all_paid (step_passed system) ≡ step_passed system
+-- where no call is in service, nobody owes anything
+abbrev pub IsPaid : System → Type 0
+IsPaid system = system.kernel.disk.served ≡ None → system.owed ≡ nobody_owes
+
+pub paid_passed : (system : System) → IsPaid system → is_still (turn_answer system.kernel.disk) ≡ true → all_paid (step_passed system) ≡ step_passed system
 unfolding turn_answer turned
-paid_passed system none still =
+paid_passed system paid still =
     paid_now (step_passed system) (step_passed system).kernel.disk.served refl (λ idle.
-    none.paid (still_served system.kernel.disk.served (first_of system.kernel.disk.waiting) system.kernel.disk.turn_steps still idle))
+    paid (still_served system.kernel.disk.served (first_of system.kernel.disk.waiting) system.kernel.disk.turn_steps still idle))
 
-pub paid_already : (system : System) → NoCompletions system → all_paid system ≡ system
-paid_already system none = paid_now system system.kernel.disk.served refl none.paid
+pub paid_already : (system : System) → IsPaid system → all_paid system ≡ system
+paid_already system paid = paid_now system system.kernel.disk.served refl paid
 
--- a system in which the disk's step only passes, and nothing is left to be done
+-- a system in which the disk's step only passes, and nothing but records is left to be done
 pub record Passes (system : System) : Type 0 where
-  pub done : NoCompletions system
+  pub paid : IsPaid system
   pub nobody : NobodyAborted system.kernel
   pub off : system.abort_deferred ≡ false
   pub still : is_still (turn_answer system.kernel.disk) ≡ true
@@ -140,21 +144,21 @@ pub still_serves : (disk : DiskService) (p : ℕ) → is_still (turn_answer disk
 unfolding turn_answer turned served_process
 still_serves disk p still is = serves_on disk.served (first_of disk.waiting) disk.turn_steps p still is
 
-entered_by_whom : (whom : Option ℕ) (telling : Telling) (system : System) → NoCompletions system → served_process system.kernel.disk ≡ whom → is_still (turn_answer system.kernel.disk) ≡ true
+entered_by_whom : (whom : Option ℕ) (telling : Telling) (system : System) → IsPaid system → served_process system.kernel.disk ≡ whom → is_still (turn_answer system.kernel.disk) ≡ true
     → entered_after telling system ≡ step_passed system
 unfolding entered_after
-entered_by_whom None telling system none is still =
+entered_by_whom None telling system paid is still =
     ap (λ (c : System). call_entered telling.turns (all_paid c)) (ap (λ c. c.system) (served_nobody telling.at_disk system is))
-    ∙ ap (call_entered telling.turns) (paid_already system none)
+    ∙ ap (call_entered telling.turns) (paid_already system paid)
     ∙ entered_nobody telling.turns system is still
-entered_by_whom (Some p) telling system none is still =
+entered_by_whom (Some p) telling system paid is still =
     ap (λ (c : System). call_entered telling.turns (all_paid c)) (ap (λ c. c.system) (served_still telling.at_disk p system is still))
-    ∙ ap (call_entered telling.turns) (paid_passed system none still)
+    ∙ ap (call_entered telling.turns) (paid_passed system paid still)
     ∙ entered_served telling.turns p (step_passed system) (still_serves system.kernel.disk p still is)
 
-pub entered_still : (telling : Telling) (system : System) → NoCompletions system → is_still (turn_answer system.kernel.disk) ≡ true
+pub entered_still : (telling : Telling) (system : System) → IsPaid system → is_still (turn_answer system.kernel.disk) ≡ true
     → entered_after telling system ≡ step_passed system
-entered_still telling system none still = entered_by_whom (served_process system.kernel.disk) telling system none refl still
+entered_still telling system paid still = entered_by_whom (served_process system.kernel.disk) telling system paid refl still
 
 -- no call is over then
 over_nobody : (turn : Turn) → is_still turn ≡ true → over_by turn ≡ None
@@ -193,21 +197,27 @@ says_by_whom : (whom : Option ℕ) (told : Directly) (system : System) → serve
 says_by_whom None told system is still = ap (λ c. c.emitted) (served_nobody told system is)
 says_by_whom (Some p) told system is still = ap (λ c. c.emitted) (served_still told p system is still)
 
-pub ended_still : (telling : Telling) (system : System) → NoCompletions system → NobodyAborted system.kernel → system.abort_deferred ≡ false
+pub ended_still : (telling : Telling) (system : System) → IsPaid system → NobodyAborted system.kernel → system.abort_deferred ≡ false
     → is_still (turn_answer system.kernel.disk) ≡ true → ended_after telling system ≡ step_passed system
 unfolding ended_after
-ended_still telling system none nobody off still = ap with_ends (entered_still telling system none still) ∙ no_ends (step_passed system) nobody off
+ended_still telling system paid nobody off still = ap with_ends (entered_still telling system paid still) ∙ no_ends (step_passed system) nobody off
 
-pub rest_still : (instruction : Bool) (telling : Telling) (system : System) → NoCompletions system → NobodyAborted system.kernel → system.abort_deferred ≡ false
-    → is_still (turn_answer system.kernel.disk) ≡ true → rest_of instruction telling (silent system) ≡ dispatched instruction (silent (step_passed system))
+-- the records of the calls that it began with come out
+pub rest_recorded : (instruction : Bool) (telling : Telling) (system : System) → IsPaid system → NobodyAborted system.kernel → system.abort_deferred ≡ false
+    → is_still (turn_answer system.kernel.disk) ≡ true → rest_of instruction telling (silent system) ≡ dispatched instruction (records_out (step_passed system))
 unfolding rest_of
-rest_still instruction telling system none nobody off still =
+rest_recorded instruction telling system paid nobody off still =
     let passed = step_passed system in
     let F : System → List Output → Change = λ ended said. dispatched instruction (with_records (record { system = ended; emitted = said ++ [] })) in
-    let ended : all_paid (ended_after telling system) ≡ passed = ap all_paid (ended_still telling system none nobody off still) ∙ paid_passed system none still in
+    let ended : all_paid (ended_after telling system) ≡ passed = ap all_paid (ended_still telling system paid nobody off still) ∙ paid_passed system paid still in
     ap (λ (s : System). F s (disk_served telling.at_disk system).emitted) ended
     ∙ ap (F passed) (says_by_whom (served_process system.kernel.disk) telling.at_disk system refl still)
-    ∙ ap (dispatched instruction) (nothing_out passed none.written)
+
+-- or nothing does
+pub rest_still : (instruction : Bool) (telling : Telling) (system : System) → NoCompletions system → NobodyAborted system.kernel → system.abort_deferred ≡ false
+    → is_still (turn_answer system.kernel.disk) ≡ true → rest_of instruction telling (silent system) ≡ dispatched instruction (silent (step_passed system))
+rest_still instruction telling system none nobody off still =
+    rest_recorded instruction telling system none.paid nobody off still ∙ ap (dispatched instruction) (nothing_out (step_passed system) none.written)
 
 -- a call that is in service goes on so, and none begins; and files are within one as they were
 

@@ -14,7 +14,7 @@ use Rattle.mpm_machine.specs.declared.system.System.{System}
 use Rattle.mpm_machine.specs.Owing.{nobody_owes}
 use Rattle.mpm_machine.specs.State.{State, Change, silent, NoCompletions, NobodyAborted}
 use Rattle.mpm_machine.specs.Step.{acted, coming, counted}
-use Rattle.mpm_bdos.specs.Direct.{Directly}
+use Rattle.mpm_directories.specs.Direct.{Directly}
 use Rattle.mpm_machine.specs.Files.{Files, Between, Within, AreWithin, left_each, owes, all_left, given_back}
 use Rattle.mpm_machine.specs.FileCalls.{file_caller}
 use Rattle.mpm_machine.specs.Filed.{left_unless, kept_paid}
@@ -23,7 +23,7 @@ use Rattle.mpm_machine.specs.Moving.{is_still}
 use Rattle.mpm_machine.specs.Stepping.{Telling, nothing_told, told_first, files_begun_by, files_begun, before_disk, told_within, paid_after, ended_after, files_paid, files_then, telling_then, telling_of, step_with, stepped, files_rest}
 use Rattle.mpm_machine.specs.After.{LeavesKept, next}
 use Rattle.mpm_machine.proofs.QuietLaws.{begun_quiet, served_still, served_nobody}
-use Rattle.mpm_machine.proofs.PassingLaws.{still_served, paid_passed, paid_already, still_serves, ended_still}
+use Rattle.mpm_machine.proofs.PassingLaws.{IsPaid, still_served, paid_passed, paid_already, still_serves, ended_still}
 
 none_leaves : (gone : ℕ → Bool) (ps : List ℕ) (filing : Filing) → ((p : ℕ) → gone p ≡ false) → left_each gone ps filing ≡ filing
 unfolding left_each
@@ -85,15 +85,15 @@ entered_by_still Passing system files still = refl
 entered_by_still (Work p last) system files still = absurd (false≢true still)
 entered_by_still (Starts p) system files still = absurd (false≢true still)
 
-enters_by_whom : (whom : Option ℕ) (told : Directly) (system : System) (files : Files) → NoCompletions system → served_process system.kernel.disk ≡ whom
+enters_by_whom : (whom : Option ℕ) (told : Directly) (system : System) (files : Files) → IsPaid system → served_process system.kernel.disk ≡ whom
     → is_still (turn_answer system.kernel.disk) ≡ true → files_entered (paid_after told system) files ≡ files
 unfolding files_entered
-enters_by_whom None told system files none is still =
-    ap (λ (c : System). files_entered_unless (served_process c.kernel.disk) c files) (ap (λ (c : Change). all_paid c.system) (served_nobody told system is) ∙ paid_already system none)
+enters_by_whom None told system files paid is still =
+    ap (λ (c : System). files_entered_unless (served_process c.kernel.disk) c files) (ap (λ (c : Change). all_paid c.system) (served_nobody told system is) ∙ paid_already system paid)
     ∙ ap (λ whom. files_entered_unless whom system files) is
     ∙ entered_by_still (turn_answer system.kernel.disk) system files still
-enters_by_whom (Some p) told system files none is still =
-    ap (λ (c : System). files_entered_unless (served_process c.kernel.disk) c files) (ap (λ (c : Change). all_paid c.system) (served_still told p system is still) ∙ paid_passed system none still)
+enters_by_whom (Some p) told system files paid is still =
+    ap (λ (c : System). files_entered_unless (served_process c.kernel.disk) c files) (ap (λ (c : Change). all_paid c.system) (served_still told p system is still) ∙ paid_passed system paid still)
     ∙ ap (λ whom. files_entered_unless whom (step_passed system) files) (still_serves system.kernel.disk p still is)
 
 owed_by_whom : (whom : Option ℕ) (told : Directly) (system : System) → served_process system.kernel.disk ≡ whom → is_still (turn_answer system.kernel.disk) ≡ true
@@ -101,23 +101,23 @@ owed_by_whom : (whom : Option ℕ) (told : Directly) (system : System) → serve
 owed_by_whom None told system is still = ap (λ (c : Change). c.system.owed) (served_nobody told system is)
 owed_by_whom (Some p) told system is still = ap (λ (c : Change). c.system.owed) (served_still told p system is still)
 
-paid_still : (system : System) (files : Files) → NoCompletions system → is_still (turn_answer system.kernel.disk) ≡ true → AreWithin system.kernel.disk.served files
+paid_still : (system : System) (files : Files) → IsPaid system → is_still (turn_answer system.kernel.disk) ≡ true → AreWithin system.kernel.disk.served files
     → files_paid system files ≡ files
 unfolding files_paid
-paid_still system files none still within =
+paid_still system files paid still within =
     ap (given_back (disk_served (told_within files system) system).system.owed) (files_served_still system files still)
     ∙ ap (λ owed. given_back owed files) (owed_by_whom (served_process system.kernel.disk) (told_within files system) system refl still)
-    ∙ given_nothing system.owed system.kernel.disk.served files within none.paid
+    ∙ given_nothing system.owed system.kernel.disk.served files within paid
 
-pub rest_leaves : (system : System) (files : Files) → NoCompletions system → NobodyAborted system.kernel → system.abort_deferred ≡ false
+pub rest_leaves : (system : System) (files : Files) → IsPaid system → NobodyAborted system.kernel → system.abort_deferred ≡ false
     → is_still (turn_answer system.kernel.disk) ≡ true → AreWithin system.kernel.disk.served files → files_rest system files ≡ files
 unfolding files_rest files_then
-rest_leaves system files none nobody off still within =
+rest_leaves system files paid nobody off still within =
     ap (λ owed. given_back owed (files_entered (paid_after (told_within files system) system) (files_paid system files)))
-    (ap (λ (c : System). c.owed) (ended_still (telling_then nothing_told system files) system none nobody off still))
-    ∙ ap (λ f. given_back system.owed (files_entered (paid_after (told_within files system) system) f)) (paid_still system files none still within)
-    ∙ ap (given_back system.owed) (enters_by_whom (served_process system.kernel.disk) (told_within files system) system files none refl still)
-    ∙ given_nothing system.owed system.kernel.disk.served files within none.paid
+    (ap (λ (c : System). c.owed) (ended_still (telling_then nothing_told system files) system paid nobody off still))
+    ∙ ap (λ f. given_back system.owed (files_entered (paid_after (told_within files system) system) f)) (paid_still system files paid still within)
+    ∙ ap (given_back system.owed) (enters_by_whom (served_process system.kernel.disk) (told_within files system) system files paid refl still)
+    ∙ given_nothing system.owed system.kernel.disk.served files within paid
 
 -- and what is kept
 
@@ -126,27 +126,27 @@ kept_unowed None owed kept nobody =
     ap (λ (left : Filing). record kept { opens = left.opens; marks = left.marks; searches = left.searches }) (nobody_leaves owed (filing_of kept []) (nobody refl))
 kept_unowed (Some call) owed kept nobody = refl
 
-kept_passed : (system : System) (kept : Kept) → NoCompletions system → is_still (turn_answer system.kernel.disk) ≡ true → kept_paid (step_passed system) kept ≡ kept
+kept_passed : (system : System) (kept : Kept) → IsPaid system → is_still (turn_answer system.kernel.disk) ≡ true → kept_paid (step_passed system) kept ≡ kept
 unfolding kept_paid turn_answer turned
-kept_passed system kept none still =
+kept_passed system kept paid still =
     kept_unowed (step_passed system).kernel.disk.served system.owed kept (λ idle.
-    none.paid (still_served system.kernel.disk.served (first_of system.kernel.disk.waiting) system.kernel.disk.turn_steps still idle))
+    paid (still_served system.kernel.disk.served (first_of system.kernel.disk.waiting) system.kernel.disk.turn_steps still idle))
 
-kept_by_whom : (whom : Option ℕ) (told : Directly) (system : System) (kept : Kept) → NoCompletions system → served_process system.kernel.disk ≡ whom
+kept_by_whom : (whom : Option ℕ) (told : Directly) (system : System) (kept : Kept) → IsPaid system → served_process system.kernel.disk ≡ whom
     → is_still (turn_answer system.kernel.disk) ≡ true → kept_paid (disk_served told system).system kept ≡ kept
 unfolding kept_paid
-kept_by_whom None told system kept none is still =
-    ap (λ (c : Change). kept_paid c.system kept) (served_nobody told system is) ∙ kept_unowed system.kernel.disk.served system.owed kept none.paid
-kept_by_whom (Some p) told system kept none is still =
-    ap (λ (c : Change). kept_paid c.system kept) (served_still told p system is still) ∙ kept_passed system kept none still
+kept_by_whom None told system kept paid is still =
+    ap (λ (c : Change). kept_paid c.system kept) (served_nobody told system is) ∙ kept_unowed system.kernel.disk.served system.owed kept paid
+kept_by_whom (Some p) told system kept paid is still =
+    ap (λ (c : Change). kept_paid c.system kept) (served_still told p system is still) ∙ kept_passed system kept paid still
 
-pub rest_keeps : (telling : Telling) (system : System) (kept : Kept) → NoCompletions system → NobodyAborted system.kernel → system.abort_deferred ≡ false
+pub rest_keeps : (telling : Telling) (system : System) (kept : Kept) → IsPaid system → NobodyAborted system.kernel → system.abort_deferred ≡ false
     → is_still (turn_answer system.kernel.disk) ≡ true → LeavesKept telling kept kept system
-rest_keeps telling system kept none nobody off still = record {
+rest_keeps telling system kept paid nobody off still = record {
   is = sym (ap (λ (k : Kept). kept_paid (ended_after telling system) (record k { service = kept.service }))
-      (kept_by_whom (served_process system.kernel.disk) telling.at_disk system kept none refl still)
-      ∙ ap (λ (s : System). kept_paid s kept) (ended_still telling system none nobody off still)
-      ∙ kept_passed system kept none still);
+      (kept_by_whom (served_process system.kernel.disk) telling.at_disk system kept paid refl still)
+      ∙ ap (λ (s : System). kept_paid s kept) (ended_still telling system paid nobody off still)
+      ∙ kept_passed system kept paid still);
   service = λ _. refl;
 }
 
@@ -157,4 +157,4 @@ unfolding before_disk files_begun
 files_still s later alone quiet acts none nobody off still within =
     ap (λ (c : Change). files_rest c.system (files_begun_by (file_caller s.system) s.system s.files)) (begun_quiet (told_first s.system s.files) s.system later alone quiet acts none.answered)
     ∙ ap (λ caller. files_rest later (files_begun_by caller s.system s.files)) alone
-    ∙ rest_leaves later s.files none nobody off still within
+    ∙ rest_leaves later s.files none.paid nobody off still within

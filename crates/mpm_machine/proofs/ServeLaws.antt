@@ -27,7 +27,7 @@ use Rattle.mpm_functions.specs.declared.refusals.Extended.{Extended}
 use Rattle.mpm_bdos.specs.Answering.{HasEntered, MayAnswer}
 use Rattle.mpm_functions.specs.declared.functions.DirectFunction.{DirectFunction}
 use Rattle.mpm_functions.specs.Functions.{function_of, direct_of}
-use Rattle.mpm_bdos.specs.Direct.{Directly}
+use Rattle.mpm_directories.specs.Direct.{Directly}
 use Rattle.mpm_requests.specs.Filing.{Filing, Situation}
 use Rattle.mpm_bdos.specs.Finishing.{ComesTo}
 use Rattle.mpm_bdos.specs.Jobs.{call_turns}
@@ -81,13 +81,13 @@ answered_err (Ok a) p old o n s kept disks answer extended comes failed = tt
 answered_err (Err e) p old o n s kept disks answer extended comes failed =
     subst (λ (told : Directly). Stopped o n (call_over told p old).emitted) (told_is_its (told_images disks) s p old kept answer extended comes) failed
 
-pub answered_told : {A E : Type 0} (r : Result A E) (p : ℕ) (old new : System) (o n : Outside) (kept : Kept) (answer : Answer) (extended : Option Extended)
+pub answered_told : {A E : Type 0} (r : Result A E) (p : ℕ) (old new : System) (o n : Outside) (kept left : Kept) (answer : Answer) (extended : Option Extended)
     → IsOwn old.kernel.dispatcher.procs p kept.service
     → ((caller : Caller) (function : FileFunction) (call : Taken) → HasEntered caller function call kept.service → MayAnswer caller.multi function call answer extended)
-    → EndsWithoutJob kept answer extended
+    → EndsWithoutJob kept left answer extended
     → OnOk r (new ≡ (call_over (told_here p old answer extended) p old).system) → OnOk r (Wrote o n (call_over (told_here p old answer extended) p old).emitted)
-    → OnOk r (HasAnswered kept p o n old new)
-answered_told (Ok a) p old new o n kept answer extended own may ends system wrote = record {
+    → OnOk r (HasAnswered kept left p o n old new)
+answered_told (Ok a) p old new o n kept left answer extended own may ends system wrote = record {
   told = told_here p old answer extended;
   of_call = refl;
   tells = own_told p old kept.service answer extended own may;
@@ -95,19 +95,20 @@ answered_told (Ok a) p old new o n kept answer extended own may ends system wrot
   system = system;
   wrote = wrote;
 }
-answered_told (Err e) p old new o n kept answer extended own may ends system wrote = tt
+answered_told (Err e) p old new o n kept left answer extended own may ends system wrote = tt
 
-pub answered_stops : {A : Type 0} (r : Result A Failed) (p : ℕ) (old : System) (o n : Outside) (kept : Kept) (answer : Answer) (extended : Option Extended)
+pub answered_stops : {A : Type 0} (r : Result A Failed) (p : ℕ) (old : System) (o n : Outside) (kept left : Kept) (answer : Answer) (extended : Option Extended)
     → IsOwn old.kernel.dispatcher.procs p kept.service
     → ((caller : Caller) (function : FileFunction) (call : Taken) → HasEntered caller function call kept.service → MayAnswer caller.multi function call answer extended)
-    → EndsWithoutJob kept answer extended
+    → EndsWithoutJob kept left answer extended
     → IfErr r (λ error. Fails (by_sink error) o n (call_over (told_here p old answer extended) p old).emitted)
     → OnErr r (HasStoppedAnswering kept p o n old)
-answered_stops (Ok a) p old o n kept answer extended own may ends failed = tt
-answered_stops (Err e) p old o n kept answer extended own may ends failed = record {
+answered_stops (Ok a) p old o n kept left answer extended own may ends failed = tt
+answered_stops (Err e) p old o n kept left answer extended own may ends failed = record {
   told = told_here p old answer extended;
   of_call = refl;
   tells = own_told p old kept.service answer extended own may;
+  left = left;
   as_kept = ends;
   stops = failed;
 }
@@ -253,15 +254,15 @@ told_passed p system answer extended tells =
     let number = (call_of system.kernel.dispatcher.procs p).function in
     tells_passed (function_of number) (direct_of number) p system answer extended tells
 
-pub has_passed_over : {A E : Type 0} (r : Result A E) (kept : Kept) (p : ℕ) (o n : Outside) (old new : System) → turn_answer old.kernel.disk ≡ Work p true
-    → OnOk r (HasAnswered kept p o n (step_passed old) new) → OnOk r (HasPassed kept o n old new)
-has_passed_over r kept p o n old new works =
-    on_ok_weaker r (λ (answered : HasAnswered kept p o n (step_passed old) new). record {
+pub has_passed_over : {A E : Type 0} (r : Result A E) (kept left : Kept) (p : ℕ) (o n : Outside) (old new : System) → turn_answer old.kernel.disk ≡ Work p true
+    → OnOk r (HasAnswered kept left p o n (step_passed old) new) → OnOk r (HasPassed kept left o n old new)
+has_passed_over r kept left p o n old new works =
+    on_ok_weaker r (λ (answered : HasAnswered kept left p o n (step_passed old) new). record {
       told = answered.told;
       of_call = subst (λ (over : Option ℕ). IsOfCall over answered.told old) (sym (over_process old p works)) answered.of_call;
       tells = subst (λ (over : Option ℕ). IsToldIn over answered.told old) (sym (over_process old p works))
           (told_passed p old answered.told.answer answered.told.extended answered.tells);
-      as_kept = subst (λ (over : Option ℕ). IsOverAsKept kept over answered.told) (sym (over_process old p works)) answered.as_kept;
+      as_kept = subst (λ (over : Option ℕ). IsOverAsKept kept left over answered.told) (sym (over_process old p works)) answered.as_kept;
       system = answered.system ∙ sym (ap (λ (c : Change). c.system) (over_served answered.told old p works));
       wrote = subst (λ (c : Change). Wrote o n c.emitted) (sym (over_served answered.told old p works)) answered.wrote;
     })
@@ -274,7 +275,8 @@ has_stopped_over r kept p o n old works =
       of_call = subst (λ (over : Option ℕ). IsOfCall over stopped.told old) (sym (over_process old p works)) stopped.of_call;
       tells = subst (λ (over : Option ℕ). IsToldIn over stopped.told old) (sym (over_process old p works))
           (told_passed p old stopped.told.answer stopped.told.extended stopped.tells);
-      as_kept = subst (λ (over : Option ℕ). IsOverAsKept kept over stopped.told) (sym (over_process old p works)) stopped.as_kept;
+      left = stopped.left;
+      as_kept = subst (λ (over : Option ℕ). IsOverAsKept kept stopped.left over stopped.told) (sym (over_process old p works)) stopped.as_kept;
       stops = subst (λ (c : Change). Stopped o n c.emitted) (sym (over_served stopped.told old p works)) stopped.stops;
     })
 
@@ -404,14 +406,14 @@ pass_on (Within s) o old kept disks some more stands =
       subst (λ (files : Files). StandsForFiles (turned old.kernel.disk) kept disks files) (sym (same_served old s some more)) (turn_goes_on old.kernel.disk kept disks s some more stands),
     )
 
-pub has_passed_on : (kept : Kept) (o : Outside) (old : System) → is_some old.kernel.disk.served ≡ true → IsNotLast (turn_answer old.kernel.disk) → HasPassed kept o o old (step_passed old)
+pub has_passed_on : (kept : Kept) (o : Outside) (old : System) → is_some old.kernel.disk.served ≡ true → IsNotLast (turn_answer old.kernel.disk) → HasPassed kept kept o o old (step_passed old)
 has_passed_on kept o old some more =
     let is = silent_served nothing_told old some more in
     record {
       told = nothing_told;
       of_call = subst (λ (over : Option ℕ). IsOfCall over nothing_told old) (sym (none_over old more)) tt;
       tells = subst (λ (over : Option ℕ). IsToldIn over nothing_told old) (sym (none_over old more)) tt;
-      as_kept = subst (λ (over : Option ℕ). IsOverAsKept kept over nothing_told) (sym (none_over old more)) tt;
+      as_kept = subst (λ (over : Option ℕ). IsOverAsKept kept kept over nothing_told) (sym (none_over old more)) tt;
       system = sym (ap (λ (c : Change). c.system) is);
       wrote = subst (λ (c : Change). Wrote o o c.emitted) (sym is) (wrote_nothing o);
     }
@@ -446,8 +448,8 @@ passes_so files o old kernel kept disks is some more stands =
     subst (λ (new : System). Passed files o o old new kept disks) (sym (passed_is old kernel is)) (pass_on files o old kept disks some more stands)
 
 pub has_passed_so : (kept : Kept) (o : Outside) (old : System) (kernel : Kernel) → kernel ≡ with_disk turned old.kernel → is_some old.kernel.disk.served ≡ true
-    → IsNotLast (turn_answer old.kernel.disk) → HasPassed kept o o old (record old { kernel = kernel })
-has_passed_so kept o old kernel is some more = subst (HasPassed kept o o old) (sym (passed_is old kernel is)) (has_passed_on kept o old some more)
+    → IsNotLast (turn_answer old.kernel.disk) → HasPassed kept kept o o old (record old { kernel = kernel })
+has_passed_so kept o old kernel is some more = subst (HasPassed kept kept o o old) (sym (passed_is old kernel is)) (has_passed_on kept o old some more)
 
 pub begun_so : (disk after : DiskService) (answer : Turn) → is_some disk.served ≡ true → answer ≡ turn_answer disk → IsAfter answer after → HasBegun after
 unfolding turn_answer
@@ -468,10 +470,10 @@ pub none_behind : (disk : DiskService) (p : ℕ) → turn_answer disk ≡ Work p
 unfolding turn_answer turned
 none_behind disk p works = none_by disk.turn_steps disk.served (first_of disk.waiting) p works
 
-pub nobody_behind : {A E : Type 0} (r : Result A E) (kept : Kept) (p : ℕ) (o n : Outside) (old new : System) → turn_answer old.kernel.disk ≡ Work p true
-    → OnOk r (HasAnswered kept p o n (step_passed old) new) → OnOk r (new.kernel.disk.served ≡ None)
-nobody_behind r kept p o n old new works =
-    on_ok_weaker r (λ (answered : HasAnswered kept p o n (step_passed old) new).
+pub nobody_behind : {A E : Type 0} (r : Result A E) (kept left : Kept) (p : ℕ) (o n : Outside) (old new : System) → turn_answer old.kernel.disk ≡ Work p true
+    → OnOk r (HasAnswered kept left p o n (step_passed old) new) → OnOk r (new.kernel.disk.served ≡ None)
+nobody_behind r kept left p o n old new works =
+    on_ok_weaker r (λ (answered : HasAnswered kept left p o n (step_passed old) new).
     let none = none_behind old.kernel.disk p works in
     ap (λ (system : System). system.kernel.disk.served) answered.system ∙ (over_serves answered.told p (step_passed old) none).served ∙ none)
 

@@ -317,7 +317,7 @@ serves_alike call p one other d =
 
 -- a step in which a process calls is that of its gate
 
-calls_at_gate : (system : System) (p seg : ℕ) → Calls system p seg → acted (counted system) ≡ gate_step p seg (counted system)
+pub calls_at_gate : (system : System) (p seg : ℕ) → Calls system p seg → acted (counted system) ≡ gate_step p seg (counted system)
 unfolding acted
 calls_at_gate system p seg i =
     let begun = counted system in
@@ -325,7 +325,7 @@ calls_at_gate system p seg i =
     ∙ ap (λ home. acted_by (Some p) home begun) i.home
     ∙ ap (λ (gate : Option Gate). acted_at gate p seg begun) i.gate
 
-no_instruction : (system : System) (p seg : ℕ) → Calls system p seg → at_instruction (counted system) ≡ false
+pub no_instruction : (system : System) (p seg : ℕ) → Calls system p seg → at_instruction (counted system) ≡ false
 unfolding at_instruction
 no_instruction system p seg i =
     let begun = counted system in

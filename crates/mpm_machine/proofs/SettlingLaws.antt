@@ -19,7 +19,8 @@ use Rattle.mpm_service.specs.Ahead.{turns_left}
 use Rattle.mpm_service.specs.Disk.{DiskService, no_service, served_process}
 use Rattle.mpm_service.specs.declared.service.Served.{Served}
 use Rattle.mpm_requests.specs.Filing.{Filing, Situation}
-use Rattle.mpm_bdos.specs.Serving.{Kept as Filed, StandEach, Serves, directory_at}
+use Rattle.mpm_bdos.specs.Serving.{Kept as Filed, StandEach, Serves}
+use Rattle.mpm_directories.specs.Places.{directory_at}
 use Rattle.mpm_bdos.specs.Syncing.{mounted_count}
 use Rattle.mpm_bdos.specs.Turns.{KeepsUnsynced, StaysBeside, drive_served, labelled, told_images}
 use Rattle.mpm_machine.specs.declared.system.System.{System}

@@ -8,7 +8,7 @@ use Rattle.mpm_output.specs.Writing.{Wrote, Stopped, Emits}
 use Rattle.mpm_output.proofs.WritingLaws.{emits_after, emits_same}
 use Rattle.mpm_port.specs.Disks.{Disks}
 use Rattle.mpm_render.specs.Outputs.{Output}
-use Rattle.mpm_bdos.specs.Direct.{Directly}
+use Rattle.mpm_directories.specs.Direct.{Directly}
 use Rattle.mpm_bdos.specs.Serving.{Kept}
 use Rattle.mpm_machine.specs.declared.machine.StepFault.TheVariants.{WriteFault}
 use Rattle.mpm_machine.specs.State.{Change, HasRoomForAll}
@@ -66,11 +66,11 @@ of_nobody old none = subst (λ (o : Option ℕ). IsOfCall o nothing_told (made_i
 tells_nobody : (old : System) → file_caller old ≡ None → IsToldIn (file_caller old) nothing_told (made_in (file_caller old) old)
 tells_nobody old none = subst (λ (o : Option ℕ). IsToldIn o nothing_told (made_in o old)) (sym none) tt
 
-kept_nobody : (kept : Kept) (old : System) → file_caller old ≡ None → IsAsKept kept (file_caller old) nothing_told (made_in (file_caller old) old)
-kept_nobody kept old none = subst (λ (o : Option ℕ). IsAsKept kept o nothing_told (made_in o old)) (sym none) tt
+kept_nobody : (kept : Kept) (old : System) → file_caller old ≡ None → IsAsKept kept kept (file_caller old) nothing_told (made_in (file_caller old) old)
+kept_nobody kept old none = subst (λ (o : Option ℕ). IsAsKept kept kept o nothing_told (made_in o old)) (sym none) tt
 
 pub alone_begun : {kept : Kept} (instruction : Bool) (o n : Outside) (old new : System) → file_caller old ≡ None → instruction ≡ is_instruction None old
-    → new ≡ all_answered (begun_alone old).system → Wrote o n (begun_alone old).emitted → HasBegunStep kept instruction o n old new
+    → new ≡ all_answered (begun_alone old).system → Wrote o n (begun_alone old).emitted → HasBegunStep kept kept instruction o n old new
 alone_begun {kept} instruction o n old new none i is wrote =
     let so = sym (begun_is nothing_told old none) in
     record {
@@ -90,6 +90,7 @@ alone_stops kept o n old none stopped = record {
   told = nothing_told;
   of_call = of_nobody old none;
   tells = tells_nobody old none;
+  left = kept;
   as_kept = kept_nobody kept old none;
   stops = subst (λ (c : Change). Stopped o n c.emitted) (sym (begun_is nothing_told old none)) stopped;
 }

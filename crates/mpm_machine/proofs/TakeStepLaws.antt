@@ -14,7 +14,8 @@ use Rattle.mpm_mount.specs.Directories.{Directory}
 use Rattle.mpm_kernel.specs.Kernel.{Kernel}
 use Rattle.mpm_functions.specs.declared.functions.FileFunction.{FileFunction}
 use Rattle.mpm_functions.specs.Functions.{function_of}
-use Rattle.mpm_bdos.specs.Serving.{Kept, directory_at}
+use Rattle.mpm_bdos.specs.Serving.{Kept}
+use Rattle.mpm_directories.specs.Places.{directory_at}
 use Rattle.mpm_bdos.specs.Turns.{FitsDrives, has_work}
 use Rattle.mpm_machine.specs.declared.system.System.{System}
 use Rattle.mpm_machine.specs.declared.machine.StepFault.{StepFault}

@@ -9,12 +9,13 @@ use Rattle.mpm_functions.specs.declared.functions.FileFunction.{FileFunction}
 use Rattle.mpm_functions.specs.declared.functions.DirectFunction.{DirectFunction}
 use Rattle.mpm_functions.specs.declared.refusals.Extended.{Extended}
 use Rattle.mpm_functions.specs.Functions.{function_of, direct_of}
-use Rattle.mpm_bdos.specs.Direct.{Directly, IsToldDirectly, ComesDirectly, direct_by, is_protected}
+use Rattle.mpm_directories.specs.Direct.{Directly, IsToldDirectly, ComesDirectly, direct_by, is_protected}
 use Rattle.mpm_requests.specs.declared.caller.Caller.{Caller}
 use Rattle.mpm_requests.specs.Filing.{Situation}
 use Rattle.mpm_bdos.specs.Finishing.{ComesTo}
 use Rattle.mpm_bdos.specs.Jobs.{call_turns}
-use Rattle.mpm_bdos.specs.Serving.{InService, Kept, Serves, kind_at}
+use Rattle.mpm_bdos.specs.Serving.{InService, Kept, Serves}
+use Rattle.mpm_directories.specs.Places.{kind_at}
 use Rattle.mpm_bdos.specs.Answering.{MayAnswer, HasEntered}
 use Rattle.mpm_bdos.proofs.Answerable.{something_granted}
 use Rattle.mpm_bdos.proofs.NextTurns.{served_idly}
@@ -94,14 +95,14 @@ pub directly_as_kept : (kept : Kept) (p : ℕ) (system : System) (call : Taken) 
     → call ≡ call_of system.kernel.dispatcher.procs p → process ≡ process_in system.kernel.dispatcher.procs p
     → function_of (call_of system.kernel.dispatcher.procs p).function ≡ None
     → IfSome (direct_of call.function) (λ function. ComesDirectly (kind_at kept.mounted) (is_protected kept.protected) process.drive function call reply extended)
-    → IsToldAsKept kept p system reply extended
+    → IsToldAsKept kept kept p system reply extended
 unfolding IsToldAsKept
 directly_as_kept kept p system call process reply extended calls lives none exact =
     let procs = system.kernel.dispatcher.procs in
-    subst (λ f. TellsAsKept f (direct_of (call_of procs p).function) kept p system reply extended) (sym none)
+    subst (λ f. TellsAsKept f (direct_of (call_of procs p).function) kept kept p system reply extended) (sym none)
     (by_direct (direct_of (call_of procs p).function) (ap (λ (c : Taken). direct_of c.function) calls))
   where
-    by_direct : (found : Option DirectFunction) → direct_of call.function ≡ found → TellsAsKept None found kept p system reply extended
+    by_direct : (found : Option DirectFunction) → direct_of call.function ≡ found → TellsAsKept None found kept kept p system reply extended
     by_direct None is = tt
     by_direct (Some function) is =
         let comes : ℕ → Taken → Type 0 = λ drive one. ComesDirectly (kind_at kept.mounted) (is_protected kept.protected) drive function one reply extended in
@@ -110,22 +111,19 @@ directly_as_kept kept p system call process reply extended calls lives none exac
         subst (λ (one : Process). comes one.drive (call_of system.kernel.dispatcher.procs p)) lives (subst (comes process.drive) calls its)
 
 -- nothing is said so of one that waits for the disk
-waits_by_function : (kept : Kept) (function : Option FileFunction) (other : Option DirectFunction) (p : ℕ) (system : System) (answer : Answer) (extended : Option Extended)
-    → is_some function ≡ true → (system.kernel.disk.turn_steps == 0) ≡ false → TellsAsKept function other kept p system answer extended
-waits_by_function kept None other p system answer extended some steps = absurd (false≢true some)
-waits_by_function kept (Some function) other p system answer extended some steps = λ once. absurd (false≢true (sym steps ∙ once))
+waits_by_function : (kept left : Kept) (function : Option FileFunction) (other : Option DirectFunction) (p : ℕ) (system : System) (answer : Answer) (extended : Option Extended)
+    → is_some function ≡ true → (system.kernel.disk.turn_steps == 0) ≡ false → TellsAsKept function other kept left p system answer extended
+waits_by_function kept left None other p system answer extended some steps = absurd (false≢true some)
+waits_by_function kept left (Some function) other p system answer extended some steps = λ once. absurd (false≢true (sym steps ∙ once))
 
-pub waits_as_kept : (kept : Kept) (p : ℕ) (system : System) (answer : Answer) (extended : Option Extended)
-    → is_some (function_of (call_of system.kernel.dispatcher.procs p).function) ≡ true → (system.kernel.disk.turn_steps == 0) ≡ false → IsToldAsKept kept p system answer extended
+pub waits_as_kept : (kept left : Kept) (p : ℕ) (system : System) (answer : Answer) (extended : Option Extended)
+    → is_some (function_of (call_of system.kernel.dispatcher.procs p).function) ≡ true → (system.kernel.disk.turn_steps == 0) ≡ false → IsToldAsKept kept left p system answer extended
 unfolding IsToldAsKept
-waits_as_kept kept p system answer extended some steps =
+waits_as_kept kept left p system answer extended some steps =
     let number = (call_of system.kernel.dispatcher.procs p).function in
-    waits_by_function kept (function_of number) (direct_of number) p system answer extended some steps
+    waits_by_function kept left (function_of number) (direct_of number) p system answer extended some steps
 
 -- one in service that has no job comes to what its definition says, whatever the images are
 pub ends_as_kept : (old new : Kept) (answer : Answer) (extended : Option Extended)
-    → ((images : ℕ → List ℕ) (s : Situation) → Serves images old s (call_turns s) → ComesTo images s new answer extended) → EndsWithoutJob old answer extended
-ends_as_kept old new answer extended comes = record {
-  answer_is = λ images s serves none. (comes images s (served_idly images old s none serves)).answer_is;
-  extended_is = λ images s serves none. (comes images s (served_idly images old s none serves)).extended_is;
-}
+    → ((images : ℕ → List ℕ) (s : Situation) → Serves images old s (call_turns s) → ComesTo images s new answer extended) → EndsWithoutJob old new answer extended
+ends_as_kept old new answer extended comes = λ images s serves none. comes images s (served_idly images old s none serves)

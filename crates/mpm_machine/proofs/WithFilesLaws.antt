@@ -11,7 +11,7 @@ use Rattle.mpm_residents.specs.declared.native.Native.{Native}
 use Rattle.mpm_residents.specs.Natives.{native_in}
 use Rattle.mpm_output.specs.Outside.{Outside}
 use Rattle.mpm_output.specs.Writing.{Wrote, Stopped}
-use Rattle.mpm_bdos.specs.Direct.{Directly}
+use Rattle.mpm_directories.specs.Direct.{Directly}
 use Rattle.mpm_requests.specs.Filing.{Filing, Situation}
 use Rattle.mpm_functions.specs.Functions.{function_of}
 use Rattle.mpm_kernel.proofs.AwaitingEnds.{if_some}
@@ -97,19 +97,19 @@ gate_stands p old made kept disks files is stands =
     subst (λ (s : System). StandsWorked s.kernel.disk kept disks files) (sym is)
     (worked_on old.kernel.disk (call_made p old).kernel.disk kept disks files (made_serves p old).served (made_serves p old).steps stands)
 
-pub gate_whole : {kept : Kept} (p : ℕ) (o n : Outside) (old made called : System) → Made p old made → IsReady old.kernel.dispatcher p → HasToldAtGate kept p o n made called → IsWhole called
+pub gate_whole : {kept left : Kept} (p : ℕ) (o n : Outside) (old made called : System) → Made p old made → IsReady old.kernel.dispatcher p → HasToldAtGate kept left p o n made called → IsWhole called
 gate_whole p o n old made called m is_ready has =
     subst IsWhole (sym has.called.system) (whole_file_called has.told p made m.whole m.lives (m.ready is_ready))
 
-answered_serves : {kept : Kept} (p : ℕ) (o n : Outside) (old made called new : System) → Made p old made → IsReady old.kernel.dispatcher p → AreFiled made.kernel
-    → HasToldAtGate kept p o n made called → new ≡ all_answered called → ServesSame called new
+answered_serves : {kept left : Kept} (p : ℕ) (o n : Outside) (old made called new : System) → Made p old made → IsReady old.kernel.dispatcher p → AreFiled made.kernel
+    → HasToldAtGate kept left p o n made called → new ≡ all_answered called → ServesSame called new
 answered_serves p o n old made called new m is_ready filed has is =
     let behind : AreFiled called.kernel =
     subst (λ (s : System). AreFiled s.kernel) (sym has.called.system) (filed_called has.told p made m.whole m.lives filed) in
     subst (ServesSame called) (sym is) (keeps_answered called (gate_whole p o n old made called m is_ready has) behind).serves
 
-pub gate_serves : {kept : Kept} (p : ℕ) (o n : Outside) (old made called new : System) → made ≡ call_made p old → Made p old made → IsReady old.kernel.dispatcher p → AreFiled made.kernel
-    → HasToldAtGate kept p o n made called → new ≡ all_answered called → ServesSame old new
+pub gate_serves : {kept left : Kept} (p : ℕ) (o n : Outside) (old made called new : System) → made ≡ call_made p old → Made p old made → IsReady old.kernel.dispatcher p → AreFiled made.kernel
+    → HasToldAtGate kept left p o n made called → new ≡ all_answered called → ServesSame old new
 gate_serves p o n old made called new is m is_ready filed has was =
     let first : ServesSame old made = subst (ServesSame old) (sym is) (made_serves p old) in
     let second : ServesSame made called = subst (ServesSame made) (sym has.called.system) (called_serves has.told p made m.whole.sound (m.ready is_ready)) in
@@ -118,8 +118,8 @@ gate_serves p o n old made called new is m is_ready filed has was =
 
 -- by what is on the drives
 
-pub gate_begun_to : {first : Kept} (p : ℕ) (files : Files) (o n : Outside) (old made called new : System) (kept : Kept) (disks : Option Disks) → file_caller old ≡ Some p → made ≡ call_made p old
-    → Made p old made → IsReady old.kernel.dispatcher p → AreFiled made.kernel → HasToldAtGate first p o n made called → new ≡ all_answered called
+pub gate_begun_to : {first left : Kept} (p : ℕ) (files : Files) (o n : Outside) (old made called new : System) (kept : Kept) (disks : Option Disks) → file_caller old ≡ Some p → made ≡ call_made p old
+    → Made p old made → IsReady old.kernel.dispatcher p → AreFiled made.kernel → HasToldAtGate first left p o n made called → new ≡ all_answered called
     → HasCalled (told_at_gate p made files) p o n made called × StandsWorked called.kernel.disk kept disks (files_called p made files)
     → HasBegunTo files o n old new kept disks
 gate_begun_to p files o n old made called new kept disks caller is m is_ready filed has was both =
@@ -144,20 +144,20 @@ tells_here : (told : Directly) (p : ℕ) (old made : System) → file_caller old
 tells_here told p old made caller is tells =
     subst (λ (o : Option ℕ). IsToldIn o told (made_in o old)) (sym caller) (subst (λ (s : System). IsToldIn (Some p) told s) is tells)
 
-kept_here : (kept : Kept) (told : Directly) (p : ℕ) (old made : System) → file_caller old ≡ Some p → made ≡ call_made p old → IsAsKept kept (Some p) told made
-    → IsAsKept kept (file_caller old) told (made_in (file_caller old) old)
-kept_here kept told p old made caller is as_kept =
-    subst (λ (o : Option ℕ). IsAsKept kept o told (made_in o old)) (sym caller) (subst (λ (s : System). IsAsKept kept (Some p) told s) is as_kept)
+kept_here : (kept left : Kept) (told : Directly) (p : ℕ) (old made : System) → file_caller old ≡ Some p → made ≡ call_made p old → IsAsKept kept left (Some p) told made
+    → IsAsKept kept left (file_caller old) told (made_in (file_caller old) old)
+kept_here kept left told p old made caller is as_kept =
+    subst (λ (o : Option ℕ). IsAsKept kept left o told (made_in o old)) (sym caller) (subst (λ (s : System). IsAsKept kept left (Some p) told s) is as_kept)
 
-pub gate_begun : {kept : Kept} (p : ℕ) (o n : Outside) (old made called new : System) → file_caller old ≡ Some p → made ≡ call_made p old → HasToldAtGate kept p o n made called
-    → new ≡ all_answered called → HasBegunStep kept false o n old new
-gate_begun {kept} p o n old made called new caller is has was =
+pub gate_begun : {kept left : Kept} (p : ℕ) (o n : Outside) (old made called new : System) → file_caller old ≡ Some p → made ≡ call_made p old → HasToldAtGate kept left p o n made called
+    → new ≡ all_answered called → HasBegunStep kept left false o n old new
+gate_begun {kept} {left} p o n old made called new caller is has was =
     let so = sym (begun_here has.told p old made caller is) in
     record {
       told = has.told;
       of_call = of_call_here has.told p old made caller is has.of_call;
       tells = tells_here has.told p old made caller is has.tells;
-      as_kept = kept_here kept has.told p old made caller is has.as_kept;
+      as_kept = kept_here kept left has.told p old made caller is has.as_kept;
       instruction_is = sym (ap (λ (o : Option ℕ). is_instruction o old) caller);
       system = was ∙ ap all_answered has.called.system ∙ ap (λ (c : Change). c.system) so;
       wrote = subst (λ (c : Change). Wrote o n c.emitted) so has.called.wrote;
@@ -171,7 +171,8 @@ gate_stops WriteFault kept p o n old made caller is has = record {
   told = has.told;
   of_call = of_call_here has.told p old made caller is has.of_call;
   tells = tells_here has.told p old made caller is has.tells;
-  as_kept = kept_here kept has.told p old made caller is has.as_kept;
+  left = has.left;
+  as_kept = kept_here kept has.left has.told p old made caller is has.as_kept;
   stops = subst (λ (c : Change). Stopped o n c.emitted) (sym (begun_here has.told p old made caller is)) has.stops;
 }
 gate_stops DiskFault kept p o n old made caller is has = record {

@@ -11,7 +11,8 @@ use Rattle.mpm_service.specs.declared.service.Turn.TheVariants.{Idle, Passing, W
 use Rattle.mpm_mount.specs.Directories.{Directory}
 use Rattle.mpm_requests.specs.Filing.{Filing, Situation}
 use Rattle.mpm_bdos.specs.Jobs.{call_turns}
-use Rattle.mpm_bdos.specs.Serving.{Kept, InService, Serves, directory_at}
+use Rattle.mpm_bdos.specs.Serving.{Kept, InService, Serves}
+use Rattle.mpm_directories.specs.Places.{directory_at}
 use Rattle.mpm_base.proofs.Options.{none_there}
 use Rattle.mpm_procs.specs.Table.{Table, call_of}
 use Rattle.mpm_kernel.specs.Kernel.{Kernel}

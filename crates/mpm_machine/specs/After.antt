@@ -9,7 +9,7 @@ use Rattle.mpm_render.specs.Outputs.{Output, rendered}
 use Rattle.mpm_render.specs.Shown.{Kept, Shows}
 use Rattle.mpm_output.specs.Outside.{Outside}
 use Rattle.mpm_output.specs.Writing.{Wrote, Stopped}
-use Rattle.mpm_bdos.specs.Direct.{Directly}
+use Rattle.mpm_directories.specs.Direct.{Directly}
 use Rattle.mpm_bdos.specs.Jobs.{call_turns}
 use Rattle.mpm_bdos.specs.Serving.{Kept as Filed, StandEach, Serves, filing_of}
 use Rattle.mpm_bdos.specs.AtOnce.{IsJobless}
@@ -74,15 +74,15 @@ abbrev pub IsToldIn : Option ℕ → Directly → System → Type 0
 IsToldIn None told system = ⊤
 IsToldIn (Some p) told system = IsToldOf p system told.answer told.extended
 
--- and by what is kept, one that no disk serves or that has no job
-abbrev pub IsAsKept : Filed → Option ℕ → Directly → System → Type 0
-IsAsKept kept None told system = ⊤
-IsAsKept kept (Some p) told system = IsToldAsKept kept p system told.answer told.extended
+-- and by what is kept before it and behind it, one that no disk serves or that has no job
+abbrev pub IsAsKept : Filed → Filed → Option ℕ → Directly → System → Type 0
+IsAsKept kept left None told system = ⊤
+IsAsKept kept left (Some p) told system = IsToldAsKept kept left p system told.answer told.extended
 
 -- so is one that is over and has no job
-abbrev pub IsOverAsKept : Filed → Option ℕ → Directly → Type 0
-IsOverAsKept kept None told = ⊤
-IsOverAsKept kept (Some p) told = EndsWithoutJob kept told.answer told.extended
+abbrev pub IsOverAsKept : Filed → Filed → Option ℕ → Directly → Type 0
+IsOverAsKept kept left None told = ⊤
+IsOverAsKept kept left (Some p) told = EndsWithoutJob kept left told.answer told.extended
 
 -- a call enters service as the disk makes its step where none is in service: that of the first process that waits
 pub record EntersService (function : FileFunction) (p : ℕ) (system : System) : Type 0 where
@@ -105,8 +105,8 @@ pub record StaysInService (kept kept' : Filed) (old : System) : Type 0 where
   pub passing : works_in_turn old ≡ false → kept' ≡ kept
   pub workless : has_work kept.service ≡ false → kept' ≡ kept
 
--- where no call is over, the disk's step leaves all that is kept but what those had open and marked who ended, and the call in service:
--- none, where none was and none enters
+-- behind the turn of the call in service, the disk's step leaves all that is kept but what those had open and marked who ended, and the
+-- call in service: none, where none was and none enters
 pub record LeavesServed (telling : Telling) (kept kept' : Filed) (old : System) : Type 0 where
   pub is : kept' ≡ kept_served telling kept'.service old kept
   pub service : (entered_after telling old).kernel.disk.served ≡ None → kept'.service ≡ kept.service
@@ -154,17 +154,21 @@ pub record IsMade (old : System) (change : Change) : Type 0 where
   pub over : IsOverByValue (process_over (begun_as step.telling.at_gate old).system) step.telling.at_disk (begun_as step.telling.at_gate old).system
   pub enters : EntersByValue (paid_after step.telling.at_disk (begun_as step.telling.at_gate old).system)
 
--- upon what was kept of file calls, and to what is kept then: what is done at once, and what is over, is as that has it; the call that
--- enters service is served by what is kept then; one in service that isn't over leaves what is kept, but for its turn; and so does a step
--- without a call, but for what those give back who ended
+-- upon what was kept of file calls, to what is kept then, by what is kept behind what it begins with, and what is left behind the turn of
+-- the call in service: what is done at once, and what is over, comes to its outcome as what was kept has it; the call that enters service
+-- is served by what is kept then; one in service that isn't over leaves what was kept, but for its turn; where no call is done at once, or
+-- over, nothing else becomes of it; and behind that those give back who ended
 pub record IsMadeUpon (kept kept' : Filed) (old : System) (change : Change) : Type 0 where
   pub made : IsMade old change
-  pub as_kept : IsAsKept kept (file_caller old) made.step.telling.at_gate (made_in (file_caller old) old)
-  pub over_as_kept : IsOverAsKept kept (process_over (begun_as made.step.telling.at_gate old).system) made.step.telling.at_disk
+  pub begun : Filed
+  pub left : Filed
+  pub as_kept : IsAsKept kept begun (file_caller old) made.step.telling.at_gate (made_in (file_caller old) old)
+  pub over_as_kept : IsOverAsKept kept left (process_over (begun_as made.step.telling.at_gate old).system) made.step.telling.at_disk
   pub entered : ServesEntered kept' made.step.telling.turns (paid_after made.step.telling.at_disk (begun_as made.step.telling.at_gate old).system)
   pub stays : IsSome old.kernel.disk.served → process_over (begun_as made.step.telling.at_gate old).system ≡ None → StaysInService kept kept' old
-  pub leaves : old.kernel.disk.served ≡ None → works_at_once (file_caller old) old ≡ false
-      → LeavesKept made.step.telling kept kept' (begun_as made.step.telling.at_gate old).system
+  pub rests : old.kernel.disk.served ≡ None → works_at_once (file_caller old) old ≡ false → begun ≡ kept
+  pub passes : (old.kernel.disk.served ≡ None) ⊎ (process_over (begun_as made.step.telling.at_gate old).system ≡ None) → left ≡ begun
+  pub leaves : LeavesKept made.step.telling left kept' (begun_as made.step.telling.at_gate old).system
 
 -- one state's is the other's
 pub record IsNextOf (s t : State) : Type 0 where
@@ -191,11 +195,11 @@ pub record HasStepped (kept kept' : Filed) (before behind : Outside) (old new : 
   pub wrote : Wrote before behind emitted
 
 -- what a step begins with was done, which was an instruction or not, by what its file call may tell
-pub record HasBegunStep (kept : Filed) (instruction : Bool) (before behind : Outside) (old new : System) : Type 0 where
+pub record HasBegunStep (kept kept' : Filed) (instruction : Bool) (before behind : Outside) (old new : System) : Type 0 where
   pub told : Directly
   pub of_call : IsOfCall (file_caller old) told (made_in (file_caller old) old)
   pub tells : IsToldIn (file_caller old) told (made_in (file_caller old) old)
-  pub as_kept : IsAsKept kept (file_caller old) told (made_in (file_caller old) old)
+  pub as_kept : IsAsKept kept kept' (file_caller old) told (made_in (file_caller old) old)
   pub instruction_is : instruction ≡ is_instruction (file_caller old) old
   pub system : new ≡ (begun_as told old).system
   pub wrote : Wrote before behind (begun_as told old).emitted
@@ -213,9 +217,11 @@ pub record HasEndedStep (kept kept' : Filed) (instruction : Bool) (before behind
   pub turns : EntersFor telling.turns (paid_after telling.at_disk old)
   pub of_call : IsOfCall (process_over old) telling.at_disk old
   pub tells : IsToldIn (process_over old) telling.at_disk old
-  pub as_kept : IsOverAsKept kept (process_over old) telling.at_disk
+  pub left : Filed
+  pub as_kept : IsOverAsKept kept left (process_over old) telling.at_disk
+  pub passes : process_over old ≡ None → left ≡ kept
   pub entered : ServesEntered kept' telling.turns (paid_after telling.at_disk old)
-  pub leaves : process_over old ≡ None → LeavesKept telling kept kept' old
+  pub leaves : LeavesKept telling left kept' old
   pub system : new ≡ (rest_of instruction telling (silent old)).system
   pub wrote : Wrote before behind (rest_of instruction telling (silent old)).emitted
 
@@ -236,14 +242,17 @@ abbrev pub StopsBy : StepFault → Outside → Outside → List Output → Type 
 StopsBy WriteFault before behind emitted = Stopped before behind emitted
 StopsBy DiskFault before behind emitted = behind ≡ before
 
--- whatever the images are, a first part was written of the text of a step of the system, upon what was kept of file calls: what is done
--- at once is as that has it, and so is what is over, where more was written than what the step begins with
+-- whatever the images are, a first part was written of the text of a step of the system, upon what was kept of file calls, with what its
+-- calls leave of that: what is done at once comes to its outcome as that has it, and so does what is over, where more was written than
+-- what the step begins with
 pub record IsMadeInPart (Text : List Output → Type 0) (kept : Filed) (old : System) : Type 0 where
   pub change : Change
   pub made : IsMade old change
-  pub as_kept : IsAsKept kept (file_caller old) made.step.telling.at_gate (made_in (file_caller old) old)
+  pub begun : Filed
+  pub left : Filed
+  pub as_kept : IsAsKept kept begun (file_caller old) made.step.telling.at_gate (made_in (file_caller old) old)
   pub over_as_kept : Text (begun_as made.step.telling.at_gate old).emitted
-      ⊎ IsOverAsKept kept (process_over (begun_as made.step.telling.at_gate old).system) made.step.telling.at_disk
+      ⊎ IsOverAsKept kept left (process_over (begun_as made.step.telling.at_gate old).system) made.step.telling.at_disk
   pub text : Text change.emitted
 
 -- no images and drives for which the directories stand leave the call of a process without a job
@@ -268,7 +277,8 @@ pub record HasBegunInPart (kept : Filed) (before behind : Outside) (old : System
   pub told : Directly
   pub of_call : IsOfCall (file_caller old) told (made_in (file_caller old) old)
   pub tells : IsToldIn (file_caller old) told (made_in (file_caller old) old)
-  pub as_kept : IsAsKept kept (file_caller old) told (made_in (file_caller old) old)
+  pub left : Filed
+  pub as_kept : IsAsKept kept left (file_caller old) told (made_in (file_caller old) old)
   pub stops : Stopped before behind (begun_as told old).emitted
 
 -- or as a drive failed
@@ -286,7 +296,8 @@ pub record HasEndedToStop (kept : Filed) (instruction : Bool) (before behind : O
   pub turns : EntersFor telling.turns (paid_after telling.at_disk old)
   pub of_call : IsOfCall (process_over old) telling.at_disk old
   pub tells : IsToldIn (process_over old) telling.at_disk old
-  pub as_kept : IsOverAsKept kept (process_over old) telling.at_disk
+  pub left : Filed
+  pub as_kept : IsOverAsKept kept left (process_over old) telling.at_disk
   pub stops : Stopped before behind (rest_of instruction telling (silent old)).emitted
 
 -- a file call that a process made was done at once, or waits: by what it came to, and by what it may tell
@@ -294,18 +305,19 @@ pub record HasCalled (told : Directly) (p : ℕ) (before behind : Outside) (old 
   pub system : new ≡ (file_called told p old).system
   pub wrote : Wrote before behind (file_called told p old).emitted
 
-pub record HasToldAtGate (kept : Filed) (p : ℕ) (before behind : Outside) (old new : System) : Type 0 where
+pub record HasToldAtGate (kept kept' : Filed) (p : ℕ) (before behind : Outside) (old new : System) : Type 0 where
   pub told : Directly
   pub of_call : IsOfCall (Some p) told old
   pub tells : IsToldIn (Some p) told old
-  pub as_kept : IsAsKept kept (Some p) told old
+  pub as_kept : IsAsKept kept kept' (Some p) told old
   pub called : HasCalled told p before behind old new
 
 pub record HasCalledInPart (kept : Filed) (p : ℕ) (before behind : Outside) (old : System) : Type 0 where
   pub told : Directly
   pub of_call : IsOfCall (Some p) told old
   pub tells : IsToldIn (Some p) told old
-  pub as_kept : IsAsKept kept (Some p) told old
+  pub left : Filed
+  pub as_kept : IsAsKept kept left (Some p) told old
   pub stops : Stopped before behind (file_called told p old).emitted
 
 abbrev pub HasStoppedAtGate : StepFault → Filed → ℕ → Outside → Outside → System → Type 0
@@ -318,11 +330,11 @@ pub record HasServedTo (files : Files) (before behind : Outside) (old new : Syst
   pub wrote : Wrote before behind (disk_served (told_within files old) old).emitted
   pub stands : StandsForFiles new.kernel.disk kept disks (files_then old files)
 
-pub record HasPassed (kept : Filed) (before behind : Outside) (old new : System) : Type 0 where
+pub record HasPassed (kept kept' : Filed) (before behind : Outside) (old new : System) : Type 0 where
   pub told : Directly
   pub of_call : IsOfCall (process_over old) told old
   pub tells : IsToldIn (process_over old) told old
-  pub as_kept : IsOverAsKept kept (process_over old) told
+  pub as_kept : IsOverAsKept kept kept' (process_over old) told
   pub system : new ≡ (disk_served told old).system
   pub wrote : Wrote before behind (disk_served told old).emitted
 
@@ -331,7 +343,8 @@ pub record HasStoppedServing (kept : Filed) (before behind : Outside) (old : Sys
   pub told : Directly
   pub of_call : IsOfCall (process_over old) told old
   pub tells : IsToldIn (process_over old) told old
-  pub as_kept : IsOverAsKept kept (process_over old) told
+  pub left : Filed
+  pub as_kept : IsOverAsKept kept left (process_over old) told
   pub stops : Stopped before behind (disk_served told old).emitted
 
 pub record HasServed (kept kept' : Filed) (before behind : Outside) (old new : System) : Type 0 where
@@ -339,18 +352,20 @@ pub record HasServed (kept kept' : Filed) (before behind : Outside) (old new : S
   pub turns : EntersFor telling.turns (paid_after telling.at_disk old)
   pub of_call : IsOfCall (process_over old) telling.at_disk old
   pub tells : IsToldIn (process_over old) telling.at_disk old
-  pub as_kept : IsOverAsKept kept (process_over old) telling.at_disk
+  pub left : Filed
+  pub as_kept : IsOverAsKept kept left (process_over old) telling.at_disk
+  pub passes : process_over old ≡ None → left ≡ kept
   pub entered : ServesEntered kept' telling.turns (paid_after telling.at_disk old)
-  pub leaves : process_over old ≡ None → LeavesServed telling kept kept' old
+  pub leaves : LeavesServed telling left kept' old
   pub system : new ≡ entered_after telling old
   pub wrote : Wrote before behind (disk_served telling.at_disk old).emitted
 
 -- the call of a process was answered, whose turns were served, upon what was kept
-pub record HasAnswered (kept : Filed) (p : ℕ) (before behind : Outside) (old new : System) : Type 0 where
+pub record HasAnswered (kept kept' : Filed) (p : ℕ) (before behind : Outside) (old new : System) : Type 0 where
   pub told : Directly
   pub of_call : IsOfCall (Some p) told old
   pub tells : IsToldIn (Some p) told old
-  pub as_kept : IsOverAsKept kept (Some p) told
+  pub as_kept : IsOverAsKept kept kept' (Some p) told
   pub system : new ≡ (call_over told p old).system
   pub wrote : Wrote before behind (call_over told p old).emitted
 
@@ -359,7 +374,8 @@ pub record HasStoppedAnswering (kept : Filed) (p : ℕ) (before behind : Outside
   pub told : Directly
   pub of_call : IsOfCall (Some p) told old
   pub tells : IsToldIn (Some p) told old
-  pub as_kept : IsOverAsKept kept (Some p) told
+  pub left : Filed
+  pub as_kept : IsOverAsKept kept left (Some p) told
   pub stops : Stopped before behind (call_over told p old).emitted
 
 -- the first call that waited entered service, if one did, for the turns that it may take, and is served by what is kept then

@@ -31,7 +31,7 @@ use Rattle.mpm_machine.specs.Due.{is_due, ended_if_due}
 use Rattle.mpm_machine.specs.State.{silent}
 use Rattle.mpm_machine.specs.Step.{instruction_at, gate_before, coming, counted, then_also}
 use Rattle.mpm_functions.specs.declared.refusals.Extended.{Extended}
-use Rattle.mpm_bdos.specs.Direct.{Directly}
+use Rattle.mpm_directories.specs.Direct.{Directly}
 use Rattle.mpm_machine.specs.FileCalls.{file_caller, call_made, concluded}
 use Rattle.mpm_machine.specs.DiskStep.{is_done_at_once, process_over, ready_again, step_passed}
 use Rattle.mpm_machine.specs.Stepping.{Telling, begun_with, begun_as, entered_after, rest_of}

@@ -10,7 +10,7 @@ use Rattle.mpm_procs.specs.Table.{call_of}
 use Rattle.mpm_kernel.specs.Kernel.{Kernel}
 use Rattle.mpm_kernel.specs.Disk.{with_disk, waiting_for_disk, ready_again as made_ready_again}
 use Rattle.mpm_functions.specs.declared.functions.FileFunction.{FileFunction}
-use Rattle.mpm_bdos.specs.Direct.{Directly}
+use Rattle.mpm_directories.specs.Direct.{Directly}
 use Rattle.mpm_requests.specs.Filing.{Filing, Situation}
 use Rattle.mpm_functions.specs.Functions.{function_of}
 use Rattle.mpm_bdos.specs.Jobs.{call_turns}

@@ -5,7 +5,7 @@ use Rattle.mpm_port.specs.Disks.{Disks}
 use Rattle.mpm_procs.specs.Table.{call_of}
 use Rattle.mpm_mount.specs.Drives.{Drive}
 use Rattle.mpm_mount.specs.Directories.{Directory}
-use Rattle.mpm_files.specs.declared.jobs.Job.{Job}
+use Rattle.mpm_jobs.specs.declared.jobs.Job.{Job}
 use Rattle.mpm_files.specs.Units.{stages}
 use Rattle.mpm_files.specs.Plans.{unit_at}
 use Rattle.mpm_files.specs.Serving.{units_done}
@@ -14,7 +14,8 @@ use Rattle.mpm_functions.specs.Functions.{function_of}
 use Rattle.mpm_requests.specs.Filing.{Filing, Situation}
 use Rattle.mpm_requests.specs.Subjects.{drive_number, drive_at}
 use Rattle.mpm_bdos.specs.Jobs.{call_turns, job_of}
-use Rattle.mpm_bdos.specs.Serving.{StandEach, directory_at}
+use Rattle.mpm_bdos.specs.Serving.{StandEach}
+use Rattle.mpm_directories.specs.Places.{directory_at}
 use Rattle.mpm_bdos.specs.Turns.{labelled, told_images}
 use Rattle.mpm_machine.specs.declared.system.System.{System}
 use Rattle.mpm_machine.specs.declared.machine.StepFault.{StepFault}

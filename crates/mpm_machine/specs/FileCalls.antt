@@ -24,11 +24,14 @@ use Rattle.mpm_functions.specs.declared.refusals.Extended.{Extended}
 use Rattle.mpm_functions.specs.Functions.{function_of, direct_of}
 use Rattle.mpm_requests.specs.Filing.{Filing, Situation}
 use Rattle.mpm_bdos.specs.Starting.{caller_of}
-use Rattle.mpm_bdos.specs.Outcomes.{CallerChange, Stays, Selects, Resets, Outcome, file_call}
+use Rattle.mpm_directories.specs.Direct.{CallerChange, Stays, Selects, Resets, Directly, IsToldDirectly, ComesDirectly, is_protected}
+use Rattle.mpm_bdos.specs.Outcomes.{Outcome, file_call}
+use Rattle.mpm_bdos.specs.Finishing.{ComesTo}
 use Rattle.mpm_bdos.specs.Jobs.{job_of}
-use Rattle.mpm_bdos.specs.Serving.{Kept, Serves, filing_of, kind_at}
+use Rattle.mpm_bdos.specs.Serving.{Kept, Serves, filing_of}
+use Rattle.mpm_directories.specs.Places.{kind_at}
 use Rattle.mpm_bdos.specs.AtOnce.{IsJobless}
-use Rattle.mpm_bdos.specs.Direct.{Directly, IsToldDirectly, ComesDirectly, direct, is_protected}
+use Rattle.mpm_bdos.specs.Direct.{direct}
 use Rattle.mpm_bdos.specs.Answering.{MayAnswer}
 use Rattle.mpm_machine.specs.declared.system.System.{System}
 use Rattle.mpm_machine.specs.State.{Change, silent, speaking}
@@ -146,33 +149,30 @@ IsToldOf p system answer extended =
     let number = (call_of system.kernel.dispatcher.procs p).function in
     MayTell (function_of number) (direct_of number) p system answer extended
 
--- one that is done at once and has no job, as one that is refused, comes to what its definition says, for whatever images and drives
--- the directories stand for
-pub record ComesWithoutJob (function : FileFunction) (kept : Kept) (p : ℕ) (system : System) (answer : Answer) (extended : Option Extended) : Type 0 where
-  pub answer_is : (images : ℕ → List ℕ) (drives : List (Option Drive)) → IsJobless images kept.mounted (situation_of (filing_of kept drives) function p system)
-      → answer ≡ (file_call (situation_of (filing_of kept drives) function p system)).answer
-  pub extended_is : (images : ℕ → List ℕ) (drives : List (Option Drive)) → IsJobless images kept.mounted (situation_of (filing_of kept drives) function p system)
-      → extended ≡ (file_call (situation_of (filing_of kept drives) function p system)).extended
+-- one that is done at once and has no job, as one that is refused, comes to its whole outcome, for whatever images and drives the
+-- directories stand for: it is answered, and of what was kept it leaves, as its definition says
+abbrev pub ComesWithoutJob : FileFunction → Kept → Kept → ℕ → System → Answer → Option Extended → Type 0
+ComesWithoutJob function kept left p system answer extended =
+    (images : ℕ → List ℕ) (drives : List (Option Drive)) → IsJobless images kept.mounted (situation_of (filing_of kept drives) function p system)
+    → ComesTo images (situation_of (filing_of kept drives) function p system) left answer extended
 
--- so does one in service that is over and has no job, in the situation in which it entered, for whatever images and drives the
--- directories stand for
-pub record EndsWithoutJob (kept : Kept) (answer : Answer) (extended : Option Extended) : Type 0 where
-  pub answer_is : (images : ℕ → List ℕ) (s : Situation) → Serves images kept s 0 → job_of s ≡ None → answer ≡ (file_call s).answer
-  pub extended_is : (images : ℕ → List ℕ) (s : Situation) → Serves images kept s 0 → job_of s ≡ None → extended ≡ (file_call s).extended
+-- so does one in service that is over and has no job, in the situation in which it entered
+abbrev pub EndsWithoutJob : Kept → Kept → Answer → Option Extended → Type 0
+EndsWithoutJob kept left answer extended = (images : ℕ → List ℕ) (s : Situation) → Serves images kept s 0 → job_of s ≡ None → ComesTo images s left answer extended
 
--- a call is answered as what is kept has it: one that the disk serves, where calls are done at once; and one that no disk serves, by which
--- drives are mounted, of which kinds, and which are protected
-abbrev pub TellsAsKept : Option FileFunction → Option DirectFunction → Kept → ℕ → System → Answer → Option Extended → Type 0
-TellsAsKept (Some function) other kept p system answer extended =
-    (system.kernel.disk.turn_steps == 0) ≡ true → ComesWithoutJob function kept p system answer extended
-TellsAsKept None (Some function) kept p system answer extended =
+-- a call comes to what it does as what is kept has it: one that the disk serves, where calls are done at once; and one that no disk
+-- serves is answered by which drives are mounted, of which kinds, and which are protected
+abbrev pub TellsAsKept : Option FileFunction → Option DirectFunction → Kept → Kept → ℕ → System → Answer → Option Extended → Type 0
+TellsAsKept (Some function) other kept left p system answer extended =
+    (system.kernel.disk.turn_steps == 0) ≡ true → ComesWithoutJob function kept left p system answer extended
+TellsAsKept None (Some function) kept left p system answer extended =
     ComesDirectly (kind_at kept.mounted) (is_protected kept.protected) (process_in system.kernel.dispatcher.procs p).drive function (call_of system.kernel.dispatcher.procs p) answer extended
-TellsAsKept None None kept p system answer extended = ⊤
+TellsAsKept None None kept left p system answer extended = ⊤
 
-unfoldable pub IsToldAsKept : Kept → ℕ → System → Answer → Option Extended → Type 0
-IsToldAsKept kept p system answer extended =
+unfoldable pub IsToldAsKept : Kept → Kept → ℕ → System → Answer → Option Extended → Type 0
+IsToldAsKept kept left p system answer extended =
     let number = (call_of system.kernel.dispatcher.procs p).function in
-    TellsAsKept (function_of number) (direct_of number) kept p system answer extended
+    TellsAsKept (function_of number) (direct_of number) kept left p system answer extended
 
 -- the call is answered: its reply is placed, and its record joins the others; a resident takes the answer
 abbrev pub reply_by : Option ℕ → Answer → ℕ → System → System

@@ -9,7 +9,8 @@ use Rattle.mpm_requests.specs.declared.caller.Caller.{Caller}
 use Rattle.mpm_functions.specs.declared.functions.FileFunction.{FileFunction}
 use Rattle.mpm_functions.specs.Functions.{function_of}
 use Rattle.mpm_bdos.specs.Answering.{HasEntered}
-use Rattle.mpm_bdos.specs.Serving.{Kept, InService, directory_at}
+use Rattle.mpm_bdos.specs.Serving.{Kept, InService}
+use Rattle.mpm_directories.specs.Places.{directory_at}
 use Rattle.mpm_bdos.specs.Turns.{FitsDrives, has_work}
 
 -- the call in service is that which its process keeps, with the multi-sector count with which it entered: neither changes while it is

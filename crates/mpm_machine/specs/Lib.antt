@@ -22,6 +22,7 @@ pub mod Holding
 pub mod DiskStep
 pub mod Stepping
 pub mod Moving
+pub mod OwnCalls
 pub mod Filed
 pub mod Failing
 pub mod Contained

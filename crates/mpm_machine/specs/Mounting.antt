@@ -8,7 +8,8 @@ use Rattle.mpm_drives.specs.Images.{Images}
 use Rattle.mpm_drives.specs.Mounted.{NumberedDrive, AreMounted, AreDrivesOf, AreTold, IsNamed, number_of, placed}
 use Rattle.mpm_mount.specs.Drives.{Drive}
 use Rattle.mpm_requests.specs.Filing.{Filing}
-use Rattle.mpm_bdos.specs.Serving.{Kept, directory_at, filing_of, nothing_kept, in_places}
+use Rattle.mpm_bdos.specs.Serving.{Kept, filing_of, nothing_kept}
+use Rattle.mpm_directories.specs.Places.{directory_at, in_places}
 use Rattle.mpm_bdos.specs.Turns.{StaysBeside, labelled}
 use Rattle.mpm_service.specs.Disk.{DiskService}
 use Rattle.mpm_machine.specs.Files.{Between, StandsForFiles}

@@ -10,10 +10,11 @@ use Rattle.mpm_service.specs.Ahead.{turns_left, unserved}
 use Rattle.mpm_service.specs.Disk.{served_process}
 use Rattle.mpm_service.specs.declared.service.Served.{Served}
 use Rattle.mpm_kernel.specs.Disk.{with_disk}
-use Rattle.mpm_bdos.specs.Direct.{Directly}
+use Rattle.mpm_directories.specs.Direct.{Directly}
 use Rattle.mpm_requests.specs.Filing.{Situation}
 use Rattle.mpm_bdos.specs.Outcomes.{file_call}
-use Rattle.mpm_bdos.specs.Serving.{Kept as Filed, directory_at}
+use Rattle.mpm_bdos.specs.Serving.{Kept as Filed}
+use Rattle.mpm_directories.specs.Places.{directory_at}
 use Rattle.mpm_bdos.specs.Syncing.{AreSynced, StopsAtDrive, mounted_count}
 use Rattle.mpm_bdos.specs.Turns.{KeepsUnsynced, drive_served}
 use Rattle.mpm_output.specs.Outside.{Outside}
@@ -106,7 +107,8 @@ pub record IsEndOf (kept : Filed) (p : ℕ) (old : System) (change : Change) : T
   pub told : Directly
   pub of_call : IsOfCall (Some p) told (turns_passed old)
   pub tells : IsToldIn (Some p) told (turns_passed old)
-  pub as_kept : IsOverAsKept kept (Some p) told
+  pub left : Filed
+  pub as_kept : IsOverAsKept kept left (Some p) told
   pub is : change ≡ ended_with told p old
 
 abbrev pub IsEndBy : Filed → Option ℕ → System → Change → Type 0

@@ -4,8 +4,7 @@
 use Rattle.std.specs.Prelude.{ℕ, Bool, false, Option, Some, None}
 use Rattle.mpm_base.specs.Calls.{answering}
 use Rattle.mpm_procs.specs.Table.{call_of}
-use Rattle.mpm_bdos.specs.Direct.{Directly}
-use Rattle.mpm_bdos.specs.Outcomes.{Stays}
+use Rattle.mpm_directories.specs.Direct.{Directly, Stays}
 use Rattle.mpm_machine.specs.declared.system.System.{System}
 use Rattle.mpm_machine.specs.State.{Change}
 use Rattle.mpm_machine.specs.Files.{Files, Between, Within, given_back}

@@ -26,7 +26,7 @@ impl System {
     ghost use Rattle.mpm_machine.specs.Step.{coming, counted, gate_before};
     ghost use Rattle.std.specs.Prelude.{is_none};
     ghost use Rattle.mpm_functions.specs.declared.refusals.Extended.{Extended};
-    ghost use Rattle.mpm_bdos.specs.Outcomes.{Resets};
+    ghost use Rattle.mpm_directories.specs.Direct.{Resets};
     ghost use Rattle.mpm_machine.specs.FileCalls.{first_dma, called_next, is_file_number, made_by, calls_files, file_caller, call_made, told_of, change_of, with_caller, file_replied, error_told, answered_or_ended, told_then, error_met, concluded};
 
     /// The process that makes a file call in the next step, if one does.

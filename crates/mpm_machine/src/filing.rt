@@ -79,7 +79,7 @@ pub(crate) fn call_files<D: Drives, L: Ledger>(
     ensures ok { (filing : Filing) → StandsBetween bdos.old (D.disks drives.old) filing
         → IfOk result (IsOutcome (D.disks drives.new) (outcome_in filing p system.now) bdos.new reply.new) }
     ensures told { IfOk result (IsToldOf p system.now reply.new) }
-    ensures as_kept { IfOk result (IsToldAsKept bdos.old p system.now reply.new) }
+    ensures as_kept { IfOk result (IsToldAsKept bdos.old bdos.new p system.now reply.new) }
     ensures err { (filing : Filing) → StandsBetween bdos.old (D.disks drives.old) filing
         → OnErr result (HaveImagesOf (FailsWithin (working_if true filing p system.now)) (D.disks drives.new) bdos.new.mounted) }
     ensures calls { (filing : Filing) → StandsBetween bdos.old (D.disks drives.old) filing → steps.new ≤ steps.old + 20 * turns_done (working_if true filing p system.now) }
@@ -122,7 +122,7 @@ fn call_disk<D: Drives, L: Ledger>(
     ensures ok { (filing : Filing) → StandsBetween bdos.old (D.disks drives.old) filing
         → IfOk result (IsOutcome (D.disks drives.new) (outcome_in filing p system.now) bdos.new reply.new) }
     ensures told { IfOk result (IsToldOf p system.now reply.new) }
-    ensures as_kept { IfOk result (IsToldAsKept bdos.old p system.now reply.new) }
+    ensures as_kept { IfOk result (IsToldAsKept bdos.old bdos.new p system.now reply.new) }
     ensures err { (filing : Filing) → StandsBetween bdos.old (D.disks drives.old) filing
         → OnErr result (HaveImagesOf (FailsWithin (working_if true filing p system.now)) (D.disks drives.new) bdos.new.mounted) }
     ensures calls { (filing : Filing) → StandsBetween bdos.old (D.disks drives.old) filing → steps.new ≤ steps.old + 20 * turns_done (working_if true filing p system.now) }
@@ -156,7 +156,7 @@ fn call_directly(system: &System, bdos: &Bdos, p: Pid, reply: &mut Reply) -> Opt
     requires lives { Lives system.now.kernel.dispatcher.procs p }
     requires function { function_of (call_of system.now.kernel.dispatcher.procs p).function ≡ None }
     ensures told { IsToldOf p system.now reply.new result }
-    ensures as_kept { IsToldAsKept bdos.now p system.now reply.new result }
+    ensures as_kept { IsToldAsKept bdos.now bdos.now p system.now reply.new result }
     ensures outcome { (disks : Option Disks) (filing : Filing) → StandsBetween bdos.now disks filing
         → IsOutcome disks (outcome_in filing p system.now) bdos.now reply.new result }
     ensures within { (images : ℕ → List ℕ) (s : Situation) (j : ℕ) → Serves images bdos.now s j

@@ -13,6 +13,7 @@ mod loading;
 mod machine;
 mod opening;
 mod owed;
+mod own_calls;
 mod parsing;
 mod procedures;
 mod records;

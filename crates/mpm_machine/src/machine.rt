@@ -55,7 +55,8 @@ impl Machine {
     ghost use Rattle.mpm_port.specs.Disks.{Disks};
     ghost use Rattle.mpm_drives.specs.Stopping.{Stops};
     ghost use Rattle.mpm_opens.specs.Opens.{AreOpen};
-    ghost use Rattle.mpm_bdos.specs.Serving.{directory_at, nothing_kept, in_places};
+    ghost use Rattle.mpm_directories.specs.Places.{directory_at, in_places};
+    ghost use Rattle.mpm_bdos.specs.Serving.{nothing_kept};
     ghost use Rattle.mpm_bdos.specs.Syncing.{AreSynced, mounted_count};
     ghost use Rattle.mpm_output.specs.Outside.{seen};
     ghost use Rattle.mpm_machine.specs.State.{State, silent, StandsWithDrives, IsWhole, NoCompletions};
@@ -388,6 +389,12 @@ impl Machine {
         ensures few { 0 < self.old.system.kernel.disk.turn_steps → steps.new ≤ steps.old + 20 }
         ensures turn_steps { OnOk result (self.new.system.kernel.disk.turn_steps ≡ self.old.system.kernel.disk.turn_steps) }
     {
+        if let Some((p, seg)) = self.system.makes_own_call() {
+            return match self.system.do_own_call(p, seg, render, sink) {
+                Ok(()) => Ok(()),
+                Err(Failed) => Err(StepFault::WriteFault),
+            };
+        }
         if let Err(Failed) = work(&self.system, &mut self.bdos, drives, steps) {
             return Err(StepFault::DiskFault);
         }

@@ -61,7 +61,7 @@ impl Machine {
             → IfErr result (λ fault. OnDiskFault fault (HaveImagesOf (FailsWithin (working_in self.old.system files)) (D.disks drives.new) self.new.bdos.mounted)) }
         ensures stands { (files : Files) → StandsWorked self.old.system.kernel.disk self.old.bdos (D.disks drives.old) files
             → IfErr result (λ fault. OnWriteFault fault (StandsWorked self.old.system.kernel.disk self.new.bdos (D.disks drives.new) (files_begun self.old.system files))) }
-        ensures step { IfOk result (λ instruction. HasBegunStep self.old.bdos instruction (seen S.written S.faults render.old sink.old) (seen S.written S.faults render.new sink.new) self.old.system self.new.system) }
+        ensures step { IfOk result (λ instruction. HasBegunStep self.old.bdos self.new.bdos instruction (seen S.written S.faults render.old sink.old) (seen S.written S.faults render.new sink.new) self.old.system self.new.system) }
         ensures stops { IfErr result (λ fault. HasBegunToStop fault self.old.bdos (seen S.written S.faults render.old sink.old) (seen S.written S.faults render.new sink.new) self.old.system) }
         ensures served { OnOk result (self.new.system.kernel.disk.served ≡ self.old.system.kernel.disk.served) }
         ensures turn_steps { OnOk result (self.new.system.kernel.disk.turn_steps ≡ self.old.system.kernel.disk.turn_steps) }
@@ -122,7 +122,7 @@ impl Machine {
             → IfErr result (λ fault. OnDiskFault fault (HaveImagesOf (FailsWithin (working_in self.old.system files)) (D.disks drives.new) self.new.bdos.mounted)) }
         ensures stands { (files : Files) → StandsWorked self.old.system.kernel.disk self.old.bdos (D.disks drives.old) files
             → IfErr result (λ fault. OnWriteFault fault (StandsWorked self.old.system.kernel.disk self.new.bdos (D.disks drives.new) (files_begun self.old.system files))) }
-        ensures step { OnOk result (HasBegunStep self.old.bdos false (seen S.written S.faults render.old sink.old) (seen S.written S.faults render.new sink.new) self.old.system self.new.system) }
+        ensures step { OnOk result (HasBegunStep self.old.bdos self.new.bdos false (seen S.written S.faults render.old sink.old) (seen S.written S.faults render.new sink.new) self.old.system self.new.system) }
         ensures stops { IfErr result (λ fault. HasBegunToStop fault self.old.bdos (seen S.written S.faults render.old sink.old) (seen S.written S.faults render.new sink.new) self.old.system) }
         ensures served { OnOk result (self.new.system.kernel.disk.served ≡ self.old.system.kernel.disk.served) }
         ensures turn_steps { OnOk result (self.new.system.kernel.disk.turn_steps ≡ self.old.system.kernel.disk.turn_steps) }
@@ -181,7 +181,7 @@ impl Machine {
             → IfErr result (λ fault. OnDiskFault fault (HaveImagesOf (FailsWithin (working_if (is_done_at_once p self.old.system) filing p self.old.system)) (D.disks drives.new) self.new.bdos.mounted)) }
         ensures stands { (files : Files) → StandsWorked self.old.system.kernel.disk self.old.bdos (D.disks drives.old) files
             → IfErr result (λ fault. OnWriteFault fault (StandsWorked self.old.system.kernel.disk self.new.bdos (D.disks drives.new) (files_called p self.old.system files))) }
-        ensures called { OnOk result (HasToldAtGate self.old.bdos p (seen S.written S.faults render.old sink.old) (seen S.written S.faults render.new sink.new) self.old.system self.new.system) }
+        ensures called { OnOk result (HasToldAtGate self.old.bdos self.new.bdos p (seen S.written S.faults render.old sink.old) (seen S.written S.faults render.new sink.new) self.old.system self.new.system) }
         ensures stops { IfErr result (λ fault. HasStoppedAtGate fault self.old.bdos p (seen S.written S.faults render.old sink.old) (seen S.written S.faults render.new sink.new) self.old.system) }
         ensures keeps { KeepsMounted (D.disks drives.old) (D.disks drives.new) self.old.bdos.mounted self.new.bdos.mounted }
         ensures names { D.failed_names drives.new ≡ D.failed_names drives.old }
@@ -340,7 +340,7 @@ impl Machine {
             × StandsForFiles self.new.system.kernel.disk self.new.bdos disks (files_served self.old.system files)) }
         ensures err { (disks : Option Disks) (files : Files) → StandsWorked self.old.system.kernel.disk self.old.bdos disks files
             → OnErr result (Stopped (seen S.written S.faults render.old sink.old) (seen S.written S.faults render.new sink.new) (disk_served (told_within files self.old.system) self.old.system).emitted) }
-        ensures step { OnOk result (HasPassed self.old.bdos (seen S.written S.faults render.old sink.old) (seen S.written S.faults render.new sink.new) self.old.system self.new.system) }
+        ensures step { OnOk result (HasPassed self.old.bdos self.new.bdos (seen S.written S.faults render.old sink.old) (seen S.written S.faults render.new sink.new) self.old.system self.new.system) }
         ensures stops { OnErr result (HasStoppedServing self.old.bdos (seen S.written S.faults render.old sink.old) (seen S.written S.faults render.new sink.new) self.old.system) }
         ensures begun { OnOk result (HasBegun self.new.system.kernel.disk) }
         ensures filed { OnOk result (AreFiled self.new.system.kernel) }
@@ -381,7 +381,7 @@ impl Machine {
             × StandsBetween self.new.bdos disks (file_call s).filing) }
         ensures err { (disks : Option Disks) (s : Situation) → Serves (told_images disks) self.old.bdos s (call_turns s) → s.caller.process ≡ p
             → OnErr result (Stopped (seen S.written S.faults render.old sink.old) (seen S.written S.faults render.new sink.new) (call_over (told_of_call s p self.old.system) p self.old.system).emitted) }
-        ensures told { OnOk result (HasAnswered self.old.bdos p (seen S.written S.faults render.old sink.old) (seen S.written S.faults render.new sink.new) self.old.system self.new.system) }
+        ensures told { OnOk result (HasAnswered self.old.bdos self.new.bdos p (seen S.written S.faults render.old sink.old) (seen S.written S.faults render.new sink.new) self.old.system self.new.system) }
         ensures stops { OnErr result (HasStoppedAnswering self.old.bdos p (seen S.written S.faults render.old sink.old) (seen S.written S.faults render.new sink.new) self.old.system) }
         ensures idle { self.new.bdos.service ≡ None }
         ensures whole { OnOk result (IsWhole self.new.system) }

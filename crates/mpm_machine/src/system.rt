@@ -142,7 +142,7 @@ impl System {
     }
 
     /// So many steps at least in which no interrupt is due.
-    fn quiet(&self) -> u64
+    pub fn quiet(&self) -> u64
         ensures { (step : ℕ) → step ≤ self.now.steps + result → self.now.steps < step → due step self.now.interrupts ≡ None }
     {
         self.interrupts
@@ -152,7 +152,7 @@ impl System {
     }
 
     /// The running process, where it is the first of the ready list, so that it runs on after each instruction.
-    fn runner(&self) -> Option<Pid>
+    pub fn runner(&self) -> Option<Pid>
         ensures running { IfSome result (λ p. self.now.kernel.dispatcher.running ≡ Some p) }
         ensures first { IfSome result (λ p. first_of (list_at self.now.kernel.dispatcher.lists ready) ≡ Some p) }
     {

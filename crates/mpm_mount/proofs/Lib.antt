@@ -40,3 +40,4 @@ pub mod Names
 pub mod SearchSteps
 pub mod Lowest
 pub mod Looked
+pub mod ReadErrors

@@ -1,5 +1,5 @@
 -- Names of files and of their entries: which are one.
-use Rattle.std.proofs.Common.{◌≡◌, ℕ, Bool, true, false, ◌==◌, List, [], ◌∷◌, ◌++◌, get_or, drop, refl, sym, ap, ◌∙◌, arith}
+use Rattle.std.proofs.Common.{◌≡◌, ℕ, true, false, ◌==◌, List, [], ◌∷◌, ◌++◌, get_or, drop, refl, sym, ap, ◌∙◌, arith}
 use Rattle.std.specs.Prelude.{bytes_eq}
 use Rattle.std.specs.Ordering.{eq_by_cmp, is_eq}
 use Rattle.std.specs.Cmp.{Equal-is, tied_itself}
@@ -8,6 +8,7 @@ use Rattle.std.proofs.lemmas.Bool.{true≢false, false_from_ne_true, and_parts, 
 use Rattle.std.proofs.lemmas.Bool.Decides.{nat_tests}
 use Rattle.std.proofs.lemmas.List.{same_from_push}
 use Rattle.std.proofs.lemmas.Slice.Eq.{bytes_eq-Decides}
+use Rattle.mpm_base.proofs.Tests.{one_test}
 use Rattle.mpm_mount.specs.Drives.{FileName, file_cmp, entry_cmp}
 use Rattle.mpm_mount.specs.Files.{is_same_file}
 use Rattle.mpm_mount.proofs.Orders.{file_tied, file_total}
@@ -50,12 +51,6 @@ entries_differ a b k m apart = false_from_ne_true _ (λ tied. true≢false (sym 
 pub files_differ : (a b : FileName) → is_same_file a b ≡ false → eq_by_cmp file_cmp a b ≡ false
 files_differ a b apart =
     false_from_ne_true (eq_by_cmp file_cmp a b) (λ tied. true≢false (sym (is_itself a) ∙ ap (λ (f : FileName). is_same_file a f) (file_tied a b tied) ∙ apart))
-
--- the other way round
-pub one_test : (a b : Bool) → (a ≡ true → b ≡ true) → (b ≡ true → a ≡ true) → a ≡ b
-one_test true b there back = sym (there refl)
-one_test false true there back = back refl
-one_test false false there back = refl
 
 pub same_back : (a b : FileName) → is_same_file a b ≡ is_same_file b a
 same_back a b =

@@ -9,3 +9,4 @@ pub mod Searching
 pub mod Attributes
 pub mod Files
 pub mod Looking
+pub mod Records

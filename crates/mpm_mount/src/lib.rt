@@ -10,14 +10,16 @@ mod looking;
 mod lookups;
 mod mounting;
 mod reading;
+mod records;
 mod searching;
 mod slots;
 
 pub use directory::Mounted;
 pub use errors::{ImageFault, MountError};
-pub use looking::{attributes, attributes_of, count, label, label_byte, xfcb};
+pub use looking::{attributes, attributes_of, extent_count, label, label_byte, xfcb};
 pub use lookups::lowest_entry;
 pub use mounting::mount;
+pub use records::{block_place, block_records, read_error, record_error};
 pub use searching::Found;
 pub use slots::last_extent;
 

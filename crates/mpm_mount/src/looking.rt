@@ -5,7 +5,7 @@ ghost use Rattle.mpm_mount.specs.Drives.{Drive};
 ghost use Rattle.mpm_mount.specs.Directories.{Stands};
 ghost use Rattle.mpm_mount.specs.Images.{protection_of};
 ghost use Rattle.mpm_mount.specs.Attributes.{attributes_in};
-ghost use Rattle.mpm_mount.specs.Looking.{data_byte, extent_count, file_attributes};
+ghost use Rattle.mpm_mount.specs.Looking.{data_byte, file_attributes};
 ghost use Rattle.mpm_mount.specs.Attributes as bits;
 ghost use Rattle.mpm_mount.specs.Looking as spec;
 
@@ -127,9 +127,9 @@ fn count_of(mounted: &Mounted, user: u8, name: &[u8; 11], extent: u16) -> Option
 
 /// The record count of an extent of a user's file, if it is there.
 #[tactic(auto, using(crate::proofs::Looked::count_stands))]
-pub fn count(mounted: &Mounted, user: u8, name: &[u8; 11], extent: u16) -> Option<u8>
+pub fn extent_count(mounted: &Mounted, user: u8, name: &[u8; 11], extent: u16) -> Option<u8>
     ensures { (image : List ℕ) (drive : Drive) → Stands image mounted.now drive
-        → extent_count drive (record { user = user; name = plain name.now }) extent ≡ result }
+        → spec.extent_count drive (record { user = user; name = plain name.now }) extent ≡ result }
 {
     count_of(mounted, user, name, extent)
 }

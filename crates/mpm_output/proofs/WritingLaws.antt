@@ -156,7 +156,3 @@ stopped_cause e o n emitted stopped = record {
   stays = tt;
   failed = stopped.rose;
 }
-
-pub on_ok_always : {A E P : Type 0} (r : Result A E) → P → OnOk r P
-on_ok_always (Ok x) p = p
-on_ok_always (Err e) p = tt

@@ -33,10 +33,6 @@ none_kept : {X Y : Type 0} (test : X → Bool) (f : X → Y) (xs : List X) → n
 none_kept test f [] = refl
 none_kept test f (x ∷ xs) = none_kept_step test f x xs (test x) (none_kept test f xs)
 
-pub turned : (a b : Bool) → b ≡ not a → a ≡ not b
-turned true b e = ap not (sym e)
-turned false b e = ap not (sym e)
-
 -- none is named where a search for every extent finds nothing
 pub nothing_deleted : (drive : Drive) (user : ℕ) (pattern : List ℕ) (name : Found → FileName × ℕ) (found : Option Found) → option_map name found ≡ found_in drive user pattern 63 None
     → not (is_some found) ≡ (length (deleted_in drive user pattern) == 0)

@@ -10,3 +10,4 @@ pub mod UnmountedLaws
 pub mod Firsts
 pub mod FirstRefused
 pub mod OwnItems
+pub mod KeepLaws

@@ -9,7 +9,7 @@ use crate::files::is_there;
 use crate::searching::found_in;
 use mpm_fcb::ControlBlock;
 use mpm_functions::FileFunction;
-use mpm_mount::{Mounted, count};
+use mpm_mount::{Mounted, extent_count};
 
 /// Whether a deletion of a user's files of a pattern names none.
 fn deletes_nothing(mounted: &Mounted, user: u8, pattern: &[u8; 11]) -> bool
@@ -34,7 +34,12 @@ pub(crate) fn is_missing(
         → result ≡ spec.is_missing_in drive (record { user = owner; name = plain block.now.name }) user block.now is_open is_found function }
 {
     match function {
-        FileFunction::OpenFile => count(mounted, owner, &block.name, u16::from(block.ex)).is_none(),
+        FileFunction::OpenFile => extent_count(
+            mounted,
+            owner,
+            &block.name,
+            u16::from(block.ex),
+        ).is_none(),
         FileFunction::CloseFile => !is_open,
         FileFunction::SearchFirst | FileFunction::SearchNext => !is_found,
         FileFunction::DeleteFile => deletes_nothing(mounted, user, &block.name),

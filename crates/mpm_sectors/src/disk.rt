@@ -101,6 +101,7 @@ impl Disk {
         ensures most { steps.new ≤ steps.old + count }
         ensures leaves { Leaves D.attached D.disks D.failed_names D.unsynced self.now.drive cache.old cache.new drives.old drives.new }
         ensures unsynced { OnErr result (D.unsynced drives.new self.now.drive ≡ true) }
+        ensures owed { 0 < count → D.unsynced drives.new self.now.drive ≡ true }
         ensures cause { HasCause (D.faults drives.old) (D.faults drives.new) result }
     {
         for number in 0..count {

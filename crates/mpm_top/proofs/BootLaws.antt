@@ -19,7 +19,8 @@ use Rattle.mpm_drives.specs.declared.error.BootError.TheVariants.{Image, DiskFau
 use Rattle.mpm_drives.specs.Images.{Images}
 use Rattle.mpm_mount.specs.Directories.{Directory}
 use Rattle.mpm_drives.specs.Mounted.{NumberedDrive, AreDrivesOf, AreTold, placed}
-use Rattle.mpm_bdos.specs.Serving.{Kept as Filed, nothing_kept, in_places}
+use Rattle.mpm_bdos.specs.Serving.{Kept as Filed, nothing_kept}
+use Rattle.mpm_directories.specs.Places.{in_places}
 use Rattle.mpm_machine.specs.State.{State}
 use Rattle.mpm_machine.specs.Files.{Between, StandsForFiles}
 use Rattle.mpm_machine.specs.Mounting.{HasDrives, HasNoDrive, OpensOn, untouched}

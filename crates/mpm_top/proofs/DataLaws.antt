@@ -27,7 +27,8 @@ use Rattle.mpm_mount.proofs.Ranges.{map_at}
 use Rattle.mpm_mount.proofs.Sound.{block_within}
 use Rattle.mpm_mount.proofs.Still.{has_own, file_injective}
 use Rattle.mpm_requests.specs.Asking.{StandsWhere}
-use Rattle.mpm_bdos.specs.Serving.{StandEach, directory_at}
+use Rattle.mpm_bdos.specs.Serving.{StandEach}
+use Rattle.mpm_directories.specs.Places.{directory_at}
 use Rattle.mpm_bdos.specs.Turns.{labelled, told_images}
 use Rattle.mpm_bdos.proofs.NextTurns.{image_told}
 use Rattle.mpm_top.specs.Data.{data_file, data_of, data_on, sector_in, HasDriveA}

@@ -1,10 +1,9 @@
 -- Where files are told, a command ends as they say.
 use Rattle.std.proofs.Common.{◌≡◌, ◌∙◌, ℕ, ◌<◌, ◌≤◌, true, false, List, [], ◌∷◌, ◌++◌, Option, Some, None, IsSome, MatchOption, length, option_map, option_and_then, nat_lt, inl, inr, refl, sym, ap, subst, arith}
 use Rattle.std.specs.Prelude.{⊤, Result, Ok, Err, IsOk}
-use Rattle.std.proofs.lemmas.Bool.Decides.{nat_tests}
 use Rattle.std.proofs.lemmas.List.{length-append}
 use Rattle.std.proofs.lemmas.Option.{same_Some}
-use Rattle.std.proofs.lemmas.Bool.{cond-true, cond-false}
+use Rattle.std.proofs.lemmas.Bool.{cond-true, cond-false, lt-ltb, le-ltb}
 use Rattle.mpm_script.specs.declared.event.Timed.{Timed}
 use Rattle.mpm_script.specs.Scripts.{script_of}
 use Rattle.mpm_machine_file.specs.MachineFiles.{machine_of_text}
@@ -38,27 +37,20 @@ known_contents : (told : Option (List ℕ)) (bytes file : List ℕ) → told ≡
 known_contents None bytes file e h = absurd (cc)
 known_contents (Some other) bytes file e h = h ∙ (cc)
 
--- a size against the room for it
-within : (room size : ℕ) → size ≤ room → nat_lt room size ≡ false
-within room size h = grind (arith, nat_tests)
-
-beyond : (room size : ℕ) → room < size → nat_lt room size ≡ true
-beyond room size h = grind (arith, nat_tests)
-
 -- a file that fits ends by what it stands for
 ending_fits : (host : Host) (form : Form) (name bytes : List ℕ) → host.contents name ≡ Some bytes → length bytes ≤ room_for (input_of form)
     → ending host form name ≡ ending_stood host.contents (ending_drives host.images (drives_listed form bytes)) (script_name form bytes) (system_of form bytes [])
 unfolding ending
 ending_fits host form name bytes told fits =
     ap (option_and_then (ending_by_contents host form)) told
-    ∙ cond-false (nat_lt (room_for (input_of form)) (length bytes)) _ _ (within (room_for (input_of form)) (length bytes) fits)
+    ∙ cond-false (nat_lt (room_for (input_of form)) (length bytes)) _ _ (le-ltb (room_for (input_of form)) (length bytes) fits)
 
 ending_long : (host : Host) (form : Form) (name bytes : List ℕ) → host.contents name ≡ Some bytes → room_for (input_of form) < length bytes
     → ending host form name ≡ Some (TooLong (input_of form))
 unfolding ending
 ending_long host form name bytes told long =
     ap (option_and_then (ending_by_contents host form)) told
-    ∙ cond-true (nat_lt (room_for (input_of form)) (length bytes)) _ _ (beyond (room_for (input_of form)) (length bytes) long)
+    ∙ cond-true (nat_lt (room_for (input_of form)) (length bytes)) _ _ (lt-ltb (room_for (input_of form)) (length bytes) long)
 
 -- where a command begins, or its file names a script, its file stands for a system
 
@@ -92,13 +84,13 @@ script_fits : (contents : Contents) (drives : Option Status) (script text : List
     → ending_scripted contents drives (Some script) ≡ ending_read drives (script_of text)
 script_fits contents drives script text told fits =
     ap (option_and_then (ending_told drives)) told
-    ∙ cond-false (nat_lt (room_for ScriptText) (length text)) (Some (TooLong ScriptText)) (ending_read drives (script_of text)) (within (room_for ScriptText) (length text) fits)
+    ∙ cond-false (nat_lt (room_for ScriptText) (length text)) (Some (TooLong ScriptText)) (ending_read drives (script_of text)) (le-ltb (room_for ScriptText) (length text) fits)
 
 script_long : (contents : Contents) (drives : Option Status) (script text : List ℕ) → contents script ≡ Some text → room_for ScriptText < length text
     → ending_scripted contents drives (Some script) ≡ Some (TooLong ScriptText)
 script_long contents drives script text told long =
     ap (option_and_then (ending_told drives)) told
-    ∙ cond-true (nat_lt (room_for ScriptText) (length text)) (Some (TooLong ScriptText)) (ending_read drives (script_of text)) (beyond (room_for ScriptText) (length text) long)
+    ∙ cond-true (nat_lt (room_for ScriptText) (length text)) (Some (TooLong ScriptText)) (ending_read drives (script_of text)) (lt-ltb (room_for ScriptText) (length text) long)
 
 some_given : {A : Type 0} (found : Option A) → IsSome found → (a : A) × (found ≡ Some a)
 some_given None some = absurd (cc)

@@ -15,7 +15,7 @@ use Rattle.mpm_mount.proofs.Mounts.{mounts}
 use Rattle.mpm_drives.specs.Images.{Bytes, Images, found, image_named, HasFiles}
 use Rattle.mpm_drives.specs.Mounted.{NumberedDrive, IsNamed, IsDriveOf, AreDrivesOf, number_of}
 use Rattle.mpm_requests.specs.Asking.{StandsWhere}
-use Rattle.mpm_bdos.specs.Serving.{directory_at}
+use Rattle.mpm_directories.specs.Places.{directory_at}
 use Rattle.mpm_bdos.specs.Turns.{has_directory, labelled, told_images}
 use Rattle.mpm_bdos.proofs.NextTurns.{image_told}
 use Rattle.mpm_machine.specs.Mounting.{IsInPlace, HasDrives, KeepsMounted}

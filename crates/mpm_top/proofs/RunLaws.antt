@@ -235,6 +235,8 @@ in_part_so : (T U : List Output → Type 0) (kept : Filed) (old : System) → ((
 in_part_so T U kept old so part = record {
   change = part.change;
   made = part.made;
+  begun = part.begun;
+  left = part.left;
   as_kept = part.as_kept;
   over_as_kept = either_text part.over_as_kept;
   text = so part.change.emitted part.text;

@@ -7,7 +7,8 @@ use Rattle.mpm_base.specs.declared.kind.Kind.TheVariants.{Hd4}
 use Rattle.mpm_blocks.specs.Sectors.{Sectors, sectors_of}
 use Rattle.mpm_dirent.specs.declared.kinds.Entry.{Entry}
 use Rattle.mpm_dirent.specs.declared.kinds.Entry.TheVariants.{Free, File}
-use Rattle.mpm_dirent.specs.Entries.{part, word_bytes, map_of, bytes_of, entry_of}
+use Rattle.mpm_dirent.specs.Entries.{part, map_of, bytes_of, entry_of}
+use Rattle.mpm_base.specs.Words.{word_bytes}
 use Rattle.mpm_dirent.proofs.Sorts.{is_free}
 use Rattle.mpm_mount.specs.Drives.{Drive}
 use Rattle.mpm_mount.specs.Directories.{Directory}

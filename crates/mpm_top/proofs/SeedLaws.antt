@@ -22,7 +22,8 @@ use Rattle.mpm_drives.specs.declared.error.BootError.TheVariants.{Image}
 use Rattle.mpm_drives.specs.Images.{ToldImage, Untold, Bytes, Images, image_named, found, HasFiles, HasFault}
 use Rattle.mpm_drives.specs.Stopping.{Failures, StopsAt, IsFirst, Stops}
 use Rattle.mpm_drives.specs.Mounted.{NumberedDrive, AreTold, AreMounted, IsDriveOf, IsMountedAs, placed}
-use Rattle.mpm_bdos.specs.Serving.{Kept as Filed, directory_at}
+use Rattle.mpm_bdos.specs.Serving.{Kept as Filed}
+use Rattle.mpm_directories.specs.Places.{directory_at}
 use Rattle.mpm_bdos.specs.Turns.{labelled}
 use Rattle.mpm_machine.specs.declared.machine.StepFault.{StepFault}
 use Rattle.mpm_machine.specs.declared.machine.StepFault.TheVariants.{WriteFault as SinkFailed, DiskFault as SyncFailed}

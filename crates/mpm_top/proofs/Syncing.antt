@@ -9,7 +9,7 @@ use Rattle.mpm_port.specs.Disks.{Disks}
 use Rattle.mpm_machine_file.specs.declared.lists.DriveSpec.{DriveSpec}
 use Rattle.mpm_mount.specs.Directories.{Directory}
 use Rattle.mpm_drives.specs.Mounted.{number_of}
-use Rattle.mpm_bdos.specs.Serving.{directory_at}
+use Rattle.mpm_directories.specs.Places.{directory_at}
 use Rattle.mpm_bdos.specs.Syncing.{AreSynced}
 use Rattle.mpm_bdos.specs.Turns.{labelled}
 use Rattle.mpm_machine.specs.declared.machine.Machine.{Machine}

@@ -21,7 +21,8 @@ use Rattle.mpm_drives.specs.Images.{ToldImage, Untold, Missing, Bytes, Images, i
 use Rattle.mpm_drives.specs.Mounted.{NumberedDrive, AreDrivesOf, AreTold, number_of, placed}
 use Rattle.mpm_drives.specs.Stopping.{Failures, Stops}
 use Rattle.mpm_machine.specs.declared.system.System.{System}
-use Rattle.mpm_bdos.specs.Serving.{Kept as Filed, directory_at}
+use Rattle.mpm_bdos.specs.Serving.{Kept as Filed}
+use Rattle.mpm_directories.specs.Places.{directory_at}
 use Rattle.mpm_machine.specs.State.{State, Change}
 use Rattle.mpm_machine.specs.Files.{Between, StandsForFiles, drives_in, filing_in}
 use Rattle.mpm_machine.specs.Mounting.{HasDrives, HasMounted, HasNoDrive, untouched}

@@ -5,7 +5,7 @@ ghost use Rattle.mpm_port.specs.MemoryDisks.{disks_of, size_of};
 ghost use Rattle.mpm_blocks.specs.Sectors.{told_image};
 ghost use Rattle.mpm_mount.specs.Drives.{Drive, visible_of};
 ghost use Rattle.mpm_mount.specs.Directories.{Stands};
-ghost use Rattle.mpm_bdos.specs.Serving.{directory_at};
+ghost use Rattle.mpm_directories.specs.Places.{directory_at};
 ghost use Rattle.mpm_bdos.specs.Turns.{labelled};
 ghost use Rattle.mpm_top.specs.Data.{HasDriveA, data_file, first_of, weighed as weighed_said, data_of, data_on, sector_in as sector_within};
 

@@ -6,7 +6,7 @@ ghost use Rattle.mpm_port.specs.MemoryDisks.{disks_of, size_of};
 ghost use Rattle.mpm_render.specs.Outputs.{closed};
 ghost use Rattle.mpm_generator.specs.Machines.{machine as machine_said, script as script_said, drives_of};
 ghost use Rattle.mpm_drives.specs.Mounted.{NumberedDrive, placed};
-ghost use Rattle.mpm_bdos.specs.Serving.{directory_at};
+ghost use Rattle.mpm_directories.specs.Places.{directory_at};
 ghost use Rattle.mpm_bdos.specs.Turns.{labelled};
 ghost use Rattle.mpm_machine.specs.State.{IsWhole, NoCompletions};
 ghost use Rattle.mpm_machine.specs.Files.{Between, StandsForFiles};

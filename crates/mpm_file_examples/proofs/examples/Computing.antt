@@ -22,16 +22,21 @@ use Rattle.mpm_requests.specs.Subjects.{drive_by, drive_at, number_by, open_key,
 use Rattle.mpm_marks.specs.Busy.{names, is_drive_busy, are_busy}
 use Rattle.mpm_functions.specs.Refusals.{refusals_of, refusals_of_each}
 use Rattle.mpm_requests.specs.Refusals.{opening_refusal, needed_by, is_directory_full, lacks_password, applies, tests_of, refusal_of}
-use Rattle.mpm_bdos.specs.Records.{ends_of, is_locked_off, ends, end_of, locking, unlocking}
-use Rattle.mpm_bdos.specs.Jobs.{filled, count_until, free_count, testing_bytes, job_by, job_of, call_turns, turned}
+use Rattle.mpm_functions.specs.Ends.{ends_of}
+use Rattle.mpm_locks.specs.Locks.{is_locked_off, unlocking, count_until}
+use Rattle.mpm_bdos.specs.Records.{ends, end_of, locking}
+use Rattle.mpm_jobs.specs.Jobs.{filled, testing_bytes}
+use Rattle.mpm_bdos.specs.Jobs.{free_count, job_by, job_of, call_turns, turned}
 use Rattle.mpm_bdos.specs.Changes.{locking_of, opens_by, protected_then, filing_after}
 use Rattle.mpm_marks.specs.Driving.{marks_by}
 use Rattle.mpm_marks.specs.Protected.{none_protected, unprotected}
 use Rattle.mpm_entries.specs.Telling.{told_bytes}
-use Rattle.mpm_bdos.specs.Replies.{end_after, granted_of, value_by, block_by, bytes_by, answer_after}
+use Rattle.mpm_bdos.specs.Replies.{end_after, granted_of, bytes_by, answer_after}
+use Rattle.mpm_entries.specs.Granting.{value_by, block_by}
 use Rattle.mpm_entries.specs.Sizes.{size_of}
 use Rattle.mpm_bdos.specs.Outcomes.{file_call, left_by, without_search}
-use Rattle.mpm_bdos.specs.Direct.{mask_of, direct_by, direct}
+use Rattle.mpm_directories.specs.Direct.{mask_of, direct_by}
+use Rattle.mpm_bdos.specs.Direct.{direct}
 
 -- all that a file call is defined by
 unfoldable pub file_calls : ⊤

@@ -12,7 +12,8 @@ use Rattle.mpm_functions.specs.declared.functions.FileFunction.{FileFunction}
 use Rattle.mpm_functions.specs.declared.functions.FileFunction.TheVariants.{ResetDisks, OpenFile, CloseFile, SearchFirst, SearchNext, DeleteFile, ReadSequential, WriteSequential, MakeFile, RenameFile, ProtectDisk, SetAttributes, ReadRandom, WriteRandom, FileSize, ResetDrives, AccessDrives, FreeDrives, TestAndWrite, LockRecord, UnlockRecord, FreeSpace, FlushBuffers, SetLabel, LabelData, ReadXfcb, WriteXfcb}
 use Rattle.mpm_functions.specs.declared.functions.DirectFunction.TheVariants.{SelectDisk, LoginVector, ReadOnlyVector, DiskParameters, SetRandomRecord}
 use Rattle.mpm_requests.specs.Filing.{Filing, LastSearch, Situation}
-use Rattle.mpm_bdos.specs.Outcomes.{Stays, Selects, Resets, file_call}
+use Rattle.mpm_directories.specs.Direct.{Stays, Selects, Resets}
+use Rattle.mpm_bdos.specs.Outcomes.{file_call}
 use Rattle.mpm_bdos.specs.Direct.{direct}
 use Rattle.mpm_file_examples.proofs.examples.Computing.{file_calls, direct_calls}
 use Rattle.mpm_file_examples.proofs.examples.Situations.{Extents, Xfcbs, name_a, any_name, file_of, block_of_name, block_a, open_a, floppy, filing_of, a_protected, with_protected, nothing_open, item_of, one_open, two_open, lock_of, with_locks, call, call_on, fails, fails_on, tells, done, open_by_1}

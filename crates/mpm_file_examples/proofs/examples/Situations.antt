@@ -15,7 +15,8 @@ use Rattle.mpm_fcb.specs.declared.block.ControlBlock.{ControlBlock}
 use Rattle.mpm_fcb.specs.Blocks.{bytes_of}
 use Rattle.mpm_functions.specs.declared.functions.FileFunction.{FileFunction}
 use Rattle.mpm_requests.specs.Filing.{Filing, Situation}
-use Rattle.mpm_bdos.specs.Outcomes.{Stays, Outcome}
+use Rattle.mpm_directories.specs.Direct.{Stays}
+use Rattle.mpm_bdos.specs.Outcomes.{Outcome}
 
 -- the directory entries of files, and the XFCBs, of a drive
 abbrev pub Extents : Type 0

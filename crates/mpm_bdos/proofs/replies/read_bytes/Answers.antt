@@ -1,6 +1,6 @@
 use Rattle.std.proofs.Common.{◌∙◌, ◌*◌, ap, take, length, arith}
 use Rattle.std.proofs.lemmas.List.{length-take}
-use Rattle.mpm_files.specs.declared.jobs.Job.{Job}
+use Rattle.mpm_jobs.specs.declared.jobs.Job.{Job}
 use Rattle.mpm_bdos.proofs.ReadBytes.{records_taken}
 use Rattle.mpm_bdos.proofs.replies.read_bytes.Goals as goal
 

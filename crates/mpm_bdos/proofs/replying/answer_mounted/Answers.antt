@@ -1,12 +1,13 @@
 use Rattle.std.proofs.Common.{◌≡◌, ◌∙◌, IfSome, sym, ap, subst}
-use Rattle.mpm_bdos.specs.declared.granting.Granted.{Granted}
-use Rattle.mpm_bdos.specs.Ending.{is_moving, is_reading, HasRead, FewDone, IsPlaced}
+use Rattle.mpm_entries.specs.declared.granting.Granted.{Granted}
+use Rattle.mpm_entries.specs.Granting.{is_moving, FewDone, IsPlaced, value_by}
+use Rattle.mpm_bdos.specs.Ending.{is_reading, HasRead}
 use Rattle.mpm_bdos.specs.Answering.{MayGrant}
 use Rattle.mpm_requests.specs.Asking.{key_asked, IsOwn}
 use Rattle.mpm_bdos.specs.Leaving.{left_by, left_first, granted_by}
-use Rattle.mpm_bdos.specs.Records.{done_by}
+use Rattle.mpm_functions.specs.Ends.{done_by}
 use Rattle.mpm_entries.specs.Telling.{found_bytes}
-use Rattle.mpm_bdos.specs.Replies.{value_by, answer_by}
+use Rattle.mpm_bdos.specs.Replies.{answer_by}
 use Rattle.mpm_bdos.proofs.UserLaws.{users_kept}
 use Rattle.mpm_bdos.proofs.replying.answer_mounted.Goals as goal
 

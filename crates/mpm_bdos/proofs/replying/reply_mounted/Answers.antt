@@ -8,7 +8,8 @@ use Rattle.mpm_requests.specs.declared.asking.Asked.{Asked}
 use Rattle.mpm_requests.specs.declared.caller.Caller.{Caller}
 use Rattle.mpm_requests.specs.Subjects.{drive_number, found, found_by}
 use Rattle.mpm_bdos.specs.Jobs.{call_turns, turned}
-use Rattle.mpm_bdos.specs.Changes.{search_by, searches_by, search_of_call}
+use Rattle.mpm_requests.specs.Searches.{search_by, searches_by}
+use Rattle.mpm_bdos.specs.Changes.{search_of_call}
 use Rattle.mpm_bdos.specs.Replies.{answer_by}
 use Rattle.mpm_bdos.specs.Answering.{MayGrant}
 use Rattle.mpm_requests.specs.Asking.{called, asked_of, found_as}

@@ -3,7 +3,7 @@ use Rattle.std.specs.Prelude.{unwrap_or}
 use Rattle.mpm_requests.specs.Subjects.{drive_by, drive_number}
 use Rattle.mpm_requests.specs.Searches.{searched}
 use Rattle.mpm_requests.specs.Asking.{called, StandsFor}
-use Rattle.mpm_bdos.specs.Serving.{directory_at}
+use Rattle.mpm_directories.specs.Places.{directory_at}
 use Rattle.mpm_bdos.specs.Starting.{Enters}
 use Rattle.mpm_bdos.proofs.starting.entered_among.Goals as goal
 

@@ -1,6 +1,6 @@
 use Rattle.std.proofs.Common.{rules, ◌≡◌, ◌∷◌, [], sym, ap, ◌∙◌, subst, arith}
 use Rattle.std.proofs.lemmas.Grind.{common_steps}
-use Rattle.mpm_bdos.specs.Serving.{in_places}
+use Rattle.mpm_directories.specs.Places.{in_places}
 use Rattle.mpm_file_scenes.specs.Floppies.{AreFloppies}
 use Rattle.mpm_file_scenes.proofs.FloppyLaws.{two_floppies}
 use Rattle.mpm_file_scenes.proofs.floppies.mounted_places.Goals as goal

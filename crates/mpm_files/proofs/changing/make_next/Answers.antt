@@ -1,5 +1,5 @@
 use Rattle.std.proofs.Common.{refl, sym, subst, arith, ◌<◌}
-use Rattle.mpm_files.specs.declared.jobs.Job.{Job}
+use Rattle.mpm_jobs.specs.declared.jobs.Job.{Job}
 use Rattle.mpm_files.specs.Units.{AddsEntry, PutsXfcb}
 use Rattle.mpm_files.specs.Plans.{file_of_job, protection_in}
 use Rattle.mpm_files.specs.Serving.{units_done}

@@ -1,11 +1,11 @@
 use Rattle.std.proofs.Common.{◌<◌, refl, sym, subst, ◌≡◌, ◌∙◌}
-use Rattle.mpm_files.specs.declared.jobs.Job.{Job}
+use Rattle.mpm_jobs.specs.declared.jobs.Job.{Job}
 use Rattle.mpm_files.specs.Units.{Idles, PutsXfcb, PutsLabel}
 use Rattle.mpm_files.specs.Plans.{file_of_job, protection_in}
 use Rattle.mpm_files.specs.Serving.{units_done}
 use Rattle.mpm_files.proofs.NextDone.{does_next}
 use Rattle.mpm_files.proofs.FixedTurns.{label_done, xfcb_done, idle_done, label_room, xfcb_room}
-use Rattle.mpm_files.specs.declared.jobs.JobKind.TheVariants.{Label, Xfcb, Nothing}
+use Rattle.mpm_jobs.specs.declared.jobs.JobKind.TheVariants.{Label, Xfcb, Nothing}
 use Rattle.mpm_files.proofs.changing.put_next.Goals as goal
 
 pub returns-in-Label : goal.returns-in-Label

@@ -1,6 +1,6 @@
 use Rattle.std.proofs.Common.{arith, ◌∙◌, sym}
 use Rattle.mpm_files.specs.Plans as plans
-use Rattle.mpm_files.specs.Counting as spec
+use Rattle.mpm_mount.specs.Records as spec
 use Rattle.mpm_files.proofs.ReadCounts.{one_read, read_stop, all_read}
 use Rattle.mpm_files.proofs.counting.count_reads.Goals as goal
 

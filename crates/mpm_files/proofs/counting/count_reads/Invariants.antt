@@ -1,5 +1,5 @@
 use Rattle.mpm_files.specs.Plans as plans
-use Rattle.mpm_files.specs.Counting as spec
+use Rattle.mpm_mount.specs.Records as spec
 use Rattle.mpm_files.proofs.ReadCounts.{ReadTo}
 use Rattle.mpm_files.proofs.counting.count_reads.Given as goal
 

@@ -2,10 +2,11 @@ use Rattle.std.proofs.Common.{◌≡◌, sym, subst, ap, ◌∙◌, arith}
 use Rattle.mpm_mount.specs.Drives.{visible_of}
 use Rattle.mpm_files.specs.declared.work.Work.{Work}
 use Rattle.mpm_files.specs.Units.{ReadsRecord}
-use Rattle.mpm_files.specs.Plans.{file_of_job, read_error}
+use Rattle.mpm_files.specs.Plans.{file_of_job}
+use Rattle.mpm_mount.specs.Records.{read_error}
 use Rattle.mpm_files.specs.Serving.{units_done}
 use Rattle.mpm_files.specs.Lookups.{IsRecordCached}
-use Rattle.mpm_files.proofs.Tied.{read_error_same}
+use Rattle.mpm_mount.proofs.ReadErrors.{read_error_same}
 use Rattle.mpm_files.proofs.NextDone.{IsDone, does_as, does_next, never_next}
 use Rattle.mpm_files.proofs.ReadTurns.{read_now, read_small, few_read, record_there, record_was_read, reading_failed}
 use Rattle.mpm_files.proofs.moving.read_next.Goals as goal

@@ -1,4 +1,5 @@
 use Rattle.std.proofs.Common.{◌≡◌, ◌+◌, true, false, Some, None, refl, sym, subst, ap, ◌∙◌, arith}
+use Rattle.mpm_base.proofs.Tests.{not_back}
 use Rattle.std.specs.Prelude.{bytes_eq}
 use Rattle.mpm_blocks.proofs.ToldImages.{told_image_same}
 use Rattle.mpm_mount.specs.Drives.{record_of}
@@ -8,7 +9,7 @@ use Rattle.mpm_files.specs.Counting.{lacks_block}
 use Rattle.mpm_files.specs.Serving.{units_done}
 use Rattle.mpm_files.specs.Standing.{Does}
 use Rattle.mpm_files.proofs.NextDone.{IsDone, does_next, never_next}
-use Rattle.mpm_files.proofs.TestTurns.{test_now, stamp_now, writes_now, tests_few, still_passed, first_passed, test_passed, record_held, has_there, not_back, passes}
+use Rattle.mpm_files.proofs.TestTurns.{test_now, stamp_now, writes_now, tests_few, still_passed, first_passed, test_passed, record_held, has_there, passes}
 use Rattle.mpm_files.proofs.ReadTurns.{read_now, read_stands, reading_failed}
 use Rattle.mpm_sectors.proofs.LeavesLaws.{leaves_itself, leaves_over}
 use Rattle.mpm_files.proofs.Causing.{cause_none, cause_behind}

@@ -1,5 +1,5 @@
 use Rattle.std.proofs.Common.{◌≡◌, ◌<◌, ◌≤◌, ◌/◌, refl, sym, subst, ap, ◌∙◌, arith}
-use Rattle.mpm_files.specs.declared.jobs.Job.{Job}
+use Rattle.mpm_jobs.specs.declared.jobs.Job.{Job}
 use Rattle.mpm_files.specs.Stepping as stepping
 use Rattle.mpm_files.specs.Units.{AddsEntry, ClearsBlock}
 use Rattle.mpm_files.specs.Plans.{file_of_job}

@@ -9,7 +9,8 @@ use Rattle.mpm_functions.specs.declared.functions.FileFunction.{FileFunction}
 use Rattle.mpm_functions.specs.Functions.{function_of}
 use Rattle.mpm_requests.specs.Subjects.{drive_number}
 use Rattle.mpm_bdos.specs.Jobs.{call_turns}
-use Rattle.mpm_bdos.specs.Serving.{Kept, Serves, directory_at}
+use Rattle.mpm_bdos.specs.Serving.{Kept, Serves}
+use Rattle.mpm_directories.specs.Places.{directory_at}
 use Rattle.mpm_bdos.specs.Starting.{caller_of, entering}
 use Rattle.mpm_bdos.specs.Turns.{FitsDrives, KeepsUnsynced, StaysBeside, labelled, told_images}
 use Rattle.mpm_bdos.proofs.Answerable.{still_entered}

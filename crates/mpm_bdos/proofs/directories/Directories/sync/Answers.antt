@@ -1,7 +1,7 @@
 use Rattle.std.proofs.Common.{◌≡◌, ◌∙◌, ◌+◌, ◌<◌, get_or, length, ap, subst, arith}
 use Rattle.mpm_mount.proofs.Telling.{same_over}
 use Rattle.mpm_files.proofs.Causing.{cause_behind}
-use Rattle.mpm_bdos.specs.Serving.{AreInPlace}
+use Rattle.mpm_directories.specs.Places.{AreInPlace}
 use Rattle.mpm_bdos.specs.Syncing.{StopsAtDrive, mounted_count}
 use Rattle.mpm_bdos.proofs.SyncLaws.{item_synced, steps_more, none_more, some_mounted, away, behind_place, stopped_there, fewer_mounted}
 use Rattle.mpm_bdos.proofs.directories.Directories.sync.Goals as goal

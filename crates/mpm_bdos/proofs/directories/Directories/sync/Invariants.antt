@@ -1,6 +1,6 @@
 use Rattle.std.proofs.Common.{◌≡◌, ◌≤◌, ◌+◌, ℕ, false, None, take}
 use Rattle.mpm_mount.specs.Mounting.{SameDrives}
-use Rattle.mpm_bdos.specs.Serving.{directory_at}
+use Rattle.mpm_directories.specs.Places.{directory_at}
 use Rattle.mpm_bdos.specs.Syncing.{mounted_count}
 use Rattle.mpm_bdos.proofs.SyncLaws.{AreSyncedTo}
 use Rattle.mpm_bdos.proofs.directories.Directories.sync.Given as goal

@@ -5,7 +5,7 @@ use Rattle.std.proofs.lemmas.Grind.{get_or-set_at}
 use Rattle.mpm_port.specs.Disks.{Told}
 use Rattle.mpm_files.specs.Serving.{turns_in}
 use Rattle.mpm_files.specs.Turning.{IsNextCached}
-use Rattle.mpm_bdos.specs.Serving.{directory_at}
+use Rattle.mpm_directories.specs.Places.{directory_at}
 use Rattle.mpm_bdos.specs.Turns.{FitsDrives, IsCounted, IsWorking, IsContainedAt, KeepsImages, KeepsUnsynced, StaysBeside, labelled, progress_after}
 use Rattle.mpm_bdos.proofs.Fitting.{in_place, fits_after, labels_stay, images_after, stays_after, stays_same, unsynced_after, unsynced_same}
 use Rattle.mpm_files.proofs.Causing.{cause_none}

@@ -19,14 +19,14 @@ returns-clause-err g c disks s serves whose =
 
 pub returns-clause-told : goal.returns-clause-told
 returns-clause-told g c =
-    answered_told c.end_file_call.result c.args.p c.args.self.now.system c.end_file_call.new.self _ _ c.args.self.now.bdos c.reply-extended.new.reply c.reply-extended.result
+    answered_told c.end_file_call.result c.args.p c.args.self.now.system c.end_file_call.new.self _ _ c.args.self.now.bdos c.reply-extended.new.self c.reply-extended.new.reply c.reply-extended.result
     c.requires.own c.reply-extended.ensures.may
     (ends_as_kept c.args.self.now.bdos c.reply-extended.new.self c.reply-extended.new.reply c.reply-extended.result c.reply-extended.ensures.comes)
     c.end_file_call.ensures.system c.end_file_call.ensures.wrote.ok
 
 pub returns-clause-stops : goal.returns-clause-stops
 returns-clause-stops g c =
-    answered_stops c.end_file_call.result c.args.p c.args.self.now.system _ _ c.args.self.now.bdos c.reply-extended.new.reply c.reply-extended.result
+    answered_stops c.end_file_call.result c.args.p c.args.self.now.system _ _ c.args.self.now.bdos c.reply-extended.new.self c.reply-extended.new.reply c.reply-extended.result
     c.requires.own c.reply-extended.ensures.may
     (ends_as_kept c.args.self.now.bdos c.reply-extended.new.self c.reply-extended.new.reply c.reply-extended.result c.reply-extended.ensures.comes) c.end_file_call.ensures.wrote.err
 

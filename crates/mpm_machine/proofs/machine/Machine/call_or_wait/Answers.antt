@@ -9,7 +9,7 @@ use Rattle.mpm_machine.specs.Faults.{OnWriteFault}
 use Rattle.mpm_machine.specs.Files.{StandsWorked}
 use Rattle.mpm_machine.specs.Holding.{HoldsDrives}
 use Rattle.mpm_machine.specs.DiskStep.{files_called, told_at_gate}
-use Rattle.mpm_machine.specs.After.{HasCalled}
+use Rattle.mpm_machine.specs.After.{HasCalled, HasToldAtGate}
 use Rattle.mpm_machine.proofs.DriveLaws.{keeps_still}
 use Rattle.mpm_machine.proofs.AtGateLaws.{IsCalled, waits_steps, waits_ok, waits_told, once_ok, once_told, once_err, once_still, once_images, once_fault, once_stops, once_trace, once_cause, between, fails_images, once_calls, served_directly, holds_filed}
 use Rattle.mpm_machine.proofs.machine.Machine.call_or_wait.Goals as goal
@@ -57,9 +57,12 @@ returns-in-Ok-clause-ok g c files stands =
 
 pub returns-in-Ok-clause-called : goal.returns-in-Ok-clause-called
 returns-in-Ok-clause-called g c =
-    once_told c.args.self.now.bdos c.conclude.result c.args.p (seen g.S.Sink.written g.S.Sink.faults c.args.render.now c.args.sink.now)
-    (seen g.S.Sink.written g.S.Sink.faults c.conclude.new.render c.conclude.new.sink) c.args.self.now.system c.conclude.new.self.system c.call_files.new.reply c.in-Ok.extended
-    (sym c.is_done_at_once.ensures.done ∙ c.if-not-is_done_at_once.false) c.in-Ok.ensures.told c.in-Ok.ensures.as_kept c.conclude.ensures.system c.conclude.ensures.wrote
+    let old = c.args.self.now.system in
+    let o = seen g.S.Sink.written g.S.Sink.faults c.args.render.now c.args.sink.now in
+    let n = seen g.S.Sink.written g.S.Sink.faults c.conclude.new.render c.conclude.new.sink in
+    subst (λ (k : Kept). OnOk c.conclude.result (HasToldAtGate c.args.self.now.bdos k c.args.p o n old c.conclude.new.self.system)) (sym c.conclude.ensures.bdos)
+    (once_told c.args.self.now.bdos c.call_files.new.bdos c.conclude.result c.args.p o n old c.conclude.new.self.system c.call_files.new.reply c.in-Ok.extended
+    (sym c.is_done_at_once.ensures.done ∙ c.if-not-is_done_at_once.false) c.in-Ok.ensures.told c.in-Ok.ensures.as_kept c.conclude.ensures.system c.conclude.ensures.wrote)
 
 pub returns-in-Ok-clause-err : goal.returns-in-Ok-clause-err
 returns-in-Ok-clause-err g c files stands =
@@ -94,7 +97,7 @@ returns-in-Ok-clause-stands g c files stands =
 
 pub returns-in-Ok-clause-stops : goal.returns-in-Ok-clause-stops
 returns-in-Ok-clause-stops g c =
-    once_stops c.conclude.result c.args.self.now.bdos c.args.p (seen g.S.Sink.written g.S.Sink.faults c.args.render.now c.args.sink.now)
+    once_stops c.conclude.result c.args.self.now.bdos c.call_files.new.bdos c.args.p (seen g.S.Sink.written g.S.Sink.faults c.args.render.now c.args.sink.now)
     (seen g.S.Sink.written g.S.Sink.faults c.conclude.new.render c.conclude.new.sink) c.args.self.now.system c.call_files.new.reply c.in-Ok.extended
     (sym c.is_done_at_once.ensures.done ∙ c.if-not-is_done_at_once.false) c.in-Ok.ensures.told c.in-Ok.ensures.as_kept c.conclude.ensures.err
 

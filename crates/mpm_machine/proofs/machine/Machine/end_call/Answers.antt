@@ -25,7 +25,7 @@ returns-in-Err-clause-stops g c before is =
     let stopped = c.in-Err.ensures.stops in
     record {
       change = ended_with stopped.told c.args.p before;
-      is = ends_told c.args.self.now.bdos c.args.p c.args.self.now.system before stopped.told is stopped.of_call stopped.tells stopped.as_kept;
+      is = ends_told c.args.self.now.bdos stopped.left c.args.p c.args.self.now.system before stopped.told is stopped.of_call stopped.tells stopped.as_kept;
       stops = told_stopped _ _ c.args.p c.args.self.now.system before stopped.told is stopped.stops;
     }
 
@@ -44,7 +44,7 @@ returns-in-Err-end_all-clause-stops g c before is =
     let m = seen g.S.Sink.written g.S.Sink.faults c.answer_call.new.render c.answer_call.new.sink in
     record {
       change = ended_with told.told c.args.p before;
-      is = ends_told c.args.self.now.bdos c.args.p c.args.self.now.system before told.told is told.of_call told.tells told.as_kept;
+      is = ends_told c.args.self.now.bdos c.answer_call.new.self.bdos c.args.p c.args.self.now.system before told.told is told.of_call told.tells told.as_kept;
       stops = told_stopped_last _ m _ c.args.p c.args.self.now.system before c.answer_call.new.self.system c.pay.new.self.system told.told is told.system c.pay.ensures.system told.wrote
           c.in-Err-end_all.ensures.wrote.err;
     }
@@ -84,7 +84,7 @@ returns-clause-end g c before is =
     let m = seen g.S.Sink.written g.S.Sink.faults c.answer_call.new.render c.answer_call.new.sink in
     record {
       change = ended_with told.told c.args.p before;
-      is = ends_told c.args.self.now.bdos c.args.p c.args.self.now.system before told.told is told.of_call told.tells told.as_kept;
+      is = ends_told c.args.self.now.bdos c.answer_call.new.self.bdos c.args.p c.args.self.now.system before told.told is told.of_call told.tells told.as_kept;
       system = told_system c.args.p c.args.self.now.system before c.answer_call.new.self.system c.pay.new.self.system c.end_all.new.self c.pay-2.new.self.system told.told is told.system
           c.pay.ensures.system c.in_default-end_all.ensures.system c.pay-2.ensures.system;
       wrote = told_wrote _ m _ c.args.p c.args.self.now.system before c.answer_call.new.self.system c.pay.new.self.system told.told is told.system c.pay.ensures.system told.wrote

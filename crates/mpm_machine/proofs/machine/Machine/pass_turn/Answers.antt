@@ -75,8 +75,8 @@ returns-then-last-clause-step g c =
     let works = works_last old.kernel.disk c.turn_disk.result c.in-Work.p c.in-Work.last c.turn_disk.ensures.answer c.in-Work.is c.if-last.true in
     let o = seen g.S.Sink.written g.S.Sink.faults c.args.render.now c.args.sink.now in
     let n = seen g.S.Sink.written g.S.Sink.faults c.answer_call.new.render c.answer_call.new.sink in
-    has_passed_over c.answer_call.result c.args.self.now.bdos c.in-Work.p o n old c.answer_call.new.self.system works
-    (subst (λ (passed : System). OnOk c.answer_call.result (HasAnswered c.args.self.now.bdos c.in-Work.p o n passed c.answer_call.new.self.system))
+    has_passed_over c.answer_call.result c.args.self.now.bdos c.answer_call.new.self.bdos c.in-Work.p o n old c.answer_call.new.self.system works
+    (subst (λ (passed : System). OnOk c.answer_call.result (HasAnswered c.args.self.now.bdos c.answer_call.new.self.bdos c.in-Work.p o n passed c.answer_call.new.self.system))
     (passed_is old c.turn_disk.new.self c.turn_disk.ensures.kernel) c.answer_call.ensures.told)
 
 pub returns-then-last-clause-stops : goal.returns-then-last-clause-stops
@@ -96,8 +96,8 @@ returns-then-last-clause-begun g c =
     let o = seen g.S.Sink.written g.S.Sink.faults c.args.render.now c.args.sink.now in
     let n = seen g.S.Sink.written g.S.Sink.faults c.answer_call.new.render c.answer_call.new.sink in
     none_holds c.answer_call.result (λ (call : Served). 0 < call.left) c.answer_call.new.self.system.kernel.disk
-    (nobody_behind c.answer_call.result c.args.self.now.bdos c.in-Work.p o n old c.answer_call.new.self.system works
-    (subst (λ (passed : System). OnOk c.answer_call.result (HasAnswered c.args.self.now.bdos c.in-Work.p o n passed c.answer_call.new.self.system))
+    (nobody_behind c.answer_call.result c.args.self.now.bdos c.answer_call.new.self.bdos c.in-Work.p o n old c.answer_call.new.self.system works
+    (subst (λ (passed : System). OnOk c.answer_call.result (HasAnswered c.args.self.now.bdos c.answer_call.new.self.bdos c.in-Work.p o n passed c.answer_call.new.self.system))
     (passed_is old c.turn_disk.new.self c.turn_disk.ensures.kernel) c.answer_call.ensures.told))
 
 pub returns-then-last-clause-own : goal.returns-then-last-clause-own
@@ -108,13 +108,13 @@ returns-then-last-clause-own g c =
     let n = seen g.S.Sink.written g.S.Sink.faults c.answer_call.new.render c.answer_call.new.sink in
     let new = c.answer_call.new.self in
     none_holds c.answer_call.result (λ (call : Served). IsOwn new.system.kernel.dispatcher.procs call.p new.bdos.service) new.system.kernel.disk
-    (nobody_behind c.answer_call.result c.args.self.now.bdos c.in-Work.p o n old new.system works
-    (subst (λ (passed : System). OnOk c.answer_call.result (HasAnswered c.args.self.now.bdos c.in-Work.p o n passed new.system))
+    (nobody_behind c.answer_call.result c.args.self.now.bdos new.bdos c.in-Work.p o n old new.system works
+    (subst (λ (passed : System). OnOk c.answer_call.result (HasAnswered c.args.self.now.bdos new.bdos c.in-Work.p o n passed new.system))
     (passed_is old c.turn_disk.new.self c.turn_disk.ensures.kernel) c.answer_call.ensures.told))
 
 pub returns-then-last-clause-filed : goal.returns-then-last-clause-filed
 returns-then-last-clause-filed g c =
-    filed_if_passed c.answer_call.result c.args.self.now.bdos _ _ c.args.self.now.system c.answer_call.new.self.system c.requires.whole c.requires.filed (returns-then-last-clause-step g c)
+    filed_if_passed c.answer_call.result c.args.self.now.bdos c.answer_call.new.self.bdos _ _ c.args.self.now.system c.answer_call.new.self.system c.requires.whole c.requires.filed (returns-then-last-clause-step g c)
 
 pub returns-then-last-clause-stays : goal.returns-then-last-clause-stays
 returns-then-last-clause-stays g c still =

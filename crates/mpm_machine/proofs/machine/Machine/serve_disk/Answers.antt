@@ -37,18 +37,14 @@ returns-clause-ok g c disks files stands =
 pub returns-clause-step : goal.returns-clause-step
 returns-clause-step g c =
     let has = c.enter_call.ensures.entered in
-    has_served has.turns _ _ c.args.self.now.system c.pass_turn.new.self.system c.enter_call.new.self.system c.in_default.ensures.step
-    (subst (EntersFor has.turns) c.pay.ensures.system has.its) (subst (ServesEntered c.enter_call.new.self.bdos has.turns) c.pay.ensures.system has.entered)
-    (has.is ∙ ap (call_entered has.turns) c.pay.ensures.system)
-    (λ none.
-    let old = c.args.self.now.bdos in
     let passed = c.pass_turn.new.self in
     let paid = c.pay.new.self.bdos in
-    let same = c.pass_turn.ensures.stays none in
-    let pays = paid_is passed.system passed.bdos paid c.pay.ensures.rest (λ some. ap (λ (machine : Machine). machine.bdos) (c.pay.ensures.served some)) c.pay.ensures.filing in (
-      leaves_served passed.system old passed.bdos paid c.enter_call.new.self.bdos same pays c.enter_call.ensures.kept,
-      λ idle. ap (λ (k : Kept). k.service) (c.enter_call.ensures.idle idle ∙ c.pay.ensures.rest) ∙ ap (λ (k : Kept). k.service) same,
-    ))
+    let pays = paid_is passed.system passed.bdos paid c.pay.ensures.rest (λ some. ap (λ (machine : Machine). machine.bdos) (c.pay.ensures.served some)) c.pay.ensures.filing in
+    has_served has.turns _ _ c.args.self.now.system passed.system c.enter_call.new.self.system c.in_default.ensures.step
+    (subst (EntersFor has.turns) c.pay.ensures.system has.its) (subst (ServesEntered c.enter_call.new.self.bdos has.turns) c.pay.ensures.system has.entered)
+    (has.is ∙ ap (call_entered has.turns) c.pay.ensures.system) c.pass_turn.ensures.stays
+    (leaves_served passed.system passed.bdos paid c.enter_call.new.self.bdos pays c.enter_call.ensures.kept)
+    (λ idle. ap (λ (k : Kept). k.service) (c.enter_call.ensures.idle idle ∙ c.pay.ensures.rest))
 
 pub returns-clause-filed : goal.returns-clause-filed
 returns-clause-filed g c = served_filed _ _ c.args.self.now.system c.enter_call.new.self.system c.requires.whole c.requires.filed (returns-clause-step g c)

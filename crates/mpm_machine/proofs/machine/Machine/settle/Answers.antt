@@ -4,7 +4,7 @@ use Rattle.mpm_port.specs.Texts.{appended}
 use Rattle.mpm_mount.specs.Mounting.{SameDrives}
 use Rattle.mpm_render.specs.Outputs.{closed}
 use Rattle.mpm_output.specs.Outside.{seen}
-use Rattle.mpm_output.proofs.WritingLaws.{on_ok_always}
+use Rattle.mpm_base.proofs.Results.{on_ok}
 use Rattle.mpm_machine.specs.Faults.{itself}
 use Rattle.mpm_machine.specs.Settling.{carried, called}
 use Rattle.mpm_machine.proofs.SettlingLaws.{carried_shows, carried_system, carried_files, carried_images, stops_carrying, err_seen, err_stops, ok_closes, err_closes, keeps_synced, same_still, same_count, none_counted, sink_alone, cause_behind, ok_so}
@@ -21,14 +21,14 @@ returns-in-Ok-clause-ok g c s first stands =
 
 pub returns-in-Ok-clause-system : goal.returns-in-Ok-clause-system
 returns-in-Ok-clause-system g c s first stands =
-    on_ok_always c.close.result (carried_system s _ _ _ _ _ _ stands.system.parts (c.in-Ok.ensures.ok s.files stands.files))
+    on_ok c.close.result (carried_system s _ _ _ _ _ _ stands.system.parts (c.in-Ok.ensures.ok s.files stands.files))
 
 pub returns-in-Ok-clause-whole : goal.returns-in-Ok-clause-whole
-returns-in-Ok-clause-whole g c = on_ok_always c.close.result c.in-Ok.ensures.whole
+returns-in-Ok-clause-whole g c = on_ok c.close.result c.in-Ok.ensures.whole
 
 pub returns-in-Ok-clause-files : goal.returns-in-Ok-clause-files
 returns-in-Ok-clause-files g c s first stands =
-    on_ok_always c.close.result
+    on_ok c.close.result
     (carried_files s _ _ _ _ _ _ _ stands.system.parts (c.in-Ok.ensures.ok s.files stands.files) c.close.ensures.drives.images)
 
 pub returns-in-Ok-clause-err : goal.returns-in-Ok-clause-err

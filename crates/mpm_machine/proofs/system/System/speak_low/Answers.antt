@@ -6,7 +6,8 @@ use Rattle.mpm_procs.specs.declared.process.Process.{Process}
 use Rattle.mpm_kernel.specs.Kernel.{Kernel}
 use Rattle.mpm_machine.specs.State.{Change}
 use Rattle.mpm_output.specs.Outside.{by_sink}
-use Rattle.mpm_output.proofs.WritingLaws.{emits_one, on_ok_always}
+use Rattle.mpm_output.proofs.WritingLaws.{emits_one}
+use Rattle.mpm_base.proofs.Results.{on_ok}
 use Rattle.mpm_machine.proofs.ChangeLaws.{emits_silent, emits_as}
 use Rattle.mpm_machine.proofs.SayingLaws.{tab_said, byte_said, directly_said, byte_printed, says_nothing}
 use Rattle.mpm_machine.proofs.system.System.speak_low.Goals as goal
@@ -20,7 +21,7 @@ returns-in-2 g c =
     let said = λ (string : List ℕ). tab_said call string c.args.p c.args.self.now _ _ (sym view ∙ c.in-2.is) at what in
     let P : Change → Type 0 = λ change. record c.args.self.now { kernel = c.write_tabbed.new.kernel } ≡ change.system in
     record {
-      system = λ string. on_ok_always c.write_tabbed.result (subst P (sym (said string)) (ap (λ (k : Kernel). record c.args.self.now { kernel = k }) c.write_tabbed.ensures.kernel));
+      system = λ string. on_ok c.write_tabbed.result (subst P (sym (said string)) (ap (λ (k : Kernel). record c.args.self.now { kernel = k }) c.write_tabbed.ensures.kernel));
       wrote = λ string. emits_as by_sink _ _ _ _ _ (sym (said string)) c.write_tabbed.ensures.wrote;
     }
 
@@ -33,7 +34,7 @@ returns-in-4 g c =
     let said = λ (string : List ℕ). byte_said call string c.args.p c.args.self.now _ _ (sym view ∙ c.in-4.is) at what in
     let P : Change → Type 0 = λ change. record c.args.self.now { kernel = c.write_bytes.new.kernel } ≡ change.system in
     record {
-      system = λ string. on_ok_always c.write_bytes.result (subst P (sym (said string)) (ap (λ (k : Kernel). record c.args.self.now { kernel = k }) c.write_bytes.ensures.kernel));
+      system = λ string. on_ok c.write_bytes.result (subst P (sym (said string)) (ap (λ (k : Kernel). record c.args.self.now { kernel = k }) c.write_bytes.ensures.kernel));
       wrote = λ string. emits_as by_sink _ _ _ _ _ (sym (said string)) c.write_bytes.ensures.wrote;
     }
 
@@ -46,7 +47,7 @@ returns-in-6 g c =
     let said = λ (string : List ℕ). directly_said call string c.args.p c.args.self.now _ _ (sym view ∙ c.in-6.is) (omega (arith, c.if-byte-lt-AWAIT_KEY.true)) at what in
     let P : Change → Type 0 = λ change. record c.args.self.now { kernel = c.write_bytes-in-6.new.kernel } ≡ change.system in
     record {
-      system = λ string. on_ok_always c.write_bytes-in-6.result (subst P (sym (said string)) (ap (λ (k : Kernel). record c.args.self.now { kernel = k }) c.write_bytes-in-6.ensures.kernel));
+      system = λ string. on_ok c.write_bytes-in-6.result (subst P (sym (said string)) (ap (λ (k : Kernel). record c.args.self.now { kernel = k }) c.write_bytes-in-6.ensures.kernel));
       wrote = λ string. emits_as by_sink _ _ _ _ _ (sym (said string)) c.write_bytes-in-6.ensures.wrote;
     }
 
@@ -108,7 +109,7 @@ returns-in-5 g c =
     let said = λ (string : List ℕ). byte_printed call string c.args.p c.args.self.now _ _ (sym view ∙ c.in-5.is) (omega (arith, c.printers.ensures, c.if-printers-gt0.true)) at what in
     let P : Change → Type 0 = λ change. c.args.self.now ≡ change.system in
     record {
-      system = λ string. on_ok_always c.put.result (subst P (sym (said string)) refl);
+      system = λ string. on_ok c.put.result (subst P (sym (said string)) refl);
       wrote = λ string. emits_as by_sink _ _ _ _ _ (sym (said string))
           (emits_one c.put.result _ _ _ c.put.ensures.cause c.put.ensures.trace c.put.ensures.ok c.put.ensures.err);
     }

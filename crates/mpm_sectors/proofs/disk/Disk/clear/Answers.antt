@@ -9,6 +9,7 @@ loop-number-init g c = record {
   written = zeros_at_first c.args.self.now.drive c.args.self.now.kind c.args.first (g.D.Drives.disks c.args.drives.now);
   calls = omega arith;
   leaves = leaves_itself g.D.Drives.attached g.D.Drives.disks g.D.Drives.failed_names g.D.Drives.unsynced c.args.self.now.drive c.args.cache.now c.args.drives.now c.requires.coherent;
+  unsynced = λ some. absurd (omega (arith, some));
   faults = refl;
 }
 
@@ -31,5 +32,12 @@ loop-number-preserved g c = record {
   calls = omega (arith, c.put.ensures.calls, c.loop-number.invariant.calls);
   leaves = leaves_over g.D.Drives.attached g.D.Drives.disks g.D.Drives.failed_names g.D.Drives.unsynced c.args.self.now.drive c.args.cache.now c.loop-number.cache c.put.new.cache
       c.args.drives.now c.loop-number.drives c.put.new.drives c.loop-number.invariant.leaves c.put.ensures.leaves;
+  unsynced = λ some. c.put.ensures.unsynced;
   faults = c.in-Ok.ensures.cause.stays ∙ c.loop-number.invariant.faults;
 }
+
+pub returns-clause-owed : goal.returns-clause-owed
+returns-clause-owed g c = λ some. c.loop-number.invariant.unsynced (omega (arith, some, c.loop-number-test.false))
+
+pub returns-in-Err-clause-owed : goal.returns-in-Err-clause-owed
+returns-in-Err-clause-owed g c = λ some. c.put.ensures.unsynced

@@ -1,4 +1,4 @@
-use Rattle.std.proofs.Common.{◌≡◌, ◌+◌}
+use Rattle.std.proofs.Common.{◌≡◌, ◌+◌, ◌<◌, true}
 use Rattle.mpm_sectors.specs.Writes.{AreWritten, zeros_from}
 use Rattle.mpm_sectors.specs.Disks.{Leaves}
 use Rattle.mpm_sectors.proofs.disk.Disk.clear.Given as goal
@@ -8,5 +8,6 @@ invariant-loop-number g l = record {
   written : AreWritten l.self.drive l.self.kind (zeros_from l.first l.number) (g.D.Drives.disks l.initial.drives) (g.D.Drives.disks l.drives);
   calls : l.steps ≡ l.initial.steps + l.number;
   leaves : Leaves g.D.Drives.attached g.D.Drives.disks g.D.Drives.failed_names g.D.Drives.unsynced l.self.drive l.initial.cache l.cache l.initial.drives l.drives;
+  unsynced : 0 < l.number → g.D.Drives.unsynced l.drives l.self.drive ≡ true;
   faults : g.D.Drives.faults l.drives ≡ g.D.Drives.faults l.initial.drives;
 }

@@ -1,6 +1,0 @@
-use Rattle.mpm_bdos.specs.Records as records
-use Rattle.mpm_bdos.proofs.Counting.{CountsTo}
-use Rattle.mpm_bdos.proofs.jobs.count_free.Given as goal
-
-abbrev pub invariant-loop-k : goal.invariant-loop-k
-invariant-loop-k l = CountsTo (records.is_locked_off l.opens l.p l.file) l.first l.count l.k

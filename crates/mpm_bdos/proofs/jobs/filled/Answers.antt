@@ -1,5 +1,0 @@
-use Rattle.mpm_bdos.proofs.Filling.{filled_by_one}
-use Rattle.mpm_bdos.proofs.jobs.filled.Goals as goal
-
-pub returns : goal.returns
-returns c = filled_by_one _ _ c.copy_from_slice.ensures.after c.requires
