@@ -36,6 +36,7 @@ impl Model for Banks {
 }
 
 impl Banks {
+    ghost use Rattle.z80_regs.specs.Words.{word_from};
     ghost use Rattle.mpm_banks.specs.Stretches.{byte_among};
     ghost use Rattle.mpm_banks.specs.Memory.{IsMemory, HasSegment, segment_of, byte_at, with_byte};
     ghost use Rattle.mpm_banks.specs.Allocations.{FitsBelowCommon, new_memory, spec_of, lowest_free, allocated, reserved, is_reserved, released, all_released, occupied, vacated};
@@ -179,6 +180,33 @@ impl Banks {
         } else {
             self.common.at(usize::from(address - COMMON_BASE))
         }
+    }
+
+    /// The word that the process of a segment reads at an address, low byte first. Where both its bytes lie in the segment it takes
+    /// one look.
+    #[inline(always)]
+    #[tactic(auto, unfolding(crate::specs::Memory::place_of, crate::specs::Memory::byte_at))]
+    pub fn word(&self, seg: Seg, address: u16) -> u16
+        ensures { result ≡ word_from (byte_at self.now seg) address }
+    {
+        if let Some(segment) = self.segments.get(usize::from(seg.0)) {
+            if let Some(word) = segment.word(address) {
+                return word;
+            }
+        }
+        self.word_apart(seg, address)
+    }
+
+    /// The word that a process reads at an address, byte by byte: they may lie anywhere.
+    #[cold]
+    #[inline(never)]
+    fn word_apart(&self, seg: Seg, address: u16) -> u16
+        ensures { result ≡ word_from (byte_at self.now seg) address }
+    {
+        u16::from_le_bytes([
+            self.byte(seg, address),
+            self.byte(seg, address.wrapping_add(1)),
+        ])
     }
 
     /// Writes the byte that an address names for the process of a segment; it is lost where the address names none.

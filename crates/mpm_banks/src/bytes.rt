@@ -1,5 +1,6 @@
-ghost use Rattle.std.specs.Prelude.{◌≡◌, ◌-◌, ◌<◌, ◌≤◌, IfOk, length, nat_lt, slice_get, slice_index, slice_range, slice_set};
+ghost use Rattle.std.specs.Prelude.{◌≡◌, ◌+◌, ◌-◌, ◌<◌, ◌≤◌, IfOk, Some, None, length, nat_lt, slice_get, slice_index, slice_range, slice_set, if◌then◌else◌};
 ghost use Rattle.std.specs.Borrow.{sem};
+ghost use Rattle.z80_regs.specs.Words.{word_of};
 
 use crate::OutOfMemory;
 use std::alloc::Global;
@@ -57,6 +58,19 @@ impl Bytes {
         ensures { result ≡ slice_get self.now index }
     {
         self.items.get(index).copied()
+    }
+
+    /// The word at an index, low byte first, where both its bytes are there: one comparison tells that, as there is a byte.
+    #[inline(always)]
+    pub fn word(&self, index: usize) -> Option<u16>
+        requires { 0 < length self.now }
+        ensures { result ≡ if nat_lt index (length self.now - 1) then Some (word_of (slice_index self.now index) (slice_index self.now (index + 1))) else None }
+    {
+        if index < self.items.len() - 1 {
+            let bytes = [self.items[index], self.items[index + 1]];
+            return Some(u16::from_le_bytes(bytes));
+        }
+        None
     }
 
     /// Writes the byte at an index, where there is one; answers whether there is.

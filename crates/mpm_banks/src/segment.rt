@@ -28,7 +28,7 @@ pub(crate) struct Segment {
 }
 
 impl Segment {
-    ghost use Rattle.mpm_banks.specs.Stretches.{is_among, byte_among, put_among};
+    ghost use Rattle.mpm_banks.specs.Stretches.{is_among, byte_among, word_among, put_among};
     ghost use Rattle.mpm_banks.specs.Memory.{IsSegment};
     ghost use Rattle.mpm_banks.specs.Ranges.{range_from};
     ghost use Rattle.mpm_banks.specs.Allocations.{new_segment, fits, freed};
@@ -83,6 +83,15 @@ impl Segment {
         ensures { result ≡ byte_among (256 * self.now.base) self.now.bytes address }
     {
         self.bytes.get(self.index(address))
+    }
+
+    /// The word at an address, low byte first, where both its bytes are the segment's.
+    #[inline(always)]
+    pub fn word(&self, address: u16) -> Option<u16>
+        requires { IsSegment self.now }
+        ensures { result ≡ word_among (256 * self.now.base) self.now.bytes address }
+    {
+        self.bytes.word(self.index(address))
     }
 
     /// Writes the byte that an address names, if it names one of the segment's; answers whether it does.

@@ -17,6 +17,10 @@ pub one_if_false : (b : Bool) → b ≡ false → one_if b ≡ 0
 one_if_false true e = absurd (cc)
 one_if_false false e = refl
 
+pub at_most_one : (b : Bool) → one_if b ≤ 1
+at_most_one true = omega arith
+at_most_one false = omega arith
+
 -- numbers below a bound are those below the one before it, and that one
 next_below : (x n : ℕ) → one_if (nat_lt x (suc n)) ≡ one_if (nat_lt x n) + one_if (x == n)
 next_below x n = grind (arith, nat_tests)

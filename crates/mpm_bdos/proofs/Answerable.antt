@@ -1,7 +1,7 @@
 -- What a call may be answered, whatever is on the drives: its bytes, its file control block, and why it is refused.
 use Rattle.std.proofs.Common.{◌≡◌, ◌∙◌, ◌⊎◌, inl, inr, ℕ, zero, suc, ◌*◌, ◌≤◌, Bool, true, false, List, [], Option, Some, None, IfSome, length, refl, sym, ap, subst, arith}
 use Rattle.std.specs.Prelude.{option_map, bytes_eq, if◌then◌else◌}
-use Rattle.std.proofs.lemmas.Option.{same_Some}
+use Rattle.std.proofs.lemmas.Option.{same_Some, none-some}
 use Rattle.std.proofs.lemmas.Bool.{false≢true}
 use Rattle.mpm_base.specs.Calls.{Taken, Answer}
 use Rattle.mpm_functions.specs.declared.functions.FileFunction.{FileFunction}
@@ -25,7 +25,6 @@ use Rattle.mpm_bdos.specs.Turns.{drive_served, without_work}
 use Rattle.mpm_bdos.specs.Answering.{IsOfDrive, AreParts, MayPlace, MayGrant, MayAnswer, IsTold, IsEntered, HasEntered}
 use Rattle.mpm_entries.specs.Granting.{IsCoded, MayAmount, MayTellIn}
 use Rattle.mpm_bdos.proofs.FinishLaws.{unchanged}
-use Rattle.mpm_bdos.proofs.Started.{nothing_some}
 
 -- whole parts
 pub no_part : (size most : ℕ) → AreParts size most []
@@ -62,7 +61,7 @@ same_service caller function call one other same is = record {
 pub still_entered : (caller : Caller) (function : FileFunction) (call : Taken) (one other : Option InService) → option_map without_work other ≡ option_map without_work one
     → HasEntered caller function call one → HasEntered caller function call other
 still_entered caller function call None other same is = absurd is
-still_entered caller function call (Some one) None same is = absurd (nothing_some (without_work one) same)
+still_entered caller function call (Some one) None same is = absurd (none-some (without_work one) same)
 still_entered caller function call (Some one) (Some other) same is = same_service caller function call one other (same_Some (without_work other) (without_work one) same) is
 
 -- what is answered by way of what entered service is that call's

@@ -61,8 +61,6 @@ unsynced_again old mid before later now kept first next = record {
 }
 
 -- how many have ended, with none more and with one more
-pub no_more : (ended : ℕ) → ended ≡ ended + 0
-no_more ended = omega arith
 
 pub one_more : (ended turn : ℕ) → suc (ended + turn) ≡ ended + (turn + 1)
 one_more ended turn = omega arith

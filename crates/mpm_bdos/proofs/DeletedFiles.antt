@@ -5,7 +5,9 @@ use Rattle.std.specs.Prelude.{bytes_eq, is_some, find, filter, option_map}
 use Rattle.std.specs.List.{list_any, list_all}
 use Rattle.std.proofs.lemmas.Bool.{false≢true, and_parts, eqb-true}
 use Rattle.std.proofs.lemmas.List.FromFn.{fill_by_all}
+use Rattle.std.proofs.Math.Bool.{or-true, and-false, and_assoc}
 use Rattle.std.specs.Cmp.{both_ways}
+use Rattle.mpm_base.proofs.Choices.{at_either}
 use Rattle.mpm_names.specs.Matching.{does_match}
 use Rattle.mpm_names.proofs.Fitting.{fits_everywhere}
 use Rattle.mpm_dirent.specs.Names.{plain}
@@ -14,7 +16,6 @@ use Rattle.mpm_mount.specs.declared.searching.Found.{Found}
 use Rattle.mpm_mount.specs.Drives.{FileName, Drive}
 use Rattle.mpm_mount.specs.Directories.{Directory, Stands}
 use Rattle.mpm_mount.specs.Searching.{search_of, IsNext}
-use Rattle.mpm_mount.proofs.UsedBlocks.{or_last}
 use Rattle.mpm_opens.specs.declared.kinds.FileKey.{FileKey}
 use Rattle.mpm_opens.specs.declared.kinds.Item.{Item}
 use Rattle.mpm_opens.specs.declared.kinds.RecordLock.{RecordLock}
@@ -33,13 +34,12 @@ use Rattle.mpm_requests.specs.Looking.{entry_found}
 use Rattle.mpm_bdos.specs.Changes.{is_deleted_in, is_at, is_among}
 use Rattle.mpm_requests.proofs.Searched.{next_step}
 use Rattle.mpm_marks.proofs.Freed.{given_alike, no_file, all_kept}
-use Rattle.mpm_files.proofs.Deletions.{three_tests}
 
 -- a file of this very name is there, by a search for its name
 itself_matches : (name : List ℕ) → length name ≡ 11 → does_match name name ≡ true
 itself_matches name size = fits_everywhere name name (λ k h.
     let p = get_or name k 0 in
-    ap (λ x. (p % 128 == 63) || x) (eq-eqb (p % 128) (p % 128) refl) ∙ or_last (p % 128 == 63))
+    ap (λ x. (p % 128 == 63) || x) (eq-eqb (p % 128) (p % 128) refl) ∙ or-true (p % 128 == 63))
 
 any_is_found : {X : Type 0} (test : X → Bool) (xs : List X) → list_any test xs ≡ is_some (find test xs)
 any_is_found test [] = refl
@@ -92,19 +92,11 @@ deleted_step file entry rest there false false fitting is same so = so
 deleted_fits : (file : FileName) (user : ℕ) (pattern : List ℕ) (entry : FileName × ℕ) → is_same_file file entry.0 ≡ true → fits user pattern entry ≡ is_fitting user pattern file
 deleted_fits file user pattern entry is = ap (is_fitting user pattern) (sym (one_file file entry.0 is))
 
-mapped_step : (entry : FileName × ℕ) (es : List (FileName × ℕ)) (b : Bool) → map (λ (e : FileName × ℕ). e.0) (cond b (entry ∷ es) es) ≡ cond b (entry.0 ∷ map (λ (e : FileName × ℕ). e.0) es) (map (λ (e : FileName × ℕ). e.0) es)
-mapped_step entry es true = refl
-mapped_step entry es false = refl
-
 deleted_among : (file : FileName) (user : ℕ) (pattern : List ℕ) (es : List (FileName × ℕ))
     → list_any (is_same_file file) (map (λ (e : FileName × ℕ). e.0) (filter (fits user pattern) es)) ≡ (is_fitting user pattern file && list_any (is_entry_of file) es)
-deleted_among file user pattern [] = sym (never (is_fitting user pattern file))
-  where
-    never : (x : Bool) → (x && false) ≡ false
-    never true = refl
-    never false = refl
+deleted_among file user pattern [] = sym (and-false (is_fitting user pattern file))
 deleted_among file user pattern (entry ∷ es) =
-    ap (list_any (is_same_file file)) (mapped_step entry (filter (fits user pattern) es) (fits user pattern entry))
+    ap (list_any (is_same_file file)) (at_either (map (λ (e : FileName × ℕ). e.0)) (fits user pattern entry) (entry ∷ filter (fits user pattern) es) (filter (fits user pattern) es))
     ∙ deleted_step file entry (map (λ (e : FileName × ℕ). e.0) (filter (fits user pattern) es)) (list_any (is_entry_of file) es) (fits user pattern entry) (is_same_file file entry.0) (is_fitting user pattern file)
     refl (deleted_fits file user pattern entry) (deleted_among file user pattern es)
 
@@ -119,7 +111,7 @@ names_file deletion key = (key.drive == deletion.drive) && is_fitting deletion.u
 pub deleted_where_named : (drive : Drive) (deletion : Deletion) (key : FileKey) (named there : Bool) → named ≡ names_file deletion key → there ≡ has_file drive (file_of key) → (named && there) ≡ is_deleted_in drive deletion key
 deleted_where_named drive deletion key named there is so =
     ap (λ b. b && there) is ∙ ap (λ b. names_file deletion key && b) so
-    ∙ sym (deleted_is drive deletion key ∙ sym (three_tests (key.drive == deletion.drive) (is_fitting deletion.user deletion.pattern (file_of key)) (has_file drive (file_of key))))
+    ∙ sym (deleted_is drive deletion key ∙ sym (and_assoc (key.drive == deletion.drive) (is_fitting deletion.user deletion.pattern (file_of key)) (has_file drive (file_of key))))
 
 -- the process's open files, place after place
 pub deleted_all : (places : List (Option Item)) (made : List (Option FileKey)) (p : ℕ) (among : FileKey → Bool) → length places ≡ 64 → length made ≡ 64

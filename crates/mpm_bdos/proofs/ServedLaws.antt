@@ -4,6 +4,7 @@ use Rattle.std.specs.Prelude.{is_some, option_map, slice_index_or, slice_set, un
 use Rattle.std.proofs.Math.Path.{fun_ext}
 use Rattle.std.proofs.lemmas.Bool.{true≢false}
 use Rattle.std.proofs.lemmas.List.{set-set}
+use Rattle.std.proofs.lemmas.Option.{none-some}
 use Rattle.mpm_base.specs.Calls.{Taken}
 use Rattle.mpm_mount.specs.Directories.{Directory}
 use Rattle.mpm_mount.specs.Drives.{Drive}
@@ -26,14 +27,14 @@ use Rattle.mpm_bdos.specs.Starting.{entering}
 use Rattle.mpm_requests.specs.Subjects.{mounted, blank_drive, drive_number, drive_at}
 use Rattle.mpm_bdos.specs.Turns.{TurnKeeps, WorksOnDrives, has_work, labelled}
 use Rattle.mpm_bdos.proofs.NextTurns.{idle_drives, job_drives}
-use Rattle.mpm_bdos.proofs.Started.{nothing_some, unmounted_begins}
+use Rattle.mpm_bdos.proofs.Started.{unmounted_begins}
 
 -- a call that has a job names a drive that is mounted
 mounted_by : (s : Situation) (job : Job) (m : Option Drive) (refusal : Option Refusal) → job_of s ≡ Some job → mounted s.filing (drive_number s) ≡ m → refusal_of s ≡ refusal
     → is_some m ≡ true
 unfolding job_of
 mounted_by s job (Some drive) refusal is at refused = refl
-mounted_by s job None (Some refusal) is at refused = absurd (nothing_some job (sym (ap (λ r. unless_refused r (job_by s s.function)) refused) ∙ is))
+mounted_by s job None (Some refusal) is at refused = absurd (none-some job (sym (ap (λ r. unless_refused r (job_by s s.function)) refused) ∙ is))
 mounted_by s job None None is at refused =
     absurd (subst (λ found. WorksOn [] None (drive_at s) found 0 None) is (unmounted_begins [] s refused at).works)
 
@@ -43,7 +44,7 @@ job_mounted s job is = mounted_by s job (mounted s.filing (drive_number s)) (ref
 -- so many turns leave each drive's kind
 kinds_set : (drives : List (Option Drive)) (n : ℕ) (drive new : Drive) → slice_index_or drives n None ≡ Some drive → new.kind ≡ drive.kind → (number : ℕ)
     → option_map (λ (d : Drive). d.kind) (slice_index_or (slice_set drives n (Some new)) number None) ≡ option_map (λ (d : Drive). d.kind) (slice_index_or drives number None)
-kinds_set [] n drive new at same number = absurd (nothing_some drive at)
+kinds_set [] n drive new at same number = absurd (none-some drive at)
 kinds_set (d ∷ drives) zero drive new at same zero = ap Some same ∙ sym (ap (option_map (λ (d : Drive). d.kind)) at)
 kinds_set (d ∷ drives) zero drive new at same (suc number) = refl
 kinds_set (d ∷ drives) (suc n) drive new at same zero = refl
@@ -116,7 +117,7 @@ starts_on_drives old new (Some function) other workless kept before = λ none.
 
 pub none_before : (one other : Option Directory) → option_map labelled other ≡ option_map labelled one → other ≡ None → one ≡ None
 none_before None other same none = refl
-none_before (Some directory) other same none = absurd (nothing_some (labelled directory) (sym (ap (option_map labelled) none) ∙ same))
+none_before (Some directory) other same none = absurd (none-some (labelled directory) (sym (ap (option_map labelled) none) ∙ same))
 
 pub turns_on_drives : (old new : Kept) → TurnKeeps old new → has_work new.service ≡ has_work old.service → WorksOnDrives old → WorksOnDrives new
 turns_on_drives old new kept still before = λ none.

@@ -1,8 +1,9 @@
 -- A call that enters service.
 use Rattle.std.proofs.Common.{◌≡◌, ◌∙◌, ℕ, ◌≤◌, ◌<◌, true, false, List, Option, Some, None, IfSome, sym, refl, ap, subst, arith}
-use Rattle.std.specs.Prelude.{is_some, max, min, length, unwrap_or, slice_index_or, slice_set}
+use Rattle.std.specs.Prelude.{is_some, max, length, unwrap_or, slice_index_or, slice_set}
 use Rattle.std.proofs.lemmas.List.{set-get_or}
-use Rattle.std.proofs.lemmas.Option.{same_Some}
+use Rattle.std.proofs.lemmas.Option.{same_Some, none-some}
+use Rattle.std.proofs.Math.Nat.{min-eq_left}
 use Rattle.mpm_base.specs.Calls.{Taken}
 use Rattle.std.specs.FinMap.{get-empty}
 use Rattle.mpm_dirent.specs.Names.{plain}
@@ -48,15 +49,12 @@ plain_again name other e = ap plain e ∙ plain_twice other ∙ sym e
 abbrev about_call : Situation → About
 about_call s = about_in s.filing.opens s.caller.process (block s) s.function (drive_number s) (subject s).user (item_number s)
 
-at_most : (n bound : ℕ) → n ≤ bound → min n bound ≡ n
-at_most n bound h = omega arith
-
 about_is : (image : List ℕ) (d : Directory) (s : Situation) → IsCall s → Stands image d (drive_at s) → refusal_of s ≡ None → IsAbout image d (about_call s) s
 unfolding open_key first_record
 about_is image d s call stands none = record {
   stands = stands;
   file = λ i. record { drive = drive_number s; user = (subject s).user; name = (sym (subject_name s)) i };
-  first = λ has. at_most (first_record s) 262271 (low_first s s.function call none refl has);
+  first = λ has. min-eq_left (low_first s s.function call none refl has);
   has_written = refl;
 }
 
@@ -187,13 +185,10 @@ sound_there image d drive stands = record {
       (extent_of_image image d drive (record { user = file.user; name = file.name; number = number }) extent stands is);
 }
 
-pub nothing_some : {X : Type 0} (x : X) → None ≡ Some x → ⊥
-nothing_some x e = absurd (cc)
-
 sound_nowhere : IsSound blank_drive
 sound_nowhere = record {
   each = λ file number extent is.
-      absurd (nothing_some extent (sym (get-empty entry_cmp (record { user = file.user; name = file.name; number = number })) ∙ is));
+      absurd (none-some extent (sym (get-empty entry_cmp (record { user = file.user; name = file.name; number = number })) ∙ is));
 }
 
 sound_drive : (image : List ℕ) (directory : Option Directory) (s : Situation) (m : Option Drive) → mounted s.filing (drive_number s) ≡ m → StandsWhere (drive_number s) image directory m → IsSound (drive_at s)

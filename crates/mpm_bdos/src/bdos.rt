@@ -66,7 +66,7 @@ impl Model for Bdos {
 impl Bdos {
     ghost use Rattle.mpm_opens.specs.Opens.{AreOpen};
     ghost use Rattle.mpm_directories.specs.Places.{AreInPlace, directory_at, kind_at};
-    ghost use Rattle.mpm_bdos.specs.Serving.{StandEach, Serves, filing_of, nothing_kept};
+    ghost use Rattle.mpm_bdos.specs.Serving.{StandEach, StandForSome, Serves, filing_of, nothing_kept};
     ghost use Rattle.std.specs.Option.{option_copied};
 
     /// Nothing is open, marked, sought or protected, nothing is cached, and no call is in service. Of the sixteen drives those
@@ -130,11 +130,14 @@ impl Bdos {
         }
     }
 
-    /// Says what is so of open files and locks at any time: no two locks are of one record.
+    /// Says what is so at any time of open files and locks, no two of which are of one record, and of the directories in memory, which
+    /// stand for the drives of some images.
     pub fn tell_sound(&self)
-        ensures { AreOpen self.now.opens }
+        ensures locks { AreOpen self.now.opens }
+        ensures stand { StandForSome self.now.mounted }
     {
         self.opens.tell_sound();
+        self.mounted.tell_sound();
     }
 
     /// Gives back all that a process that ended has open, its locks and its marks, and forgets what it searched for last.

@@ -40,6 +40,14 @@ impl Directories {
         self.places.as_slice()
     }
 
+    /// Says what is so at any time: they stand for the drives of some images.
+    #[tactic(auto, using(crate::proofs::SomeImages::stands_for_some))]
+    pub(crate) fn tell_sound(&self)
+        ensures { StandForSome self.now }
+    {
+        let _ = &self.places;
+    }
+
     /// The directory of a drive, where it is mounted; none above the sixteenth is.
     #[tactic(auto, using(crate::proofs::SomeImages::stands_for_some))]
     pub(crate) fn get(&self, drive: u8) -> Option<&Mounted>

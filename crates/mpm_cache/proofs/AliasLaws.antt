@@ -1,12 +1,13 @@
 -- A drive has no alias in the cache, and keeps having none.
 use Rattle.std.proofs.Common.{◌≡◌, ◌≢◌, ◌⊎◌, ℕ, Bool, true, false, List, [], Option, Some, None, IfSome, IsSome, refl, sym, subst, ◌∙◌, inl, inr}
+use Rattle.std.specs.Prelude.{⊤}
 use Rattle.std.proofs.lemmas.Bool.{false≢true}
-use Rattle.std.proofs.lemmas.Option.{same_Some}
+use Rattle.std.proofs.lemmas.Option.{same_Some, MatchOption-at_some}
 use Rattle.mpm_port.specs.Disks.{Disks, SameDisks, Writes, Told}
 use Rattle.mpm_cache.specs.declared.cache.Place.{Place}
 use Rattle.mpm_cache.specs.Cached.{is_at, cached_at, SameCached, Keeps, Forgets}
 use Rattle.mpm_cache.specs.Coherent.{HaveOwnImages, HasNoAlias, StayApart, AreApart}
-use Rattle.mpm_cache.proofs.CachedLaws.{at, known_same, found_so}
+use Rattle.mpm_cache.proofs.CachedLaws.{at, known_same}
 use Rattle.mpm_cache.proofs.CoherentLaws.{keeps_none}
 
 -- the drives are attached by the same names
@@ -60,7 +61,7 @@ adds_kept drive sector bytes cached new keeps other place some = by_place (is_at
     by_place : (b : Bool) → is_at drive sector (at other place) ≡ b → (o : Option (List ℕ)) → cached_at new other place ≡ o → (drive ≡ other) ⊎ IsSome (cached_at cached other place)
     by_place true here o is = inl (known_same drive sector other place here).0
     by_place false apart None is = absurd (none_some (cached_at new other place) is some)
-    by_place false apart (Some kept) is = inr (some_of _ kept (found_so (cached_at new other place) (λ k. cached_at cached other place ≡ Some k) kept (keeps.others (at other place) apart) is))
+    by_place false apart (Some kept) is = inr (some_of _ kept (MatchOption-at_some ⊤ (λ k. cached_at cached other place ≡ Some k) kept is (keeps.others (at other place) apart)))
 
 adds_same : (drive : ℕ) (cached new : List (Place × List ℕ)) → SameCached cached new → AddsAtMost drive cached new
 adds_same drive cached new same other sector some = inr (subst (λ (o : Option (List ℕ)). IsSome o) (same other sector) some)

@@ -70,9 +70,6 @@ pub if_found : (o : Option (List ℕ)) (P : List ℕ → Type 0) → ((kept : Li
 if_found None P each = tt
 if_found (Some kept) P each = each kept refl
 
-pub found_so : (o : Option (List ℕ)) (P : List ℕ → Type 0) (kept : List ℕ) → IfSome o P → o ≡ Some kept → P kept
-found_so o P kept all is = subst (λ (x : Option (List ℕ)). IfSome x P) is all
-
 -- a sector is cached no more
 pub forgets : (d s : ℕ) (es new : List (Place × List ℕ)) → IsDistinct same_place (keys_of es) → new ≡ remove_entry (is_at d s) es → Forgets d s es new
 unfolding cached_at

@@ -1,13 +1,14 @@
 -- The cached sectors stay those of the attached images.
 use Rattle.std.proofs.Common.{◌≡◌, ◌≢◌, ◌⊎◌, ℕ, ◌+◌, ◌*◌, ◌≤◌, Bool, true, false, List, [], length, Option, Some, None, IfSome, IsSome, IsSomeAnd, refl, sym, ap, subst, ◌∙◌, arith, inl, inr}
-use Rattle.std.specs.Prelude.{option_and_then}
+use Rattle.std.specs.Prelude.{option_and_then, ⊤}
 use Rattle.std.proofs.lemmas.Bool.{cases_eq, false≢true}
+use Rattle.std.proofs.lemmas.Option.{MatchOption-at_some}
 use Rattle.mpm_port.specs.Disks.{Disks, IsInside, image_of, sector_of, with_sector, SameDisks, Writes, Told}
 use Rattle.mpm_port.proofs.Images.{same_image}
 use Rattle.mpm_cache.specs.declared.cache.Place.{Place}
 use Rattle.mpm_cache.specs.Cached.{is_at, cached_at, SameCached, Keeps, Forgets}
 use Rattle.mpm_cache.specs.Coherent.{AreOf, IsCoherent, HaveOwnImages, HasNoAlias}
-use Rattle.mpm_cache.proofs.CachedLaws.{at, if_found, found_so, known_same, same_known}
+use Rattle.mpm_cache.proofs.CachedLaws.{at, if_found, known_same, same_known}
 use Rattle.mpm_cache.proofs.SectorLaws.{sector_written, sector_kept}
 
 -- a drive's image has these bytes in a sector, where the drive has one
@@ -15,7 +16,7 @@ abbrev pub Has : Disks → ℕ → ℕ → List ℕ → Type 0
 Has told drive sector kept = IfSome (image_of told drive) (λ image. sector_of image sector ≡ kept)
 
 was : (cached : List (Place × List ℕ)) (told : Disks) (drive sector : ℕ) (kept : List ℕ) → AreOf cached told → cached_at cached drive sector ≡ Some kept → Has told drive sector kept
-was cached told drive sector kept are h = found_so (cached_at cached drive sector) (Has told drive sector) kept (are drive sector) h
+was cached told drive sector kept are h = MatchOption-at_some ⊤ (Has told drive sector) kept h (are drive sector)
 
 -- ---- where no image has changed
 
@@ -39,11 +40,11 @@ are_read cached new old now drive sector bytes keeps same has are d s =
     by_place d s kept h true here =
         let two = known_same drive sector d s here in
         let found : cached_at new drive sector ≡ Some kept = ap (λ (x : ℕ). cached_at new x sector) two.0 ∙ ap (λ (y : ℕ). cached_at new d y) two.1 ∙ h in
-        let is : kept ≡ bytes = found_so (cached_at new drive sector) (λ k. k ≡ bytes) kept keeps.here found in
+        let is : kept ≡ bytes = MatchOption-at_some ⊤ (λ k. k ≡ bytes) kept found keeps.here in
         has_same old now d s kept same
         (subst (λ (k : List ℕ). Has old d s k) (sym is) (subst (λ (x : ℕ). Has old x s bytes) two.0 (subst (λ (y : ℕ). Has old drive y bytes) two.1 has)))
     by_place d s kept h false other =
-        has_same old now d s kept same (was cached old d s kept are (found_so (cached_at new d s) (λ k. cached_at cached d s ≡ Some k) kept (keeps.others (at d s) other) h))
+        has_same old now d s kept same (was cached old d s kept are (MatchOption-at_some ⊤ (λ k. cached_at cached d s ≡ Some k) kept h (keeps.others (at d s) other)))
 
 -- ---- where a sector was written
 
@@ -62,7 +63,7 @@ image_here old now drive sector bytes image writes is =
     by_name : (o : Option (List ℕ)) → option_and_then old.image o ≡ Some image
         → IfSome o (λ name. IfSome (old.image name) (λ image. now.image name ≡ Some (with_sector image sector bytes))) → option_and_then now.image o ≡ Some (with_sector image sector bytes)
     by_name None is here = absurd (cc)
-    by_name (Some name) is here = found_so (old.image name) (λ image. now.image name ≡ Some (with_sector image sector bytes)) image here is
+    by_name (Some name) is here = MatchOption-at_some ⊤ (λ image. now.image name ≡ Some (with_sector image sector bytes)) image is here
 
 -- a sector other than the written one
 has_other : (old now : Disks) (drive sector d s : ℕ) (bytes kept image : List ℕ) → Writes drive sector bytes old now
@@ -71,7 +72,7 @@ has_other : (old now : Disks) (drive sector d s : ℕ) (bytes kept image : List 
 has_other old now drive sector d s bytes kept image writes apart long is inside other has = elim (cases_eq drive d) [
   | inl same ↦ (
       let changed : image_of now d ≡ Some (with_sector image sector bytes) = ap (λ (x : ℕ). image_of now x) (sym same) ∙ image_here old now drive sector bytes image writes is in
-      let had : sector_of image s ≡ kept = found_so (image_of old d) (λ i. sector_of i s ≡ kept) image has (ap (λ (x : ℕ). image_of old x) (sym same) ∙ is) in
+      let had : sector_of image s ≡ kept = MatchOption-at_some ⊤ (λ i. sector_of i s ≡ kept) image (ap (λ (x : ℕ). image_of old x) (sym same) ∙ is) has in
       let ne : sector ≢ s = λ at. apart_places drive sector d s other same at in
       subst (λ (o : Option (List ℕ)). IfSome o (λ i. sector_of i s ≡ kept)) (sym changed) (sector_kept image sector s bytes inside long ne ∙ had))
   | inr ne ↦ subst (λ (o : Option (List ℕ)). IfSome o (λ i. sector_of i s ≡ kept)) (sym (image_elsewhere old now drive sector d bytes writes (apart ne))) has
@@ -95,11 +96,11 @@ are_written cached new old now drive sector bytes image keeps writes long is ins
     by_place d s kept h true here =
         let two = known_same drive sector d s here in
         let found : cached_at new drive sector ≡ Some kept = ap (λ (x : ℕ). cached_at new x sector) two.0 ∙ ap (λ (y : ℕ). cached_at new d y) two.1 ∙ h in
-        let same : kept ≡ bytes = found_so (cached_at new drive sector) (λ k. k ≡ bytes) kept keeps.here found in
+        let same : kept ≡ bytes = MatchOption-at_some ⊤ (λ k. k ≡ bytes) kept found keeps.here in
         subst (λ (k : List ℕ). Has now d s k) (sym same)
         (subst (λ (x : ℕ). Has now x s bytes) two.0 (subst (λ (y : ℕ). Has now drive y bytes) two.1 (has_written old now drive sector bytes image writes long is inside)))
     by_place d s kept h false other =
-        let before : cached_at cached d s ≡ Some kept = found_so (cached_at new d s) (λ k. cached_at cached d s ≡ Some k) kept (keeps.others (at d s) other) h in
+        let before : cached_at cached d s ≡ Some kept = MatchOption-at_some ⊤ (λ k. cached_at cached d s ≡ Some k) kept h (keeps.others (at d s) other) in
         has_other old now drive sector d s bytes kept image writes (alone d s (subst (λ (o : Option (List ℕ)). IsSome o) (sym before) refl)) long is inside other
         (was cached old d s kept are before)
 
@@ -160,7 +161,7 @@ pub coherent_read : (cached new : List (Place × List ℕ)) (disks now : Option 
 coherent_read cached new disks now drive sector bytes keeps told read coherent =
     by_told SameDisks (λ old. IfSome (image_of old drive) (λ image. bytes ≡ sector_of image sector)) cached new disks now told read coherent
     (λ old then_told same has are. are_read cached new old then_told drive sector bytes keeps same
-    (if_found (image_of old drive) (λ image. sector_of image sector ≡ bytes) (λ image h. sym (found_so (image_of old drive) (λ i. bytes ≡ sector_of i sector) image has h))) are)
+    (if_found (image_of old drive) (λ image. sector_of image sector ≡ bytes) (λ image h. sym (MatchOption-at_some ⊤ (λ i. bytes ≡ sector_of i sector) image h has))) are)
 
 some_image : (o : Option (List ℕ)) (P : List ℕ → Type 0) → IsSomeAnd o P → (image : List ℕ) × (o ≡ Some image) × P image
 some_image None P h = absurd h
@@ -204,4 +205,4 @@ unfolding IsCoherent
 coherent_hit cached None drive sector bytes coherent at = tt
 coherent_hit cached (Some told) drive sector bytes coherent at =
     let has : Has told drive sector bytes = was cached told drive sector bytes coherent at in
-    if_found (image_of told drive) (λ image. bytes ≡ sector_of image sector) (λ image h. sym (found_so (image_of told drive) (λ i. sector_of i sector ≡ bytes) image has h))
+    if_found (image_of told drive) (λ image. bytes ≡ sector_of image sector) (λ image h. sym (MatchOption-at_some ⊤ (λ i. sector_of i sector ≡ bytes) image h has))

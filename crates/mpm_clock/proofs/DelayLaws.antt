@@ -6,6 +6,7 @@ use Rattle.std.proofs.lemmas.List.{append-nil, map_more, map-append, take_more, 
 use Rattle.std.proofs.lemmas.List.Elements.{filter-append}
 use Rattle.std.proofs.lemmas.List.Sums.{length-filter, count_by-le-length}
 use Rattle.mpm_base.proofs.CountLaws.{one_if, count_cons, few_numbers}
+use Rattle.mpm_base.proofs.Lists.{kept_one, dropped_one}
 use Rattle.mpm_clock.specs.declared.delays.Delay.{Delay}
 use Rattle.mpm_clock.specs.Delays.{delays_of, lowered, has_ended, woken_by_tick, left_by_tick, without_delay}
 
@@ -32,11 +33,6 @@ without_room xs p i h most =
     omega (arith, length-filter test (take i xs), count_by-le-length test (take i xs), length-take i xs)
 
 -- one more delay, by whether it ends
-kept_one : (test : Delay → Bool) (x : Delay) → test x ≡ true → filter test (x ∷ []) ≡ x ∷ []
-kept_one test x h = grind (arith, h)
-
-dropped_one : (test : Delay → Bool) (x : Delay) → test x ≡ false → filter test (x ∷ []) ≡ []
-dropped_one test x h = grind (arith, h)
 
 filtered : (test : Delay → Bool) (xs : List Delay) (i : ℕ) (d : Delay) → i < length xs
     → filter test (map lowered (take (i + 1) xs)) ≡ filter test (map lowered (take i xs)) ++ filter test (lowered (get_or xs i d) ∷ [])

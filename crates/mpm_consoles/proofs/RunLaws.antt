@@ -1,8 +1,9 @@
 -- Keys are kept in order, whatever calls there are.
 use Rattle.std.proofs.Common.{◌≡◌, ◌≢◌, ◌∙◌, inl, inr, ℕ, ◌+◌, ◌-◌, ◌^◌, ◌≤◌, Bool, true, false, not, ◌||◌, List, [], ◌∷◌, ◌++◌, Option, Some, None, ◌==◌, if◌then◌else◌, min, length, drop, get_or, set, slice_get, refl, sym, ap, subst, arith}
 use Rattle.std.proofs.lemmas.Bool.{cases_eq, eq-eqb, ne_eqb}
-use Rattle.std.proofs.lemmas.List.{get_or-set_other, append-nil, append_assoc, length-set, length-map}
+use Rattle.std.proofs.lemmas.List.{get_or-set_other, append-nil, length-set, length-map}
 use Rattle.mpm_base.proofs.Choices.{either}
+use Rattle.mpm_base.proofs.Lists.{joined}
 use Rattle.mpm_consoles.specs.Console.{Console, new_console, is_owner, passed_to, with_raw, with_output_stopped, resumed, awaiting, without_wait_of, has_room, with_key, typed, first_key, without_first, spoken, written}
 use Rattle.mpm_consoles.specs.Consoles.{Consoles, console_at, HasConsole, with_console, owner_of, owns, first_waiter, waits_for}
 use Rattle.mpm_consoles.specs.Keys.{control_of}
@@ -195,10 +196,6 @@ keeps_operation t (Takes m) = keeps_console t m _
 keeps_operation t (Makes change) = keeps_change t change
 
 -- all calls
-joined : (given rest now before into more middle : List ℕ) → given ++ middle ≡ before ++ into → rest ++ now ≡ middle ++ more → (given ++ rest) ++ now ≡ before ++ (into ++ more)
-joined given rest now before into more middle one all =
-    append_assoc given rest now ∙ ap (λ (ks : List ℕ). given ++ ks) all ∙ sym (append_assoc given middle more)
-    ∙ ap (λ (ks : List ℕ). ks ++ more) one ∙ append_assoc before into more
 
 counted_on : (before misses most now rest last : ℕ) → now ≡ min (before + misses) most → last ≡ min (now + rest) most → last ≡ min (before + (misses + rest)) most
 counted_on before misses most now rest last one all = omega arith

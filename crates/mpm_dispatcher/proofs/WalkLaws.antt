@@ -4,7 +4,7 @@ use Rattle.std.specs.Prelude.{count_by}
 use Rattle.std.specs.List.{AllByRecursion}
 use Rattle.std.proofs.lemmas.Bool.{cases_eq}
 use Rattle.std.proofs.lemmas.Option.{same_Some}
-use Rattle.mpm_base.proofs.CountLaws.{count_cons, few_numbers, one_if, one_if_true, one_if_false}
+use Rattle.mpm_base.proofs.CountLaws.{count_cons, few_numbers, one_if, one_if_true, one_if_false, at_most_one}
 use Rattle.mpm_ready.specs.Order.{Member, first_of, in_list, without_slot, IsOnce}
 use Rattle.mpm_ready.specs.Tables.{list_at, list_of, removed, IsTable}
 use Rattle.mpm_ready.proofs.OrderLaws.{without_slot_head, without_slot_absent, first_is_in, first_none}
@@ -97,9 +97,6 @@ once_counts [] q once = refl
 once_counts (m ∷ ms) q once = once_step (m.slot == q) m ms q refl once.0 (once_counts ms q once.1)
 
 -- a test counts once at most
-pub at_most_one : (b : Bool) → one_if b ≤ 1
-at_most_one true = omega arith
-at_most_one false = omega arith
 
 in_list_if_counted : (b : Bool) → 0 < one_if b → b ≡ true
 in_list_if_counted true some = refl

@@ -9,6 +9,8 @@ use Rattle.std.specs.FinMap.{entries, entries_sorted, is_sorted}
 use Rattle.std.specs.FinMap.Entries.{below_all}
 use Rattle.std.proofs.lemmas.Bool.{and_parts, and_right}
 use Rattle.std.proofs.lemmas.Option.{same_Some}
+use Rattle.std.proofs.lemmas.List.Elements.{filter_agree}
+use Rattle.std.proofs.Math.Bool.{and-true}
 use Rattle.mpm_base.specs.declared.kind.Kind.{Kind}
 use Rattle.mpm_names.specs.Matching.{does_match}
 use Rattle.mpm_dirent.specs.Names.{plain}
@@ -20,7 +22,6 @@ use Rattle.mpm_mount.specs.Images.{extent_in}
 use Rattle.mpm_mount.specs.Directories.{Directory, entry_in, Stands}
 use Rattle.mpm_mount.specs.Searching.{search_of, found_name, is_above, IsNext}
 use Rattle.mpm_mount.specs.Searching as searching
-use Rattle.mpm_mount.proofs.Replaced.{and_all}
 use Rattle.mpm_mount.proofs.Orders.{entry_total}
 use Rattle.mpm_mount.proofs.NextFound.{is_sought_pair, next_none, next_found}
 use Rattle.mpm_mount.proofs.SearchSteps.{is_true, AreSteps, found_is, above_through, not_both_ways, found_below}
@@ -95,15 +96,11 @@ abbrev pub size_behind : Drive → FileName → Kind → Option Found → ℕ �
 size_behind files file kind last size =
     size_or size (filter (λ e. ((e.0.user == file.user) && bytes_eq e.0.name file.name) && is_above (option_map (found_name kind file.user) last) e.0) (entries files.extents))
 
-filter_same : {X : Type 0} (p q : X → Bool) (xs : List X) → ((x : X) → p x ≡ q x) → filter p xs ≡ filter q xs
-filter_same p q [] same = refl
-filter_same p q (x ∷ xs) same = ap (λ b. cond b (x ∷ filter p xs) (filter p xs)) (same x) ∙ ap (λ l. cond (q x) (x ∷ l) l) (filter_same p q xs same)
-
 pub size_begins : (files : Drive) (file : FileName) (kind : Kind) → size_of (extents_of files file) ≡ size_behind files file kind None 0
 unfolding extents_of
 size_begins files file kind =
     size_all (filter (is_of file) (entries files.extents))
-    ∙ ap (size_or 0) (filter_same (is_of file) (λ e. is_of file e && true) (entries files.extents) (λ e. sym (and_all (is_of file e))))
+    ∙ ap (size_or 0) (filter_agree (is_of file) (λ e. is_of file e && true) (λ e. sym (and-true (is_of file e))) (entries files.extents))
 
 sized_by : {K : Type 0} (b : Bool) (size : ℕ) (e : K × PhysicalExtent) (es : List (K × PhysicalExtent))
     → size_or size (cond b (e ∷ es) es) ≡ size_or (cond b (size_one e) size) es

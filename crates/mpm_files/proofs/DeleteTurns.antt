@@ -8,6 +8,8 @@ use Rattle.std.specs.Ordering.{is_eq}
 use Rattle.std.specs.Cmp.{tied_itself}
 use Rattle.std.specs.FinMap.{get, get-remove, keys, entries}
 use Rattle.std.proofs.lemmas.Bool.{true≢false, and_parts, eqb-true}
+use Rattle.std.proofs.Math.Bool.{and-true}
+use Rattle.mpm_base.proofs.Choices.{at_either}
 use Rattle.mpm_blocks.specs.Geometries.{geometry_of}
 use Rattle.mpm_blocks.specs.Sectors.{sectors_of}
 use Rattle.mpm_dirent.specs.declared.kinds.Entry.TheVariants.{Free}
@@ -25,7 +27,6 @@ use Rattle.mpm_mount.proofs.Sorts.{extent_freed, xfcb_freed}
 use Rattle.mpm_mount.proofs.Orders.{file_total}
 use Rattle.mpm_mount.proofs.NextFound.{next_found, next_none, is_sought_pair}
 use Rattle.mpm_mount.proofs.LookedUp.{xfcb_found, xfcb_missing, kind_of}
-use Rattle.mpm_mount.proofs.Replaced.{and_all}
 use Rattle.mpm_jobs.specs.declared.jobs.JobKind.TheVariants.{Delete}
 use Rattle.mpm_jobs.specs.declared.jobs.Job.{Job}
 use Rattle.mpm_files.specs.declared.work.Work.{Work}
@@ -43,14 +44,10 @@ use Rattle.mpm_files.proofs.Left.{no_front}
 abbrev made_of : {X Y : Type 0} → Option X → (X → Y) → Option Y
 made_of o f = option_map f o
 
-first_made : {X Y : Type 0} (f : X → Y) (b : Bool) (x : X) (o : Option X) → cond b (Some (f x)) (option_map f o) ≡ option_map f (cond b (Some x) o)
-first_made f true x o = refl
-first_made f false x o = refl
-
 find_made : {X Y : Type 0} (xs : List X) (f : X → Y) (p : X → Bool) (q : Y → Bool) → ((x : X) → q (f x) ≡ p x) → lists.find q (each xs f) ≡ made_of (lists.find p xs) f
 find_made [] f p q same = refl
 find_made (x ∷ xs) f p q same =
-    ap (λ b. cond b (Some (f x)) (lists.find q (each xs f))) (same x) ∙ ap (cond (p x) (Some (f x))) (find_made xs f p q same) ∙ first_made f (p x) x (lists.find p xs)
+    ap (λ b. cond b (Some (f x)) (lists.find q (each xs f))) (same x) ∙ ap (cond (p x) (Some (f x))) (find_made xs f p q same) ∙ sym (at_either (option_map f) (p x) (Some x) (lists.find p xs))
 
 -- the first entry that fits is the one that a search finds
 first_fitting : (files : Drive) (d : Directory) (user : ℕ) (pattern : List ℕ)
@@ -62,7 +59,7 @@ first_fitting files d user pattern =
     (λ e. is_fitting user pattern e.0) (λ name. refl)
     ∙ ap (λ o. made_of o (λ name. (record { user = name.user; name = name.name }, name.number)))
     (find_made (entries files.extents) (λ e. e.0) (is_sought_pair (search_of d.kind user pattern None)) (λ name. is_fitting user pattern (record { user = name.user; name = name.name }))
-    (λ e. ap (λ b. (e.0.user == user) && b) (sym (and_all (does_match pattern e.0.name)))))
+    (λ e. ap (λ b. (e.0.user == user) && b) (sym (and-true (does_match pattern e.0.name)))))
 
 -- a job of this sort misses no record
 quiet : (before : Drive) (job : Job) (j k : ℕ) → job.kind ≡ Delete → has_missed before job k ≡ has_missed before job j

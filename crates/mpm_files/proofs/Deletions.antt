@@ -5,11 +5,11 @@ use Rattle.std.specs.List.{list_any}
 use Rattle.std.specs.FinMap.{get, entries}
 use Rattle.std.proofs.lemmas.List.{length-append}
 use Rattle.std.proofs.lemmas.List.Sums.{sum_by-cons}
+use Rattle.std.proofs.Math.Bool.{and-true, and_assoc}
 use Rattle.mpm_base.specs.Counts.{one_if}
 use Rattle.mpm_mount.specs.Drives.{FileName, file_cmp, Drive}
 use Rattle.mpm_mount.specs.Files.{is_same_file, is_entry_of, is_fitting}
 use Rattle.mpm_mount.proofs.Orders.{file_total, file_same}
-use Rattle.mpm_mount.proofs.Replaced.{and_all}
 use Rattle.mpm_mount.proofs.Names.{one_file, same_back, same_by_cmp}
 use Rattle.mpm_files.specs.Units.{FileUnit, RemovesEntry, RemovesXfcb}
 use Rattle.mpm_files.specs.Plans.{when, deleting_entry, deleting}
@@ -53,12 +53,8 @@ its_xfcb drive file =
 
 where_counted : (drive : Drive) (file : FileName) (c : Bool)
     → sum_by (λ q. one_if (is_same_file q.0 file && c)) (entries drive.xfcbs) ≡ one_if (c && is_some (get drive.xfcbs file))
-where_counted drive file true = sums_alike (λ q. one_if (is_same_file q.0 file && true)) (λ q. one_if (is_same_file q.0 file)) (entries drive.xfcbs) (λ q. ap one_if (and_all (is_same_file q.0 file))) ∙ its_xfcb drive file
+where_counted drive file true = sums_alike (λ q. one_if (is_same_file q.0 file && true)) (λ q. one_if (is_same_file q.0 file)) (entries drive.xfcbs) (λ q. ap one_if (and-true (is_same_file q.0 file))) ∙ its_xfcb drive file
 where_counted drive file false = sums_alike (λ q. one_if (is_same_file q.0 file && false)) (λ q. 0) (entries drive.xfcbs) (λ q. never (is_same_file q.0 file)) ∙ sum_nothing (entries drive.xfcbs)
-
-pub three_tests : (a b c : Bool) → ((a && b) && c) ≡ (a && (b && c))
-three_tests true b c = refl
-three_tests false b c = refl
 
 one_entry_more : (drive : Drive) (user : ℕ) (pattern : List ℕ) (entry : FileName × ℕ) (named : List (FileName × ℕ))
     → xfcbs_among drive user pattern (entry ∷ named)
@@ -69,7 +65,7 @@ one_entry_more drive user pattern entry named =
     sums_alike _ (λ q. one_if (is_fitting user pattern q.0 && list_any (is_entry_of q.0) named) + one_if (is_same_file q.0 entry.0 && (fits && last))) (entries drive.xfcbs)
     (λ q. one_xfcb user pattern entry named q.0 (is_same_file q.0 entry.0) refl)
     ∙ sum_both (λ q. one_if (is_fitting user pattern q.0 && list_any (is_entry_of q.0) named)) (λ q. one_if (is_same_file q.0 entry.0 && (fits && last))) (entries drive.xfcbs)
-    ∙ ap (λ n. xfcbs_among drive user pattern named + n) (where_counted drive entry.0 (fits && last) ∙ ap one_if (three_tests fits last (is_some (get drive.xfcbs entry.0))))
+    ∙ ap (λ n. xfcbs_among drive user pattern named + n) (where_counted drive entry.0 (fits && last) ∙ ap one_if (and_assoc fits last (is_some (get drive.xfcbs entry.0))))
 
 no_xfcbs : (drive : Drive) (user : ℕ) (pattern : List ℕ) → xfcbs_among drive user pattern [] ≡ 0
 no_xfcbs drive user pattern =

@@ -11,7 +11,8 @@ use Rattle.mpm_mount.proofs.Orders.{entry_total}
 use Rattle.mpm_jobs.specs.declared.jobs.JobKind.{JobKind}
 use Rattle.mpm_jobs.specs.declared.jobs.JobKind.TheVariants.{Write, Delete}
 use Rattle.mpm_jobs.specs.declared.jobs.Job.{Job}
-use Rattle.mpm_files.specs.Units.{ClearsBlock, WritesRecord, RemovesEntry, RenamesEntry, RemovesXfcb, RenamesXfcb, zero_record, applied, all_applied, stages, last_of}
+use Rattle.mpm_sectors.specs.Writes.{zero_record}
+use Rattle.mpm_files.specs.Units.{ClearsBlock, WritesRecord, RemovesEntry, RenamesEntry, RemovesXfcb, RenamesXfcb, applied, all_applied, stages, last_of}
 use Rattle.mpm_functions.specs.declared.errors.RecordError.TheVariants.{UnwrittenData, NoDataBlock}
 use Rattle.mpm_files.specs.Plans.{plan_of, writing, deleting, renaming, only}
 use Rattle.mpm_mount.specs.Records.{read_error}

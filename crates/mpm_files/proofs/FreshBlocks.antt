@@ -15,7 +15,7 @@ use Rattle.mpm_mount.specs.Images.{contents_of}
 use Rattle.mpm_mount.specs.Directories.{Directory, IsFreeBlock, Stands}
 use Rattle.mpm_mount.proofs.Unheld.{block_sector, unheld_written}
 use Rattle.mpm_mount.proofs.Taking.{fresh_block}
-use Rattle.mpm_sectors.specs.Writes.{Write, written, zeros, cleared, zeros_from, block_writes}
+use Rattle.mpm_sectors.specs.Writes.{Write, written, zero_record, cleared, zeros_from, block_writes}
 use Rattle.mpm_sectors.specs.Writes as sectors
 
 -- a sector of a block
@@ -40,7 +40,7 @@ next_at : (a b k : ℕ) → a ≡ b + k → a + 1 ≡ b + (k + 1)
 next_at a b k is = omega (arith, is)
 
 zeros_into : (kind : Kind) (block first count k : ℕ) → first ≡ block * block_records kind + k → k + count ≤ block_records kind → AreInto kind block (zeros_from first count)
-unfolding zeros_from zeros
+unfolding zeros_from
 zeros_into kind block first zero k is h = tt
 zeros_into kind block first (suc count) k is h = (
   record { index = k; less = omega (arith, h); at = is; long = length-replicate {A = ℕ} 128 0 },
@@ -103,21 +103,21 @@ unfolding behind_writes
 behind_both [] ys s before = refl
 behind_both (x ∷ xs) ys s before = behind_both xs ys s (if x.sector == s then x.bytes else before)
 
-either_zeros : (b : Bool) → (if b then zeros else zeros) ≡ zeros
+either_zeros : (b : Bool) → (if b then zero_record else zero_record) ≡ zero_record
 either_zeros true = refl
 either_zeros false = refl
 
-zeros_keep : (first count s : ℕ) → behind_writes (zeros_from first count) s zeros ≡ zeros
+zeros_keep : (first count s : ℕ) → behind_writes (zeros_from first count) s zero_record ≡ zero_record
 unfolding behind_writes zeros_from
 zeros_keep first zero s = refl
 zeros_keep first (suc count) s = ap (behind_writes (map cleared (range_with_len (first + 1) count)) s) (either_zeros (first == s)) ∙ zeros_keep (first + 1) count s
 
-zeros_cover : (first count s : ℕ) (before : List ℕ) → first ≤ s → s < first + count → behind_writes (zeros_from first count) s before ≡ zeros
+zeros_cover : (first count s : ℕ) (before : List ℕ) → first ≤ s → s < first + count → behind_writes (zeros_from first count) s before ≡ zero_record
 unfolding behind_writes zeros_from
 zeros_cover first zero s before low high = absurd (omega (arith, low, high))
 zeros_cover first (suc count) s before low high = elim (cases_eq first s) [
-  | inl same ↦ ap (behind_writes (map cleared (range_with_len (first + 1) count)) s) (cond-true (first == s) zeros before (eq-eqb first s same)) ∙ zeros_keep (first + 1) count s
-  | inr apart ↦ zeros_cover (first + 1) count s (if first == s then zeros else before) (omega (arith, low, apart)) (omega (arith, high))
+  | inl same ↦ ap (behind_writes (map cleared (range_with_len (first + 1) count)) s) (cond-true (first == s) zero_record before (eq-eqb first s same)) ∙ zeros_keep (first + 1) count s
+  | inr apart ↦ zeros_cover (first + 1) count s (if first == s then zero_record else before) (omega (arith, low, apart)) (omega (arith, high))
 ]
 
 -- the sectors of a fresh block
@@ -136,9 +136,9 @@ block_behind kind block clear index s bytes before =
 not_same : (a i j : ℕ) → i ≢ j → a + j ≢ a + i
 not_same a i j apart same = apart (omega (arith, same))
 
-within_block : (first clear index records i : ℕ) (before : List ℕ) → index < records → i < records → i ≢ index → (i < clear → before ≡ zeros)
+within_block : (first clear index records i : ℕ) (before : List ℕ) → index < records → i < records → i ≢ index → (i < clear → before ≡ zero_record)
     → behind_writes (zeros_from (first + max clear (index + 1)) (records - max clear (index + 1))) (first + i)
-    (behind_writes (zeros_from (first + clear) (index - clear)) (first + i) before) ≡ zeros
+    (behind_writes (zeros_from (first + clear) (index - clear)) (first + i) before) ≡ zero_record
 within_block first clear index records i before less h apart were =
     let behind : ℕ = max clear (index + 1) in
     let second : List Write = zeros_from (first + behind) (records - behind) in
@@ -166,10 +166,9 @@ block_stands d files block clear index bytes image free h less long stands first
     (into_front d.kind block first rest (subst (AreInto d.kind block) (sym all) (block_into d.kind block clear index bytes h less long))) stands
 
 pub block_filled : (d : Directory) (files : Drive) (block clear index : ℕ) (bytes image : List ℕ) → IsFreeBlock d block → clear ≤ block_records d.kind → index < block_records d.kind
-    → length bytes ≡ 128 → Stands image d files → ((i : ℕ) → i < clear → sectors_of image d.kind (block * block_records d.kind + i) ≡ replicate 128 0)
+    → length bytes ≡ 128 → Stands image d files → ((i : ℕ) → i < clear → sectors_of image d.kind (block * block_records d.kind + i) ≡ zero_record)
     → contents_of (sectors_of (written d.kind (block_writes d.kind block clear index bytes) image) d.kind) d.kind block
-    ≡ Some (slice_set (replicate (block_records d.kind) (replicate 128 0)) index bytes)
-unfolding zeros
+    ≡ Some (slice_set (replicate (block_records d.kind) zero_record) index bytes)
 block_filled d files block clear index bytes image free h less long stands were =
     let ws : List Write = block_writes d.kind block clear index bytes in
     let first : ℕ = sectors.block_sector d.kind block in
@@ -192,8 +191,7 @@ cleared_stands d files block count image free h stands first rest all =
     (into_front d.kind block first rest (subst (AreInto d.kind block) (sym all) (zeros_into d.kind block (sectors.block_sector d.kind block) count 0 (omega arith) (omega (arith, h))))) stands
 
 pub cleared_read : (d : Directory) (files : Drive) (block count : ℕ) (image : List ℕ) → IsFreeBlock d block → count ≤ block_records d.kind → Stands image d files → (r : ℕ) → r < count
-    → sectors_of (written d.kind (zeros_from (sectors.block_sector d.kind block) count) image) d.kind (block * block_records d.kind + r) ≡ replicate 128 0
-unfolding zeros
+    → sectors_of (written d.kind (zeros_from (sectors.block_sector d.kind block) count) image) d.kind (block * block_records d.kind + r) ≡ zero_record
 cleared_read d files block count image free h stands r less =
     let first : ℕ = sectors.block_sector d.kind block in
     all_read d files block (first + r) (zeros_from first count) image free (zeros_into d.kind block first count 0 (omega arith) (omega (arith, h))) stands

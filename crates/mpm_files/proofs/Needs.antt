@@ -4,13 +4,12 @@ use Rattle.std.specs.Prelude.{is_some, slice_index_or, replicate, if◌then◌el
 use Rattle.std.specs.FinMap.{get, len}
 use Rattle.std.proofs.lemmas.Bool.{cases_eq, cases_lt, eq-eqb, ne_eqb}
 use Rattle.std.proofs.lemmas.List.{get_or-replicate, get_or_past, length-replicate}
+use Rattle.std.proofs.Math.Bool.{and-true, and-false}
 use Rattle.mpm_base.specs.declared.kind.Kind.{Kind}
 use Rattle.mpm_base.specs.declared.kind.Kind.TheVariants.{Ibm3740, Hd4, Hd8}
 use Rattle.mpm_base.specs.Counts.{one_if}
 use Rattle.mpm_blocks.specs.Geometries.{geometry_of, block_records}
 use Rattle.mpm_mount.specs.Drives.{FileName, PhysicalExtent, Drive, places, entry_number, entry_name, block_place, free_records, free_entries}
-use Rattle.mpm_mount.proofs.Replaced.{and_all}
-use Rattle.mpm_mount.proofs.UsedBlocks.{and_last}
 use Rattle.mpm_files.specs.Units.{FileUnit, AddsEntry, ClearsBlock, WritesRecord, new_entry, holds_block, stages, last_of, applied, all_applied}
 use Rattle.mpm_files.specs.Plans.{needs_entry, has_block, needs_block, clears_blocks, when, write_units}
 use Rattle.mpm_files.specs.Counting.{same_entry, same_block}
@@ -86,9 +85,9 @@ left_done file n o before after is whole leaves =
           ap (λ q. not (is_some (at (entry_number q (m / 128)) after))) puts.kind
           ∙ elim (cases_eq (entry_number kind (m / 128)) number) [
             | inl same ↦ ap (λ (x : Option PhysicalExtent). not (is_some x)) (ap (λ q. at q after) same ∙ puts.here)
-                ∙ sym (ap (λ b. needs_entry before file m && not b) (eq-eqb (entry_number kind (m / 128)) number same) ∙ and_last (needs_entry before file m))
+                ∙ sym (ap (λ b. needs_entry before file m && not b) (eq-eqb (entry_number kind (m / 128)) number same) ∙ and-false (needs_entry before file m))
             | inr apart ↦ ap (λ (x : Option PhysicalExtent). not (is_some x)) (puts.others (entry_number kind (m / 128)) apart)
-                ∙ sym (ap (λ b. needs_entry before file m && not b) (ne_eqb (entry_number kind (m / 128)) number apart) ∙ and_all (needs_entry before file m))
+                ∙ sym (ap (λ b. needs_entry before file m && not b) (ne_eqb (entry_number kind (m / 128)) number apart) ∙ and-true (needs_entry before file m))
           ];
       blocks = λ m.
           ap (λ q. not (has_block q m (at (entry_number q (m / 128)) after))) puts.kind
@@ -96,7 +95,7 @@ left_done file n o before after is whole leaves =
             | inl same ↦ ap (λ (x : Option PhysicalExtent). not (has_block kind m x)) (ap (λ q. at q after) same ∙ puts.here)
                 ∙ in_entry m same (cases_eq (block_place kind m) (block_place kind n))
             | inr apart ↦ ap (λ (x : Option PhysicalExtent). not (has_block kind m x)) (puts.others (entry_number kind (m / 128)) apart)
-                ∙ sym (ap (λ b. needs_block before file m && not (b && (block_place kind m == block_place kind n))) (ne_eqb (entry_number kind (m / 128)) number apart) ∙ and_all (needs_block before file m))
+                ∙ sym (ap (λ b. needs_block before file m && not (b && (block_place kind m == block_place kind n))) (ne_eqb (entry_number kind (m / 128)) number apart) ∙ and-true (needs_block before file m))
           ];
       entries_left =
           ap (λ q. (geometry_of q).drm + 1 - (len after.extents + len after.xfcbs + (if is_some after.label then 1 else 0) + after.kept)) puts.kind
@@ -123,14 +122,14 @@ left_done file n o before after is whole leaves =
     in_entry m same (inl one) =
         ap (λ q. not (is_some (slice_index_or leaves.entry.blocks q None))) one ∙ ap not leaves.holds
         ∙ sym (ap (λ b. needs_block before file m && not (b && (block_place before.kind m == block_place before.kind n))) (eq-eqb (entry_number before.kind (m / 128)) (entry_number before.kind (n / 128)) same)
-        ∙ ap (λ b. needs_block before file m && not b) (eq-eqb (block_place before.kind m) (block_place before.kind n) one) ∙ and_last (needs_block before file m))
+        ∙ ap (λ b. needs_block before file m && not b) (eq-eqb (block_place before.kind m) (block_place before.kind n) one) ∙ and-false (needs_block before file m))
     in_entry m same (inr apart) =
         ap (λ b. not (is_some b)) (leaves.others (block_place before.kind m) apart)
         ∙ before_too before.kind m o
         ∙ sym (ap (λ (x : Option PhysicalExtent). not (has_block before.kind m x))
         (ap (λ q. get before.extents (record { user = file.user; name = file.name; number = q })) same ∙ is))
         ∙ sym (ap (λ b. needs_block before file m && not (b && (block_place before.kind m == block_place before.kind n))) (eq-eqb (entry_number before.kind (m / 128)) (entry_number before.kind (n / 128)) same)
-        ∙ ap (λ b. needs_block before file m && not b) (ne_eqb (block_place before.kind m) (block_place before.kind n) apart) ∙ and_all (needs_block before file m))
+        ∙ ap (λ b. needs_block before file m && not b) (ne_eqb (block_place before.kind m) (block_place before.kind n) apart) ∙ and-true (needs_block before file m))
 
 -- the units of one record, whether its entry is there or added
 pub empty_entry : (kind : Kind) (n count : ℕ) → is_some (slice_index_or (replicate {A = Option (List (List ℕ))} count None) (block_place kind n) None) ≡ false

@@ -12,7 +12,10 @@ use Rattle.std.specs.FinMap.Entries.{where_key, is_sorted-where_key, find-where_
 use Rattle.std.proofs.lemmas.Bool.{true≢false, false_from_ne_true, or_parts, or_from, or_right, and_parts, and_from, eq-eqb, eqb-true}
 use Rattle.std.proofs.lemmas.Option.{same_Some}
 use Rattle.std.proofs.lemmas.List.Sums.{sum_by-cons, sum_by-append}
+use Rattle.std.proofs.lemmas.List.Elements.{filter-append}
 use Rattle.mpm_base.specs.Counts.{one_if}
+use Rattle.mpm_base.proofs.CountLaws.{at_most_one}
+use Rattle.mpm_base.proofs.Choices.{at_either}
 use Rattle.mpm_mount.specs.Drives.{FileName, entry_cmp, Protection, Drive, without_extent}
 use Rattle.mpm_mount.specs.Files.{is_same_file, entries_named, is_entry_of, has_file, is_fitting}
 use Rattle.mpm_mount.proofs.Orders.{entry_total, entry_same, file_total}
@@ -59,22 +62,10 @@ tied_name file other number k =
     ∙ ap (λ q. eq_by_cmp entry_cmp (record { user = file.user; name = file.name; number = number }) (record { user = file.user; name = file.name; number = q })) (sym (eqb-true number k parts.1))
     ∙ ap is_eq (tied_itself entry_total _))
 
-either_map : {X Y : Type 0} (b : Bool) (f : X → Y) (x : X) (xs : List X) → map f (cond b (x ∷ xs) xs) ≡ cond b (f x ∷ map f xs) (map f xs)
-either_map true f x xs = refl
-either_map false f x xs = refl
-
-either_front : {X : Type 0} (b : Bool) (x : X) (xs ys : List X) → cond b (x ∷ (xs ++ ys)) (xs ++ ys) ≡ cond b (x ∷ xs) xs ++ ys
-either_front true x xs ys = refl
-either_front false x xs ys = refl
-
-pub small : (b : Bool) → one_if b ≤ 1
-small true = omega arith
-small false = omega arith
-
 pub filter_mapped : {X Y : Type 0} (p : X → Bool) (q : Y → Bool) (f : X → Y) (xs : List X) → ((x : X) → p x ≡ q (f x)) → map f (filter p xs) ≡ filter q (map f xs)
 filter_mapped p q f [] same = refl
 filter_mapped p q f (x ∷ xs) same =
-    ap (λ b. map f (cond b (x ∷ filter p xs) (filter p xs))) (same x) ∙ either_map (q (f x)) f x (filter p xs)
+    ap (λ b. map f (cond b (x ∷ filter p xs) (filter p xs))) (same x) ∙ at_either (map f) (q (f x)) (x ∷ filter p xs) (filter p xs)
     ∙ ap (λ l. cond (q (f x)) (f x ∷ l) l) (filter_mapped p q f xs same)
 
 named_without : (files : Drive) (file : FileName) (number : ℕ)
@@ -97,7 +88,7 @@ named_once files file number =
     ∙ sum_mapped (λ name. one_if (is_named file number (record { user = name.user; name = name.name }, name.number))) (λ e. e.0) (entries files.extents)
     ∙ sums_alike _ (λ e. one_if (eq_by_cmp entry_cmp (record { user = file.user; name = file.name; number = number }) e.0)) (entries files.extents)
     (λ e. ap one_if (sym (tied_name file (record { user = e.0.user; name = e.0.name }) number e.0.number))) in
-    omega (arith, same, key, small (is_some (get files.extents (record { user = file.user; name = file.name; number = number }))))
+    omega (arith, same, key, at_most_one (is_some (get files.extents (record { user = file.user; name = file.name; number = number }))))
 
 pub named_by : (file other : FileName) (number k : ℕ) → is_same_file other file ≡ true → is_named file number (other, k) ≡ (number == k)
 unfolding is_named
@@ -144,10 +135,6 @@ all_kept test (x ∷ xs) none =
     let parts = sum_by-cons (λ y. one_if (test y)) x xs in
     kept_by x xs (filter (λ y. not (test y)) xs) (test x) (omega arith) (all_kept test xs (omega arith))
 
-filter_both : {X : Type 0} (p : X → Bool) (xs ys : List X) → filter p (xs ++ ys) ≡ filter p xs ++ filter p ys
-filter_both p [] ys = refl
-filter_both p (x ∷ xs) ys = ap (λ l. cond (p x) (x ∷ l) l) (filter_both p xs ys) ∙ either_front (p x) x (filter p xs) (filter p ys)
-
 one_less : {X : Type 0} (test : X → Bool) (front rest : List X) (x : X) → test x ≡ true → sum_by (λ y. one_if (test y)) (front ++ (x ∷ rest)) ≤ 1
     → filter (λ y. not (test y)) (front ++ (x ∷ rest)) ≡ front ++ rest
 one_less {X = X} test front rest x here few =
@@ -155,7 +142,7 @@ one_less {X = X} test front rest x here few =
     let whole = sum_by-append g front (x ∷ rest) in
     let last = sum_by-cons g x rest in
     let is : one_if (test x) ≡ 1 = ap one_if here in
-    filter_both (λ y. not (test y)) front (x ∷ rest)
+    filter-append (λ y. not (test y)) front (x ∷ rest)
     ∙ ap (λ l. l ++ filter (λ y. not (test y)) (x ∷ rest)) (all_kept test front (omega (arith, few, whole, last, is)))
     ∙ ap (λ b. front ++ cond (not b) (x ∷ filter (λ y. not (test y)) rest) (filter (λ y. not (test y)) rest)) here
     ∙ ap (λ l. front ++ l) (all_kept test rest (omega (arith, few, whole, last, is)))

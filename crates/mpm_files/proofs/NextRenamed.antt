@@ -12,6 +12,7 @@ use Rattle.std.proofs.lemmas.Bool.{true≢false, eq-eqb}
 use Rattle.std.proofs.lemmas.Simd.{map-map}
 use Rattle.std.proofs.lemmas.List.Sums.{sum_by-cons}
 use Rattle.mpm_base.specs.Counts.{one_if}
+use Rattle.mpm_base.proofs.CountLaws.{at_most_one}
 use Rattle.mpm_mount.specs.Drives.{FileName, entry_cmp, PhysicalExtent, Protection, Drive, is_of, extents_of, with_extent, without_extent, without_xfcb}
 use Rattle.mpm_mount.specs.Files.{where_there, is_same_file}
 use Rattle.mpm_mount.proofs.Orders.{entry_total, entry_same, file_total}
@@ -21,7 +22,7 @@ use Rattle.mpm_files.specs.Plans.{when, each, of_entries, of_xfcb, renaming}
 use Rattle.mpm_files.specs.Serving.{Follows}
 use Rattle.mpm_files.proofs.NextUnits.{Next, next_of}
 use Rattle.mpm_files.proofs.Pairs.{one_key}
-use Rattle.mpm_files.proofs.NextEntries.{entries_without, all_kept, small, tied_name, named_by}
+use Rattle.mpm_files.proofs.NextEntries.{entries_without, all_kept, tied_name, named_by}
 
 -- a pair that a test refuses is put: those that pass stay
 put_by : {K X : Type 0} (R : K → K → Ordering) (p : (K × X) → Bool) (k : K) (v : X) (e : K × X) (es : List (K × X)) (r : Ordering) → p (k, v) ≡ false
@@ -108,7 +109,7 @@ renamed_left files file new number entry more apart first =
       few_numbers (λ e. e.0.number) number (is_of file) (λ e. eq_by_cmp entry_cmp (record { user = file.user; name = file.name; number = number }) e.0) (entries files.extents)
           (λ e is. tied_number file (record { user = e.0.user; name = e.0.name }) number e.0.number true is refl),
       one_key entry_cmp entry_total entry_same files.extents (record { user = file.user; name = file.name; number = number }),
-      small (is_some (get files.extents (record { user = file.user; name = file.name; number = number }))),
+      at_most_one (is_some (get files.extents (record { user = file.user; name = file.name; number = number }))),
     )))
 
 -- what is left of a renaming whose new name has no XFCB

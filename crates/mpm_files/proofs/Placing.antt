@@ -4,7 +4,7 @@ use Rattle.std.specs.Prelude.{is_some, unwrap_or, bytes_eq, nat_le, replicate, s
 use Rattle.std.specs.List.{list_any}
 use Rattle.std.specs.FinMap.{get}
 use Rattle.std.proofs.lemmas.Bool.{true≢false, and_parts, eqb-true}
-use Rattle.std.proofs.lemmas.List.{map-append}
+use Rattle.std.proofs.lemmas.List.{map-append, take-map, drop-map}
 use Rattle.std.proofs.lemmas.List.Quantifiers.{position-Some}
 use Rattle.mpm_port.specs.Disks.{Disks}
 use Rattle.mpm_base.specs.declared.kind.Kind.{Kind}
@@ -185,27 +185,15 @@ set_clean d slot f name at h same =
     still_changed d slot f (record f { name = name }) at.sound.faultless h at.entry (record { few = ranges.few; low = ranges.low; high = ranges.high }) (λ i less. refl)
     (λ i. record { user = f.user; name = same i; number = entry_number d.kind (extent_of f) })
 
-map_take : (p : ℕ → Bool) (n : ℕ) (xs : List ℕ) → map p (take n xs) ≡ take n (map p xs)
-map_take p zero [] = refl
-map_take p zero (x ∷ xs) = refl
-map_take p (suc n) [] = refl
-map_take p (suc n) (x ∷ xs) = ap (λ l. p x ∷ l) (map_take p n xs)
-
-map_drop : (p : ℕ → Bool) (n : ℕ) (xs : List ℕ) → map p (drop n xs) ≡ drop n (map p xs)
-map_drop p zero [] = refl
-map_drop p zero (x ∷ xs) = refl
-map_drop p (suc n) [] = refl
-map_drop p (suc n) (x ∷ xs) = map_drop p n xs
-
 marks_mapped : (wanted old : List ℕ) → map (nat_le 128) (marks_set wanted old)
     ≡ take 4 (map (nat_le 128) wanted) ++ (take 4 (drop 4 (map (nat_le 128) old)) ++ drop 8 (map (nat_le 128) wanted))
 marks_mapped wanted old =
     let p : ℕ → Bool = nat_le 128 in
     map-append p (take 4 wanted) (take 4 (drop 4 old) ++ drop 8 wanted)
     ∙ ap (λ l. map p (take 4 wanted) ++ l) (map-append p (take 4 (drop 4 old)) (drop 8 wanted))
-    ∙ ap (λ l. l ++ (map p (take 4 (drop 4 old)) ++ map p (drop 8 wanted))) (map_take p 4 wanted)
-    ∙ ap (λ l. take 4 (map p wanted) ++ (l ++ map p (drop 8 wanted))) (map_take p 4 (drop 4 old) ∙ ap (take 4) (map_drop p 4 old))
-    ∙ ap (λ l. take 4 (map p wanted) ++ (take 4 (drop 4 (map p old)) ++ l)) (map_drop p 8 wanted)
+    ∙ ap (λ l. l ++ (map p (take 4 (drop 4 old)) ++ map p (drop 8 wanted))) (sym (take-map p 4 wanted))
+    ∙ ap (λ l. take 4 (map p wanted) ++ (l ++ map p (drop 8 wanted))) (sym (take-map p 4 (drop 4 old)) ∙ ap (take 4) (sym (drop-map p 4 old)))
+    ∙ ap (λ l. take 4 (map p wanted) ++ (take 4 (drop 4 (map p old)) ++ l)) (sym (drop-map p 8 wanted))
 
 set_extent : (sectors : Sectors) (kind : Kind) (f : FileEntry) (name wanted : List ℕ) → map (nat_le 128) name ≡ map (nat_le 128) (marks_set wanted f.name)
     → extent_in sectors kind (record f { name = name }) ≡ with_attributes (attributes_in wanted) (extent_in sectors kind f)

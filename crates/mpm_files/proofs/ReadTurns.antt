@@ -1,11 +1,11 @@
 -- The turns of a job that reads records.
-use Rattle.std.proofs.Common.{◌≡◌, ◌⊎◌, inl, inr, ℕ, zero, suc, ◌+◌, ◌-◌, ◌*◌, ◌/◌, ◌≤◌, ◌<◌, Bool, true, false, not, List, [], ◌∷◌, ◌++◌, Option, Some, None, Err, take, drop, length, refl, sym, ap, subst, ◌∙◌, arith, suc-add, zero-add}
+use Rattle.std.proofs.Common.{◌≡◌, ◌⊎◌, inl, inr, ℕ, zero, suc, ◌+◌, ◌-◌, ◌*◌, ◌/◌, ◌≤◌, ◌<◌, Bool, true, false, not, List, [], ◌∷◌, ◌++◌, Option, Some, None, Err, take, drop, length, refl, sym, ap, subst, ◌∙◌, arith}
 use Rattle.std.specs.Prelude.{is_some, sum_by, if◌then◌else◌}
 use Rattle.std.specs.List.{flat_map}
-use Rattle.std.proofs.lemmas.List.{append-nil, append_assoc, length-append, length-drop}
+use Rattle.std.proofs.lemmas.List.{append-nil, append_assoc, length-append, length-drop, drop-drop}
 use Rattle.std.proofs.lemmas.List.Sums.{sum_by-cons}
 use Rattle.std.proofs.lemmas.Bool.{true≢false, cases_lt}
-use Rattle.std.proofs.Math.Seq.{take-append_seam}
+use Rattle.std.proofs.Math.Seq.{take-append_seam, drop-append-add}
 use Rattle.mpm_port.specs.Disks.{Disks, SameDisks, Told}
 use Rattle.mpm_blocks.specs.Sectors.{told_image}
 use Rattle.mpm_blocks.proofs.ToldImages.{told_image_same}
@@ -101,29 +101,12 @@ few_read before job j work serving is h suits =
     omega (arith, reads_more before job j work serving is h, ap (λ (q : Job). q.count) serving.job_is, suits.count, serving.moved, serving.ended, moves_few (plan_of before job).units j)
 
 -- bytes that are put behind others
-drop_none : (k : ℕ) → ◌≡◌ {A = List ℕ} (drop k []) []
-drop_none zero = refl
-drop_none (suc k) = refl
-
-drop_zero : (xs : List ℕ) → drop 0 xs ≡ xs
-drop_zero [] = refl
-drop_zero (x ∷ xs) = refl
-
-drop_sum : (n m : ℕ) (xs : List ℕ) → drop m (drop n xs) ≡ drop (n + m) xs
-drop_sum zero m xs = ap (drop m) (drop_zero xs) ∙ sym (ap (λ k. drop k xs) (zero-add m))
-drop_sum (suc n) m [] = drop_none m ∙ sym (drop_none (suc n + m))
-drop_sum (suc n) m (x ∷ xs) = drop_sum n m xs ∙ sym (ap (λ k. drop k (x ∷ xs)) (suc-add n m))
-
-behind_front : (front rest : List ℕ) (m : ℕ) → drop (length front + m) (front ++ rest) ≡ drop m rest
-behind_front [] rest m = ap (λ k. drop k rest) (zero-add m)
-behind_front (x ∷ front) rest m = ap (λ k. drop k (x ∷ (front ++ rest))) (suc-add (length front) m) ∙ behind_front front rest m
-
 pub put_behind : (front bytes rest : List ℕ) (n : ℕ) → length front ≡ n → take n (front ++ drop n rest) ++ (bytes ++ drop (n + 128) (front ++ drop n rest)) ≡ front ++ (bytes ++ drop (n + 128) rest)
 put_behind front bytes rest n size =
     ap (λ k. take k (front ++ drop n rest) ++ (bytes ++ drop (n + 128) (front ++ drop n rest))) (sym size)
     ∙ ap (λ l. l ++ (bytes ++ drop (n + 128) (front ++ drop n rest))) (take-append_seam front (drop n rest))
     ∙ ap (λ k. front ++ (bytes ++ drop (k + 128) (front ++ drop n rest))) (sym size)
-    ∙ ap (λ l. front ++ (bytes ++ l)) (behind_front front (drop n rest) 128 ∙ drop_sum n 128 rest)
+    ∙ ap (λ l. front ++ (bytes ++ l)) (drop-append-add front (drop n rest) 128 ∙ drop-drop 128 n rest)
 
 -- as many records were read as were moved
 OneEach : Drive → FileUnit → Type 0

@@ -17,7 +17,7 @@ use Rattle.mpm_mount.specs.Images.{contents_of, extent_in}
 use Rattle.mpm_mount.specs.Directories.{Directory, Stands, free_block, extent_slot}
 use Rattle.mpm_mount.proofs.LookedUp.{free_block_unheld}
 use Rattle.mpm_mount.proofs.Unheld.{block_sector}
-use Rattle.mpm_sectors.specs.Writes.{Write, written, Puts, block_writes, block_calls, zeros_from}
+use Rattle.mpm_sectors.specs.Writes.{Write, written, zero_record, Puts, block_writes, block_calls, zeros_from}
 use Rattle.mpm_sectors.specs.Writes as sectors
 use Rattle.mpm_sectors.specs.declared.disk.Disk.{Disk}
 use Rattle.mpm_files.specs.Units.{WritesRecord, ClearsBlock, fresh_records, with_stamp, last_of, stages}
@@ -113,11 +113,11 @@ clear_within Hd4 cleared block clear is = omega (arith, bounds_by false cleared 
 clear_within Hd8 cleared block clear is = omega (arith, bounds_by true cleared block clear is)
 
 pub zeros_before : (b : Bool) (sectors : Sectors) (d : Directory) (cleared : Option ℕ) (block clear : ℕ) → HasFreshBlock b sectors d cleared → free_block d ≡ Some block
-    → cleared_of b cleared block ≡ Some clear → (i : ℕ) → i < clear → sectors (block * block_records d.kind + i) ≡ replicate 128 0
+    → cleared_of b cleared block ≡ Some clear → (i : ℕ) → i < clear → sectors (block * block_records d.kind + i) ≡ zero_record
 zeros_before false sectors d cleared block clear fresh free is i h = absurd (omega (arith, h, bounds_by false cleared block clear is))
 zeros_before true sectors d None block clear fresh free is i h = absurd fresh
 zeros_before true sectors d (Some c) block clear fresh free is i h =
-    subst (λ (b : ℕ). sectors (b * block_records d.kind + i) ≡ replicate 128 0) (same_Some c block (sym fresh.free ∙ free))
+    subst (λ (b : ℕ). sectors (b * block_records d.kind + i) ≡ zero_record) (same_Some c block (sym fresh.free ∙ free))
     (fresh.zeros i (omega (arith, h, bounds_by true (Some c) block clear is)))
 
 pub fresh_done : {A B E : Type 0} (image : List ℕ) (d now : Directory) (files : Drive) (file : FileName) (n slot block clear index : ℕ) (f : FileEntry) (bytes : List ℕ) (cleared : Option ℕ) (moment : Option (List ℕ))
@@ -136,7 +136,7 @@ fresh_done image d now files file n slot block clear index f bytes cleared momen
     let unheld = free_block_unheld d block free in
     let stands_i : Stands i d files = block_stands d files block clear index bytes image unheld within less long stands ws [] (append-nil ws) in
     let filled : contents_of (sectors_of i d.kind) d.kind block ≡ Some (fresh_records d.kind n bytes) =
-    subst (λ (q : ℕ). contents_of (sectors_of i d.kind) d.kind block ≡ Some (slice_set (replicate (block_records d.kind) (replicate 128 0)) q bytes)) at
+    subst (λ (q : ℕ). contents_of (sectors_of i d.kind) d.kind block ≡ Some (slice_set (replicate (block_records d.kind) zero_record) q bytes)) at
     (block_filled d files block clear index bytes image unheld within less long stands
     (zeros_before (clears_blocks d.kind) (sectors_of image d.kind) d cleared block clear fresh free is)) in
     let goes = second i files (all_told old mid d.drive d.kind ws image puts.ok told) stands_i in

@@ -2,7 +2,7 @@
 use Rattle.std.proofs.Common.{◌≡◌, ℕ, zero, suc, ◌+◌, ◌≤◌, ◌<◌, List, [], ◌∷◌, ◌++◌, None, take, drop, length, refl, sym, ap, subst, ◌∙◌, arith, add-zero, take_all}
 use Rattle.std.specs.Prelude.{sum_by, slice_index_or}
 use Rattle.std.specs.List.{list_any}
-use Rattle.std.proofs.lemmas.List.{append-nil, append_assoc}
+use Rattle.std.proofs.lemmas.List.{append-nil, append_assoc, nil_from_length}
 use Rattle.std.proofs.lemmas.List.Sums.{sum_by-cons, sum_by-append}
 use Rattle.mpm_mount.specs.Drives.{Drive}
 use Rattle.mpm_jobs.specs.declared.jobs.JobKind.{JobKind}
@@ -83,9 +83,6 @@ serves_quietly before job j work new unit serving h is moves reads job_is units 
     units ended (moved ∙ sym (add-zero work.moved) ∙ ap (λ n. work.moved + n) (sym moves)) error (missed ∙ serving.missed ∙ sym misses) left
 
 -- a job without units has one turn, in which nothing is done
-no_front : (us : List FileUnit) → length us ≡ 0 → us ≡ []
-no_front [] none = refl
-no_front (u ∷ us) none = absurd (omega arith)
 
 pub missed_alike : (before : Drive) (job : Job) (j k : ℕ) (kind : JobKind) → take k (plan_of before job).units ≡ take j (plan_of before job).units
     → missed_by before job k kind ≡ missed_by before job j kind
@@ -109,7 +106,7 @@ nothing_done before job k none = take_none k (plan_of before job).units none
 
 pub done_idly : (before : Drive) (job : Job) (j : ℕ) → j < turns_of before job → length (plan_of before job).units ≤ j → units_done before job (suc j) ≡ units_done before job j
 done_idly before job j turn over =
-    let none : (plan_of before job).units ≡ [] = no_front (plan_of before job).units (omega arith) in
+    let none : (plan_of before job).units ≡ [] = nil_from_length (plan_of before job).units (omega arith) in
     ap (all_applied before) (nothing_done before job (suc j) none ∙ sym (nothing_done before job j none))
 
 pub serves_idly : (before : Drive) (job : Job) (j : ℕ) (work : Work) → IsServing before job j work → j < turns_of before job → length (plan_of before job).units ≤ j
@@ -117,7 +114,7 @@ pub serves_idly : (before : Drive) (job : Job) (j : ℕ) (work : Work) → IsSer
 unfolding all_applied all_read
 serves_idly before job j work serving turn over =
     let us : List FileUnit = (plan_of before job).units in
-    let none : us ≡ [] = no_front us (omega arith) in
+    let none : us ≡ [] = nil_from_length us (omega arith) in
     let same : take (suc j) us ≡ take j us = nothing_done before job (suc j) none ∙ sym (nothing_done before job j none) in
     record {
       job_is = serving.job_is ∙ ap (λ l. with_records job (all_read before l)) (sym same);

@@ -7,12 +7,14 @@ use Rattle.std.proofs.lemmas.Bool.Decides.{nat_tests}
 use Rattle.std.proofs.lemmas.Option.{same_Some}
 use Rattle.std.proofs.lemmas.List.{get_or-set_other, get_or-replicate}
 use Rattle.mpm_base.specs.declared.kind.Kind.{Kind}
+use Rattle.mpm_base.proofs.Options.{still_some}
 use Rattle.mpm_blocks.specs.Geometries.{block_records}
 use Rattle.mpm_mount.specs.Drives.{PhysicalExtent, entry_number, count_in, block_place, record_in, visible_in}
 use Rattle.mpm_mount.proofs.KeptRecords.{other_record, one_place}
-use Rattle.mpm_files.specs.Units.{zero_record, is_raising, raised, holds_block, fresh_records}
+use Rattle.mpm_sectors.specs.Writes.{zero_record}
+use Rattle.mpm_files.specs.Units.{is_raising, raised, holds_block, fresh_records}
 use Rattle.mpm_files.proofs.Seen.{seen}
-use Rattle.mpm_files.proofs.Writes.{block_written, still_some}
+use Rattle.mpm_files.proofs.Writes.{block_written}
 use Rattle.mpm_files.proofs.HeldRecords.{index_within}
 
 -- what is seen of a record, by three tests

@@ -1,5 +1,6 @@
 -- The turns of a job that tests records and writes them.
 use Rattle.std.proofs.Common.{◌≡◌, ◌⊎◌, inl, inr, ℕ, suc, ◌+◌, ◌-◌, ◌≤◌, ◌<◌, Bool, true, false, ◌||◌, List, [], ◌∷◌, ◌++◌, Option, Some, None, Ok, take, drop, length, refl, sym, ap, subst, ◌∙◌, arith, add-zero}
+use Rattle.std.proofs.Math.Bool.{or-false, or-true}
 use Rattle.std.specs.Prelude.{bytes_eq, if◌then◌else◌}
 use Rattle.std.specs.List.{list_any}
 use Rattle.std.proofs.lemmas.Bool.{cases_lt}
@@ -9,8 +10,6 @@ use Rattle.mpm_port.specs.Disks.{Disks}
 use Rattle.mpm_mount.specs.Drives.{FileName, Drive, record_of}
 use Rattle.mpm_mount.specs.Directories.{Directory, Stands}
 use Rattle.mpm_mount.specs.Files.{where_there}
-use Rattle.mpm_mount.proofs.UsedBlocks.{or_last}
-use Rattle.mpm_mount.proofs.Ranges.{or_none}
 use Rattle.mpm_jobs.specs.declared.jobs.JobKind.TheVariants.{TestWrite}
 use Rattle.mpm_jobs.specs.declared.jobs.Job.{Job}
 use Rattle.mpm_files.specs.declared.work.Work.{Work}
@@ -179,7 +178,7 @@ passed_done before job j work missed serving is h passing next =
       unit_is = next.0;
       serving = serves_on before job j work new unit serving h next.0
           (serving.job_is ∙ ap (with_records job) (sym (append-nil (records_after before job j)))) refl refl (sym (add-zero work.moved)) refl
-          (passing ∙ sym (missed_then before job j true (kind_is before job j work serving is) h (ap is_passing next.0) ∙ or_last (has_missed before job j)))
+          (passing ∙ sym (missed_then before job j true (kind_is before job j work serving is) h (ap is_passing next.0) ∙ or-true (has_missed before job j)))
           (subst (Follows (plan_of before job).units (suc j))
           (sym (left_as (applied files unit) (one_ended new) TestWrite is ∙ ap (λ b. if b then passes_later work else tests_now (applied files unit) (one_ended new)) passing)) next.1);
     }
@@ -208,7 +207,7 @@ test_passed before job j work serving is h missed has =
       unit_is = next.0;
       serving = serves_on before job j work new unit serving h next.0
           (serving.job_is ∙ ap (with_records job) (sym (append-nil (records_after before job j)))) refl refl refl refl
-          (serving.missed ∙ sym (missed_then before job j false (kind_is before job j work serving is) h (ap is_passing next.0) ∙ or_none (has_missed before job j)))
+          (serving.missed ∙ sym (missed_then before job j false (kind_is before job j work serving is) h (ap is_passing next.0) ∙ or-false (has_missed before job j)))
           (subst (Follows us (suc j))
           (sym (left_as (applied files unit) (one_ended new) TestWrite is
           ∙ ap (λ b. if b then passes_later work else left_testing (applied files unit) file (work.job.first + (work.ended + 1)) (later_tests work) (stamp_left work.job.stamp (work.ended + 1))) missed

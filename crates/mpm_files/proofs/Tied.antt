@@ -3,6 +3,7 @@ use Rattle.std.proofs.Common.{◌≡◌, ℕ, ◌*◌, ◌/◌, true, ◌==◌, 
 use Rattle.std.specs.Prelude.{is_some}
 use Rattle.std.specs.FinMap.{get}
 use Rattle.std.proofs.lemmas.Bool.{true≢false}
+use Rattle.std.proofs.Math.Bool.{not-not}
 use Rattle.mpm_base.specs.declared.kind.Kind.{Kind}
 use Rattle.mpm_base.specs.declared.kind.Kind.TheVariants.{Ibm3740, Hd4, Hd8}
 use Rattle.mpm_dirent.specs.declared.kinds.Entry.{Entry}
@@ -15,7 +16,7 @@ use Rattle.mpm_mount.proofs.KeptRecords.{all_places}
 use Rattle.mpm_files.specs.Plans.{needs_entry, has_block, needs_block}
 use Rattle.mpm_files.specs.Counting.{lacks_entry, number_in, lacks_block_at, lacks_block}
 use Rattle.mpm_files.proofs.Needs.{IsWhole}
-use Rattle.mpm_mount.proofs.ReadErrors.{held_at, twice}
+use Rattle.mpm_mount.proofs.ReadErrors.{held_at}
 
 -- whether a record needs a directory entry, or a block
 entry_by : (image : List ℕ) (d : Directory) (files : Drive) (file : FileName) (n : ℕ) → Stands image d files → (o : Option ℕ) → extent_slot d file (n / 128) ≡ o
@@ -34,7 +35,7 @@ block_by image d files file n stands None none = ap (λ x. not (has_block d.kind
 block_by image d files file n stands (Some slot) found =
     let there = extent_found image d files file (n / 128) slot stands found in
     ap (λ x. not (has_block d.kind n x)) there.extent
-    ∙ ap not (held_at (sectors_of image d.kind) d.kind there.file n) ∙ twice (block_at there.file (block_place d.kind n) == 0)
+    ∙ ap not (held_at (sectors_of image d.kind) d.kind there.file n) ∙ not-not (block_at there.file (block_place d.kind n) == 0)
     ∙ sym (ap (λ (e : Entry). number_in d.kind n e == 0) there.entry)
 
 pub block_needed : (image : List ℕ) (d : Directory) (files : Drive) (file : FileName) (n : ℕ) → Stands image d files → needs_block files file n ≡ lacks_block d file n

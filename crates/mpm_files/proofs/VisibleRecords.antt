@@ -9,7 +9,8 @@ use Rattle.mpm_base.specs.declared.kind.Kind.{Kind}
 use Rattle.mpm_blocks.specs.Geometries.{block_records}
 use Rattle.mpm_mount.specs.Drives.{FileName, PhysicalExtent, Drive, places, entry_number, entry_name, with_extent_there, extent_at, count_in, block_place, visible_in, visible_of}
 use Rattle.mpm_functions.specs.declared.errors.RecordError.{RecordError}
-use Rattle.mpm_files.specs.Units.{FileUnit, AddsEntry, ClearsBlock, WritesRecord, zero_record, new_entry, stages, last_of, applied, all_applied}
+use Rattle.mpm_sectors.specs.Writes.{zero_record}
+use Rattle.mpm_files.specs.Units.{FileUnit, AddsEntry, ClearsBlock, WritesRecord, new_entry, stages, last_of, applied, all_applied}
 use Rattle.mpm_files.specs.Plans.{Plan, behind, unless_failing, when, has_block, needs_block, clears_blocks, write_error, write_units, writing}
 use Rattle.mpm_files.specs.Containment.{IsShown}
 use Rattle.mpm_files.proofs.Recorded.{Puts, put_new, none_held}

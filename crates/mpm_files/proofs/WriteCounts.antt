@@ -3,6 +3,7 @@ use Rattle.std.proofs.Common.{◌≡◌, ℕ, ◌+◌, ◌-◌, ◌/◌, ◌≤�
 use Rattle.std.specs.Prelude.{if◌then◌else◌}
 use Rattle.std.proofs.lemmas.Bool.{true≢false, and_parts, and_from, eq-eqb, eqb-true}
 use Rattle.std.proofs.lemmas.List.{length-append}
+use Rattle.std.proofs.Math.Bool.{and-true}
 use Rattle.mpm_base.specs.declared.kind.Kind.{Kind}
 use Rattle.mpm_base.specs.declared.kind.Kind.TheVariants.{Ibm3740, Hd4, Hd8}
 use Rattle.mpm_base.specs.Counts.{one_if}
@@ -50,10 +51,6 @@ merged true false x y so = refl
 merged true true true true so = refl
 merged true true true false so = absurd (true≢false (sym (so refl)))
 merged true true false y so = refl
-
-without_test : (b : Bool) → (b && not false) ≡ b
-without_test true = refl
-without_test false = refl
 
 three_parts : (a b : Bool) (x y z : FileUnit) → length (when a x ++ (when b y ++ (z ∷ []))) ≡ 1 + one_if a + one_if b
 three_parts true true x y z = refl
@@ -103,7 +100,7 @@ writing_counted (bytes ∷ records) kind file entries blocks later n stamp d ahe
     let b : needs_block d file n ≡ block = ahead.blocks_are n (omega arith) in
     let size : length units ≡ record_units kind entry block =
     three_parts (needs_entry d file n) (clears_blocks d.kind && (needs_block d file n && not false)) (AddsEntry file (n / 128)) (ClearsBlock file n) (WritesRecord file n bytes stamp)
-    ∙ ap (λ x. 1 + one_if (needs_entry d file n) + one_if (clears_blocks d.kind && x)) (without_test (needs_block d file n))
+    ∙ ap (λ x. 1 + one_if (needs_entry d file n) + one_if (clears_blocks d.kind && x)) (and-true (needs_block d file n))
     ∙ ap (λ x. 1 + one_if x + one_if (clears_blocks d.kind && needs_block d file n)) e ∙ ap (λ x. 1 + one_if entry + one_if (clears_blocks d.kind && x)) b
     ∙ ap (λ q. 1 + one_if entry + one_if (clears_blocks q && block)) ahead.kind_is in
     let rest : Count = write_count kind entries blocks (free_entries d - one_if entry) (free_records d - (if block then block_records kind else 0)) true (n + 1) (length records) in
@@ -116,12 +113,9 @@ writing_counted (bytes ∷ records) kind file entries blocks later n stamp d ahe
     ∙ ap (λ x. unless_refused (room_error x (needs_block d file n) (free_entries d) (free_records d)) (record_units kind entry block) rest) e
     ∙ ap (λ x. unless_refused (room_error entry x (free_entries d) (free_records d)) (record_units kind entry block) rest) b
 
-first_test : (a : Bool) → a ≡ (a && not false)
-first_test a = sym (without_test a)
-
 -- what is counted before a call that writes is how many units it has, and why it ends
 pub counted_writing : (d : Drive) (file : FileName) (n : ℕ) (records : List (List ℕ)) (stamp : Option (List ℕ)) → IsWhole file d
     → count_of (writing d file n records stamp) ≡ write_count d.kind (needs_entry d file) (needs_block d file) (free_entries d) (free_records d) false n (length records)
 counted_writing d file n records stamp whole =
     writing_counted records d.kind file (needs_entry d file) (needs_block d file) false n stamp d
-    (record { kind_is = refl; whole = whole; entries_are = λ m h. first_test (needs_entry d file m); blocks_are = λ m h. first_test (needs_block d file m) })
+    (record { kind_is = refl; whole = whole; entries_are = λ m h. sym (and-true (needs_entry d file m)); blocks_are = λ m h. sym (and-true (needs_block d file m)) })

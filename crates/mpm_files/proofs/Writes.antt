@@ -5,6 +5,7 @@ use Rattle.std.specs.FinMap.{get}
 use Rattle.std.proofs.lemmas.List.{get_or-set_same, get_or-set_other, length-set, append-nil}
 use Rattle.mpm_base.specs.declared.kind.Kind.{Kind}
 use Rattle.mpm_base.specs.Counts.{one_if}
+use Rattle.mpm_base.proofs.Options.{still_some}
 use Rattle.mpm_blocks.specs.Geometries.{block_records}
 use Rattle.mpm_mount.specs.Drives.{FileName, PhysicalExtent, Protection, Drive, places, entry_number, entry_name, block_place, held_blocks, with_record_in, with_extent, with_xfcb}
 use Rattle.mpm_mount.specs.Files.{where_there}
@@ -54,10 +55,6 @@ record SetsBlock (kind : Kind) (n : ℕ) (bytes : List ℕ) (old new : PhysicalE
   holds : holds_block kind n new ≡ true
   others : (place : ℕ) → place ≢ block_place kind n → slice_index_or new.blocks place None ≡ slice_index_or old.blocks place None
   block : slice_index_or new.blocks (block_place kind n) None ≡ block_written kind n bytes old (holds_block kind n old)
-
-pub still_some : {X Y : Type 0} (o : Option X) (f : X → Y) → is_some (option_map f o) ≡ is_some o
-still_some None f = refl
-still_some (Some x) f = refl
 
 content_sets : (kind : Kind) (n : ℕ) (bytes : List ℕ) (old : PhysicalExtent) → block_place kind n < length old.blocks → (b : Bool) → holds_block kind n old ≡ b
     → SetsBlock kind n bytes old (if b then with_record_in old (block_place kind n) (n % block_records kind) bytes else with_fresh_block kind n bytes old)

@@ -6,7 +6,8 @@ use Rattle.mpm_mount.specs.Files.{is_same_file, is_fitting, has_file}
 use Rattle.mpm_jobs.specs.declared.jobs.JobKind.{JobKind}
 use Rattle.mpm_jobs.specs.declared.jobs.JobKind.TheVariants.{Read, Write, TestWrite, Make, Delete, Rename, Attributes, Label, Xfcb, Nothing}
 use Rattle.mpm_jobs.specs.declared.jobs.Job.{Job}
-use Rattle.mpm_files.specs.Units.{FileUnit, Idles, ReadsRecord, PassesRecord, AddsEntry, ClearsBlock, WritesRecord, RemovesEntry, SetsAttributes, RenamesEntry, PutsXfcb, RemovesXfcb, RenamesXfcb, PutsLabel, zero_record, applied}
+use Rattle.mpm_sectors.specs.Writes.{zero_record}
+use Rattle.mpm_files.specs.Units.{FileUnit, Idles, ReadsRecord, PassesRecord, AddsEntry, ClearsBlock, WritesRecord, RemovesEntry, SetsAttributes, RenamesEntry, PutsXfcb, RemovesXfcb, RenamesXfcb, PutsLabel, applied}
 use Rattle.mpm_files.specs.Plans.{needs_block, file_of_job, new_file_of_job}
 use Rattle.mpm_files.specs.Serving.{units_done}
 

@@ -17,7 +17,8 @@ use Rattle.mpm_jobs.specs.declared.jobs.JobKind.TheVariants.{Read, Write, TestWr
 use Rattle.mpm_jobs.specs.declared.jobs.Job.{Job}
 use Rattle.mpm_files.specs.declared.counting.Count.{Count}
 use Rattle.mpm_files.specs.declared.work.Work.{Work}
-use Rattle.mpm_files.specs.Units.{FileUnit, Idles, ReadsRecord, PassesRecord, AddsEntry, ClearsBlock, WritesRecord, RemovesEntry, SetsAttributes, RenamesEntry, PutsXfcb, RemovesXfcb, RenamesXfcb, PutsLabel, zero_record, applied, all_applied}
+use Rattle.mpm_sectors.specs.Writes.{zero_record}
+use Rattle.mpm_files.specs.Units.{FileUnit, Idles, ReadsRecord, PassesRecord, AddsEntry, ClearsBlock, WritesRecord, RemovesEntry, SetsAttributes, RenamesEntry, PutsXfcb, RemovesXfcb, RenamesXfcb, PutsLabel, applied, all_applied}
 use Rattle.mpm_files.specs.Plans.{Plan, Test, file_of_job, new_file_of_job, has_record, each, of_xfcb, deleting, renaming, protection_in, making, records_of_job, tests_of_job, needs_entry, plan_by, plan_of, turns_of, write_units}
 
 -- the drive after the first j turns of a call

@@ -4,6 +4,7 @@ use Rattle.std.specs.Prelude.{ℕ, ◌+◌, ◌/◌, ◌%◌, ◌==◌, ◌&&◌
 use Rattle.std.specs.FinMap.{get}
 use Rattle.mpm_base.specs.declared.kind.Kind.{Kind}
 use Rattle.mpm_blocks.specs.Geometries.{block_records}
+use Rattle.mpm_sectors.specs.Writes.{zero_record}
 use Rattle.mpm_mount.specs.Drives.{FileName, PhysicalExtent, Protection, DirectoryLabel, Drive, places, entry_name, block_place, with_record_in, extents_of, with_extent, without_extent, with_xfcb, without_xfcb}
 use Rattle.mpm_mount.specs.Attributes.{attributes_of}
 use Rattle.mpm_mount.specs.Files.{where_there}
@@ -33,10 +34,6 @@ pub data FileUnit : Type 0 where
   RenamesXfcb : FileName → FileName → FileUnit
   -- the directory label is put
   PutsLabel : DirectoryLabel → FileUnit
-
--- a record that was never written, in a block that is
-abbrev pub zero_record : List ℕ
-zero_record = replicate 128 0
 
 -- a new entry of a file, for an extent: it holds no block
 unfoldable pub new_entry : Drive → FileName → ℕ → PhysicalExtent

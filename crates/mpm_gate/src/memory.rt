@@ -1,21 +1,10 @@
 ghost use Rattle.std.specs.Prelude.{◌≡◌, ◌<◌, ◌↔◌, length, IsSome, IfSome};
 ghost use Rattle.mpm_banks.specs.Memory.{byte_at};
 ghost use Rattle.mpm_banks.specs.Ranges.{range_of};
-ghost use Rattle.z80_regs.specs.Words.{word_from};
 ghost use Rattle.mpm_gate.specs.Bytes.{bytes_from};
 
 use mpm_banks::Banks;
 use mpm_base::Seg;
-
-/// The word at an address, low byte first.
-pub(crate) fn word_at(banks: &Banks, seg: Seg, address: u16) -> u16
-    ensures { result ≡ word_from (byte_at banks.now seg) address }
-{
-    u16::from_le_bytes([
-        banks.byte(seg, address),
-        banks.byte(seg, address.wrapping_add(1)),
-    ])
-}
 
 /// So many bytes (at least one) from an address on, where they lie in one range of memory.
 pub(crate) fn range_at(banks: &Banks, seg: Seg, address: u16, count: u16) -> Option<&[u8]>

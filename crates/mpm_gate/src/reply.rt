@@ -4,7 +4,6 @@ ghost use Rattle.mpm_banks.specs.Memory.{byte_at, with_bytes};
 ghost use Rattle.mpm_banks.specs.Ranges.{range_of};
 ghost use Rattle.mpm_gate.specs.Replies.{answered, returned, placed as placed_in};
 
-use crate::memory::word_at;
 use mpm_banks::Banks;
 use mpm_base::{Reply, Seg};
 use z80_regs::Regs;
@@ -15,7 +14,7 @@ use z80_regs::Regs;
 pub fn take_return(banks: &Banks, seg: Seg, regs: &mut Regs)
     ensures { regs.new ≡ returned (byte_at banks.now seg) regs.old }
 {
-    regs.pc = word_at(banks, seg, regs.sp);
+    regs.pc = banks.word(seg, regs.sp);
     regs.sp = regs.sp.wrapping_add(2);
     regs.shadow = false;
 }

@@ -7,7 +7,7 @@ ghost use Rattle.mpm_gate.specs.Calls.{with_more, descriptor_from, descriptors_f
 ghost use Rattle.mpm_gate.specs.Reads.{reads_of as reads_in_table};
 ghost use Rattle.mpm_base.specs.Lists.{zeros};
 
-use crate::memory::{range_at, word_at};
+use crate::memory::range_at;
 use crate::reads::{Reads, reads_memory, reads_of};
 use mpm_banks::Banks;
 use mpm_base::{Call, Seg, ends_text};
@@ -78,7 +78,7 @@ fn take_read(function: u8, word: u16, banks: &Banks, seg: Seg, dma: u16, multi: 
             count,
         } => {
             take_bytes(banks, seg, word, size, call);
-            let address = word_at(banks, seg, word.wrapping_add(offset));
+            let address = banks.word(seg, word.wrapping_add(offset));
             take_bytes(banks, seg, address, count, call);
         }
         Reads::Descriptors => take_descriptors(banks, seg, word, call),
@@ -156,9 +156,9 @@ fn take_descriptor(banks: &Banks, seg: Seg, address: u16, call: &mut Call) -> u1
     ensures link { result ≡ word_from (byte_at banks.now seg) address }
 {
     take_bytes(banks, seg, address, 16, call);
-    let stack = word_at(banks, seg, address.wrapping_add(4));
+    let stack = banks.word(seg, address.wrapping_add(4));
     take_bytes(banks, seg, stack, 2, call);
-    word_at(banks, seg, address)
+    banks.word(seg, address)
 }
 
 /// Takes the process descriptors that are chained from an address on.

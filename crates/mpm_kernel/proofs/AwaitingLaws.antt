@@ -2,7 +2,7 @@
 use Rattle.std.proofs.Common.{◌≡◌, ◌≢◌, ◌∙◌, ℕ, ◌+◌, ◌<◌, ◌≤◌, false, ◌==◌, List, [], ◌∷◌, ◌++◌, Option, Some, None, inl, inr, map, refl, sym, ap, subst, arith}
 use Rattle.std.specs.List.{AllByRecursion}
 use Rattle.std.proofs.lemmas.Bool.{cases_eq, cases_lt, ne_eqb, or_parts}
-use Rattle.mpm_base.proofs.CountLaws.{one_if, count_cons, one_if_false}
+use Rattle.mpm_base.proofs.CountLaws.{one_if, count_cons, one_if_false, at_most_one}
 use Rattle.mpm_ready.specs.Order.{Member, in_list, IsOnce}
 use Rattle.mpm_ready.specs.Tables.{list_of, removed, IsTable}
 use Rattle.mpm_ready.proofs.TableLaws.{table_removed, list_of_removed_other}
@@ -11,7 +11,6 @@ use Rattle.mpm_procs.proofs.MapLaws.{lives_below}
 use Rattle.mpm_queues.specs.Handling.{read_outcome, write_outcome, woken_by}
 use Rattle.mpm_queues.proofs.WaitLaws.{waits_one, read_ends_waiter, write_ends_waiter}
 use Rattle.mpm_dispatcher.specs.Dispatch.{ready, ready_in, lists_ready, also_completed, with_other}
-use Rattle.mpm_dispatcher.proofs.WalkLaws.{at_most_one}
 use Rattle.mpm_kernel.specs.Awaiting.{Awaits, AwaitsIn, completions}
 use Rattle.mpm_kernel.specs.Kernel.{Kernel, IsSound, waits_of, dispatched}
 use Rattle.mpm_kernel.proofs.PlaceLaws.{not_equal, moved_lists, table_moved, list_moved, list_moved_other}

@@ -2,7 +2,7 @@
 use Rattle.std.proofs.Common.{◌≡◌, ◌∙◌, ℕ, ◌<◌, Bool, true, false, ◌&&◌, ◌==◌, [], List, length, Option, Some, None, refl, sym, ap, subst, arith}
 use Rattle.std.proofs.lemmas.Bool.{ne_eqb}
 use Rattle.mpm_base.specs.Calls.{Taken}
-use Rattle.mpm_base.proofs.CountLaws.{one_if_false}
+use Rattle.mpm_base.proofs.CountLaws.{one_if_false, at_most_one}
 use Rattle.mpm_base.specs.declared.functions.TheConstants.{CONSOLE_INPUT, RAW_CONSOLE_INPUT, DIRECT_CONSOLE_IO, READ_CONSOLE_BUFFER, GET_CONSOLE_STATUS}
 use Rattle.mpm_procs.specs.Table.{Lives, process_in}
 use Rattle.mpm_procs.specs.declared.process.Process.{Process}
@@ -16,7 +16,6 @@ use Rattle.mpm_consoles.proofs.SoundLaws.{sound_raw, sound_take, sound_wait}
 use Rattle.mpm_line_input.specs.Echoes.{key_echo}
 use Rattle.mpm_line_input.specs.Lines.{is_full, ends, line_end}
 use Rattle.mpm_dispatcher.specs.Dispatch.{ready}
-use Rattle.mpm_dispatcher.proofs.WalkLaws.{at_most_one}
 use Rattle.mpm_kernel.specs.Kernel.{Kernel, IsSound, CompletedLive, HasConsole, with_changed}
 use Rattle.mpm_kernel.specs.Columns.{column_of, spoke}
 use Rattle.mpm_kernel.specs.Called.{Called, low_parameter}

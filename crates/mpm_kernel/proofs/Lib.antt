@@ -23,6 +23,7 @@ pub mod HandingLaws
 pub mod SystemQueues
 pub mod AnswerLaws
 pub mod SoundLaws
+pub mod BurstLaws
 pub mod SpokeLaws
 pub mod Homes
 pub mod CallHomes

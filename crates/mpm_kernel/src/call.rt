@@ -10,7 +10,7 @@ use mpm_clock::{tell_date, tell_time};
 use mpm_consoles::echoes;
 
 /// The version that functions 12 and 163 answer: MP/M II, whose file system is that of CP/M 3.
-const VERSION: u16 = 0x0130;
+pub const VERSION: u16 = 0x0130;
 
 /// The answer of a function that isn't there.
 pub(crate) const NO_FUNCTION: u16 = 0xFFFF;

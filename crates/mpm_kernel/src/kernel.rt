@@ -4,6 +4,7 @@ ghost use Rattle.mpm_clock.specs.Times.{IsTime};
 
 use crate::OutOfMemory;
 use crate::completion::complete;
+use mpm_banks::{Banks, Burst};
 use mpm_base::{Call, Devices, Pid, Reply, Seg};
 use mpm_clock::{Clock, Moment};
 use mpm_consoles::Consoles;
@@ -47,11 +48,13 @@ impl Kernel {
     ghost use Rattle.mpm_ready.specs.Tables.{list_at};
     ghost use Rattle.mpm_queues.specs.Queues.{lowest_held};
     ghost use Rattle.mpm_dispatcher.specs.Dispatch.{ready, in_slot, picked, first_completed};
-    ghost use Rattle.mpm_kernel.specs.Kernel.{IsSound, CompletedLive, call_begun, afresh, new_kernel, dispatched};
+    ghost use Rattle.mpm_kernel.specs.Kernel.{IsSound, CompletedLive, call_begun, afresh, new_kernel, dispatched, with_changed};
     ghost use Rattle.mpm_kernel.specs.Waiting.{completion_reply};
     ghost use Rattle.mpm_kernel.specs.Events.{handed_out};
     ghost use Rattle.mpm_clock.specs.Times.{moment_of};
     ghost use Rattle.mpm_kernel.specs.Lending.{LendsProcess, LendsRegs, LendsCall, LendsDevices};
+    ghost use Rattle.mpm_banks.specs.Memory.{HasSegment, segment_of};
+    ghost use Rattle.mpm_banks.specs.Sides.{with_sides, reach_of};
 
     /// The kernel of a machine with 1 to 8 consoles and at most 4 printers, in which no process lives, at a moment. No call waits
     /// for its disk.
@@ -224,6 +227,21 @@ impl Kernel {
         ensures value { result.now ≡ self.old.devices }
     {
         &mut self.devices
+    }
+
+    /// Does a burst of what a living process of a segment does. Its registers and the devices are lent, not copied.
+    #[inline(always)]
+    pub fn run<B: Burst>(&mut self, p: Pid, burst: &B, seg: Seg, banks: &mut Banks) -> u64
+        requires sound { IsSound self.old }
+        requires lives { Lives self.old.dispatcher.procs p }
+        requires segment { HasSegment banks.old seg }
+        ensures ran { B.ran burst.now (process_in self.old.dispatcher.procs p).regs (reach_of banks.old seg) self.old.devices result (process_in self.new.dispatcher.procs p).regs (reach_of banks.new seg) self.new.devices }
+        ensures others { banks.new ≡ with_sides banks.old seg (segment_of banks.new seg).bytes banks.new.common }
+        ensures kernel { self.new ≡ with_changed (record self.old { devices = self.new.devices }) p (record (process_in self.old.dispatcher.procs p) { regs = (process_in self.new.dispatcher.procs p).regs }) }
+        ensures sound { IsSound self.new }
+    {
+        let process = self.dispatcher.procs.get_mut(p);
+        banks.run(burst, seg, &mut process.regs, &mut self.devices)
     }
 
     /// Adds a process, which is ready, in the lowest free slot.

@@ -12,7 +12,7 @@ use Rattle.mpm_residents.specs.declared.native.Native.{Native}
 use Rattle.mpm_residents.specs.Natives.{native_in}
 use Rattle.mpm_functions.specs.declared.refusals.Extended.{Extended}
 use Rattle.mpm_directories.specs.Direct.{CallerChange, Stays, Selects, Resets, Directly}
-use Rattle.mpm_bdos.specs.Serving.{Kept}
+use Rattle.mpm_bdos.specs.Serving.{Kept, StandForSome}
 use Rattle.mpm_machine.specs.declared.system.System.{System}
 use Rattle.mpm_machine.specs.State.{Change, IsWhole, NoCompletions, HasRoomForAll, speaking}
 use Rattle.mpm_machine.specs.Ending.{ended}
@@ -252,9 +252,9 @@ abbrev telling_nothing : System → Telling
 telling_nothing system = record { at_gate = nothing_told; at_disk = nothing_told; turns = any_turns (behind_nothing system) }
 
 -- it leaves what is kept: none is over in it, and none enters service
-pub is_made_still : (kept : Kept) (system : System) (change : Change) → IsWhole system → NoCompletions system → file_caller system ≡ None
+pub is_made_still : (kept : Kept) (system : System) (change : Change) → StandForSome kept.mounted → IsWhole system → NoCompletions system → file_caller system ≡ None
     → ((told : Directly) → Passes (begun_as told system).system) → ((telling : Telling) → change ≡ step_with telling system) → IsMadeUpon kept kept system change
-is_made_still kept system change w handed alone passes is =
+is_made_still kept system change stand w handed alone passes is =
     let nobody : (told : Directly) → process_over (begun_as told system).system ≡ None = λ told. nobody_over (begun_as told system).system (passes told).still in
     let made = is_made_so (file_caller system) (process_over (begun_as nothing_told system).system) (telling_nothing system) system change (enters_for_any (behind_nothing system)) w handed
     refl alone refl (nobody nothing_told) (is (telling_nothing system)) in
@@ -263,6 +263,7 @@ is_made_still kept system change w handed alone passes is =
     let here = passes told in
     record {
       made = made;
+      stand = stand;
       begun = kept;
       left = kept;
       as_kept = subst (λ (c : Option ℕ). IsAsKept kept kept c told (made_in c system)) (sym alone) tt;

@@ -18,7 +18,7 @@ use Rattle.mpm_directories.specs.Direct.{Directly, ComesDirectly, is_protected}
 use Rattle.mpm_functions.specs.Functions.{direct_of, function_of}
 use Rattle.mpm_service.specs.Disk.{turn_answer, served_process}
 use Rattle.mpm_service.specs.declared.service.Served.{Served}
-use Rattle.mpm_bdos.specs.Serving.{Kept, Serves}
+use Rattle.mpm_bdos.specs.Serving.{Kept, StandForSome, Serves}
 use Rattle.mpm_directories.specs.Places.{directory_at, kind_at}
 use Rattle.mpm_bdos.specs.Turns.{TurnKeeps, has_work, labelled}
 use Rattle.mpm_bdos.proofs.NextTurns.{idle_work}
@@ -111,11 +111,11 @@ none_over_then old middle begun here served (inr still) = subst (λ (s : System)
 
 -- whatever is on the drives
 
-pub has_stepped : {kept between kept' : Kept} (instruction : Bool) (o m n : Outside) (old middle new : System) → IsWhole old → NoCompletions old → HasBegunStep kept between instruction o m old middle
+pub has_stepped : {kept between kept' : Kept} (instruction : Bool) (o m n : Outside) (old middle new : System) → StandForSome kept.mounted → IsWhole old → NoCompletions old → HasBegunStep kept between instruction o m old middle
     → (ended : HasEndedStep between kept' instruction m n middle new) → IsOverAsKept kept ended.left (process_over middle) ended.telling.at_disk
     → (is_some old.kernel.disk.served ≡ true → process_over middle ≡ None → StaysInService kept kept' old)
     → middle.kernel.disk.served ≡ old.kernel.disk.served → (old.kernel.disk.served ≡ None → works_at_once (file_caller old) old ≡ false → between ≡ kept) → HasStepped kept kept' o n old new
-has_stepped {kept} {between} {kept'} instruction o m n old middle new w handed begun ended over stays served rests =
+has_stepped {kept} {between} {kept'} instruction o m n old middle new stand w handed begun ended over stays served rests =
     let telling = joined begun.told ended.telling in
     let change = step_with telling old in
     let P : System → Type 0 = λ s. IsOfCall (process_over s) ended.telling.at_disk s in
@@ -129,6 +129,7 @@ has_stepped {kept} {between} {kept'} instruction o m n old middle new w handed b
       emitted = change.emitted;
       is = record {
         made = by.made;
+        stand = stand;
         begun = between;
         left = ended.left;
         as_kept = subst (λ (t : Telling). IsAsKept kept between (file_caller old) t.at_gate (made_in (file_caller old) old)) (sym by.telling_is) begun.as_kept;
@@ -244,10 +245,10 @@ stops_before DiskFault o n a b stops = stops
 stops_same : (fault : StepFault) (o n : Outside) (a b : List Output) → a ≡ b → StopsBy fault o n a → StopsBy fault o n b
 stops_same fault o n a b is stops = subst (StopsBy fault o n) is stops
 
-pub begun_has_stopped : (fault : StepFault) (kept worked : Kept) (o n : Outside) (old : System) → IsWhole old → NoCompletions old → OnDiskFault fault (does_work old ≡ true)
+pub begun_has_stopped : (fault : StepFault) (kept worked : Kept) (o n : Outside) (old : System) → StandForSome kept.mounted → IsWhole old → NoCompletions old → OnDiskFault fault ((works_at_once (file_caller old) old ≡ true) × (does_work old ≡ true))
     → OnDiskFault fault (works_in_turn old ≡ false) → TurnKeeps kept worked → (works_in_turn old ≡ false → worked ≡ kept) → HasBegunToStop fault worked o n old
     → HasStopped fault kept o n old
-begun_has_stopped WriteFault kept worked o n old w handed works apart keeps still begun =
+begun_has_stopped WriteFault kept worked o n old stand w handed works apart keeps still begun =
     let middle = (begun_as begun.told old).system in
     let any = may_be_told (process_over middle) middle in
     let paid = paid_after any.told middle in
@@ -259,6 +260,7 @@ begun_has_stopped WriteFault kept worked o n old w handed works apart keeps stil
     record {
       change = change;
       made = by.made;
+      stand = stand;
       begun = begun.left;
       left = begun.left;
       as_kept = subst (λ (t : Telling). IsAsKept kept begun.left (file_caller old) t.at_gate (made_in (file_caller old) old)) (sym by.telling_is)
@@ -267,17 +269,17 @@ begun_has_stopped WriteFault kept worked o n old w handed works apart keeps stil
       text = fails_same TheSink o n _ change.emitted (whole_emitted i begun.told rest old middle refl refl)
           (fails_before TheSink o n (begun_as begun.told old).emitted (rest_of i rest (silent middle)).emitted begun.stops);
     }
-begun_has_stopped DiskFault kept worked o n old w handed works apart keeps still begun =
-    (begun.still, record { works = works; job = inl (subst (λ (k : Kept). HasJob k (file_caller old) (made_in (file_caller old) old)) (still apart) begun.job) })
+begun_has_stopped DiskFault kept worked o n old stand w handed works apart keeps still begun =
+    (begun.still, record { works = works.1; job = inl (works.0, subst (λ (k : Kept). HasJob k (file_caller old) (made_in (file_caller old) old)) (still apart) begun.job) })
 
 -- the disk did, before anything was written
-pub disk_has_stopped : (kept : Kept) (o : Outside) (old : System) → does_work old ≡ true → has_work kept.service ≡ true → HasStopped DiskFault kept o o old
-disk_has_stopped kept o old works work = (refl, record { works = works; job = inr work })
+pub disk_has_stopped : (kept : Kept) (o : Outside) (old : System) → (works_in_turn old ≡ true) × (does_work old ≡ true) → has_work kept.service ≡ true → HasStopped DiskFault kept o o old
+disk_has_stopped kept o old works work = (refl, record { works = works.1; job = inr (works.0, work) })
 
 -- or the rest of it
-pub ended_has_stopped : {kept between : Kept} (instruction : Bool) (o m n : Outside) (old middle : System) → IsWhole old → NoCompletions old → HasBegunStep kept between instruction o m old middle
+pub ended_has_stopped : {kept between : Kept} (instruction : Bool) (o m n : Outside) (old middle : System) → StandForSome kept.mounted → IsWhole old → NoCompletions old → HasBegunStep kept between instruction o m old middle
     → HasEndedToStop kept instruction m n middle → HasStopped WriteFault kept o n old
-ended_has_stopped {kept} {between} instruction o m n old middle w handed begun ended =
+ended_has_stopped {kept} {between} instruction o m n old middle stand w handed begun ended =
     let telling = joined begun.told ended.telling in
     let change = step_with telling old in
     let P : System → Type 0 = λ s. IsOfCall (process_over s) ended.telling.at_disk s in
@@ -287,6 +289,7 @@ ended_has_stopped {kept} {between} instruction o m n old middle w handed begun e
     record {
       change = change;
       made = by.made;
+      stand = stand;
       begun = between;
       left = ended.left;
       as_kept = subst (λ (t : Telling). IsAsKept kept between (file_caller old) t.at_gate (made_in (file_caller old) old)) (sym by.telling_is) begun.as_kept;

@@ -7,7 +7,7 @@ use Rattle.mpm_kernel.specs.Disk.{with_disk}
 use Rattle.mpm_kernel.proofs.DiskLaws.{sound_passed_by}
 use Rattle.mpm_kernel.proofs.HomeLaws.{homes_stay}
 use Rattle.mpm_directories.specs.Direct.{Directly}
-use Rattle.mpm_bdos.specs.Serving.{Kept}
+use Rattle.mpm_bdos.specs.Serving.{Kept, StandForSome}
 use Rattle.mpm_machine.specs.declared.system.System.{System}
 use Rattle.mpm_machine.specs.State.{State, Change, IsWhole, NoCompletions, NobodyAborted, silent}
 use Rattle.mpm_machine.specs.Files.{Files, AreWithin}
@@ -114,19 +114,19 @@ whole_later system n w =
     whole_steps (record system { kernel = with_disk (passed_by n) system.kernel }) (system.steps + n)
     (whole_kernel system _ w (sound_passed_by system.kernel n w.sound) w.live (homes_stay system.kernel _ refl))
 
-steps_idle : (n : ℕ) (kept : Kept) (system : System) → IsWhole system → Idles system n → AreSteps n kept kept system (silent (later system n))
+steps_idle : (n : ℕ) (kept : Kept) (system : System) → StandForSome kept.mounted → IsWhole system → Idles system n → AreSteps n kept kept system (silent (later system n))
 unfolding AreSteps
-steps_idle zero kept system w on = (refl, ap silent (sym (later_none system)))
-steps_idle (suc n) kept system w on =
+steps_idle zero kept system stand w on = (refl, ap silent (sym (later_none system)))
+steps_idle (suc n) kept system stand w on =
     let on_more : Idles system (n + 1) = subst (Idles system) (sym (add-one n)) on in
     let here = later system n in
-    let is = is_made_still kept here (silent (later system (n + 1))) (whole_later system n w) (handed_idle system (system.steps + n) n on.no_completions)
+    let is = is_made_still kept here (silent (later system (n + 1))) stand (whole_later system n w) (handed_idle system (system.steps + n) n on.no_completions)
     (nobody_calls here (on_more.idle (omega arith)).running) (λ told. passes_idle told system n on_more) (λ telling. sym (idle_step telling system n on_more)) in
-    (kept, silent here, silent (later system (n + 1)), steps_idle n kept system w (fewer system n on_more), is, ap (λ k. silent (later system k)) (sym (add-one n)))
+    (kept, silent here, silent (later system (n + 1)), steps_idle n kept system stand w (fewer system n on_more), is, ap (λ k. silent (later system k)) (sym (add-one n)))
 
 -- and they are so many steps
-pub idle_steps : (n : ℕ) (kept : Kept) (old new : System) → IsWhole old → Idles old n → new ≡ later old n → AreSteps n kept kept old (silent new)
-idle_steps n kept old new w on is = subst (λ system. AreSteps n kept kept old (silent system)) (sym is) (steps_idle n kept old w on)
+pub idle_steps : (n : ℕ) (kept : Kept) (old new : System) → StandForSome kept.mounted → IsWhole old → Idles old n → new ≡ later old n → AreSteps n kept kept old (silent new)
+idle_steps n kept old new stand w on is = subst (λ system. AreSteps n kept kept old (silent system)) (sym is) (steps_idle n kept old stand w on)
 
 pub idle_settled : (n : ℕ) (old new : System) → Idles old n → new ≡ later old n → NobodyAborted new.kernel
 idle_settled n old new on is = subst (λ (system : System). NobodyAborted system.kernel) (sym is) on.settled

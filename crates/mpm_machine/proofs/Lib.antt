@@ -61,6 +61,7 @@ pub mod HoldingLaws
 pub mod FilesStepLaws
 pub mod TakeStepLaws
 pub mod OwnCallStepLaws
+pub mod QuietlyLaws
 pub mod MountedLaws
 pub mod FirstFiles
 pub mod DriveLaws

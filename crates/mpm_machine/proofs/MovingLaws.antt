@@ -1,5 +1,5 @@
 -- Steps that are instructions of one process.
-use Rattle.std.proofs.Common.{◌≡◌, ◌∙◌, ℕ, zero, suc, ◌+◌, ◌<◌, ◌≤◌, false, ◌&&◌, Option, Some, None, is_some, inl, inr, length, refl, sym, ap, subst, arith, add-one, set-set, get_or-set_same}
+use Rattle.std.proofs.Common.{◌≡◌, ◌∙◌, ℕ, zero, suc, ◌+◌, ◌-◌, ◌*◌, ◌<◌, ◌≤◌, false, ◌&&◌, Option, Some, None, IfSome, is_some, option_map, inl, inr, length, refl, sym, ap, subst, arith, add-one, set-set, get_or-set_same}
 use Rattle.std.proofs.lemmas.Bool.{cases_eq}
 use Rattle.z80_regs.specs.declared.regs.Regs.{Regs}
 use Rattle.z80_ext.specs.Instruction.{instruction, registers_after, actions_of}
@@ -17,9 +17,13 @@ use Rattle.mpm_kernel.specs.Kernel.{Kernel, dispatched}
 use Rattle.mpm_kernel.proofs.SoundLaws.{sound_devices, runner_lives}
 use Rattle.mpm_kernel.proofs.HomeLaws.{homes_stay}
 use Rattle.mpm_processor.specs.declared.gate.Gate.{Gate}
+use Rattle.mpm_banks.specs.Gates.{last_page, call_gate}
+use Rattle.mpm_banks.proofs.ActionLaws.{same_segments_after}
 use Rattle.mpm_processor.specs.Gates.{gate_of}
+use Rattle.mpm_processor.proofs.GateLaws.{page_stays}
 use Rattle.mpm_processor.specs.Moving.{View, instruction_in, moved, moves, CanMove}
 use Rattle.mpm_machine.specs.declared.system.System.{System}
+use Rattle.mpm_machine.specs.declared.ahead.Ahead.{Ahead}
 use Rattle.mpm_machine.specs.Gates.{is_inside}
 use Rattle.mpm_machine.specs.State.{State, Change, IsWhole, NobodyAborted, silent, NoCompletions}
 use Rattle.mpm_machine.specs.Serving.{with_regs}
@@ -28,20 +32,20 @@ use Rattle.mpm_machine.specs.FileCalls.{file_caller}
 use Rattle.mpm_machine.specs.Files.{AreWithin}
 use Rattle.mpm_machine.specs.Stepping.{Telling, begun_as, step_with}
 use Rattle.mpm_directories.specs.Direct.{Directly}
-use Rattle.mpm_bdos.specs.Serving.{Kept}
+use Rattle.mpm_bdos.specs.Serving.{Kept, StandForSome}
 use Rattle.mpm_service.specs.Disk.{DiskService}
-use Rattle.mpm_service.specs.Ahead.{passed_by}
+use Rattle.mpm_service.specs.Ahead.{passed_on, passed_by}
 use Rattle.mpm_kernel.proofs.DiskLaws.{sound_passed_by}
 use Rattle.mpm_machine.specs.After.{next, after, AreSteps}
 use Rattle.mpm_interrupts.specs.Interrupts.{due}
-use Rattle.mpm_machine.specs.Moving.{Moved, view_of, with_view, RunsOn, Quiet, CanPass}
+use Rattle.mpm_machine.specs.Moving.{Moved, view_of, with_view, RunsOn, RunsAhead, Quiet, CanPass}
 use Rattle.mpm_machine.proofs.HomeLaws.{KeepsHomes, keeps_itself, keeps_both, keeps_acted}
 use Rattle.mpm_machine.proofs.InstructedLaws.{runs_listed}
 use Rattle.mpm_machine.proofs.WholeLaws.{same_regs, whole_kernel, whole_memory, whole_regs, whole_steps}
 use Rattle.mpm_machine.proofs.FileStepLaws.{gateless, is_made_still}
 use Rattle.mpm_machine.proofs.PlainLaws.{plain_next, files_still}
 use Rattle.mpm_machine.proofs.QuietLaws.{none_comes, begun_quiet, step_quiet, picked_same}
-use Rattle.mpm_machine.proofs.PassingLaws.{Passes, still_ahead, passes_on, passes_nothing, fewer_pass, rest_still, none_before, within_on}
+use Rattle.mpm_machine.proofs.PassingLaws.{Passes, still_ahead, passes_on, passes_nothing, fewer_pass, fewer_can, can_pass_on, rest_still, none_before, within_on}
 
 -- a view that a process already has, and one after another
 
@@ -270,20 +274,20 @@ after_moves (suc n) s p seg below on each quiet passing within =
     ∙ next_view s p seg n view below on (each n (omega arith)) (quiet n (omega arith)) more within
     ∙ ap (λ count. record s { system = with_view s.system p (moved seg view) count }) (add-one n)
 
-steps_moves : (n : ℕ) (kept : Kept) (system : System) (p seg : ℕ) → IsWhole system → Lives system.kernel.dispatcher.procs p → p < length system.kernel.dispatcher.procs.processes
+steps_moves : (n : ℕ) (kept : Kept) (system : System) (p seg : ℕ) → StandForSome kept.mounted → IsWhole system → Lives system.kernel.dispatcher.procs p → p < length system.kernel.dispatcher.procs.processes
     → RunsOn system p seg → ((k : ℕ) → k < n → CanMove (is_inside system.kernel.dispatcher.procs p) seg (moves k seg (view_of system p))) → Quiet n system
     → CanPass n system.kernel.disk → AreSteps n kept kept system (silent (with_view system p (moves n seg (view_of system p)) n))
 unfolding moves AreSteps
-steps_moves zero kept system p seg w h below on each quiet passing = (refl, ap silent (view_itself system p))
-steps_moves (suc n) kept system p seg w h below on each quiet passing =
+steps_moves zero kept system p seg stand w h below on each quiet passing = (refl, ap silent (view_itself system p))
+steps_moves (suc n) kept system p seg stand w h below on each quiet passing =
     let view = moves n seg (view_of system p) in
     let here = with_view system p view n in
     let one = with_view system p (moved seg view) (n + 1) in
     let can = each n (omega arith) in
     let more : CanPass (n + 1) system.kernel.disk = subst (λ (k : ℕ). CanPass k system.kernel.disk) (sym (add-one n)) passing in
-    let first = steps_moves n kept system p seg w h below on (λ k less. each k (omega (arith, less))) (λ k less. quiet k (omega (arith, less))) (fewer_pass n system.kernel.disk more) in
+    let first = steps_moves n kept system p seg stand w h below on (λ k less. each k (omega (arith, less))) (λ k less. quiet k (omega (arith, less))) (fewer_pass n system.kernel.disk more) in
     let alone = alone_view system p seg n view below on can in
-    let is = is_made_still kept here (silent one) (whole_view system p n view w h (keeps_moved n seg (view_of system p)))
+    let is = is_made_still kept here (silent one) stand (whole_view system p n view w h (keeps_moved n seg (view_of system p)))
     (handed_view system p n view on.no_completions) alone (λ told. passes_view told system p seg n view below on can (quiet n (omega arith)) more alone) (λ telling. sym (step_view telling system p seg n view below on can (quiet n (omega arith)) more alone)) in
     (kept, silent here, silent one, first, is, ap (λ count. silent (with_view system p (moved seg view) count)) (sym (add-one n)))
 
@@ -312,13 +316,13 @@ moved_state n p seg old new s w on moved quiet passing within is =
     after_moves n s p seg facts.0 facts.1 facts.2 facts.3 facts.4 facts.5 ∙ ap (λ system. record s { system = system }) whole
 
 -- and they are so many steps
-pub moved_steps : (n p seg : ℕ) (kept : Kept) (old new : System) → IsWhole old → RunsOn old p seg → Moved n p seg old new → Quiet n old → CanPass n old.kernel.disk
+pub moved_steps : (n p seg : ℕ) (kept : Kept) (old new : System) → StandForSome kept.mounted → IsWhole old → RunsOn old p seg → Moved n p seg old new → Quiet n old → CanPass n old.kernel.disk
     → AreSteps n kept kept old (silent new)
-moved_steps n p seg kept old new w on moved quiet passing =
+moved_steps n p seg kept old new stand w on moved quiet passing =
     let lives = runner_lives old.kernel p w.sound on.running in
     let below : p < length old.kernel.dispatcher.procs.processes = omega (arith, w.sound.slots.processes, lives_below old.kernel.dispatcher.procs p w.sound.slots lives) in
     subst (λ system. AreSteps n kept kept old (silent system)) (sym (moved.is ∙ ap (λ v. with_view old p v n) moved.moves.is))
-    (steps_moves n kept old p seg w lives below on moved.moves.each quiet passing)
+    (steps_moves n kept old p seg stand w lives below on moved.moves.each quiet passing)
 
 -- the disk's steps passed in them
 pub moved_disk : (n p seg : ℕ) (old new : System) → Moved n p seg old new → new.kernel.disk ≡ passed_by n old.kernel.disk
@@ -344,3 +348,61 @@ steps_moved n p seg old new moved = ap (λ (system : System). system.steps) move
 
 pub no_completions_moved : (n p seg : ℕ) (old new : System) → Moved n p seg old new → NoCompletions old → NoCompletions new
 no_completions_moved n p seg old new moved none = subst NoCompletions (sym moved.is) (handed_view old p n moved.view none)
+
+-- the gates stay where they are
+page_moves : (n seg : ℕ) (view : View) → last_page (moves n seg view).memory seg ≡ last_page view.memory seg
+unfolding moves
+page_moves zero seg view = refl
+page_moves (suc n) seg view =
+    let before = moves n seg view in
+    page_stays before.memory _ seg (same_segments_after (actions_of (instruction_in seg before)) seg before.memory) ∙ page_moves n seg view
+
+page_moved : (n p seg : ℕ) (old new : System) → Moved n p seg old new → last_page new.memory seg ≡ last_page old.memory seg
+unfolding with_view
+page_moved n p seg old new moved =
+    ap (λ (s : System). last_page s.memory seg) moved.is ∙ ap (λ (v : View). last_page v.memory seg) moved.moves.is ∙ page_moves n seg (view_of old p)
+
+-- what lies ahead still does behind them
+pub ahead_moved : (n : ℕ) (ahead : Ahead) (old new : System) → IsWhole old → n ≤ ahead.last - old.steps → Moved n ahead.p ahead.seg old new → RunsAhead ahead old
+    → RunsAhead ahead new
+unfolding with_view passed_by
+ahead_moved n ahead old new w few moved here =
+    let p = ahead.p in
+    let seg = ahead.seg in
+    let on = here.on in
+    let below : p < length old.kernel.dispatcher.procs.processes =
+    omega (arith, w.sound.slots.processes, lives_below old.kernel.dispatcher.procs p w.sound.slots (runner_lives old.kernel p w.sound on.running)) in
+    let count = steps_moved n p seg old new moved in
+    let disk = moved_disk n p seg old new moved in
+    let left = ahead.last - new.steps in
+    record {
+      on = record {
+        running = ap (λ (s : System). s.kernel.dispatcher.running) moved.is ∙ on.running;
+        first = ap (λ (s : System). first_of (list_at s.kernel.dispatcher.lists ready)) moved.is ∙ on.first;
+        home = ap (λ (s : System). (process_in s.kernel.dispatcher.procs p).seg) moved.is
+            ∙ ap (λ (process : Process). process.seg) (regs_of_view old p n moved.view below) ∙ on.home;
+        no_completions = no_completions_moved n p seg old new moved on.no_completions;
+        none_deferred = ap (λ (s : System). s.abort_deferred) moved.is ∙ on.none_deferred;
+        settled = moved_settled n p seg old new w on moved;
+      };
+      quiet = λ step within later. ap (λ (s : System). due step s.interrupts) moved.is ∙ here.quiet step within (omega (arith, later, count));
+      passing = subst (λ (d : DiskService). CanPass left d) (sym disk)
+          (can_pass_on n left old.kernel.disk (fewer_can (n + left) (ahead.last - old.steps) old.kernel.disk (omega (arith, few, count)) here.passing));
+      alone = λ told.
+          (ap (λ (d : DiskService). d.served) disk ∙ ap (option_map (passed_on n)) (here.alone told).0, ap (λ (d : DiskService). first_of d.waiting) disk ∙ (here.alone told).1);
+      gate = here.gate ∙ ap (λ (page : ℕ). 256 * page + call_gate) (sym (page_moved n p seg old new moved));
+    }
+
+pub quiet_ahead : (n : ℕ) (ahead : Ahead) (system : System) → n ≤ ahead.last - system.steps → RunsAhead ahead system → Quiet n system
+quiet_ahead n ahead system few here = λ k below. here.quiet (system.steps + k + 1) (omega (arith, few, below)) (omega arith)
+
+-- where it is told, or not
+
+pub ahead_is : (told : Option Ahead) (ahead : Ahead) (system : System) → told ≡ Some ahead → IfSome told (λ (a : Ahead). RunsAhead a system) → RunsAhead ahead system
+ahead_is told ahead system is here = subst (λ (o : Option Ahead). IfSome o (λ (a : Ahead). RunsAhead a system)) is here
+
+pub told_ahead : (told : Option Ahead) (ahead : Ahead) (system : System) → told ≡ Some ahead → RunsAhead ahead system → IfSome told (λ (a : Ahead). RunsAhead a system)
+told_ahead told ahead system is here = subst (λ (o : Option Ahead). IfSome o (λ (a : Ahead). RunsAhead a system)) (sym is) here
+
+pub none_ahead : (told : Option Ahead) (system : System) → told ≡ None → IfSome told (λ (a : Ahead). RunsAhead a system)
+none_ahead told system is = subst (λ (o : Option Ahead). IfSome o (λ (a : Ahead). RunsAhead a system)) (sym is) tt

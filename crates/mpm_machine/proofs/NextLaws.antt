@@ -31,6 +31,10 @@ pub after_nothing : (s : State) → after 0 s ≡ s
 unfolding after
 after_nothing s = refl
 
+pub after_one : (s : State) → after 1 s ≡ next s
+unfolding after
+after_one s = refl
+
 pub after_more : (n : ℕ) (s : State) → after (n + 1) s ≡ next (after n s)
 unfolding after
 after_more n s = ap (λ m. after m s) (add-one n)
@@ -179,26 +183,26 @@ run_both {kept} {between} {kept'} m n o p q old middle new one two = record {
 pub run_silent : {kept kept' : Kept} (n : ℕ) (o : Outside) (old new : System) → AreSteps n kept kept' old (silent new) → HasRun n kept kept' o o old new
 run_silent n o old new are = record { emitted = []; steps = are; wrote = wrote_nothing o }
 
-run_step : {kept kept' : Kept} (o p : Outside) (old new : System) → HasStepped kept kept' o p old new → HasRun 1 kept kept' o p old new
+pub run_step : {kept kept' : Kept} (o p : Outside) (old new : System) → HasStepped kept kept' o p old new → HasRun 1 kept kept' o p old new
 run_step {kept} {kept'} o p old new one =
     record { emitted = one.emitted; steps = are_steps_one kept kept' old (record { system = new; emitted = one.emitted }) one.is; wrote = one.wrote }
 
--- some that wrote nothing, and one more
-pub run_and_step : {kept between kept' : Kept} (n : ℕ) (o p : Outside) (old middle new : System) → AreSteps n kept between old (silent middle)
-    → HasStepped between kept' o p middle new → HasRun (n + 1) kept kept' o p old new
-run_and_step n o p old middle new are one = run_both n 1 o o p old middle new (run_silent n o old middle are) (run_step o p middle new one)
+-- some, and one more
+pub run_and_step : {kept between kept' : Kept} (n : ℕ) (o p q : Outside) (old middle new : System) → HasRun n kept between o p old middle
+    → HasStepped between kept' p q middle new → HasRun (n + 1) kept kept' o q old new
+run_and_step n o p q old middle new ran one = run_both n 1 o p q old middle new ran (run_step p q middle new one)
 
--- some that wrote nothing, and one that stopped; and some before these
-pub stopped_in_step : {kept : Kept} (n done : ℕ) (fault : StepFault) (step : ℕ) (between : Kept) (o p : Outside) (old middle : System) → done < n → step ≡ old.steps + done + 1
-    → AreSteps done kept between old (silent middle) → HasStopped fault between o p middle → HasStoppedIn n fault step kept o p old
-stopped_in_step n done fault step between o p old middle few is are stops = record {
+-- some, and one that stopped; and some before these
+pub stopped_in_step : {kept : Kept} (n done : ℕ) (fault : StepFault) (step : ℕ) (between : Kept) (o p q : Outside) (old middle : System) → done < n → step ≡ old.steps + done + 1
+    → HasRun done kept between o p old middle → HasStopped fault between p q middle → HasStoppedIn n fault step kept o q old
+stopped_in_step n done fault step between o p q old middle few is ran stops = record {
   done = done;
   few = few;
   is = is;
   middle = middle;
   kept_then = between;
-  between = o;
-  ran = run_silent done o old middle are;
+  between = p;
+  ran = ran;
   stops = stops;
 }
 

@@ -6,6 +6,11 @@ use Rattle.mpm_base.specs.Lists.{is_among}
 use Rattle.mpm_base.specs.Calls.{Taken, answering}
 use Rattle.mpm_base.specs.declared.functions.TheConstants.{CONSOLE_OUTPUT, RAW_CONSOLE_OUTPUT, LIST_OUTPUT, DIRECT_CONSOLE_IO, PRINT_STRING, CALL_RESIDENT_SYSTEM_PROCEDURE, RETURN_VERSION_NUMBER, RETURN_CURRENT_DISK, SET_DMA_ADDRESS, SET_GET_USER_CODE, SET_MULTI_SECTOR_COUNT, SET_BDOS_ERROR_MODE, RETURN_MPM_VERSION_NUMBER}
 use Rattle.mpm_banks.specs.Memory.{Memory, byte_at}
+use Rattle.z80_regs.specs.Words.{word_of}
+use Rattle.mpm_gate.specs.Calls.{block_read, bytes_read}
+use Rattle.mpm_gate.specs.Reads.{reads_of}
+use Rattle.mpm_gate.specs.declared.reads.Reads.{Reads}
+use Rattle.mpm_gate.specs.declared.reads.Reads.TheVariants.{Registers}
 use Rattle.mpm_gate.specs.Replies.{answered, placed, returned}
 use Rattle.mpm_gate.proofs.WritingLaws.{written_none}
 use Rattle.mpm_functions.specs.Functions.{function_of, direct_of}
@@ -27,7 +32,7 @@ use Rattle.mpm_machine.specs.State.{Change, IsWhole, silent}
 use Rattle.mpm_machine.specs.Calling.{Served, served_by, calling}
 use Rattle.mpm_machine.specs.FileCalls.{is_of_files}
 use Rattle.mpm_machine.specs.Serving.{asked, keeping, served, served_to_all, telling, string_of, after_echo, popped, replied, is_entry, with_entry, reply_at_entry, answering_call, fulfilling, completing, outcome_of, gate_step}
-use Rattle.mpm_machine.specs.OwnCalls.{is_own}
+use Rattle.mpm_machine.specs.OwnCalls.{is_own, asked_alone}
 use Rattle.mpm_machine.proofs.SayingLaws.{says_nothing}
 use Rattle.mpm_machine.proofs.WholeLaws.{keeps_call, same_regs}
 
@@ -69,6 +74,7 @@ pub record OwnRow (call : Taken) (p : ℕ) (kernel : Kernel) : Type 0 where
   pub changed : Process
   pub value : ℕ
   pub is : call_done call p (process_in kernel.dispatcher.procs p) kernel ≡ valued value (with_changed kernel p changed)
+  pub home : changed.seg ≡ (process_in kernel.dispatcher.procs p).seg
 
 unchanged : (value p : ℕ) (kernel : Kernel) → valued value kernel ≡ valued value (with_changed kernel p (process_in kernel.dispatcher.procs p))
 unchanged value p kernel = ap (valued value) (sym (same_regs kernel p))
@@ -78,13 +84,13 @@ unfolding call_done
 own_row call p kernel is =
     let process = process_in kernel.dispatcher.procs p in
     own_each (λ f. OwnRow (record call { function = f }) p kernel) call.function is
-    (record { changed = process; value = version; is = unchanged version p kernel })
-    (record { changed = process; value = process.drive; is = unchanged process.drive p kernel })
-    (record { changed = record process { dma = call.word }; value = 0; is = refl })
-    (record { changed = with_user (low_parameter call) process; value = user_value (low_parameter call) process; is = refl })
-    (record { changed = with_multi (low_parameter call) process; value = multi_value (low_parameter call); is = refl })
-    (record { changed = record process { error_mode = low_parameter call }; value = 0; is = refl })
-    (record { changed = process; value = version; is = unchanged version p kernel })
+    (record { changed = process; value = version; is = unchanged version p kernel; home = refl })
+    (record { changed = process; value = process.drive; is = unchanged process.drive p kernel; home = refl })
+    (record { changed = record process { dma = call.word }; value = 0; is = refl; home = refl })
+    (record { changed = with_user (low_parameter call) process; value = user_value (low_parameter call) process; is = refl; home = refl })
+    (record { changed = with_multi (low_parameter call) process; value = multi_value (low_parameter call); is = refl; home = refl })
+    (record { changed = record process { error_mode = low_parameter call }; value = 0; is = refl; home = refl })
+    (record { changed = process; value = version; is = unchanged version p kernel; home = refl })
 
 -- of those that are left, both answer the version
 pub version_row : (call : Taken) (p : ℕ) (process : Process) (kernel : Kernel) → is_own call.function ≡ true → call.function ≢ RETURN_CURRENT_DISK
@@ -160,6 +166,38 @@ pub asks_own : (p seg : ℕ) (system : System) → is_own (process_in system.ker
 unfolding asked Rattle.mpm_gate.specs.Calls.taken_call
 asks_own p seg system is = is
 
+pub asked_function : (p seg : ℕ) (system : System) → (process_in system.kernel.dispatcher.procs p).regs.c ≡ (asked p seg system).function
+unfolding asked Rattle.mpm_gate.specs.Calls.taken_call
+asked_function p seg system = refl
+
+pub asked_word : (p seg : ℕ) (system : System)
+    → word_of (process_in system.kernel.dispatcher.procs p).regs.e (process_in system.kernel.dispatcher.procs p).regs.d ≡ (asked p seg system).word
+unfolding asked Rattle.mpm_gate.specs.Calls.taken_call
+asked_word p seg system = refl
+
+-- and reads registers alone
+own_reads : (f : ℕ) → is_own f ≡ true → reads_of f ≡ Registers
+unfolding reads_of
+own_reads f is = own_each (λ n. reads_of n ≡ Registers) f is refl refl refl refl refl refl refl
+
+pub asks_alone : (p seg : ℕ) (system : System) → is_own (process_in system.kernel.dispatcher.procs p).regs.c ≡ true → asked_alone p system ≡ asked p seg system
+unfolding asked Rattle.mpm_gate.specs.Calls.taken_call Rattle.mpm_gate.specs.Calls.block_read Rattle.mpm_gate.specs.Calls.bytes_read
+asks_alone p seg system is =
+    let process = process_in system.kernel.dispatcher.procs p in
+    let word = word_of process.regs.e process.regs.d in
+    let memory = byte_at system.memory seg in
+    ap (λ (reads : Reads). let call : Taken = record {
+      function = process.regs.c;
+      word = word;
+      dma = process.dma;
+      fcb = block_read reads word memory;
+      bytes = bytes_read reads word process.dma process.multi memory;
+    } in call) (sym (own_reads process.regs.c is))
+
+pub keeps_own : (p seg : ℕ) (old kept : System) → is_own (process_in old.kernel.dispatcher.procs p).regs.c ≡ true → kept ≡ keeping p (asked_alone p old) old
+    → kept ≡ keeping p (asked p seg old) old
+keeps_own p seg old kept is was = was ∙ ap (λ (call : Taken). keeping p call old) (asks_alone p seg old is)
+
 still_nobody : (p : ℕ) (call : Taken) (system : System) → system.kernel.dispatcher.completed ≡ [] → (keeping p call system).kernel.dispatcher.completed ≡ []
 unfolding keeping
 still_nobody p call system nobody = nobody
@@ -205,8 +243,3 @@ unfolding replied
 lives_on call value p seg system h =
     let process = process_in system.kernel.dispatcher.procs p in
     lives_changed system.kernel.dispatcher.procs p p (record process { regs = answered value process.regs }) ∙ h
-
-pub lives_told : (call : Taken) (value p seg : ℕ) (gone told : System) → Lives gone.kernel.dispatcher.procs p → told ≡ replied (answering value) call p seg gone
-    → Lives told.kernel.dispatcher.procs p
-lives_told call value p seg gone told h is =
-    let P : System → Type 0 = λ system. Lives system.kernel.dispatcher.procs p in subst P (sym is) (lives_on call value p seg gone h)

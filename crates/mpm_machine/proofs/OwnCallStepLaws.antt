@@ -1,12 +1,19 @@
 -- The step that is nothing but a call that concerns its caller alone.
-use Rattle.std.proofs.Common.{◌≡◌, ◌∙◌, ℕ, ◌+◌, ◌<◌, true, false, not, ◌&&◌, if◌then◌else◌, List, [], ◌∷◌, ◌++◌, Option, Some, None, IfSome, is_some, option_map, inr, refl, sym, ap, subst, Bool}
-use Rattle.std.proofs.lemmas.Option.{none-some}
+use Rattle.std.proofs.Common.{◌≡◌, ◌∙◌, ℕ, ◌+◌, ◌-◌, ◌*◌, ◌<◌, true, false, not, ◌&&◌, if◌then◌else◌, List, [], ◌∷◌, ◌++◌, Option, Some, None, IfSome, is_some, option_map, refl, sym, ap, subst, arith, Bool}
 use Rattle.mpm_port.specs.Disks.{Disks}
+use Rattle.mpm_port.specs.Texts.{appended}
 use Rattle.mpm_base.specs.Calls.{answering, Taken, Answer}
 use Rattle.mpm_ready.specs.Order.{first_of}
+use Rattle.mpm_ready.specs.Tables.{list_at}
 use Rattle.mpm_procs.specs.Table.{process_in, Lives, call_of, with_process}
+use Rattle.mpm_interrupts.specs.Interrupts.{due}
+use Rattle.mpm_banks.specs.Memory.{Memory, byte_at}
+use Rattle.mpm_banks.specs.Gates.{last_page, call_gate}
+use Rattle.mpm_processor.proofs.GateLaws.{calls_there}
+use Rattle.mpm_machine.specs.Gates.{is_inside}
+use Rattle.mpm_gate.specs.Replies.{answered, returned}
 use Rattle.mpm_processor.specs.declared.gate.Gate.{Gate}
-use Rattle.mpm_dispatcher.specs.Dispatch.{first_completed}
+use Rattle.mpm_dispatcher.specs.Dispatch.{ready, first_completed}
 use Rattle.mpm_service.specs.declared.service.Served.{Served}
 use Rattle.mpm_service.specs.Disk.{DiskService, turned, turn_answer}
 use Rattle.mpm_service.specs.Ahead.{passed_on, passed_by, quiet_by, quiet_steps}
@@ -14,18 +21,20 @@ use Rattle.mpm_kernel.specs.Kernel.{Kernel, with_changed}
 use Rattle.mpm_kernel.specs.Called.{Called, valued}
 use Rattle.mpm_kernel.specs.Calls.{call_done}
 use Rattle.mpm_kernel.proofs.SoundLaws.{runner_lives}
+use Rattle.mpm_kernel.proofs.Beside.{field_kept}
 use Rattle.mpm_render.specs.Completions.{Completion}
-use Rattle.mpm_render.specs.Outputs.{Completed}
+use Rattle.mpm_render.specs.Outputs.{Output, Completed}
+use Rattle.mpm_render.proofs.Laws.{pending_completed, rendered_unasked}
 use Rattle.mpm_output.specs.Outside.{Outside}
-use Rattle.mpm_output.specs.Writing.{Wrote, Stopped}
+use Rattle.mpm_output.specs.Writing.{Wrote}
 use Rattle.mpm_directories.specs.Direct.{Directly}
-use Rattle.mpm_bdos.specs.Serving.{Kept}
+use Rattle.mpm_bdos.specs.Serving.{Kept, StandForSome}
 use Rattle.mpm_procs.specs.declared.process.Process.{Process}
 use Rattle.mpm_procs.proofs.MapLaws.{lives_changed}
 use Rattle.mpm_machine.specs.declared.system.System.{System}
-use Rattle.mpm_machine.specs.declared.machine.StepFault.TheVariants.{WriteFault}
-use Rattle.mpm_machine.specs.State.{Change, IsWhole, silent}
-use Rattle.mpm_machine.specs.Files.{Files, Between, Within, AreWithin, StandsServed, StandsWorkedBy, StandsForFiles, StandsWorked}
+use Rattle.mpm_machine.specs.declared.ahead.Ahead.{Ahead}
+use Rattle.mpm_machine.specs.State.{Change, IsWhole, NobodyAborted, silent}
+use Rattle.mpm_machine.specs.Files.{Files, AreWithin, StandsForFiles}
 use Rattle.mpm_machine.specs.Holding.{HoldsDrives}
 use Rattle.mpm_machine.specs.Serving.{asked, keeping, popped, replied, recorded, completion, answering_call, gate_step}
 use Rattle.mpm_machine.specs.Finishing.{all_answered}
@@ -34,24 +43,21 @@ use Rattle.mpm_machine.specs.Step.{acted, begun_by, instruction_unless, coming, 
 use Rattle.mpm_machine.specs.DiskStep.{step_passed}
 use Rattle.mpm_machine.specs.Stepping.{Telling, begun_with, begun_alone, begun_as, is_instruction, rest_of, step_with, told_first, telling_of, before_disk, files_begun_by, files_begun, files_rest, stepped}
 use Rattle.mpm_machine.specs.Contained.{Calls}
-use Rattle.mpm_machine.specs.Moving.{CanPass, is_still}
-use Rattle.mpm_machine.specs.OwnCalls.{MakesOwnCall, with_own_call}
-use Rattle.mpm_machine.specs.Failing.{HaveImagesOf, StopsOn}
-use Rattle.mpm_machine.specs.After.{IsMadeUpon, HasStepped, HasSteppedTo, StopsBy, HasStopped}
+use Rattle.mpm_machine.specs.Moving.{CanPass, RunsAhead, is_still}
+use Rattle.mpm_machine.specs.OwnCalls.{is_own, MakesOwnCall, IsRecord, with_own_call}
+use Rattle.mpm_machine.specs.After.{IsMadeUpon, HasStepped, HasSteppedTo}
 use Rattle.mpm_machine.proofs.WholeLaws.{keeps_call}
 use Rattle.mpm_machine.proofs.ActedLaws.{whole_gate_step}
 use Rattle.mpm_machine.proofs.WholeStepLaws.{whole_counted}
 use Rattle.mpm_machine.proofs.FinishLaws.{answered_nobody}
 use Rattle.mpm_machine.proofs.QuietLaws.{none_comes, picked_same}
-use Rattle.mpm_machine.proofs.PassingLaws.{Passes, still_ahead, passes_on, passes_nothing, rest_recorded}
+use Rattle.mpm_machine.proofs.PassingLaws.{Passes, still_ahead, passes_on, passes_nothing, fewer_can, rest_recorded}
 use Rattle.mpm_machine.proofs.PlainLaws.{rest_leaves}
 use Rattle.mpm_machine.proofs.ServedLaws.{calls_at_gate, no_instruction}
 use Rattle.mpm_machine.proofs.FileStepLaws.{is_made_still}
 use Rattle.mpm_machine.proofs.StandingLaws.{stands_within}
 use Rattle.mpm_machine.proofs.BegunLaws.{keeps_alone, holds_kept}
-use Rattle.mpm_machine.proofs.BehindLaws.{rest_images}
-use Rattle.mpm_machine.proofs.TakeStepLaws.{write_stops}
-use Rattle.mpm_machine.proofs.OwnCallLaws.{OwnRow, own_row, no_file_function, asks_own, own_changed, own_at_gate}
+use Rattle.mpm_machine.proofs.OwnCallLaws.{OwnRow, own_row, no_file_function, asks_own, own_changed, own_at_gate, placed_in_memory}
 
 -- the disk, where no call is at it
 
@@ -202,31 +208,31 @@ own_step telling p seg system w makes =
 
 -- so it is one that the machine makes
 
-pub own_made : (kept : Kept) (p seg : ℕ) (system : System) → IsWhole system → (makes : MakesOwnCall p seg system) → IsMadeUpon kept kept system (with_own_call p seg system)
-own_made kept p seg system w makes =
-    is_made_still kept system (with_own_call p seg system) w makes.on.no_completions (own_alone p seg system makes)
+pub own_made : (kept : Kept) (p seg : ℕ) (system : System) → StandForSome kept.mounted → IsWhole system → (makes : MakesOwnCall p seg system) → IsMadeUpon kept kept system (with_own_call p seg system)
+own_made kept p seg system stand w makes =
+    is_made_still kept system (with_own_call p seg system) stand w makes.on.no_completions (own_alone p seg system makes)
     (λ told. subst (λ (c : Change). Passes c.system) (sym (own_begun told p seg system w makes)) (own_passes p seg system w makes))
     (λ telling. sym (own_step telling p seg system w makes))
 
-pub own_stepped : (kept : Kept) (o n : Outside) (p seg : ℕ) (old new : System) → IsWhole old → (makes : MakesOwnCall p seg old) → new ≡ (with_own_call p seg old).system
-    → Wrote o n (with_own_call p seg old).emitted → HasStepped kept kept o n old new
-own_stepped kept o n p seg old new w makes is wrote =
-    subst (λ (s : System). HasStepped kept kept o n old s) (sym is)
-    (record { emitted = (with_own_call p seg old).emitted; is = own_made kept p seg old w makes; wrote = wrote })
+-- where no record is asked for, that of a call comes out as nothing is written
 
-pub own_stopped : (kept : Kept) (o n : Outside) (p seg : ℕ) (old : System) → IsWhole old → (makes : MakesOwnCall p seg old) → Stopped o n (with_own_call p seg old).emitted
-    → HasStopped WriteFault kept o n old
-own_stopped kept o n p seg old w makes stopped =
-    let made = own_made kept p seg old w makes in
-    record {
-      change = with_own_call p seg old;
-      made = made.made;
-      begun = made.begun;
-      left = made.left;
-      as_kept = made.as_kept;
-      over_as_kept = inr made.over_as_kept;
-      text = stopped;
-    }
+pub own_wrote : (o : Outside) (emitted : List Output) → o.kept.trace ≡ false → IsRecord emitted → Wrote o o emitted
+own_wrote o emitted off is =
+    let call = is.0 in
+    subst (Wrote o o) (sym is.1) (record {
+      shown = λ outputs first shows. record {
+        lines = λ place there. shows.lines place there ∙ sym (pending_completed place call outputs);
+        written_is = shows.written_is ∙ ap (appended first) (sym (rendered_unasked o.kept.trace call outputs off));
+      };
+      faults = refl;
+      trace = refl;
+    })
+
+pub own_stepped : (kept : Kept) (o n : Outside) (p seg : ℕ) (old new : System) → StandForSome kept.mounted → IsWhole old → (makes : MakesOwnCall p seg old) → new ≡ (with_own_call p seg old).system
+    → Wrote o n (with_own_call p seg old).emitted → HasStepped kept kept o n old new
+own_stepped kept o n p seg old new stand w makes is wrote =
+    subst (λ (s : System). HasStepped kept kept o n old s) (sym is)
+    (record { emitted = (with_own_call p seg old).emitted; is = own_made kept p seg old stand w makes; wrote = wrote })
 
 -- by what is on the drives, which it leaves
 
@@ -275,33 +281,6 @@ own_stepped_to files o n p seg old new kept disks w makes is wrote stands =
       wrote = subst (λ (c : Change). Wrote o n c.emitted) (sym change) wrote;
       stands = subst (StandsForFiles new.kernel.disk kept disks) (sym (files_are p seg old files w makes (stands_within old.kernel.disk kept disks files stands))) behind;
     }
-
-pub own_stops_by : (files : Files) (o n : Outside) (p seg : ℕ) (old : System) → IsWhole old → (makes : MakesOwnCall p seg old) → Stopped o n (with_own_call p seg old).emitted
-    → StopsBy WriteFault o n (stepped old files).change.emitted
-own_stops_by files o n p seg old w makes stopped = subst (λ (c : Change). Stopped o n c.emitted) (sym (change_is p seg old files w makes)) stopped
-
--- no call is in service, so that no turn is worked on
-
-worked_idle : (turn_steps : ℕ) (served : Option Served) (kept : Kept) (disks : Option Disks) (files : Files) → served ≡ None → StandsServed served kept disks files
-    → StandsWorkedBy turn_steps served kept disks files
-worked_idle turn_steps None kept disks (Between filing) idle stands = stands
-worked_idle turn_steps None kept disks (Within s) idle stands = absurd stands
-worked_idle turn_steps (Some call) kept disks files idle stands = absurd (none-some call (sym idle))
-
-stands_behind : (p seg : ℕ) (old : System) (kept : Kept) (disks : Option Disks) (files : Files) (makes : MakesOwnCall p seg old) → StandsWorked old.kernel.disk kept disks files
-    → StandsWorked (behind_gate p seg old makes).kernel.disk kept disks files
-unfolding answering_call recorded replied popped keeping
-stands_behind p seg old kept disks files makes stands = stands
-
-pub own_images : (files : Files) (p seg : ℕ) (old : System) (kept : Kept) (disks : Option Disks) → IsWhole old → MakesOwnCall p seg old
-    → StandsForFiles old.kernel.disk kept disks files → HaveImagesOf (StopsOn WriteFault old files) disks kept.mounted
-own_images files p seg old kept disks w makes stands =
-    let worked : StandsWorked old.kernel.disk kept disks files =
-    record { stands = worked_idle old.kernel.disk.turn_steps old.kernel.disk.served kept disks files makes.idle stands.stands } in
-    let here = subst (StandsWorked (behind_gate p seg old makes).kernel.disk kept disks) (sym (begun_files p seg old files makes)) (stands_behind p seg old kept disks files makes worked) in
-    write_stops false files old (behind_gate p seg old makes) disks kept.mounted (sym (own_no_instruction p seg old makes))
-    (sym (ap (λ (c : Change). c.system) (before_is p seg old files w makes)))
-    (rest_images false (behind_gate p seg old makes) kept kept disks (files_begun old files) refl here)
 
 -- what holds of drives holds behind it
 
@@ -443,3 +422,91 @@ own_lives p seg old kept done w makes is was =
     ap (call_now p) is ∙ ap (λ (c : Taken). call_done c p (process_in first.kernel.dispatcher.procs p) first.kernel) k.call ∙ row.is in
     let P : System → Type 0 = λ system. Lives system.kernel.dispatcher.procs p in
     subst P (sym (was ∙ ap (λ (c : Called). record kept { kernel = c.kernel }) now)) (lives_changed first.kernel.dispatcher.procs p p row.changed ∙ k.lives)
+
+-- what lies ahead makes such a call
+
+pub makes_ahead : (ahead : Ahead) (system : System) → RunsAhead ahead system → ahead.alone ≡ true → system.steps < ahead.last
+    → is_own (process_in system.kernel.dispatcher.procs ahead.p).regs.c ≡ true → (process_in system.kernel.dispatcher.procs ahead.p).regs.pc ≡ ahead.gate → MakesOwnCall ahead.p ahead.seg system
+makes_ahead ahead system here alone before own at = record {
+  on = here.on;
+  gate = calls_there (is_inside system.kernel.dispatcher.procs ahead.p) (last_page system.memory ahead.seg) (process_in system.kernel.dispatcher.procs ahead.p).regs.pc (at ∙ here.gate);
+  function = own;
+  quiet = here.quiet (system.steps + 1) (omega (arith, before)) (omega arith);
+  idle = (here.alone alone).0;
+  nobody = (here.alone alone).1;
+}
+
+-- and still lies ahead behind it: the call leaves the lists, who runs, the disk, what is due and who owes
+
+pub record LeavesOthers (old new : System) : Type 0 where
+  pub running : new.kernel.dispatcher.running ≡ old.kernel.dispatcher.running
+  pub first : first_of (list_at new.kernel.dispatcher.lists ready) ≡ first_of (list_at old.kernel.dispatcher.lists ready)
+  pub completed : new.kernel.dispatcher.completed ≡ old.kernel.dispatcher.completed
+  pub disk : new.kernel.disk ≡ old.kernel.disk
+  pub owed : new.owed ≡ old.owed
+  pub deferred : new.abort_deferred ≡ old.abort_deferred
+  pub events : (step : ℕ) → due step new.interrupts ≡ due step old.interrupts
+  pub steps : new.steps ≡ old.steps + 1
+  pub memory : new.memory ≡ old.memory
+
+leaves_so : (value : ℕ) (changed : Process) (p seg : ℕ) (old : System) → LeavesOthers old (behind_so value changed p seg (counted old))
+unfolding answering_call recorded replied popped keeping
+leaves_so value changed p seg old =
+    record {
+      running = refl;
+      first = refl;
+      completed = refl;
+      disk = refl;
+      owed = refl;
+      deferred = refl;
+      events = λ step. refl;
+      steps = refl;
+      memory = sym (placed_in_memory value (asked p seg (counted old)).word seg old.memory);
+    }
+
+home_so : (value : ℕ) (changed : Process) (p seg : ℕ) (begun : System) → IsWhole begun → Lives begun.kernel.dispatcher.procs p
+    → changed.seg ≡ (process_in (keeping p (asked p seg begun) begun).kernel.dispatcher.procs p).seg
+    → (process_in (behind_so value changed p seg begun).kernel.dispatcher.procs p).seg ≡ (process_in begun.kernel.dispatcher.procs p).seg
+unfolding answering_call recorded replied popped
+home_so value changed p seg begun w h same =
+    let kept = keeping p (asked p seg begun) begun in
+    let done = own_changed p changed kept in
+    let gone = popped p seg done in
+    let home : Process → Option ℕ = λ process. process.seg in
+    let before = process_in done.kernel.dispatcher.procs p in
+    let behind = process_in gone.kernel.dispatcher.procs p in
+    field_kept home gone.kernel.dispatcher.procs p p (record behind { regs = answered value behind.regs }) refl
+    ∙ field_kept home done.kernel.dispatcher.procs p p (record before { regs = returned (byte_at done.memory seg) before.regs }) refl
+    ∙ field_kept home kept.kernel.dispatcher.procs p p changed same
+    ∙ (keeps_call p (asked p seg begun) begun w h).home
+
+pub ahead_called : (ahead : Ahead) (old new : System) → IsWhole old → MakesOwnCall ahead.p ahead.seg old → new ≡ (with_own_call ahead.p ahead.seg old).system
+    → RunsAhead ahead old → RunsAhead ahead new
+ahead_called ahead old new w makes is here =
+    let p = ahead.p in
+    let seg = ahead.seg in
+    let row = row_of p seg old makes in
+    let out : new ≡ (records_out (behind_gate p seg old makes)).system = is ∙ ap (λ (c : Change). c.system) (gate_out p seg old w makes) in
+    let leaves = leaves_so row.value row.changed p seg old in
+    let disk : new.kernel.disk ≡ old.kernel.disk = ap (λ (s : System). s.kernel.disk) out ∙ leaves.disk in
+    let count : new.steps ≡ old.steps + 1 = ap (λ (s : System). s.steps) out ∙ leaves.steps in
+    record {
+      on = record {
+        running = ap (λ (s : System). s.kernel.dispatcher.running) out ∙ leaves.running ∙ here.on.running;
+        first = ap (λ (s : System). first_of (list_at s.kernel.dispatcher.lists ready)) out ∙ leaves.first ∙ here.on.first;
+        home = ap (λ (s : System). (process_in s.kernel.dispatcher.procs p).seg) out
+            ∙ home_so row.value row.changed p seg (counted old) (whole_counted old w) (runner_lives old.kernel p w.sound here.on.running) row.home ∙ here.on.home;
+        no_completions = record {
+          answered = ap (λ (s : System). s.kernel.dispatcher.completed) out ∙ leaves.completed ∙ here.on.no_completions.answered;
+          written = ap (λ (s : System). s.records) out;
+          paid = λ idle. ap (λ (s : System). s.owed) out ∙ leaves.owed ∙ here.on.no_completions.paid makes.idle;
+        };
+        none_deferred = ap (λ (s : System). s.abort_deferred) out ∙ leaves.deferred ∙ here.on.none_deferred;
+        settled = subst (λ (s : System). NobodyAborted s.kernel) (sym out) ((whole_behind p seg old w makes).settled (leaves.deferred ∙ here.on.none_deferred));
+      };
+      quiet = λ step within later. ap (λ (s : System). due step s.interrupts) out ∙ leaves.events step ∙ here.quiet step within (omega (arith, later, count));
+      passing = subst (λ (d : DiskService). CanPass (ahead.last - new.steps) d) (sym disk)
+          (fewer_can (ahead.last - new.steps) (ahead.last - old.steps) old.kernel.disk (omega (arith, count)) here.passing);
+      alone = λ told. (ap (λ (d : DiskService). d.served) disk ∙ makes.idle, ap (λ (d : DiskService). first_of d.waiting) disk ∙ makes.nobody);
+      gate = here.gate ∙ ap (λ (memory : Memory). 256 * last_page memory seg + call_gate) (sym (ap (λ (s : System). s.memory) out ∙ leaves.memory));
+    }

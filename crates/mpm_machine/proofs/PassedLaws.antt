@@ -2,10 +2,9 @@
 use Rattle.std.proofs.Common.{◌≡◌, ◌∙◌, ℕ, ◌+◌, ◌<◌, ◌≤◌, Option, Some, None, IfSome, option_map, is_some, unwrap_or, refl, sym, ap, subst, arith}
 use Rattle.z80_regs.specs.declared.regs.Regs.{Regs}
 use Rattle.mpm_base.specs.Calls.{Taken}
-use Rattle.mpm_base.specs.declared.devices.Devices.{Devices}
 use Rattle.mpm_port.specs.Disks.{Disks}
 use Rattle.mpm_ready.specs.Order.{first_of}
-use Rattle.mpm_procs.specs.Table.{Table, Lives, process_in, with_process}
+use Rattle.mpm_procs.specs.Table.{Table, process_in, with_process}
 use Rattle.mpm_procs.specs.declared.process.Process.{Process}
 use Rattle.mpm_procs.proofs.MapLaws.{call_after}
 use Rattle.mpm_service.specs.Disk.{DiskService, HasBegun}
@@ -13,16 +12,14 @@ use Rattle.mpm_service.specs.Ahead.{quiet_by, quiet_steps, passed_on, passed_by}
 use Rattle.mpm_service.specs.Places.{at_disk}
 use Rattle.mpm_service.specs.declared.service.Served.{Served}
 use Rattle.mpm_service.proofs.PlaceLaws.{at_passed}
-use Rattle.mpm_kernel.specs.Kernel.{Kernel, IsSound}
+use Rattle.mpm_kernel.specs.Kernel.{Kernel}
 use Rattle.mpm_kernel.specs.Disk.{with_disk}
 use Rattle.mpm_machine.proofs.PassingLaws.{passes_nothing}
-use Rattle.mpm_kernel.proofs.SoundLaws.{sound_devices, sound_process}
 use Rattle.mpm_kernel.proofs.Beside.{field_kept}
 use Rattle.mpm_bdos.specs.Answering.{HasEntered}
 use Rattle.mpm_functions.specs.Functions.{function_of}
 use Rattle.mpm_bdos.specs.Serving.{Kept, InService}
 use Rattle.mpm_machine.specs.declared.system.System.{System}
-use Rattle.mpm_machine.specs.Serving.{with_regs}
 use Rattle.mpm_machine.specs.Holding.{IsOwn, HoldsDrives, CallsAlike}
 use Rattle.mpm_machine.specs.Moving.{CanPass, Moved, with_view, later}
 
@@ -53,12 +50,6 @@ pub later_none : (system : System) → system ≡ later system 0
 later_none system =
     ap (λ (disk : DiskService). record system { kernel = record system.kernel { disk = disk } }) (sym (passes_nothing system.kernel.disk))
     ∙ ap (λ (steps : ℕ). record system { steps = steps; kernel = with_disk (passed_by 0) system.kernel }) (omega arith)
-
--- the kernel is sound within them, as its steps aren't counted yet
-pub sound_within : (kernel : Kernel) (devices : Devices) (p : ℕ) (regs : Regs) → IsSound kernel → Lives kernel.dispatcher.procs p
-    → IsSound (with_regs (record kernel { devices = devices }) p regs)
-sound_within kernel devices p regs s h =
-    sound_process (record kernel { devices = devices }) p (record (process_in kernel.dispatcher.procs p) { regs = regs }) (sound_devices kernel devices s) h refl refl refl refl
 
 -- each process keeps its call, and its multi-sector count
 

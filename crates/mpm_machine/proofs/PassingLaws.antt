@@ -225,6 +225,19 @@ pub none_before : (served : Option Served) (n : ℕ) → option_map (passed_on n
 none_before None n is = refl
 none_before (Some call) n is = absurd (cc)
 
+-- behind some of them the others can pass
+pub can_pass_on : (n m : ℕ) (disk : DiskService) → CanPass (n + m) disk → CanPass m (passed_by n disk)
+unfolding passed_by
+can_pass_on n m disk can = record {
+  within = rest disk.served disk.turn_steps n m can.within;
+  nobody = λ some idle. can.nobody (omega (arith, some)) (none_before disk.served n idle);
+}
+  where
+    rest : (served : Option Served) (turn_steps n m : ℕ) → IfSome served (λ call. call.passed + (n + m) < turn_steps)
+        → IfSome (option_map (passed_on n) served) (λ call. call.passed + m < turn_steps)
+    rest None turn_steps n m within = tt
+    rest (Some call) turn_steps n m within = omega (arith, within)
+
 pub within_on : (served : Option Served) (files : Files) (n : ℕ) → AreWithin served files → AreWithin (option_map (passed_on n) served) files
 within_on None (Between filing) n within = tt
 within_on None (Within s) n within = absurd within

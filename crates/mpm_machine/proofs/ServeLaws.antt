@@ -1,5 +1,6 @@
 -- The disk's step as the code makes it: a call that is over, and a step of the turn of the one in service.
 use Rattle.std.proofs.Common.{◌≡◌, ◌∙◌, ℕ, Bool, true, false, List, [], Option, Some, None, Result, Ok, Err, IfErr, IfSome, option_map, is_some, if◌then◌else◌, ◌==◌, inl, inr, length, arith, ◌+◌, ◌-◌, refl, sym, ap, subst}
+use Rattle.std.proofs.lemmas.Option.{none-some}
 use Rattle.std.specs.Prelude.{◌⊎◌, OnOk, OnErr, option_and_then}
 use Rattle.std.proofs.lemmas.Bool.{false≢true}
 use Rattle.std.proofs.lemmas.Result.{on_err_weaker, on_ok_weaker}
@@ -335,11 +336,8 @@ unfolding process_over
 none_over system more = nobody_over_by (served_process system.kernel.disk) (turn_answer system.kernel.disk) more
 
 -- a call in service that isn't over stays there
-none_or_some : (over : Option ℕ) (p : ℕ) → over ≡ Some p → over ≡ None → ⊥
-none_or_some over p some none = absurd (cc)
-
 pub last_is_over : (old : System) (p : ℕ) → turn_answer old.kernel.disk ≡ Work p true → process_over old ≡ None → ⊥
-last_is_over old p works none = none_or_some (process_over old) p (over_process old p works) none
+last_is_over old p works none = none-some p (sym none ∙ over_process old p works)
 
 never_last : (system : System) → process_over system ≡ None → IsNotLast (turn_answer system.kernel.disk)
 unfolding IsNotLast

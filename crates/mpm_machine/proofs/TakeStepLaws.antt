@@ -47,18 +47,20 @@ no_turn system none = ap (λ (call : Option Served). is_some call && is_work (tu
 
 -- and one that fails does
 
-pub turn_worked : (system : System) → (works_in_turn system ≡ false → ⊥) → does_work system ≡ true
+pub turn_worked : (system : System) → (works_in_turn system ≡ false → ⊥) → (works_in_turn system ≡ true) × (does_work system ≡ true)
 unfolding does_work
-turn_worked system never = or_right (works_at_once (file_caller system) system) (works_in_turn system) (true_from_ne_false (works_in_turn system) never)
+turn_worked system never =
+    let works = true_from_ne_false (works_in_turn system) never in (works, or_right (works_at_once (file_caller system) system) (works_in_turn system) works)
 
 no_sink : DiskFault ≡ WriteFault → ⊥
 no_sink is = absurd (cc)
 
-pub begun_worked : (fault : StepFault) (system : System) → (works_at_once (file_caller system) system ≡ false → fault ≡ WriteFault) → OnDiskFault fault (does_work system ≡ true)
+pub begun_worked : (fault : StepFault) (system : System) → (works_at_once (file_caller system) system ≡ false → fault ≡ WriteFault) → OnDiskFault fault ((works_at_once (file_caller system) system ≡ true) × (does_work system ≡ true))
 unfolding does_work
 begun_worked WriteFault system idle = tt
 begun_worked DiskFault system idle =
-    or_left (works_at_once (file_caller system) system) (works_in_turn system) (true_from_ne_false (works_at_once (file_caller system) system) (λ none. no_sink (idle none)))
+    let works = true_from_ne_false (works_at_once (file_caller system) system) (λ none. no_sink (idle none)) in
+    (works, or_left (works_at_once (file_caller system) system) (works_in_turn system) works)
 
 -- what it begins with fails only where the disk has no work
 

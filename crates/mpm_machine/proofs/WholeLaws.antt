@@ -1,6 +1,6 @@
 -- A whole system stays whole through what a process does: its instruction, its call, its end.
-use Rattle.mpm_mount.proofs.Ranges.{or_none}
 use Rattle.std.proofs.Common.{◌≡◌, ◌≢◌, ◌∙◌, ◌<◌, ℕ, ◌&&◌, ◌||◌, Bool, true, false, not, List, [], Option, Some, None, ◌==◌, if◌then◌else◌, refl, sym, ap, subst, IsNone, length, arith}
+use Rattle.std.proofs.Math.Bool.{or-false}
 use Rattle.std.proofs.lemmas.Bool.{false≢true, or_right, eq-eqb, or_parts}
 use Rattle.std.proofs.lemmas.List.{set-get_or}
 use Rattle.mpm_base.proofs.Choices.{either}
@@ -355,7 +355,7 @@ aborted_is stays waits p system resident e =
 
 pub ends_at_once : (p : ℕ) (system : System) → aborted_by false false p system ≡ ended p system
 unfolding ended
-ends_at_once p system = ap (λ b. record (ended p system) { abort_deferred = b }) (or_none system.abort_deferred)
+ends_at_once p system = ap (λ b. record (ended p system) { abort_deferred = b }) (or-false system.abort_deferred)
 
 pub abort_deferred_is : (p : ℕ) (system : System) → aborted_by false true p system ≡ record system { kernel = with_abort_due system.kernel p; abort_deferred = true }
 abort_deferred_is p system = ap (λ b. record system { kernel = with_abort_due system.kernel p; abort_deferred = b }) (or_right system.abort_deferred true refl)

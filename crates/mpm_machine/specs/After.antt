@@ -11,7 +11,7 @@ use Rattle.mpm_output.specs.Outside.{Outside}
 use Rattle.mpm_output.specs.Writing.{Wrote, Stopped}
 use Rattle.mpm_directories.specs.Direct.{Directly}
 use Rattle.mpm_bdos.specs.Jobs.{call_turns}
-use Rattle.mpm_bdos.specs.Serving.{Kept as Filed, StandEach, Serves, filing_of}
+use Rattle.mpm_bdos.specs.Serving.{Kept as Filed, StandEach, StandForSome, Serves, filing_of}
 use Rattle.mpm_bdos.specs.AtOnce.{IsJobless}
 use Rattle.mpm_bdos.specs.Turns.{TurnKeeps, has_work}
 use Rattle.mpm_residents.specs.declared.native.Native.{Native}
@@ -157,9 +157,11 @@ pub record IsMade (old : System) (change : Change) : Type 0 where
 -- upon what was kept of file calls, to what is kept then, by what is kept behind what it begins with, and what is left behind the turn of
 -- the call in service: what is done at once, and what is over, comes to its outcome as what was kept has it; the call that enters service
 -- is served by what is kept then; one in service that isn't over leaves what was kept, but for its turn; where no call is done at once, or
--- over, nothing else becomes of it; and behind that those give back who ended
+-- over, nothing else becomes of it; and behind that those give back who ended. There are images for which the directories stand that were
+-- kept
 pub record IsMadeUpon (kept kept' : Filed) (old : System) (change : Change) : Type 0 where
   pub made : IsMade old change
+  pub stand : StandForSome kept.mounted
   pub begun : Filed
   pub left : Filed
   pub as_kept : IsAsKept kept begun (file_caller old) made.step.telling.at_gate (made_in (file_caller old) old)
@@ -244,10 +246,11 @@ StopsBy DiskFault before behind emitted = behind ≡ before
 
 -- whatever the images are, a first part was written of the text of a step of the system, upon what was kept of file calls, with what its
 -- calls leave of that: what is done at once comes to its outcome as that has it, and so does what is over, where more was written than
--- what the step begins with
+-- what the step begins with; there are images for which the directories stand that were kept
 pub record IsMadeInPart (Text : List Output → Type 0) (kept : Filed) (old : System) : Type 0 where
   pub change : Change
   pub made : IsMade old change
+  pub stand : StandForSome kept.mounted
   pub begun : Filed
   pub left : Filed
   pub as_kept : IsAsKept kept begun (file_caller old) made.step.telling.at_gate (made_in (file_caller old) old)
@@ -262,10 +265,11 @@ HasJob kept (Some p) system =
     (function : FileFunction) (images : ℕ → List ℕ) (drives : List (Option Drive)) → function_of (call_of system.kernel.dispatcher.procs p).function ≡ Some function
     → IsJobless images kept.mounted (situation_of (filing_of kept drives) function p system) → ⊥
 
--- a step works on a drive, for a call that is done at once and has a job, or for the one in service, which has work
+-- a step works on a drive, for a call that is done at once and has a job, or for the one in service, of which a turn ends and which has work
 pub record WorksOnDrive (kept : Filed) (old : System) : Type 0 where
   pub works : does_work old ≡ true
-  pub job : HasJob kept (file_caller old) (made_in (file_caller old) old) ⊎ (has_work kept.service ≡ true)
+  pub job : ((works_at_once (file_caller old) old ≡ true) × HasJob kept (file_caller old) (made_in (file_caller old) old))
+      ⊎ ((works_in_turn old ≡ true) × (has_work kept.service ≡ true))
 
 -- so a step stopped: where a drive failed, it works on one, and nothing of it was written
 abbrev pub HasStopped : StepFault → Filed → Outside → Outside → System → Type 0

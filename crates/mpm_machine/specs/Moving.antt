@@ -1,7 +1,8 @@
 -- Steps that are instructions of the running process, and steps in which nothing is done.
-use Rattle.std.specs.Prelude.{◌≡◌, ℕ, ◌+◌, ◌<◌, Bool, true, false, Some, None, IfSome}
+use Rattle.std.specs.Prelude.{◌≡◌, ℕ, ◌+◌, ◌-◌, ◌*◌, ◌<◌, ◌≤◌, Bool, true, false, Option, Some, None, IfSome}
 use Rattle.mpm_ready.specs.Order.{first_of}
 use Rattle.mpm_ready.specs.Tables.{list_at}
+use Rattle.mpm_banks.specs.Gates.{last_page, call_gate}
 use Rattle.mpm_procs.specs.Table.{process_in}
 use Rattle.mpm_dispatcher.specs.Dispatch.{ready}
 use Rattle.mpm_service.specs.declared.service.Turn.{Turn}
@@ -11,6 +12,7 @@ use Rattle.mpm_service.specs.Ahead.{passed_by}
 use Rattle.mpm_kernel.specs.Disk.{with_disk}
 use Rattle.mpm_processor.specs.Moving.{View, Moves}
 use Rattle.mpm_machine.specs.declared.system.System.{System}
+use Rattle.mpm_machine.specs.declared.ahead.Ahead.{Ahead}
 use Rattle.mpm_machine.specs.State.{NoCompletions, NobodyAborted}
 use Rattle.mpm_machine.specs.Gates.{is_inside}
 use Rattle.mpm_interrupts.specs.Interrupts.{due}
@@ -54,6 +56,19 @@ pub record RunsOn (system : System) (p seg : ℕ) : Type 0 where
   pub no_completions : NoCompletions system
   pub none_deferred : system.abort_deferred ≡ false
   pub settled : NobodyAborted system.kernel
+
+-- what lies ahead: who runs, and in which segment, in the steps up to the last one that is told, in which no interrupt is due and the
+-- disk's only pass; where its calls are told to be alone, no call is at the disk. The segment's gate of calls is told too
+pub record RunsAhead (ahead : Ahead) (system : System) : Type 0 where
+  pub on : RunsOn system ahead.p ahead.seg
+  pub quiet : (step : ℕ) → step ≤ ahead.last → system.steps < step → due step system.interrupts ≡ None
+  pub passing : CanPass (ahead.last - system.steps) system.kernel.disk
+  pub alone : ahead.alone ≡ true → (system.kernel.disk.served ≡ None) × (first_of system.kernel.disk.waiting ≡ None)
+  pub gate : ahead.gate ≡ 256 * last_page system.memory ahead.seg + call_gate
+
+-- where calls are told to be alone, no record of them is asked for
+abbrev pub IsUntraced : Option Ahead → Bool → Type 0
+IsUntraced ahead traced = IfSome ahead (λ a. a.alone ≡ true → traced ≡ false)
 
 -- a system ran n instructions of a process
 pub record Moved (n p seg : ℕ) (old new : System) : Type 0 where

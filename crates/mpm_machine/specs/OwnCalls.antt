@@ -1,12 +1,16 @@
 -- A step that is nothing but a call that concerns its caller alone, which the running process makes: no event comes in it, no call is at
 -- the disk, no end by an abort is put off, and the process runs on. (MP/M II Programmer's Guide, functions 12 and 163, return version
 -- number; 25, return current disk; 26, set DMA address; 32, set or get user code; 44, set multi-sector count; 45, set BDOS error mode.)
-use Rattle.std.specs.Prelude.{◌≡◌, ℕ, ◌+◌, Bool, true, [], ◌∷◌, Some, None}
-use Rattle.mpm_base.specs.Lists.{is_among}
+use Rattle.std.specs.Prelude.{◌≡◌, ℕ, ◌+◌, Bool, true, List, [], ◌∷◌, Some, None}
+use Rattle.z80_regs.specs.Words.{word_of}
+use Rattle.mpm_base.specs.Calls.{Taken}
+use Rattle.mpm_base.specs.Lists.{is_among, zeros}
 use Rattle.mpm_base.specs.declared.functions.TheConstants.{RETURN_VERSION_NUMBER, RETURN_CURRENT_DISK, SET_DMA_ADDRESS, SET_GET_USER_CODE, SET_MULTI_SECTOR_COUNT, SET_BDOS_ERROR_MODE, RETURN_MPM_VERSION_NUMBER}
 use Rattle.mpm_ready.specs.Order.{first_of}
 use Rattle.mpm_procs.specs.Table.{process_in}
 use Rattle.mpm_interrupts.specs.Interrupts.{due}
+use Rattle.mpm_render.specs.Completions.{Completion}
+use Rattle.mpm_render.specs.Outputs.{Output, Completed}
 use Rattle.mpm_processor.specs.declared.gate.Gate.TheVariants.{Call}
 use Rattle.mpm_machine.specs.declared.system.System.{System}
 use Rattle.mpm_machine.specs.State.{Change}
@@ -21,6 +25,12 @@ is_own function =
     (RETURN_VERSION_NUMBER ∷ RETURN_CURRENT_DISK ∷ SET_DMA_ADDRESS ∷ SET_GET_USER_CODE ∷ SET_MULTI_SECTOR_COUNT ∷ SET_BDOS_ERROR_MODE
     ∷ RETURN_MPM_VERSION_NUMBER ∷ [])
 
+-- what such a call of a process takes: it reads registers alone
+abbrev pub asked_alone : ℕ → System → Taken
+asked_alone p system =
+    let process = process_in system.kernel.dispatcher.procs p in
+    record { function = process.regs.c; word = word_of process.regs.e process.regs.d; dma = process.dma; fcb = zeros 36; bytes = [] }
+
 pub record MakesOwnCall (p seg : ℕ) (system : System) : Type 0 where
   pub on : RunsOn system p seg
   pub gate : gate_before p seg system ≡ Some Call
@@ -28,6 +38,10 @@ pub record MakesOwnCall (p seg : ℕ) (system : System) : Type 0 where
   pub quiet : due (system.steps + 1) system.interrupts ≡ None
   pub idle : system.kernel.disk.served ≡ None
   pub nobody : first_of system.kernel.disk.waiting ≡ None
+
+-- the record of one completed call, and nothing else
+abbrev pub IsRecord : List Output → Type 0
+IsRecord emitted = (call : Completion) × (emitted ≡ Completed call ∷ [])
 
 -- the step is that of its gate, and its record comes out
 unfoldable pub with_own_call : ℕ → ℕ → System → Change

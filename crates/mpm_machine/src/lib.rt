@@ -2,6 +2,7 @@
 #![tactic(auto)]
 
 mod abort;
+mod ahead;
 mod call;
 mod disk;
 mod due;

@@ -389,12 +389,7 @@ impl Machine {
         ensures few { 0 < self.old.system.kernel.disk.turn_steps → steps.new ≤ steps.old + 20 }
         ensures turn_steps { OnOk result (self.new.system.kernel.disk.turn_steps ≡ self.old.system.kernel.disk.turn_steps) }
     {
-        if let Some((p, seg)) = self.system.makes_own_call() {
-            return match self.system.do_own_call(p, seg, render, sink) {
-                Ok(()) => Ok(()),
-                Err(Failed) => Err(StepFault::WriteFault),
-            };
-        }
+        self.bdos.tell_sound();
         if let Err(Failed) = work(&self.system, &mut self.bdos, drives, steps) {
             return Err(StepFault::DiskFault);
         }
@@ -511,7 +506,7 @@ impl Machine {
         ensures last_calls { 0 < self.old.system.kernel.disk.turn_steps → OnErr result (steps.new ≤ steps.old + 20 * most) }
         ensures turn_steps { OnOk result (self.new.system.kernel.disk.turn_steps ≡ self.old.system.kernel.disk.turn_steps) }
     {
-        let done = self.run_on(most);
+        let done = self.run_on(most, drives, render, sink);
         if done == most {
             return Ok(done);
         }
@@ -520,25 +515,5 @@ impl Machine {
             return Err(RunFault { step, fault });
         }
         Ok(done + 1)
-    }
-
-    /// Instructions of the running process, at most so many, each of which is a step. Answers how many were done.
-    #[inline(always)]
-    fn run_on(&mut self, most: u64) -> u64
-        requires whole { IsWhole self.old.system }
-        requires no_completions { NoCompletions self.old.system }
-        requires room { self.old.system.steps + most ≤ GREATEST_STEP }
-        ensures count { result ≤ most }
-        ensures states { (s : State) → s.system ≡ self.old.system → AreWithin self.old.system.kernel.disk.served s.files → after result s ≡ record s { system = self.new.system } }
-        ensures disk { self.new.system.kernel.disk ≡ passed_by result self.old.system.kernel.disk }
-        ensures calls { CallsAlike self.old.system.kernel.dispatcher.procs self.new.system.kernel.dispatcher.procs }
-        ensures steps { AreSteps result self.old.bdos self.new.bdos self.old.system (silent self.new.system) }
-        ensures due { 0 < result → NobodyDue self.new.system.kernel }
-        ensures whole { IsWhole self.new.system }
-        ensures no_completions { NoCompletions self.new.system }
-        ensures done { self.new.system.steps ≡ self.old.system.steps + result }
-        ensures bdos { self.new.bdos ≡ self.old.bdos }
-    {
-        self.system.run_on(most)
     }
 }

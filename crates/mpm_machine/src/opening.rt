@@ -1,4 +1,4 @@
-ghost use Rattle.std.specs.Prelude.{IfOk, ◌≡◌, ◌+◌, ◌*◌, ◌-◌, ◌≤◌, ◌<◌, false, Some, None, IsSome, [], length};
+ghost use Rattle.std.specs.Prelude.{IfOk, ◌≡◌, ◌+◌, ◌-◌, ◌≤◌, ◌<◌, false, Some, None, IsSome, [], length};
 ghost use Rattle.mpm_banks.specs.Memory.{HasSegment, segment_of};
 ghost use Rattle.mpm_procs.specs.Table.{lowest_free};
 ghost use Rattle.mpm_kernel.specs.Kernel.{IsSound, dispatched};

@@ -1,25 +1,17 @@
-ghost use Rattle.std.specs.Prelude.{◌≡◌, true, false, ◌∷◌, [], ◌≤◌, ◌<◌, ◌+◌, ℕ, None, IfSome, OnOk};
-ghost use Rattle.std.specs.Bool.{OnTrue};
+ghost use Rattle.std.specs.Prelude.{◌≡◌, true, ◌<◌, ℕ};
 ghost use Rattle.mpm_script.specs.declared.line.TheConstants.{GREATEST_STEP};
+ghost use Rattle.z80_regs.specs.Words.{word_of};
 ghost use Rattle.mpm_base.specs.Calls.{Taken, answering};
 ghost use Rattle.mpm_procs.specs.Table.{Lives, process_in, call_of};
-ghost use Rattle.mpm_ready.specs.Order.{first_of};
-ghost use Rattle.mpm_render.specs.Outputs.{Completed};
-ghost use Rattle.mpm_output.specs.Writing.{Writes};
 ghost use Rattle.mpm_machine.specs.OwnCalls.{is_own};
 
 use crate::system::System;
 use mpm_base::{Pid, Seg, functions};
-use mpm_port::{Failed, Sink};
-use mpm_processor::Gate;
-use mpm_render::Render;
-
-/// The version that functions 12 and 163 answer: MP/M II, whose file system is that of CP/M 3.
-const VERSION: u16 = 0x0130;
+use mpm_kernel::VERSION;
 
 /// Whether the call of a function concerns its caller alone: it reads and changes nothing else, and answers at once.
 #[inline(always)]
-fn is_own(function: u8) -> bool
+pub(crate) fn is_own(function: u8) -> bool
     ensures { result ≡ is_own function }
 {
     matches!(
@@ -36,90 +28,58 @@ fn is_own(function: u8) -> bool
 
 impl System {
     ghost use Rattle.mpm_kernel.specs.Calls.{call_done};
-    ghost use Rattle.mpm_interrupts.specs.Interrupts.{due};
-    ghost use Rattle.mpm_machine.specs.State.{IsWhole, NoCompletions};
-    ghost use Rattle.mpm_machine.specs.Serving.{replied, completion};
-    ghost use Rattle.mpm_machine.specs.OwnCalls.{MakesOwnCall, with_own_call};
+    ghost use Rattle.mpm_machine.specs.State.{IsWhole};
+    ghost use Rattle.mpm_machine.specs.Serving.{keeping, replied};
+    ghost use Rattle.mpm_machine.specs.OwnCalls.{MakesOwnCall, with_own_call, asked_alone, IsRecord};
 
-    /// The running process and its segment, where the next step is nothing but its call, which concerns it alone. What few steps are
-    /// is asked first.
+    /// The step that is nothing but the call of a process of a segment, which concerns it alone. No record comes out: none is asked for.
     #[inline(always)]
-    pub fn makes_own_call(&self) -> Option<(Pid, Seg)>
-        requires whole { IsWhole self.now }
-        requires no_completions { NoCompletions self.now }
-        ensures { IfSome result (λ at. MakesOwnCall at.0 at.1 self.now) }
-    {
-        let Some(p) = self.runner() else {
-            return None;
-        };
-        let Some(seg) = self.kernel.segment(p) else {
-            return None;
-        };
-        if !is_own(self.kernel.regs(p).c) || !self.is_undisturbed() {
-            return None;
-        }
-        match self.gate(p, seg) {
-            Some(Gate::Call) => Some((p, seg)),
-            Some(Gate::End) => None,
-            Some(Gate::Return) => None,
-            None => None,
-        }
-    }
-
-    /// Whether in the next step no event is due, no call is at the disk, and no end by an abort is put off.
-    #[inline(always)]
-    #[tactic(auto, using(crate::proofs::OwnCallStepLaws::nobody_served, crate::proofs::OwnCallStepLaws::nobody_waits))]
-    fn is_undisturbed(&self) -> bool
-        ensures off { OnTrue result (self.now.abort_deferred ≡ false) }
-        ensures quiet { OnTrue result (due (self.now.steps + 1) self.now.interrupts ≡ None) }
-        ensures idle { OnTrue result (self.now.kernel.disk.served ≡ None) }
-        ensures nobody { OnTrue result (first_of self.now.kernel.disk.waiting ≡ None) }
-    {
-        if self.abort_deferred {
-            return false;
-        }
-        match self.kernel.disk().quiet() {
-            Some(_) => false,
-            None => 0 < self.quiet(),
-        }
-    }
-
-    /// The step that is nothing but such a call.
-    #[inline(always)]
-    pub fn do_own_call<S: Sink>(
-        &mut self,
-        p: Pid,
-        seg: Seg,
-        render: &mut Render,
-        sink: &mut S,
-    ) -> Result<(), Failed>
+    pub fn do_own_call(&mut self, p: Pid, seg: Seg)
         requires most { self.old.steps < GREATEST_STEP }
         requires whole { IsWhole self.old }
         requires makes { MakesOwnCall p seg self.old }
         ensures system { self.new ≡ (with_own_call p seg self.old).system }
-        ensures wrote { Writes S.written S.faults render.old sink.old render.new sink.new (with_own_call p seg self.old).emitted result }
+        ensures emitted { IsRecord (with_own_call p seg self.old).emitted }
     {
-        self.take_call(p, seg);
-        let value = self.serve_own(p);
+        let regs = self.kernel.regs(p);
+        let function = regs.c;
+        let word = u16::from_le_bytes([regs.e, regs.d]);
+        self.take_own(p, function, word);
+        let value = self.serve_own(p, function, word);
         self.pop(p, seg);
         self.place_value(p, value);
         self.steps += 1;
-        self.trace_kept(p, render, sink)
     }
 
-    /// Does the call that a process keeps, which concerns it alone. Answers the value of its reply.
+    /// Takes the call of a process that concerns it alone, of a function and with a parameter: it is kept, and an EI takes effect.
+    #[inline(always)]
+    #[tactic(auto, using(mpm_procs::proofs::MapLaws::lives_changed), unfolding(crate::specs::Serving::keeping))]
+    fn take_own(&mut self, p: Pid, function: u8, word: u16)
+        requires lives { Lives self.old.kernel.dispatcher.procs p }
+        requires function { function ≡ (process_in self.old.kernel.dispatcher.procs p).regs.c }
+        requires word { word ≡ word_of (process_in self.old.kernel.dispatcher.procs p).regs.e (process_in self.old.kernel.dispatcher.procs p).regs.d }
+        ensures { self.new ≡ keeping p (asked_alone p self.old) self.old }
+    {
+        let process = self.kernel.process_mut(p);
+        let dma = process.dma;
+        process.regs.shadow = false;
+        self.kernel.call_mut(p).begin(function, word, dma);
+    }
+
+    /// Does the call that a process keeps, which concerns it alone, by its function and its parameter. Answers the value of its
+    /// reply.
     #[inline(always)]
     #[tactic(auto, using(crate::proofs::OwnCallLaws::version_row), unfolding(mpm_kernel::specs::Calls::call_done))]
-    fn serve_own(&mut self, p: Pid) -> u16
+    fn serve_own(&mut self, p: Pid, function: u8, word: u16) -> u16
         requires lives { Lives self.old.kernel.dispatcher.procs p }
-        requires own { is_own (call_of self.old.kernel.dispatcher.procs p).function ≡ true }
+        requires own { is_own function ≡ true }
+        requires function { function ≡ (call_of self.old.kernel.dispatcher.procs p).function }
+        requires word { word ≡ (call_of self.old.kernel.dispatcher.procs p).word }
         ensures system { self.new ≡ record self.old { kernel = (call_done (call_of self.old.kernel.dispatcher.procs p) p (process_in self.old.kernel.dispatcher.procs p) self.old.kernel).kernel } }
         ensures reply { answering result ≡ (call_done (call_of self.old.kernel.dispatcher.procs p) p (process_in self.old.kernel.dispatcher.procs p) self.old.kernel).reply }
     {
-        let call = self.kernel.kept_call(p);
-        let word = call.word;
         let byte = (word % 256) as u8;
-        match call.function {
+        match function {
             functions::RETURN_CURRENT_DISK => u16::from(self.kernel.living(p).drive),
             functions::SET_DMA_ADDRESS => {
                 self.kernel.process_mut(p).set_dma(word);
@@ -147,25 +107,5 @@ impl System {
         regs.l = (value % 256) as u8;
         regs.a = regs.l;
         regs.b = regs.h;
-    }
-
-    /// The record of the call that a process keeps and completed comes out.
-    #[inline(always)]
-    #[tactic(auto, unfolding(crate::specs::Serving::completion))]
-    fn trace_kept<S: Sink>(&self, p: Pid, render: &mut Render, sink: &mut S) -> Result<(), Failed>
-        requires lives { Lives self.now.kernel.dispatcher.procs p }
-        ensures { Writes S.written S.faults render.old sink.old render.new sink.new (Completed (completion (call_of self.now.kernel.dispatcher.procs p) p self.now) ∷ []) result }
-    {
-        let regs = self.kernel.regs(p);
-        render.trace(
-            self.steps,
-            p.0,
-            self.kernel.kept_call(p).function,
-            regs.a,
-            u16::from_le_bytes([regs.c, regs.b]),
-            u16::from_le_bytes([regs.e, regs.d]),
-            u16::from_le_bytes([regs.l, regs.h]),
-            sink,
-        )
     }
 }

@@ -21,7 +21,7 @@ impl Machine {
     ghost use Rattle.mpm_kernel.specs.Disk.{IsOver};
     ghost use Rattle.mpm_requests.specs.Filing.{Situation};
     ghost use Rattle.mpm_bdos.specs.Jobs.{call_turns};
-    ghost use Rattle.mpm_bdos.specs.Serving.{Serves};
+    ghost use Rattle.mpm_bdos.specs.Serving.{Serves, StandForSome};
     ghost use Rattle.mpm_bdos.specs.Syncing.{mounted_count};
     ghost use Rattle.mpm_bdos.specs.Turns.{FitsDrives, told_images};
     ghost use Rattle.mpm_machine.specs.declared.system.System.{System};
@@ -73,11 +73,13 @@ impl Machine {
             (called D.unsynced drives.old steps.old) (called D.unsynced drives.new steps.new) self.old.system self.new.system) }
         ensures calls { steps.new ≤ steps.old + 20 * turns_left self.old.system.kernel.disk + mounted_count self.old.bdos.mounted }
         ensures idle { self.old.system.kernel.disk.served ≡ None → SameDrives D.attached D.disks D.failed_names drives.old drives.new }
+        ensures stand { StandForSome self.old.bdos.mounted }
         ensures names { D.failed_names drives.new ≡ D.failed_names drives.old }
         ensures attached { (number : ℕ) → D.attached drives.new number ≡ D.attached drives.old number }
         ensures none { HasNoDrive self.old.bdos.mounted → drives.new ≡ drives.old }
         ensures unfailing { HasNoDrive self.old.bdos.mounted → IfErr result (λ fault. fault ≡ StepFault.WriteFault) }
     {
+        self.bdos.tell_sound();
         match self.carry(drives, render, sink, steps) {
             Ok(()) => self.close(drives, render, sink, steps),
             Err(fault) => Err(fault),

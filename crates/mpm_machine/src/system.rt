@@ -4,6 +4,7 @@ ghost use Rattle.mpm_procs.specs.Table.{Lives, process_in};
 ghost use Rattle.mpm_dispatcher.specs.Dispatch.{IsReady};
 ghost use Rattle.mpm_output.specs.Writing.{Writes};
 
+use crate::ahead::Ahead;
 use crate::owed::Owed;
 use crate::records::Records;
 use mpm_banks::Banks;
@@ -12,7 +13,7 @@ use mpm_interrupts::Schedule;
 use mpm_kernel::Kernel;
 use mpm_output::{illegal_text, write_bytes};
 use mpm_port::{Failed, Sink};
-use mpm_processor::{Gate, execute, gate_at, page_of_gates, run_instructions};
+use mpm_processor::{Gate, Instructions, execute, gate_at, page_of_gates};
 use mpm_render::Render;
 use mpm_residents::Residents;
 
@@ -38,12 +39,12 @@ impl System {
     ghost use Rattle.mpm_machine.specs.Gates.{is_inside};
     ghost use Rattle.mpm_machine.specs.State.{State, silent, IsWhole, NoCompletions, HasRoom, HasRoomForAll};
     ghost use Rattle.mpm_machine.specs.Due.{NobodyDue};
-    ghost use Rattle.mpm_bdos.specs.Serving.{Kept};
+    ghost use Rattle.mpm_bdos.specs.Serving.{Kept, StandForSome};
     ghost use Rattle.mpm_machine.specs.After.{after, AreSteps};
     ghost use Rattle.mpm_ready.specs.Order.{first_of};
     ghost use Rattle.mpm_ready.specs.Tables.{list_at};
     ghost use Rattle.mpm_dispatcher.specs.Dispatch.{ready};
-    ghost use Rattle.mpm_machine.specs.Moving.{Moved, IsIdle, later, CanPass};
+    ghost use Rattle.mpm_machine.specs.Moving.{Moved, IsIdle, later, CanPass, RunsAhead};
     ghost use Rattle.mpm_interrupts.specs.Interrupts.{due};
     ghost use Rattle.mpm_processor.specs.declared.gate.Gate.TheVariants.{Return};
     ghost use Rattle.mpm_machine.specs.Step.{acted, acted_at, at_instruction, gate_before, is_no_gate, coming, begun_by, instruction_unless, instruction_at, instructed, executed, illegal};
@@ -55,34 +56,34 @@ impl System {
     ghost use Rattle.mpm_kernel.specs.Kernel.{IsSound};
 
     /// Steps at most so many, that need no look at anything between them. Answers how many were done. They are instructions of
-    /// the running process, up to a gate or an unlisted opcode, as long as it runs on; where no process runs and none is
-    /// ready, nothing is done in them.
+    /// the process that runs ahead, up to a gate or an unlisted opcode; where no process runs and none is ready, nothing is done
+    /// in them.
     #[inline(always)]
-    pub fn run_on(&mut self, most: u64) -> u64
+    pub fn run_on(&mut self, ahead: &Option<Ahead>, most: u64) -> u64
         requires whole { IsWhole self.old }
         requires no_completions { NoCompletions self.old }
         requires room { self.old.steps + most ≤ GREATEST_STEP }
+        requires ahead { IfSome ahead.now (λ ahead. RunsAhead ahead self.old) }
         ensures count { result ≤ most }
         ensures states { (s : State) → s.system ≡ self.old → AreWithin self.old.kernel.disk.served s.files → after result s ≡ record s { system = self.new } }
         ensures disk { self.new.kernel.disk ≡ passed_by result self.old.kernel.disk }
         ensures calls { CallsAlike self.old.kernel.dispatcher.procs self.new.kernel.dispatcher.procs }
-        ensures steps { (kept : Kept) → AreSteps result kept kept self.old (silent self.new) }
+        ensures steps { (kept : Kept) → StandForSome kept.mounted → AreSteps result kept kept self.old (silent self.new) }
         ensures due { 0 < result → NobodyDue self.new.kernel }
         ensures whole { IsWhole self.new }
         ensures no_completions { NoCompletions self.new }
         ensures done { self.new.steps ≡ self.old.steps + result }
+        ensures ahead { IfSome ahead.now (λ ahead. RunsAhead ahead self.new) }
     {
-        if self.abort_deferred {
-            return 0;
-        }
-        let most = self.quiet_for(most);
-        let Some(p) = self.runner() else {
+        let Some(here) = ahead else {
+            if self.abort_deferred {
+                return 0;
+            }
+            let most = self.quiet_for(most);
             return self.idle(most);
         };
-        let Some(seg) = self.kernel.segment(p) else {
-            return 0;
-        };
-        self.run_process(p, seg, most)
+        let few = self.steps_ahead(here.last, most);
+        self.run_process(here.p, here.seg, few)
     }
 
     /// So many steps, at most, in which no interrupt is due and the disk's only pass.
@@ -118,7 +119,7 @@ impl System {
     }
 
     /// So many of these steps, at most, in which the disk's only pass.
-    fn disk_quiet(&self, most: u64) -> u64
+    pub fn disk_quiet(&self, most: u64) -> u64
         ensures few { result ≤ most }
         ensures passing { CanPass result self.now.kernel.disk }
     {
@@ -175,10 +176,8 @@ impl System {
         ensures moved { Moved result p seg self.old self.new }
     {
         let inside = self.is_inside(p);
-        let mut devices = *self.kernel.devices_mut();
-        let regs = self.kernel.regs_mut(p);
-        let done = run_instructions(inside, regs, &mut self.memory, seg, &mut devices, most);
-        *self.kernel.devices_mut() = devices;
+        let burst = Instructions { inside, most };
+        let done = self.kernel.run(p, &burst, seg, &mut self.memory);
         self.pass(done);
         done
     }

@@ -1,5 +1,5 @@
 //! What no whole run shows: the registers after a call, who lives, and the bytes that addresses name.
-use mpm_machine_scenes::Register::{A, B, Hl, Pc, Sp};
+use mpm_machine_scenes::Register::{A, B, C, De, Halted, Hl, Pc, Sp};
 use mpm_machine_scenes::Sight::{Byte, Has, Lives};
 use mpm_machine_scenes::{Behind, Scene, alone, traced};
 use std::test::Fail;
@@ -56,6 +56,65 @@ fn an_unknown_function_answers_ffff(rt: HostRuntime) -> Result<(), Fail> {
                 Has(0, Sp, 0xBEFE),
             ],
         )],
+    )
+}
+
+/// A program that makes each call that concerns its caller alone: LD C,0Ch; CALL 0005h; LD C,A3h; CALL 0005h; LD DE,00FFh; LD C,20h;
+/// CALL 0005h; LD E,15h; CALL 0005h; LD E,FFh; CALL 0005h; LD C,19h; CALL 0005h; LD DE,3410h; LD C,2Ch; CALL 0005h; LD E,11h;
+/// CALL 0005h; LD C,2Dh; CALL 0005h; LD C,1Ah; CALL 0005h; HALT.
+const OWN_CALLS: &[u8] = b"\x0E\x0C\xCD\x05\x00\x0E\xA3\xCD\x05\x00\
+\x11\xFF\x00\x0E\x20\xCD\x05\x00\x1E\x15\xCD\x05\x00\x1E\xFF\xCD\x05\x00\
+\x0E\x19\xCD\x05\x00\x11\x10\x34\x0E\x2C\xCD\x05\x00\x1E\x11\xCD\x05\x00\
+\x0E\x2D\xCD\x05\x00\x0E\x1A\xCD\x05\x00\x76";
+
+/// The version is 0130h. The user is 0 at first, and becomes 15h modulo 16. The drive is A. 16 is a multi-sector count, 17 is none.
+/// What answers no value answers 0.
+#[test]
+fn calls_that_concern_their_caller_alone_answer_at_once(rt: HostRuntime) -> Result<(), Fail> {
+    alone(OWN_CALLS, false).shows(
+        rt.alloc(),
+        &[
+            Behind(
+                4,
+                b"",
+                &[
+                    Has(0, A, 0x30),
+                    Has(0, B, 0x01),
+                    Has(0, C, 0x0C),
+                    Has(0, Hl, 0x0130),
+                    Has(0, Pc, 0x0105),
+                    Has(0, Sp, 0xBEFE),
+                ],
+            ),
+            Behind(8, b"", &[Has(0, Hl, 0x0130), Has(0, Pc, 0x010A)]),
+            Behind(13, b"", &[Has(0, Hl, 0), Has(0, De, 0x00FF)]),
+            Behind(17, b"", &[Has(0, Hl, 0), Has(0, De, 0x0015)]),
+            Behind(21, b"", &[Has(0, Hl, 5), Has(0, A, 5), Has(0, B, 0)]),
+            Behind(25, b"", &[Has(0, Hl, 0), Has(0, A, 0)]),
+            Behind(30, b"", &[Has(0, Hl, 0), Has(0, De, 0x3410)]),
+            Behind(34, b"", &[Has(0, Hl, 0x00FF), Has(0, A, 0xFF)]),
+            Behind(38, b"", &[Has(0, Hl, 0), Has(0, De, 0x3411)]),
+            Behind(42, b"", &[Has(0, Hl, 0), Has(0, Sp, 0xBEFE)]),
+            Behind(43, b"", &[Has(0, Halted, 1), Has(0, Sp, 0xBEFE)]),
+        ],
+    )
+}
+
+#[test]
+fn each_of_them_has_its_record(rt: HostRuntime) -> Result<(), Fail> {
+    alone(OWN_CALLS, true).shows(
+        rt.alloc(),
+        &[
+            Behind(4, b"t 4 0 12 30 010C 0000 0130\n", &[Has(0, Hl, 0x0130)]),
+            Behind(
+                43,
+                b"t 4 0 12 30 010C 0000 0130\nt 8 0 163 30 01A3 0000 0130\n\
+t 13 0 32 00 0020 00FF 0000\nt 17 0 32 00 0020 0015 0000\nt 21 0 32 05 0020 00FF 0005\n\
+t 25 0 25 00 0019 00FF 0000\nt 30 0 44 00 002C 3410 0000\nt 34 0 44 FF 002C 3411 00FF\n\
+t 38 0 45 00 002D 3411 0000\nt 42 0 26 00 001A 3411 0000\n",
+                &[Has(0, Halted, 1)],
+            ),
+        ],
     )
 }
 

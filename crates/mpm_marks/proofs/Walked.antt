@@ -3,7 +3,8 @@ use Rattle.std.proofs.Common.{◌≡◌, ◌∙◌, ◌⊎◌, inl, inr, ℕ, �
 use Rattle.std.specs.List.{list_any, range_with_len}
 use Rattle.std.proofs.lemmas.Bool.{cases_lt}
 use Rattle.std.proofs.lemmas.List.FromFn.{length-range_with_len, get_or-range_with_len}
-use Rattle.std.proofs.lemmas.List.Folds.{list_any_none, list_any_at}
+use Rattle.std.proofs.lemmas.List.Folds.{list_any_none}
+use Rattle.mpm_base.proofs.Lists.{any_at}
 use Rattle.mpm_opens.specs.Opens.{OpenFiles}
 use Rattle.mpm_functions.specs.declared.functions.FileFunction.{FileFunction}
 use Rattle.mpm_marks.specs.Busy.{is_named_busy, are_busy}
@@ -34,14 +35,10 @@ none_of_first test m n h none = list_any_none test (range_with_len 0 m) (λ k d 
     let below : k < m = omega (arith, within, length-range_with_len 0 m) in
     ap test (get_or-range_with_len 0 m k d below) ∙ at_place m k test ∙ none.each k (omega (arith, below, h)))
 
-one_of_first : (test : ℕ → Bool) (n k : ℕ) → k < n → test k ≡ true → true ≡ list_any test (range_with_len 0 n)
-one_of_first test n k h here =
-    sym (list_any_at test (range_with_len 0 n) k 0 (omega (arith, h, length-range_with_len 0 n)) (ap test (get_or-range_with_len 0 n k 0 h) ∙ at_place n k test ∙ here))
-
 -- a process that has marked a drive
 pub marked_found : (marks : List ℕ) (p drive q : ℕ) → q < 32 → is_marked_by marks p drive q ≡ true → true ≡ is_marked marks p drive
 unfolding is_marked
-marked_found marks p drive q h here = one_of_first (is_marked_by marks p drive) 32 q h here
+marked_found marks p drive q h here = sym (any_at (is_marked_by marks p drive) 32 q h here)
 
 pub marked_none : (marks : List ℕ) (p drive n : ℕ) → 32 ≤ n → NonePasses (is_marked_by marks p drive) n → false ≡ is_marked marks p drive
 unfolding is_marked
@@ -51,7 +48,7 @@ marked_none marks p drive n h none = sym (none_of_first (is_marked_by marks p dr
 pub busy_found : (opens : OpenFiles) (marks : List ℕ) (p : ℕ) (function : FileFunction) (own mask drive : ℕ) → drive < 16 → is_named_busy opens marks p function own mask drive ≡ true
     → true ≡ are_busy opens marks p function own mask
 unfolding are_busy
-busy_found opens marks p function own mask drive h here = one_of_first (is_named_busy opens marks p function own mask) 16 drive h here
+busy_found opens marks p function own mask drive h here = sym (any_at (is_named_busy opens marks p function own mask) 16 drive h here)
 
 pub busy_none : (opens : OpenFiles) (marks : List ℕ) (p : ℕ) (function : FileFunction) (own mask n : ℕ) → 16 ≤ n
     → NonePasses (is_named_busy opens marks p function own mask) n → false ≡ are_busy opens marks p function own mask

@@ -1,10 +1,11 @@
 -- How many numbers below a bound pass a test, and how many items.
 use Rattle.std.proofs.Common.{◌≡◌, ℕ, zero, suc, ◌+◌, ◌<◌, ◌≤◌, ◌==◌, Bool, true, false, ◌||◌, not, inl, inr, List, [], ◌∷◌, length, map, refl, sym, ap, ◌∙◌, arith, eq-eqb, ne_eqb, add-zero, zero-add}
+use Rattle.std.proofs.Math.Bool.{or-false}
 use Rattle.std.specs.Prelude.{nat_lt, count_by}
 use Rattle.std.specs.List.{range_with_len, list_any}
 use Rattle.std.proofs.lemmas.Bool.{cases_eq, cases_lt, lt-ltb, le-ltb, or_parts}
 use Rattle.mpm_base.proofs.CountLaws.{one_if, count_cons, one_if_false, one_if_true}
-use Rattle.mpm_mount.proofs.Ranges.{or_none, plus_suc}
+use Rattle.mpm_mount.proofs.Ranges.{plus_suc}
 
 count_next : (t : ℕ → Bool) (a n : ℕ) → count_by t (range_with_len a (suc n)) ≡ count_by t (range_with_len a n) + one_if (t (a + n))
 count_next t a zero =
@@ -27,7 +28,7 @@ count_alike s t (suc n) same =
 
 -- a number that passes too
 or_other : (b c : Bool) → c ≡ false → (b || c) ≡ b
-or_other b c none = ap (λ z. b || z) none ∙ or_none b
+or_other b c none = ap (λ z. b || z) none ∙ or-false b
 
 count_without : (old : ℕ → Bool) (c n : ℕ) → n ≤ c → count_by (λ b. old b || (c == b)) (range_with_len 0 n) ≡ count_by old (range_with_len 0 n)
 count_without old c n h = count_alike (λ b. old b || (c == b)) old n (λ k less. or_other (old k) (c == k) (ne_eqb c k (λ same. omega arith)))
@@ -49,7 +50,7 @@ count_with old c (suc n) new h = elim (cases_eq c n) [
 count_all : (d n : ℕ) → n ≤ d → count_by (λ b. nat_lt b d || false) (range_with_len 0 n) ≡ n
 count_all d zero h = refl
 count_all d (suc n) h =
-    let here : one_if (nat_lt n d || false) ≡ 1 = one_if_true (nat_lt n d || false) (or_none (nat_lt n d) ∙ lt-ltb n d (omega arith)) in
+    let here : one_if (nat_lt n d || false) ≡ 1 = one_if_true (nat_lt n d || false) (or-false (nat_lt n d) ∙ lt-ltb n d (omega arith)) in
     omega (arith, count_more (λ b. nat_lt b d || false) n, here, count_all d n (omega arith))
 
 pub count_below : (d n : ℕ) → d ≤ n → count_by (λ b. nat_lt b d || false) (range_with_len 0 n) ≡ d
@@ -57,7 +58,7 @@ count_below d zero h = omega arith
 count_below d (suc n) h = elim (cases_lt n d) [
   | inl less ↦ let whole : suc n ≡ d = omega arith in count_all d (suc n) (omega arith) ∙ whole
   | inr more ↦
-      let here : one_if (nat_lt n d || false) ≡ 0 = one_if_false (nat_lt n d || false) (or_none (nat_lt n d) ∙ le-ltb n d more) in
+      let here : one_if (nat_lt n d || false) ≡ 0 = one_if_false (nat_lt n d || false) (or-false (nat_lt n d) ∙ le-ltb n d more) in
       omega (arith, count_more (λ b. nat_lt b d || false) n, here, count_below d n more)
 ]
 

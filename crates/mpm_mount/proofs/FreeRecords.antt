@@ -1,5 +1,6 @@
 -- The free records of a directory's block map are those of the drive that it stands for: each block that an entry holds is one more that is used.
 use Rattle.std.proofs.Common.{◌≡◌, ◌≢◌, ℕ, zero, suc, ◌+◌, ◌-◌, ◌*◌, ◌<◌, ◌≤◌, ◌==◌, Bool, true, false, ◌&&◌, ◌||◌, not, inl, inr, List, [], ◌∷◌, length, get_or, map, take, refl, sym, ap, ◌∙◌, arith, eq-eqb, ne_eqb, add-zero, add-one}
+use Rattle.std.proofs.Math.Bool.{or-false, or-true, or_assoc}
 use Rattle.std.specs.Prelude.{Some, None, is_some, nat_lt, sum_by, count_by, if◌then◌else◌}
 use Rattle.std.specs.List.{range_with_len, list_any}
 use Rattle.std.specs.FinMap.{values}
@@ -19,11 +20,11 @@ use Rattle.mpm_mount.specs.Faults.{block_at, has_at, holds, first_fault}
 use Rattle.mpm_mount.specs.Images.{contents_of, extent_in, extent_from, collected, drive_of}
 use Rattle.mpm_mount.specs.Directories.{others, Directory, is_used, used_blocks, free_block, free_records_in, Stands}
 use Rattle.mpm_mount.specs.Using.{is_among}
-use Rattle.mpm_mount.proofs.Ranges.{or_none, or_regroup, none_if}
+use Rattle.mpm_mount.proofs.Ranges.{none_if}
 use Rattle.mpm_mount.proofs.Tails.{EachWithRest, by_others}
 use Rattle.mpm_mount.proofs.Counts.{none_counted, count_more, count_alike, count_with, count_below, count_map, not_counted}
 use Rattle.mpm_mount.proofs.InAll.{weight, sum_collected}
-use Rattle.mpm_mount.proofs.UsedBlocks.{inside_at, has_none, or_last, claims_none_bit, among_here, among_other, among_zero}
+use Rattle.mpm_mount.proofs.UsedBlocks.{inside_at, has_none, claims_none_bit, among_here, among_other, among_zero}
 use Rattle.mpm_mount.proofs.UsedBy.{zero_used}
 use Rattle.mpm_mount.proofs.Sound.{sound_at, held_once}
 use Rattle.mpm_mount.proofs.Still.{has_own}
@@ -78,8 +79,8 @@ each_own kind entries faultless = by_others (HoldsOwn kind) Free (own_less kind)
 among_next : (f : FileEntry) (i block : ℕ) → block_at f i ≢ 0 → is_among f (suc i) block ≡ (is_among f i block || block_at f i == block)
 among_next f i block some = ap (λ (n : ℕ). is_among f n block) (sym (add-one i)) ∙ elim (cases_eq (block_at f i) block) [
   | inl same ↦
-      among_here f i block (λ none. some (same ∙ none)) same ∙ sym (or_last (is_among f i block)) ∙ ap (λ b. is_among f i block || b) (sym (eq-eqb (block_at f i) block same))
-  | inr other ↦ among_other f i block other ∙ sym (or_none (is_among f i block)) ∙ ap (λ b. is_among f i block || b) (sym (ne_eqb (block_at f i) block other))
+      among_here f i block (λ none. some (same ∙ none)) same ∙ sym (or-true (is_among f i block)) ∙ ap (λ b. is_among f i block || b) (sym (eq-eqb (block_at f i) block same))
+  | inr other ↦ among_other f i block other ∙ sym (or-false (is_among f i block)) ∙ ap (λ b. is_among f i block || b) (sym (ne_eqb (block_at f i) block other))
 ]
 
 among_same : (f : FileEntry) (i block : ℕ) → block_at f i ≡ 0 → is_among f (suc i) block ≡ is_among f i block
@@ -127,7 +128,7 @@ used_to_place kind f rest (suc i) own h =
           let same : count_by (λ b. is_used kind rest b || is_among f (suc i) b) (range_with_len 0 size)
           ≡ count_by (λ b. (is_used kind rest b || is_among f i b) || (block_at f i == b)) (range_with_len 0 size) =
           count_alike (λ b. is_used kind rest b || is_among f (suc i) b) (λ b. (is_used kind rest b || is_among f i b) || (block_at f i == b)) size
-          (λ b less. ap (λ z. is_used kind rest b || z) (among_next f i b some) ∙ or_regroup (is_used kind rest b) (is_among f i b) (block_at f i == b)) in
+          (λ b less. ap (λ z. is_used kind rest b || z) (among_next f i b some) ∙ sym (or_assoc (is_used kind rest b) (is_among f i b) (block_at f i == b))) in
           let one = count_with (λ b. is_used kind rest b || is_among f i b) (block_at f i) size (old_free kind f i rest mine) (omega (arith, mine.high)) in
           omega (arith, here, same, one, before, more)
     ]

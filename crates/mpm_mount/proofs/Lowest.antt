@@ -7,6 +7,7 @@ use Rattle.std.specs.FinMap.{entries, entries_sorted, is_sorted}
 use Rattle.std.proofs.lemmas.Bool.{and_parts, and_from}
 use Rattle.std.specs.Cmp.Lexicographic.{bytes_decides}
 use Rattle.std.proofs.lemmas.List.{get_or-map}
+use Rattle.std.proofs.Math.Bool.{and-false, or-true, and-true}
 use Rattle.mpm_base.specs.declared.kind.Kind.{Kind}
 use Rattle.mpm_names.specs.Matching.{does_match}
 use Rattle.mpm_names.proofs.Fitting.{fits_everywhere}
@@ -22,8 +23,6 @@ use Rattle.mpm_mount.specs.Searching.{search_of, found_name, is_above, IsNext}
 use Rattle.mpm_mount.specs.Searching as searching
 use Rattle.mpm_mount.specs.Attributes.{first_attributes, attributes_at}
 use Rattle.mpm_mount.specs.Files.{IsEntryOf}
-use Rattle.mpm_mount.proofs.UsedBlocks.{or_last, and_last}
-use Rattle.mpm_mount.proofs.Replaced.{and_all}
 use Rattle.mpm_mount.proofs.Orders.{entry_total}
 use Rattle.mpm_mount.proofs.NextFound.{is_sought_pair, next_none, next_found}
 use Rattle.mpm_mount.proofs.SearchSteps.{is_true, stepped, nothing_found, found_is, above_through}
@@ -58,7 +57,7 @@ pub attributes_first : (files : Drive) (file : FileName) (kind : Kind) → first
 unfolding extents_of
 attributes_first files file kind =
     first_kept (is_of file) (entries files.extents)
-    ∙ ap (option_map (λ e. e.1.attributes)) (found_same (is_of file) (λ e. is_of file e && true) (entries files.extents) (λ e. sym (and_all (is_of file e))))
+    ∙ ap (option_map (λ e. e.1.attributes)) (found_same (is_of file) (λ e. is_of file e && true) (entries files.extents) (λ e. sym (and-true (is_of file e))))
 
 -- an entry of a file's very name is one that a search for the name comes to
 itself_fits : (pattern : List ℕ) → length pattern ≡ 11 → does_match pattern (plain pattern) ≡ true
@@ -66,7 +65,7 @@ itself_fits pattern size = fits_everywhere pattern (plain pattern) (λ k h.
     let p = get_or pattern k 0 in
     let q = get_or (plain pattern) k 0 in
     let at : q ≡ p % 128 = get_or-map (λ c. c % 128) pattern k 0 0 (omega arith) in
-    ap (λ x. (p % 128 == 63) || x) (eq-eqb (p % 128) (q % 128) (sym (mod_twice p) ∙ ap (λ n. n % 128) (sym at))) ∙ or_last (p % 128 == 63))
+    ap (λ x. (p % 128 == 63) || x) (eq-eqb (p % 128) (q % 128) (sym (mod_twice p) ∙ ap (λ n. n % 128) (sym at))) ∙ or-true (p % 128 == 63))
 
 cond_told : {X Y : Type 0} (x : X) (f : X → Y) (o : Option X) (b : Bool) → told (cond b (Some x) o) f ≡ cond b (Some (f x)) (told o f)
 cond_told x f o true = refl
@@ -79,7 +78,7 @@ exact_narrowed true m false a so h = refl
 exact_narrowed true m true a so h = ap (λ x. x && a) (sym (so refl)) ∙ h
 
 pub exact_here : (u b a : Bool) → u ≡ true → a ≡ true → ((u && b) && a) ≡ b
-exact_here u b a is above = ap (λ x. (x && b) && a) is ∙ ap (λ x. b && x) above ∙ and_all b
+exact_here u b a is above = ap (λ x. (x && b) && a) is ∙ ap (λ x. b && x) above ∙ and-true b
 
 pub exact_fits : (pattern name : List ℕ) → length pattern ≡ 11 → bytes_eq name (plain pattern) ≡ true → does_match pattern name ≡ true
 exact_fits pattern name size same = ap (does_match pattern) ((bytes_decides name (plain pattern)).0 same) ∙ itself_fits pattern size
@@ -107,7 +106,7 @@ lowest_step image d files user pattern last found stands size least =
           (above_through d.kind user last found k.user k.name k.number (ap (is_above (option_map (found_name d.kind user) last)) is ∙ above) (ap (λ n. is_lt (entry_cmp n k)) is ∙ less)
           ∙ sym less ∙ ap (λ n. is_lt (entry_cmp n k)) (sym is));
       before = λ k not_less. ap (λ b. ((k.user == user) && bytes_eq k.name (plain pattern)) && b) (ap (λ n. is_lt (entry_cmp n k)) is ∙ not_less)
-          ∙ and_last ((k.user == user) && bytes_eq k.name (plain pattern));
+          ∙ and-false ((k.user == user) && bytes_eq k.name (plain pattern));
     })
     (entries files.extents) (is_true (is_sorted entry_cmp (entries files.extents)) (entries_sorted files.extents)) (next_found image d files search found stands least))
     ∙ cond_told (x, v) (λ e. e.1.attributes) _ (((x.user == user) && bytes_eq x.name (plain pattern)) && is_above (option_map (found_name d.kind user) last) x)

@@ -4,7 +4,7 @@ use Rattle.std.specs.Prelude.{bytes_eq}
 use Rattle.std.specs.Ordering.{eq_by_cmp, is_eq}
 use Rattle.std.specs.Cmp.{Equal-is, tied_itself}
 use Rattle.std.specs.FinMap.{nat_cmp-IsAntisymmetric, slice_cmp-IsAntisymmetric}
-use Rattle.std.proofs.lemmas.Bool.{true≢false, false_from_ne_true, and_parts, and_from}
+use Rattle.std.proofs.lemmas.Bool.{true≢false, false_from_ne_true, and_parts, and_from, eq-eqb}
 use Rattle.std.proofs.lemmas.Bool.Decides.{nat_tests}
 use Rattle.std.proofs.lemmas.List.{same_from_push}
 use Rattle.std.proofs.lemmas.Slice.Eq.{bytes_eq-Decides}
@@ -16,9 +16,6 @@ use Rattle.mpm_mount.proofs.Orders.{file_tied, file_total}
 equal_tested : (a b : ℕ) → (a == b) ≡ true → a ≡ b
 equal_tested a b e = grind (arith, nat_tests)
 
-tested_equal : (a b : ℕ) → a ≡ b → (a == b) ≡ true
-tested_equal a b e = grind (arith, nat_tests)
-
 pub one_file : (a b : FileName) → is_same_file a b ≡ true → a ≡ b
 one_file a b same =
     let parts = and_parts (a.user == b.user) (bytes_eq a.name b.name) same in
@@ -28,7 +25,7 @@ one_file a b same =
 
 same_parts : (a b : FileName) → a.user ≡ b.user → a.name ≡ b.name → is_same_file a b ≡ true
 same_parts a b user name =
-    and_from (a.user == b.user) (bytes_eq a.name b.name) (tested_equal a.user b.user user) ((bytes_eq-Decides a.name b.name).1 name)
+    and_from (a.user == b.user) (bytes_eq a.name b.name) (eq-eqb a.user b.user user) ((bytes_eq-Decides a.name b.name).1 name)
 
 pub is_itself : (a : FileName) → is_same_file a a ≡ true
 is_itself a = same_parts a a refl refl

@@ -11,6 +11,7 @@ use Rattle.std.specs.FinMap.{get, entries, get-entries, find}
 use Rattle.std.proofs.lemmas.Bool.{true≢false, false≢true, both_ways, eqb-true, true_from_ne_false}
 use Rattle.std.proofs.lemmas.Option.{same_Some}
 use Rattle.std.proofs.lemmas.List.{length-map, get_or-map, ext_get_or}
+use Rattle.std.proofs.Math.Bool.{or-true, and-true}
 use Rattle.mpm_names.specs.Matching.{byte_fits, fits_at, does_match}
 use Rattle.mpm_names.proofs.Fitting.{misfit, fits_everywhere}
 use Rattle.mpm_blocks.specs.Sectors.{sectors_of}
@@ -24,8 +25,6 @@ use Rattle.mpm_mount.specs.Faults.{name_of}
 use Rattle.mpm_mount.specs.Images.{extent_in}
 use Rattle.mpm_mount.specs.Directories.{Directory, Stands}
 use Rattle.mpm_mount.specs.Searching.{search_of, is_sought, IsLeast, IsNext, IsUnambiguous}
-use Rattle.mpm_mount.proofs.UsedBlocks.{or_last}
-use Rattle.mpm_mount.proofs.Replaced.{and_all}
 use Rattle.mpm_mount.proofs.Orders.{entry_total}
 use Rattle.mpm_mount.proofs.InSlots.{sizes_at, in_slot}
 use Rattle.mpm_mount.proofs.NextFound.{there_too, is_sought_pair, next_none, next_found}
@@ -42,7 +41,7 @@ byte_same : (a b : ℕ) → a % 128 ≢ 63 → byte_fits a b ≡ true → a % 12
 byte_same a b apart fits = eqb-true (a % 128) (b % 128) (sym (ap (λ x. x || (a % 128 == b % 128)) (ne_eqb (a % 128) 63 apart)) ∙ fits)
 
 same_fits : (a b : ℕ) → a % 128 ≡ b % 128 → byte_fits a b ≡ true
-same_fits a b same = ap (λ x. (a % 128 == 63) || x) (eq-eqb (a % 128) (b % 128) same) ∙ or_last (a % 128 == 63)
+same_fits a b same = ap (λ x. (a % 128 == 63) || x) (eq-eqb (a % 128) (b % 128) same) ∙ or-true (a % 128 == 63)
 
 plain_at : (xs : List ℕ) (k : ℕ) → k < length xs → get_or (plain xs) k 0 ≡ get_or xs k 0 % 128
 plain_at xs k h = get_or-map (λ c. c % 128) xs k 0 0 h
@@ -86,7 +85,7 @@ unfolding is_entry_of
 sought_of image d files user pattern name stands one there =
     let key = key_from image d files name stands there in
     ap (λ b. (name.user == user) && b)
-    (and_all (does_match pattern name.name) ∙ ap (does_match pattern) key.2 ∙ fits_name pattern key.0 one key.1 ∙ ap (λ xs. bytes_eq xs (plain pattern)) (sym key.2))
+    (and-true (does_match pattern name.name) ∙ ap (does_match pattern) key.2 ∙ fits_name pattern key.0 one key.1 ∙ ap (λ xs. bytes_eq xs (plain pattern)) (sym key.2))
 
 -- lists of pairs, by two tests that agree on the keys that are there
 filter_alike : {K X : Type 0} (R : K → K → Ordering) → IsTotalOrder R → (p q : K → Bool) (es : List (K × X)) → ((k : K) → is_some (find R k es) ≡ true → p k ≡ q k)

@@ -1,37 +1,27 @@
 -- Tests over the numbers below a bound, and lists that have a value for each of them.
 use Rattle.std.proofs.Common.{◌≡◌, ℕ, zero, suc, ◌+◌, ◌<◌, Bool, true, false, ◌||◌, List, [], ◌∷◌, length, get_or, map, refl, sym, ap, ◌∙◌, arith, add-one, add-zero, zero-add}
+use Rattle.std.proofs.Math.Bool.{or-false, or_assoc}
 use Rattle.std.specs.List.{range_with_len, list_any}
 use Rattle.std.proofs.lemmas.Bool.{both_ways, false_from_ne_true}
 use Rattle.std.proofs.lemmas.List.FromFn.{length-range_with_len, get_or-range_with_len, length-map-range_with_len, get_or-map-range_with_len, fill_by_all}
 use Rattle.std.proofs.lemmas.List.Folds.{list_any_at, Any-from_list_any}
-
-pub or_none : (b : Bool) → (b || false) ≡ b
-or_none true = refl
-or_none false = refl
-
-pub or_regroup : (a b c : Bool) → (a || (b || c)) ≡ ((a || b) || c)
-or_regroup true b c = refl
-or_regroup false b c = refl
+use Rattle.mpm_base.proofs.Lists.{any_at}
 
 pub plus_suc : (a k : ℕ) → a + 1 + k ≡ a + suc k
 plus_suc a k = omega arith
 
 any_next : (t : ℕ → Bool) (a n : ℕ) → list_any t (range_with_len a (suc n)) ≡ (list_any t (range_with_len a n) || t (a + n))
-any_next t a zero = or_none (t a) ∙ ap t (sym (add-zero a))
+any_next t a zero = or-false (t a) ∙ ap t (sym (add-zero a))
 any_next t a (suc n) =
     let before : Bool = t a || list_any t (range_with_len (a + 1) n) in
     ap (λ b. t a || b) (any_next t (a + 1) n)
-    ∙ or_regroup (t a) (list_any t (range_with_len (a + 1) n)) (t (a + 1 + n))
+    ∙ sym (or_assoc (t a) (list_any t (range_with_len (a + 1) n)) (t (a + 1 + n)))
     ∙ ap (λ k. before || t k) (plus_suc a n)
 
 -- one number more
 pub any_more : (t : ℕ → Bool) (n : ℕ) → list_any t (range_with_len 0 (n + 1)) ≡ (list_any t (range_with_len 0 n) || t n)
 any_more t n =
     ap (λ m. list_any t (range_with_len 0 m)) (add-one n) ∙ any_next t 0 n ∙ ap (λ k. list_any t (range_with_len 0 n) || t k) (zero-add n)
-
-pub any_at : (t : ℕ → Bool) (n k : ℕ) → k < n → t k ≡ true → list_any t (range_with_len 0 n) ≡ true
-any_at t n k h here =
-    list_any_at t (range_with_len 0 n) k 0 (omega (arith, length-range_with_len 0 n)) (ap t (get_or-range_with_len 0 n k 0 h ∙ zero-add k) ∙ here)
 
 pub none_at : (t : ℕ → Bool) (n k : ℕ) → list_any t (range_with_len 0 n) ≡ false → k < n → t k ≡ false
 none_at t n k nowhere h =

@@ -4,6 +4,7 @@ use Rattle.std.specs.Prelude.{is_some, nat_lt, nat_le, option_map, option_and_th
 use Rattle.std.specs.FinMap.{get}
 use Rattle.std.proofs.lemmas.Bool.{cases_lt, lt-ltb, le-ltb, le-leb, lt-leb}
 use Rattle.std.proofs.lemmas.List.FromFn.{get_or-map-range_with_len}
+use Rattle.std.proofs.Math.Bool.{not-not}
 use Rattle.mpm_base.specs.declared.kind.Kind.{Kind}
 use Rattle.mpm_blocks.specs.Geometries.{block_records}
 use Rattle.mpm_dirent.specs.declared.kinds.FileEntry.{FileEntry}
@@ -30,10 +31,6 @@ held_at sectors kind f n =
     from_zero : (i : ℕ) → 0 + i ≡ i
     from_zero i = omega arith
 
-pub twice : (b : Bool) → not (not b) ≡ b
-twice true = refl
-twice false = refl
-
 -- what keeps it from being read
 abbrev pub read_in : Kind → ℕ → Option PhysicalExtent → Option RecordError
 read_in kind n o =
@@ -57,7 +54,7 @@ no_less : (a b : ℕ) → nat_lt b a ≡ not (nat_le a b)
 no_less a b = elim (cases_lt b a) [ inl less ↦ lt-ltb b a less ∙ sym (ap not (lt-leb a b less)) | inr more ↦ le-ltb b a more ∙ sym (ap not (le-leb a b more)) ]
 
 no_more : (a b : ℕ) → nat_le b a ≡ not (nat_lt a b)
-no_more a b = sym (ap not (no_less b a) ∙ twice (nat_le b a))
+no_more a b = sym (ap not (no_less b a) ∙ not-not (nat_le b a))
 
 -- by three tests: its extent is there, it lies below the record count, its block is held
 abbrev pub read_by_tests : Bool → Bool → Bool → Option RecordError
@@ -82,7 +79,7 @@ read_there sectors kind f n =
     (sym (no_less (n / 128) (extent_of f)))
     ∙ ap (λ b. if nat_lt (extent_of f) (n / 128) then Some UnwrittenExtent else (if b then Some UnwrittenData else None))
     (ap (λ b. b || not (is_some (slice_index_or entry.blocks place None))) (sym (no_more (n % 128) count))
-    ∙ ap (λ b. nat_le count (n % 128) || b) (ap not (held_at sectors kind f n) ∙ twice (block_at f place == 0)))
+    ∙ ap (λ b. nat_le count (n % 128) || b) (ap not (held_at sectors kind f n) ∙ not-not (block_at f place == 0)))
 
 read_by : (image : List ℕ) (d : Directory) (files : Drive) (file : FileName) (n : ℕ) → Stands image d files → (o : Option ℕ) → extent_slot d file (n / 128) ≡ o
     → read_in d.kind n (get files.extents (entry_name d.kind file (n / 128))) ≡ error_at d n o

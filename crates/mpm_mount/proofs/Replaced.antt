@@ -1,5 +1,6 @@
 -- A directory in which one entry is replaced by another keeps what it keeps of itself.
 use Rattle.std.proofs.Common.{◌≡◌, ℕ, ◌<◌, ◌==◌, Bool, true, false, ◌&&◌, ◌||◌, not, List, None, length, get_or, refl, sym, ap, subst, ◌∙◌, arith, ne_eqb}
+use Rattle.std.proofs.Math.Bool.{or-false, or-true, and-true}
 use Rattle.std.specs.Prelude.{nat_lt, slice_set}
 use Rattle.std.specs.List.{list_any}
 use Rattle.std.proofs.lemmas.Bool.{true≢false, le-ltb}
@@ -15,15 +16,9 @@ use Rattle.mpm_dirent.specs.Proper.{IsProper}
 use Rattle.mpm_mount.specs.Faults.{holds, first_fault}
 use Rattle.mpm_mount.specs.Directories.{others, IsKept, IsWhole}
 use Rattle.mpm_mount.specs.Using.{IsUsedBy, Claims, Frees, IsInside}
-use Rattle.mpm_mount.proofs.Ranges.{or_none}
-use Rattle.mpm_mount.proofs.UsedBlocks.{or_last}
 use Rattle.mpm_mount.proofs.UsedBy.{used_at, used_by, size_used, zero_used}
 use Rattle.mpm_mount.proofs.Others.{any_split, any_set}
 use Rattle.mpm_mount.proofs.Sound.{sound_at, held_once, block_within}
-
-pub and_all : (b : Bool) → (b && true) ≡ b
-and_all true = refl
-and_all false = refl
 
 -- whether a block is used: by the directory, by another slot, by the old entry, by the new one
 changed : (dir rest old new : Bool) → (old ≡ true → dir ≡ false) → (old ≡ true → rest ≡ false)
@@ -31,9 +26,9 @@ changed : (dir rest old new : Bool) → (old ≡ true → dir ≡ false) → (ol
 changed true rest true new d r = absurd (true≢false (d refl))
 changed true rest false new d r = refl
 changed false true true new d r = absurd (true≢false (r refl))
-changed false true false new d r = sym (or_last new)
-changed false false true new d r = sym (or_none new)
-changed false false false new d r = sym (or_none new)
+changed false true false new d r = sym (or-true new)
+changed false false true new d r = sym (or-false new)
+changed false false false new d r = sym (or-false new)
 
 pub used_exchanged : (kind : Kind) (entries : List Entry) (slot : ℕ) (new : Entry) (before mid now : Blocks) → first_fault kind entries ≡ None
     → slot < length entries → IsUsedBy kind entries before → Frees kind (get_or entries slot Free) before mid → Claims kind new mid now
@@ -55,7 +50,7 @@ used_exchanged kind entries slot new before mid now faultless h by frees claims 
     (λ held. le-ltb block (geometry_of kind).directory_blocks ((block_within kind entries slot block faultless h some held).0))
     (λ held. held_once kind entries slot block faultless h some held)
     ∙ sym (ap (λ b. dir || b) (any_set (holds kind block) entries slot new h)))
-    (claims.used 0 ∙ or_none (maps.is_used mid 0) ∙ frees.used 0 ∙ and_all (maps.is_used before 0) ∙ used_at kind entries before 0 by (omega arith) ∙ zero_used kind entries)
+    (claims.used 0 ∙ or-false (maps.is_used mid 0) ∙ frees.used 0 ∙ and-true (maps.is_used before 0) ∙ used_at kind entries before 0 by (omega arith) ∙ zero_used kind entries)
 
 pub kept_used : (kind : Kind) (entries : List Entry) (blocks : Blocks) → IsKept kind entries blocks → IsUsedBy kind entries blocks
 kept_used kind entries blocks kept = record { of_kind = kept.of_kind; used = kept.used }

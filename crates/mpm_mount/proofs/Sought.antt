@@ -11,6 +11,7 @@ use Rattle.std.proofs.Math.Seq.{take-suc}
 use Rattle.std.proofs.lemmas.Bool.{false≢true, both_ways, false_from_ne_true, eqb-true, or_parts, or_from, and_parts, and_from}
 use Rattle.std.proofs.lemmas.List.{length_push, length-take-le, get_or_push, get_or_append_left}
 use Rattle.std.proofs.lemmas.List.Folds.{list_any-append}
+use Rattle.std.proofs.Math.Bool.{and-false}
 use Rattle.mpm_base.specs.declared.kind.Kind.{Kind}
 use Rattle.mpm_names.specs.Matching.{does_match}
 use Rattle.mpm_dirent.specs.declared.kinds.Entry.{Entry}
@@ -25,7 +26,6 @@ use Rattle.mpm_mount.specs.Drives.{entry_cmp, entry_number}
 use Rattle.mpm_mount.specs.Faults.{extent_of, name_of}
 use Rattle.mpm_mount.specs.Searching.{found_name, is_above, is_sought, is_target, is_target_below, IsLeast, IsNext, is_lesser, lesser}
 use Rattle.mpm_mount.proofs.Orders.{entry_total, same_entry}
-use Rattle.mpm_mount.proofs.UsedBlocks.{and_last}
 
 -- lists of one length, and one number more in each
 then_assoc : (a b c : Ordering) → ordering_then (ordering_then a b) c ≡ ordering_then a (ordering_then b c)
@@ -161,7 +161,7 @@ taken kind search entries least f slot so size sought lesser = record {
   extent = refl;
   sought = sought;
   least = none_more (is_target_below kind search (name_of kind f)) entries (File f) (none_below kind search entries least f so sought lesser)
-      (ap (λ b. is_sought search (name_of kind f) && b) (not_below_itself (name_of kind f)) ∙ and_last (is_sought search (name_of kind f)));
+      (ap (λ b. is_sought search (name_of kind f) && b) (not_below_itself (name_of kind f)) ∙ and-false (is_sought search (name_of kind f)));
 }
 
 file_more : (kind : Kind) (search : Search) (entries : List Entry) (least : Option Found) (f : FileEntry) (slot : ℕ) (b : Bool) → IsNext kind search entries least → length entries ≡ slot

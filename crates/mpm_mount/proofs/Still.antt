@@ -7,6 +7,7 @@ use Rattle.std.proofs.lemmas.Bool.{true≢false, both_ways, false_from_ne_true, 
 use Rattle.std.proofs.lemmas.List.{length-set, length-take-le, get_or-take, get_or-set_same, get_or-set_other, take-set-le}
 use Rattle.std.proofs.lemmas.List.Folds.{list_any-append}
 use Rattle.mpm_base.specs.declared.kind.Kind.{Kind}
+use Rattle.mpm_base.proofs.Lists.{any_at}
 use Rattle.mpm_dirent.specs.declared.kinds.Entry.{Entry}
 use Rattle.mpm_dirent.specs.declared.kinds.Entry.TheVariants.{Free, File, Xfcb, Label, Kept}
 use Rattle.mpm_dirent.specs.declared.kinds.FileEntry.{FileEntry}
@@ -14,7 +15,7 @@ use Rattle.mpm_dirent.specs.Names.{plain}
 use Rattle.mpm_mount.specs.Drives.{places}
 use Rattle.mpm_mount.specs.Faults.{name_of, block_at, has_at, holds, is_taken, is_named, is_label, is_xfcb, cause_of, cause_at, first_fault}
 use Rattle.mpm_mount.specs.Directories.{others}
-use Rattle.mpm_mount.proofs.Ranges.{any_at, none_in}
+use Rattle.mpm_mount.proofs.Ranges.{none_in}
 use Rattle.mpm_mount.proofs.UsedBlocks.{nowhere_at, some_none}
 use Rattle.mpm_mount.proofs.FirstFault.{faultless_at, faultless_if}
 use Rattle.mpm_mount.proofs.Others.{all_none}

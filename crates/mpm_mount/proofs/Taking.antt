@@ -4,6 +4,7 @@ use Rattle.std.specs.Prelude.{nat_lt, replicate, slice_set, if◌then◌else◌}
 use Rattle.std.specs.List.{range_with_len, list_any}
 use Rattle.std.proofs.lemmas.Bool.{cases_eq, le-ltb, or_parts, or_from}
 use Rattle.std.proofs.lemmas.List.{get_or-set_same, get_or-set_other}
+use Rattle.std.proofs.Math.Bool.{and-false}
 use Rattle.mpm_base.specs.declared.kind.Kind.{Kind}
 use Rattle.mpm_blocks.specs.Geometries.{geometry_of, last_block, block_records, place_of}
 use Rattle.mpm_blocks.specs.Sectors.{Sectors, sectors_of, with_slot}
@@ -21,7 +22,7 @@ use Rattle.mpm_mount.specs.Changes.{exchanged, with_block, with_contents, TakesB
 use Rattle.mpm_mount.proofs.Ranges.{none_if}
 use Rattle.mpm_mount.proofs.Orders.{same_entry}
 use Rattle.mpm_mount.proofs.Others.{any_split}
-use Rattle.mpm_mount.proofs.UsedBlocks.{and_last, some_none, nowhere_at}
+use Rattle.mpm_mount.proofs.UsedBlocks.{some_none, nowhere_at}
 use Rattle.mpm_mount.proofs.Sound.{sound_at, file_clean, held_once}
 use Rattle.mpm_mount.proofs.Distinct.{own_name, named_alone}
 use Rattle.mpm_mount.proofs.Still.{has_own}
@@ -78,7 +79,7 @@ unfolding outside_test
 inside_block kind b low high =
     ap (λ z. not (b == 0) && z)
     (or_from (nat_lt b (geometry_of kind).directory_blocks) (nat_lt (last_block kind) b) (le-ltb b (geometry_of kind).directory_blocks low) (le-ltb (last_block kind) b high))
-    ∙ and_last (not (b == 0))
+    ∙ and-false (not (b == 0))
 
 none_outside : (d : Directory) (slot : ℕ) (f : FileEntry) (i block ex s2 rc : ℕ) → first_fault d.kind d.entries ≡ None → TakesBlock d slot f i block ex s2 rc
     → (j : ℕ) → j < places d.kind → is_outside d.kind (with_block f i block ex s2 rc) j ≡ false

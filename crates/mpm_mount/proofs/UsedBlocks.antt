@@ -1,10 +1,12 @@
 -- The blocks of an entry, used or freed one after another.
 use Rattle.std.proofs.Common.{◌≡◌, ◌≢◌, ℕ, ◌+◌, ◌<◌, ◌≤◌, ◌==◌, Bool, true, false, ◌&&◌, ◌||◌, not, inl, inr, length, refl, sym, ap, subst, ◌∙◌, arith, eq-eqb, ne_eqb}
+use Rattle.std.proofs.Math.Bool.{or-false, and-false, or-true}
 use Rattle.std.specs.Prelude.{nat_lt, if◌then◌else◌}
 use Rattle.std.specs.List.{range_with_len, list_any}
 use Rattle.std.proofs.lemmas.Bool.{false≢true, cases_eq, ltb-false, or_parts, and_from}
 use Rattle.std.proofs.lemmas.List.{length-set}
 use Rattle.mpm_base.specs.declared.kind.Kind.{Kind}
+use Rattle.mpm_base.proofs.Lists.{any_at}
 use Rattle.mpm_blocks.specs.Geometries.{geometry_of, last_block}
 use Rattle.mpm_blocks.specs.Maps.{Blocks, is_used, claimed, freed}
 use Rattle.mpm_blocks.proofs.Laws.{claimed_is_used, claimed_keeps_others, freed_is_free, freed_keeps_others}
@@ -12,7 +14,7 @@ use Rattle.mpm_dirent.specs.declared.kinds.FileEntry.{FileEntry}
 use Rattle.mpm_mount.specs.Drives.{places}
 use Rattle.mpm_mount.specs.Faults.{block_at, has_at, is_outside, some_place}
 use Rattle.mpm_mount.specs.Using.{is_among, ClaimsTo, FreesTo, clashes, claimed_unless_zero, freed_unless_zero}
-use Rattle.mpm_mount.proofs.Ranges.{or_none, any_more, any_at, none_at, none_if}
+use Rattle.mpm_mount.proofs.Ranges.{any_more, none_at, none_if}
 
 pub some_found : (kind : Kind) (t : ℕ → Bool) (i : ℕ) → i < places kind → t i ≡ true → some_place kind t ≡ true
 unfolding some_place
@@ -78,24 +80,16 @@ frees_none f blocks = record {
   used = λ block. frees_none_bit (is_used blocks block) (not (block == 0)) ∙ ap (λ b. is_used blocks block && not (not (block == 0) && b)) (sym (has_none f block));
 }
 
-pub or_last : (b : Bool) → (b || true) ≡ true
-or_last true = refl
-or_last false = refl
-
-pub and_last : (b : Bool) → (b && false) ≡ false
-and_last true = refl
-and_last false = refl
-
 -- whether a block is among one more
 pub among_here : (f : FileEntry) (i block : ℕ) → block ≢ 0 → block_at f i ≡ block → is_among f (i + 1) block ≡ true
 among_here f i block some same =
     let nonzero : not (block == 0) ≡ true = ap not (ne_eqb block 0 some) in
-    let here : has_at f (i + 1) block ≡ true = has_more f i block ∙ ap (λ b. has_at f i block || b) (eq-eqb (block_at f i) block same) ∙ or_last (has_at f i block) in
+    let here : has_at f (i + 1) block ≡ true = has_more f i block ∙ ap (λ b. has_at f i block || b) (eq-eqb (block_at f i) block same) ∙ or-true (has_at f i block) in
     and_from (not (block == 0)) (has_at f (i + 1) block) nonzero here
 
 pub among_other : (f : FileEntry) (i block : ℕ) → block_at f i ≢ block → is_among f (i + 1) block ≡ is_among f i block
 among_other f i block other =
-    ap (λ b. not (block == 0) && b) (has_more f i block ∙ ap (λ b. has_at f i block || b) (ne_eqb (block_at f i) block other) ∙ or_none (has_at f i block))
+    ap (λ b. not (block == 0) && b) (has_more f i block ∙ ap (λ b. has_at f i block || b) (ne_eqb (block_at f i) block other) ∙ or-false (has_at f i block))
 
 pub among_zero : (f : FileEntry) (i block : ℕ) → block_at f i ≡ 0 → is_among f (i + 1) block ≡ is_among f i block
 among_zero f i block zero = elim (cases_eq block 0) [
@@ -125,7 +119,7 @@ claims_here f i before mid so some h = record {
   used = λ block. elim (cases_eq (block_at f i) block) [
     | inl same ↦
         ap (is_used (claimed mid (block_at f i))) (sym same) ∙ claimed_is_used mid (block_at f i) (omega (arith, so.size))
-        ∙ sym (ap (λ b. is_used before block || b) (among_here f i block (λ zero. some (same ∙ zero)) same) ∙ or_last (is_used before block))
+        ∙ sym (ap (λ b. is_used before block || b) (among_here f i block (λ zero. some (same ∙ zero)) same) ∙ or-true (is_used before block))
     | inr other ↦
         claimed_keeps_others mid (block_at f i) block (λ same. other (sym same)) ∙ so.used block ∙ ap (λ b. is_used before block || b) (sym (among_other f i block other))
   ];
@@ -139,7 +133,7 @@ frees_here f i before mid so some h = record {
   used = λ block. elim (cases_eq (block_at f i) block) [
     | inl same ↦
         ap (is_used (freed mid (block_at f i))) (sym same) ∙ freed_is_free mid (block_at f i) (omega (arith, so.size))
-        ∙ sym (ap (λ b. is_used before block && not b) (among_here f i block (λ zero. some (same ∙ zero)) same) ∙ and_last (is_used before block))
+        ∙ sym (ap (λ b. is_used before block && not b) (among_here f i block (λ zero. some (same ∙ zero)) same) ∙ and-false (is_used before block))
     | inr other ↦
         freed_keeps_others mid (block_at f i) block (λ same. other (sym same)) ∙ so.used block ∙ ap (λ b. is_used before block && not b) (sym (among_other f i block other))
   ];

@@ -1,5 +1,6 @@
 -- The blocks that a list of entries uses.
 use Rattle.std.proofs.Common.{◌≡◌, ◌≢◌, ℕ, ◌+◌, ◌<◌, ◌≤◌, ◌==◌, Bool, true, false, ◌&&◌, ◌||◌, not, inl, inr, List, [], ◌∷◌, ◌++◌, length, get_or, refl, sym, ap, ◌∙◌, arith, eq-eqb, ne_eqb}
+use Rattle.std.proofs.Math.Bool.{or-false}
 use Rattle.std.specs.Prelude.{nat_lt, Option, Some, if◌then◌else◌}
 use Rattle.std.specs.List.{list_any}
 use Rattle.std.proofs.lemmas.Bool.{false≢true, cases_eq, le-ltb}
@@ -16,7 +17,7 @@ use Rattle.mpm_mount.specs.Drives.{places}
 use Rattle.mpm_mount.specs.Faults.{block_at, has_at, holds, is_outside, is_taken, some_place, name_cause, file_cause}
 use Rattle.mpm_mount.specs.Directories.{is_used, used_blocks}
 use Rattle.mpm_mount.specs.Using.{IsUsedBy, is_of, Claims, clashes}
-use Rattle.mpm_mount.proofs.Ranges.{or_none, any_same, map_same, map_at}
+use Rattle.mpm_mount.proofs.Ranges.{any_same, map_same, map_at}
 use Rattle.mpm_mount.proofs.UsedBlocks.{inside_at, claims_none_bit}
 
 pub used_size : (kind : Kind) (entries : List Entry) → length (used_blocks kind entries) ≡ last_block kind + 1
@@ -57,13 +58,13 @@ unfolding used_blocks used_to
 new_used kind blocks new = record {
   of_kind = ap (λ (b : Blocks). b.kind) new;
   used = ap (λ (b : Blocks). b.used) new
-      ∙ map_same (λ block. nat_lt block (geometry_of kind).directory_blocks) (is_used kind []) (last_block kind + 1) (λ block h. sym (or_none _));
+      ∙ map_same (λ block. nat_lt block (geometry_of kind).directory_blocks) (is_used kind []) (last_block kind + 1) (λ block h. sym (or-false _));
 }
 
 regroup : (a b c : Bool) → ((a || b) || c) ≡ (a || (b || (c || false)))
 regroup true b c = refl
 regroup false true c = refl
-regroup false false c = sym (or_none c)
+regroup false false c = sym (or-false c)
 
 more_used : (kind : Kind) (earlier : List Entry) (entry : Entry) (block : ℕ) → block ≢ 0
     → (is_used kind earlier block || is_of kind entry block) ≡ is_used kind (earlier ++ (entry ∷ [])) block
@@ -78,7 +79,7 @@ pub used_behind : (kind : Kind) (earlier : List Entry) (entry : Entry) (before n
 used_behind kind earlier entry before now by so =
     used_by kind (earlier ++ (entry ∷ [])) now (so.kind ∙ by.of_kind) (so.size ∙ size_used kind earlier before by)
     (λ block some h. so.used block ∙ ap (λ b. b || is_of kind entry block) (used_at kind earlier before block by h) ∙ more_used kind earlier entry block some)
-    (so.used 0 ∙ or_none (maps.is_used before 0) ∙ used_at kind earlier before 0 by (omega arith) ∙ zero_used kind earlier)
+    (so.used 0 ∙ or-false (maps.is_used before 0) ∙ used_at kind earlier before 0 by (omega arith) ∙ zero_used kind earlier)
 
 -- an entry that has no blocks
 pub claims_nothing : (kind : Kind) (entry : Entry) (blocks : Blocks) → ((block : ℕ) → holds kind block entry ≡ false) → Claims kind entry blocks blocks

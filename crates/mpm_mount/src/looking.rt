@@ -82,7 +82,8 @@ fn xfcb_in(mounted: &Mounted, user: u8, name: &[u8; 11]) -> Option<XfcbEntry>
 /// The XFCB of a user's file.
 #[tactic(auto, using(crate::proofs::Looked::xfcb_stands))]
 pub fn xfcb(mounted: &Mounted, user: u8, name: &[u8; 11]) -> Option<XfcbEntry>
-    ensures { (image : List ℕ) (drive : Drive) → Stands image mounted.now drive
+    ensures entry { result ≡ spec.xfcb_in mounted.now (record { user = user; name = plain name.now }) }
+    ensures stands { (image : List ℕ) (drive : Drive) → Stands image mounted.now drive
         → get drive.xfcbs (record { user = user; name = plain name.now }) ≡ option_map protection_of result }
 {
     xfcb_in(mounted, user, name)

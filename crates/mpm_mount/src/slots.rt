@@ -1,4 +1,4 @@
-ghost use Rattle.std.specs.Prelude.{◌≡◌, ◌<◌, ◌≤◌, ◌==◌, length, position, count_by, IfSome};
+ghost use Rattle.std.specs.Prelude.{◌≡◌, ◌≤◌, ◌==◌, length, position, count_by, IfSome};
 ghost use Rattle.std.specs.List.{list_any};
 ghost use Rattle.mpm_mount.specs.Drives as drives;
 ghost use Rattle.mpm_mount.specs.Faults as spec;

@@ -1,4 +1,4 @@
-ghost use Rattle.std.specs.Prelude.{◌≡◌, ◌<◌, ◌≤◌, ℕ, List, [], MatchOption, Some, None, IfOk, is_ok, if◌then◌else◌, length, ◌+◌, ◌*◌, IfSome, IsSomeAnd};
+ghost use Rattle.std.specs.Prelude.{◌≡◌, ◌≤◌, ℕ, List, [], MatchOption, Some, None, IfOk, is_ok, if◌then◌else◌, length, ◌+◌, ◌*◌, IfSome, IsSomeAnd};
 ghost use Rattle.mpm_port.specs.Disks.{with_sector};
 ghost use Rattle.std.specs.List.{position};
 

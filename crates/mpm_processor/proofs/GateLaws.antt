@@ -1,6 +1,6 @@
 -- The gate that ends a resident procedure is one only for a process that is in one, and gates stay where they are.
 use Rattle.std.proofs.Common.{◌≡◌, ◌∙◌, ℕ, Bool, true, false, ◌&&◌, ◌==◌, ◌+◌, ◌-◌, ◌*◌, ◌<◌, Some, None, if◌then◌else◌, refl, ap, arith}
-use Rattle.std.proofs.lemmas.Bool.{eqb-true, false_from_ne_true}
+use Rattle.std.proofs.lemmas.Bool.{eqb-true, false_from_ne_true, eq-eqb}
 use Rattle.mpm_banks.specs.Memory.{Memory, SameSegments, segment_of}
 use Rattle.mpm_processor.specs.declared.gate.Gate.TheVariants.{End, Call, Return}
 use Rattle.mpm_banks.specs.Gates.{last_page, end_gate, call_gate, return_gate}
@@ -47,3 +47,19 @@ unfolding gate_in
 none_below inside page address below =
     none_where (address == 256 * page + end_gate) (address == 256 * page + call_gate) inside (address == 256 * page + return_gate)
     (other_at _ _ (omega (arith, below))) (other_at _ _ (omega (arith, below))) (other_at _ _ (omega (arith, below)))
+
+-- at 06h of it the kernel is called
+
+second_there : (a b inside c : Bool) → a ≡ false → b ≡ true → (if a then Some End else (if b then Some Call else (if inside && c then Some Return else None))) ≡ Some Call
+second_there true b inside c e f = absurd (cc)
+second_there false false inside c e f = absurd (cc)
+second_there false true inside c e f = refl
+
+apart_at : (a b : ℕ) → b < a → (a == b) ≡ false
+apart_at a b less = false_from_ne_true (a == b) (λ same. absurd (omega (arith, less, eqb-true a b same)))
+
+pub calls_there : (inside : Bool) (page address : ℕ) → address ≡ 256 * page + call_gate → gate_in inside page address ≡ Some Call
+unfolding gate_in
+calls_there inside page address is =
+    second_there (address == 256 * page + end_gate) (address == 256 * page + call_gate) inside (address == 256 * page + return_gate)
+    (apart_at _ _ (omega (arith, is))) (eq-eqb _ _ is)

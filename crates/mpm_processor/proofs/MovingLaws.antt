@@ -63,13 +63,6 @@ moves_join inside n (suc m) seg old now new first more =
     let most = moves_join inside n m seg old now (moves m seg now) first part in
     subst P all (moves_more inside (n + m) seg old (moves m seg now) new most (more.each m (omega arith)) more.is)
 
-pub moves_stay : (inside : Bool) (n m seg : ℕ) (old now new : View) → m ≡ 0 → Moves inside n seg old now → Moves inside m seg now new
-    → Moves inside n seg old new
-moves_stay inside n m seg old now new none first more =
-    let P : ℕ → Type 0 = λ k. Moves inside k seg old new in
-    let all : n + m ≡ n = omega (arith, none) in
-    subst P all (moves_join inside n m seg old now new first more)
-
 -- where no listed instruction stands, nothing changes
 pub unmoved : (seg : ℕ) (view : View) → IsNone (instruction_in seg view) → moved seg view ≡ view
 unfolding memory_after devices_after
@@ -123,11 +116,6 @@ listed_once inside (suc (suc n)) seg old new m most stopped gate = absurd (omega
 
 pub moves_to : (inside : Bool) (n seg : ℕ) (old now new : View) → Moves inside n seg old now → new ≡ now → Moves inside n seg old new
 moves_to inside n seg old now new m is = record { is = is ∙ m.is; each = m.each }
-
-pub moves_from : (inside : Bool) (n seg : ℕ) (old first new : View) → Moves inside n seg first new → first ≡ old → Moves inside n seg old new
-moves_from inside n seg old first new m is =
-    let P : View → Type 0 = λ view. Moves inside n seg view new in
-    subst P is m
 
 -- a gate that isn't there is none, and where an instruction ran a listed one stands
 

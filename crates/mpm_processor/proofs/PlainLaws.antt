@@ -85,3 +85,10 @@ paused_halted opcode_of inside most (Some fetched) old new some is halted byte g
       gate = λ one. none_there (gate_of inside old.memory 0 old.regs.pc) (sym gate);
       rare = rare_halted (opcode_of fetched) old.regs (byte_at old.memory 0) halted byte;
     })
+
+-- the opcode that was answered
+pub rare_in : (answered : Option ℕ) (opcode : ℕ) (regs : Regs) (memory : ℕ → ℕ) → answered ≡ Some opcode
+    → IfSome answered (λ rare. IsRareAt rare regs memory) → IsRareAt opcode regs memory
+rare_in answered opcode regs memory is rare =
+    let P : Option ℕ → Type 0 = λ answered. IfSome answered (λ rare. IsRareAt rare regs memory) in
+    subst P is rare

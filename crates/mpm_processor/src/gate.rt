@@ -1,5 +1,5 @@
-ghost use Rattle.std.specs.Prelude.{◌≡◌, is_some};
-ghost use Rattle.mpm_banks.specs.Gates.{last_page as last_page_of};
+ghost use Rattle.std.specs.Prelude.{◌≡◌, ◌+◌, ◌*◌, is_some};
+ghost use Rattle.mpm_banks.specs.Gates.{last_page as last_page_of, call_gate};
 ghost use Rattle.mpm_processor.specs.Gates.{IsHome, gate_in};
 
 use mpm_banks::{Banks, CALL_GATE, END_GATE, RETURN_GATE, last_page};
@@ -21,6 +21,14 @@ pub fn page_of_gates(banks: &Banks, seg: Seg) -> u8
     ensures { result ≡ last_page_of banks.now seg }
 {
     last_page(banks.spec(seg))
+}
+
+/// The address of the gate at which a process of a segment calls the kernel.
+pub fn gate_of_calls(banks: &Banks, seg: Seg) -> u16
+    requires { IsHome banks.now seg }
+    ensures { result ≡ 256 * last_page_of banks.now seg + call_gate }
+{
+    u16::from_le_bytes([CALL_GATE, page_of_gates(banks, seg)])
 }
 
 /// The gate at an address, if any, for a process that is in a resident procedure (`inside`) or in none.

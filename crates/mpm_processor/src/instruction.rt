@@ -352,12 +352,56 @@ fn execute_plain(
     }
 }
 
-/// Instructions of a process that is in a resident procedure (`inside`) or in none, at most so many, up to a gate or an
-/// unlisted opcode.
-#[derive(Clone, Copy)]
-struct Instructions {
+/// Instructions from one that isn't plain on, at most so many, up to a gate or an unlisted opcode. Most bursts do plain ones
+/// alone, so that it is code of its own.
+#[inline(never)]
+fn execute_from(
+    opcode: u8,
     inside: bool,
     most: u64,
+    spec: SegmentSpec,
+    regs: &mut Regs,
+    segment: &mut [u8],
+    common: &mut [u8],
+    devices: &mut Devices,
+) -> u64
+    requires fits { FitsBelowCommon spec }
+    requires some { 0 < most }
+    requires rare { IsRareAt opcode regs.old (byte_at (alone spec segment.old common.old) 0) }
+    requires gate { gate_of inside (alone spec segment.old common.old) 0 regs.old.pc ≡ None }
+    ensures count { result ≤ most }
+    ensures moved { Moves inside result 0 (view_of spec regs.old segment.old common.old devices.old)
+        (view_of spec regs.new segment.new common.new devices.new) }
+    ensures stopped { result < most → CanMove inside 0 (view_of spec regs.new segment.new common.new devices.new) → ⊥ }
+    ensures segment { length segment.new ≡ length segment.old }
+    ensures common { length common.new ≡ length common.old }
+{
+    let mut rare = opcode;
+    let mut done = 0;
+    loop {
+        let left = most - done;
+        let others = execute_others(rare, inside, left, spec, regs, segment, common, devices);
+        done += others;
+        if others == 0 || done == most {
+            return done;
+        }
+        let left = most - done;
+        let paused = execute_plain(inside, left, spec, regs, segment, common, devices);
+        done += paused.done;
+        rare = match paused.opcode {
+            None => return done,
+            Some(opcode) => opcode,
+        };
+    }
+}
+
+/// Instructions of a process, up to a gate or an unlisted opcode.
+#[derive(Clone, Copy)]
+pub struct Instructions {
+    /// Whether the process is in a resident procedure, so that the gate that ends one is there.
+    pub inside: bool,
+    /// At most so many are done.
+    pub most: u64,
 }
 
 impl Burst for Instructions {
@@ -376,30 +420,24 @@ impl Burst for Instructions {
     ) -> u64 {
         let inside = self.inside;
         let most = self.most;
-        let mut done = 0;
-        while done < most {
-            let left = most - done;
-            let paused = execute_plain(inside, left, spec, regs, segment, common, devices);
-            done += paused.done;
-            let opcode = match paused.opcode {
-                None => return done,
-                Some(opcode) => opcode,
-            };
-            let left = most - done;
-            let more = execute_others(opcode, inside, left, spec, regs, segment, common, devices);
-            if more == 0 {
-                return done;
-            }
-            done += more;
+        if most == 0 {
+            return 0;
         }
-        done
+        let paused = execute_plain(inside, most, spec, regs, segment, common, devices);
+        let done = paused.done;
+        match paused.opcode {
+            None => done,
+            Some(opcode) => {
+                let left = most - done;
+                done + execute_from(opcode, inside, left, spec, regs, segment, common, devices)
+            }
+        }
     }
 }
 
 /// Instructions of a process of a segment, which is in a resident procedure (`inside`) or in none, at most so many, up to a
 /// gate or an unlisted opcode. Answers how many were done.
-#[inline]
-pub fn run_instructions(
+fn run_instructions(
     inside: bool,
     regs: &mut Regs,
     banks: &mut Banks,

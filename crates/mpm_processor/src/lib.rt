@@ -5,5 +5,5 @@
 mod gate;
 mod instruction;
 
-pub use gate::{Gate, gate_at, page_of_gates};
-pub use instruction::{execute, run_instructions};
+pub use gate::{Gate, gate_at, gate_of_calls, page_of_gates};
+pub use instruction::{Instructions, execute};

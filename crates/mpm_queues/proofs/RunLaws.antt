@@ -3,7 +3,8 @@ use Rattle.mpm_ready.specs.Tables.{dequeued}
 use Rattle.std.proofs.Common.{◌≡◌, ◌∙◌, ℕ, inl, inr, Bool, true, false, cond, List, [], ◌∷◌, ◌++◌, Option, Some, None, ◌==◌, length, drop, get_or, refl, sym, ap, subst, arith}
 use Rattle.std.proofs.lemmas.Bool.{cases_Bool}
 use Rattle.std.proofs.lemmas.Bool.Decides.{nat_tests}
-use Rattle.std.proofs.lemmas.List.{append-nil, append_assoc}
+use Rattle.std.proofs.lemmas.List.{append-nil}
+use Rattle.mpm_base.proofs.Lists.{joined}
 use Rattle.mpm_procs.specs.Table.{Table}
 use Rattle.mpm_queues.specs.Queue.{Queue, is_drained, is_full, first_message, held_by, shortened, read_by, with_message}
 use Rattle.mpm_queues.specs.Queues.{Queues, IsMade, queue_in, IsSound}
@@ -91,10 +92,6 @@ made_operation t q (Waits p priority reader) = refl
 made_operation t q (Leaves p) = refl
 
 -- all operations
-joined : (given rest now before : List (List ℕ)) (into more : List (List ℕ)) (middle : List (List ℕ)) → given ++ middle ≡ before ++ into → rest ++ now ≡ middle ++ more → (given ++ rest) ++ now ≡ before ++ (into ++ more)
-joined given rest now before into more middle one all =
-    append_assoc given rest now ∙ ap (λ (ms : List (List ℕ)). given ++ ms) all ∙ sym (append_assoc given middle more)
-    ∙ ap (λ (ms : List (List ℕ)). ms ++ more) one ∙ append_assoc before into more
 
 pub conserves_all : (t : Queues) (q : ℕ) (operations : List Operation) → IsSound t → IsMade t q → AllMayBe t q operations → Conserves t (operations_made t q operations) q (all_out t q operations) (all_in t q operations)
 unfolding operations_made all_out all_in AllMayBe

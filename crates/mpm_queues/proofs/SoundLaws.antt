@@ -1,5 +1,6 @@
 -- What is so of the queues stays so after each call.
 use Rattle.std.proofs.Common.{◌≡◌, ◌≢◌, ◌∙◌, ℕ, ◌+◌, ◌*◌, ◌<◌, ◌≤◌, ◌⊎◌, inl, inr, Bool, true, false, cond, List, [], ◌∷◌, Option, Some, None, ◌&&◌, ◌||◌, ◌==◌, length, get_or, replicate, refl, sym, ap, subst, arith}
+use Rattle.std.proofs.Math.Bool.{or-false}
 use Rattle.std.specs.Prelude.{bytes_eq, slice_set, is_none}
 use Rattle.std.proofs.lemmas.Bool.{false≢true, cases_Bool, cases_eq, cases_lt, eqb-true, and_parts, not-true}
 use Rattle.std.proofs.lemmas.List.{get_or-set_same, get_or-set_other, get_or_default, get_or_past, length-replicate, length-set}
@@ -306,10 +307,6 @@ unfolding queues_without_waiter
 sound_queues_without t p sound = sound_fewer t.alive t.queues t.waiters (removed t.waiters p) p sound refl
 
 -- who is in a list after an insertion was there before, or was put in
-or_none : (b : Bool) → (b || false) ≡ b
-or_none true = refl
-or_none false = refl
-
 was_or_put : (lists : List (List Member)) (list : ℕ) (member : Member) (p k : ℕ) → IsTable lists → list < 96 → in_list p (list_at (inserted lists list member) k) ≡ true → (in_list p (list_at lists k) ≡ true) ⊎ (k ≡ list)
 was_or_put lists list member p k table below there =
     either (k == list) (member.slot == p) (in_list p (list_at lists k)) refl (sym (in_list_inserted lists list member p k (omega (arith, table.size))) ∙ there)
@@ -320,7 +317,7 @@ was_or_put lists list member p k table below there =
 
     either : (a b c : Bool) → a ≡ (k == list) → ((a && b) || c) ≡ true → (c ≡ true) ⊎ (k ≡ list)
     either a b true is h = inl refl
-    either a b false is h = inr (from_test a b is (sym (or_none (a && b)) ∙ h))
+    either a b false is h = inr (from_test a b is (sym (or-false (a && b)) ∙ h))
 
 enlisted_in : (t : Queues) (list : ℕ) (member : Member) → IsSound t → list < 96 → member.slot < 32 → list_of t.waiters member.slot ≡ None → ((q p : ℕ) → q < 32 → q ≡ list → IsMade t q × (is_drained (queue_in t q) ≡ true)) → ((q p : ℕ) → q < 32 → 32 + q ≡ list → IsMade t q × (is_full (queue_in t q) ≡ true)) → IsSound (record t { waiters = inserted t.waiters list member })
 enlisted_in t list member sound below small nowhere reads writes = record {

@@ -43,6 +43,13 @@ impl Render {
         }
     }
 
+    /// Whether the records of completed calls are written.
+    pub fn is_tracing(&self) -> bool
+        ensures { result ≡ self.now.trace }
+    {
+        self.trace
+    }
+
     /// Gives a byte to a console (below 8) or printer (below 4). An LF, or the 200th byte since the last end of line,
     /// writes the line with one `put`; any other byte puts nothing. If the `put` fails, the lines stay as they were.
     pub fn put<S: Sink>(&mut self, stream: Unit2, byte: u8, sink: &mut S) -> Result<(), Failed>

@@ -5,6 +5,7 @@ use Rattle.std.specs.Prelude.{is_some, option_map, option_and_then, unwrap_or, f
 use Rattle.std.specs.Cmp.Lexicographic.{bytes_decides}
 use Rattle.std.proofs.lemmas.Bool.{and_parts}
 use Rattle.std.proofs.lemmas.Option.{same_Some}
+use Rattle.mpm_base.proofs.Options.{still_some}
 use Rattle.mpm_dirent.specs.Names.{plain}
 use Rattle.mpm_mount.specs.Drives.{FileName, Drive}
 use Rattle.mpm_opens.specs.declared.kinds.FileKey.{FileKey}
@@ -126,12 +127,8 @@ pub item_mode : (s : Situation) → option_map mode_of_item (open_item s) ≡ mo
 unfolding open_key
 item_mode s = moded s.filing.opens (key_named s) (item_number s)
 
-pub mapped_some : {X Y : Type 0} (f : X → Y) (o : Option X) → is_some o ≡ is_some (option_map f o)
-mapped_some f None = refl
-mapped_some f (Some x) = refl
-
 is_open : (s : Situation) → is_some (open_item s) ≡ is_some (open_key s)
-is_open s = mapped_some key_of_item (open_item s) ∙ ap is_some (item_key s)
+is_open s = sym (still_some (open_item s) key_of_item) ∙ ap is_some (item_key s)
 
 -- each test is that of the table
 asks_so : (s : Situation) → is_unmounted s (drive_named s) ≡ false → (refusal : Refusal)

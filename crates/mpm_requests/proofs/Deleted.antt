@@ -1,16 +1,16 @@
 -- Whether a deletion names a file, and which refuses it first, by searches for its pattern.
 use Rattle.std.proofs.Common.{◌≡◌, ◌∙◌, ℕ, ◌==◌, ◌&&◌, ◌||◌, Bool, true, false, not, cond, List, [], ◌∷◌, ◌++◌, Option, Some, None, length, map, refl, sym, ap, arith, ne_eqb}
+use Rattle.std.proofs.Math.Bool.{or-false, and-true}
 use Rattle.std.specs.List.{flat_map}
 use Rattle.std.specs.Option.{option_or}
 use Rattle.std.specs.Prelude.{is_some, option_map, option_and_then, find, filter}
+use Rattle.mpm_base.proofs.Choices.{at_either}
 use Rattle.mpm_mount.specs.Drives.{FileName, Drive}
 use Rattle.mpm_mount.specs.declared.searching.Found.{Found}
-use Rattle.mpm_mount.proofs.Replaced.{and_all}
 use Rattle.mpm_opens.specs.Opens.{OpenFiles}
 use Rattle.mpm_mount.specs.Files.{entries_named}
 use Rattle.mpm_requests.specs.declared.deleting.Deleter.{Deleter}
 use Rattle.mpm_functions.specs.declared.refusals.Refusal.{Refusal}
-use Rattle.mpm_mount.proofs.Ranges.{or_none}
 use Rattle.mpm_mount.proofs.Lowest.{found_same}
 use Rattle.mpm_functions.specs.declared.functions.FileFunction.{FileFunction}
 use Rattle.mpm_functions.specs.declared.functions.FileFunction.TheVariants.{DeleteFile}
@@ -39,7 +39,7 @@ pub nothing_deleted : (drive : Drive) (user : ℕ) (pattern : List ℕ) (name : 
 unfolding found_in
 nothing_deleted drive user pattern name found is =
     mapped_none name found ∙ ap (λ o. not (is_some o)) is
-    ∙ ap (λ o. not (is_some o)) (found_same (is_next user pattern (is_of_extent drive.kind 63) None) (fits user pattern) (entries_named drive) (λ entry. and_all (fits user pattern entry)))
+    ∙ ap (λ o. not (is_some o)) (found_same (is_next user pattern (is_of_extent drive.kind 63) None) (fits user pattern) (entries_named drive) (λ entry. and-true (fits user pattern entry)))
     ∙ none_kept (fits user pattern) (λ entry. entry.0) (entries_named drive)
 
 -- the first file that is refused, by a search for one
@@ -57,16 +57,12 @@ refused_step refusal entry files found true (Some r) is rest =
     ap (λ r. option_or r (first_refused refusal files)) is ∙ sym is
     ∙ sym (ap (λ r. option_and_then (λ (e : FileName × ℕ). refusal e.0) (cond (is_some r && true) (Some entry) found)) is)
 
-kept_map : {X Y : Type 0} (f : X → Y) (x : X) (xs : List X) (b : Bool) → map f (cond b (x ∷ xs) xs) ≡ cond b (f x ∷ map f xs) (map f xs)
-kept_map f x xs true = refl
-kept_map f x xs false = refl
-
 refused_first : (refusal : FileName → Option Refusal) (user : ℕ) (pattern : List ℕ) (entries : List (FileName × ℕ))
     → first_refused refusal (map (λ (e : FileName × ℕ). e.0) (filter (fits user pattern) entries))
     ≡ option_and_then (λ (e : FileName × ℕ). refusal e.0) (find (is_next user pattern (λ e. is_some (refusal e.0)) None) entries)
 refused_first refusal user pattern [] = refl
 refused_first refusal user pattern (entry ∷ entries) =
-    ap (first_refused refusal) (kept_map (λ (e : FileName × ℕ). e.0) entry (filter (fits user pattern) entries) (fits user pattern entry))
+    ap (first_refused refusal) (at_either (map (λ (e : FileName × ℕ). e.0)) (fits user pattern entry) (entry ∷ filter (fits user pattern) entries) (filter (fits user pattern) entries))
     ∙ refused_step refusal entry (map (λ (e : FileName × ℕ). e.0) (filter (fits user pattern) entries)) (find (is_next user pattern (λ e. is_some (refusal e.0)) None) entries)
     (fits user pattern entry) (refusal entry.0) refl (refused_first refusal user pattern entries)
 
@@ -107,7 +103,7 @@ unfolding applies refusals_of_each file_refusal
 as_table s file is =
     let rest : FileFunction → Option Refusal = λ f. cond (lacks_password (drive_at s) file f (given_password s) s.caller.password) (Some WrongPassword) (cond (is_in_use s file f) (Some InUse) None) in
     ap (λ f. cond (has_attribute (drive_at s) file 8 || is_open_read_only (mode_if_open s) f) (Some ReadOnlyFile) (rest f)) is
-    ∙ ap (λ b. cond b (Some ReadOnlyFile) (rest DeleteFile)) (or_none (has_attribute (drive_at s) file 8))
+    ∙ ap (λ b. cond b (Some ReadOnlyFile) (rest DeleteFile)) (or-false (has_attribute (drive_at s) file 8))
 
 pub deletion_as_table : (s : Situation) → s.function ≡ DeleteFile
     → option_map (λ (t : Test). t.refusal) (find (does_apply s) (tests_each (refusals_of_each DeleteFile) (deleted_files s))) ≡ deletion_refusal (drive_at s) s.filing.opens (deleter s) (block s).name

@@ -8,6 +8,7 @@ use Rattle.std.specs.Cmp.{IsTotalOrder}
 use Rattle.std.specs.FinMap.{entries, entries_sorted, is_sorted}
 use Rattle.std.proofs.lemmas.Bool.{true≢false, false≢true, and_parts}
 use Rattle.mpm_base.specs.declared.kind.Kind.{Kind}
+use Rattle.mpm_base.proofs.Choices.{at_either}
 use Rattle.mpm_names.specs.Matching.{does_match}
 use Rattle.mpm_blocks.specs.Sectors.{sectors_of}
 use Rattle.mpm_mount.specs.declared.searching.Found.{Found}
@@ -24,14 +25,10 @@ use Rattle.mpm_mount.proofs.SearchSteps.{is_true, AreSteps, stepped, nothing_fou
 use Rattle.mpm_requests.specs.Subjects.{is_behind, is_next, next_in}
 use Rattle.mpm_requests.specs.Looking.{entry_found}
 
-found_in_map_step : {X Y : Type 0} (f : X → Y) (x : X) (o : Option X) (b : Bool) → cond b (Some (f x)) (option_map f o) ≡ option_map f (cond b (Some x) o)
-found_in_map_step f x o true = refl
-found_in_map_step f x o false = refl
-
 found_in_map : {X Y : Type 0} (test : Y → Bool) (f : X → Y) (xs : List X) → lists.find test (map f xs) ≡ option_map f (lists.find (λ x. test (f x)) xs)
 found_in_map test f [] = refl
 found_in_map test f (x ∷ xs) =
-    ap (λ o. cond (test (f x)) (Some (f x)) o) (found_in_map test f xs) ∙ found_in_map_step f x (lists.find (λ y. test (f y)) xs) (test (f x))
+    ap (λ o. cond (test (f x)) (Some (f x)) o) (found_in_map test f xs) ∙ sym (at_either (option_map f) (test (f x)) (Some x) (lists.find (λ y. test (f y)) xs))
 
 found_through : {X Y Z : Type 0} (xs : List X) (f : X → Y) (g : Y → Z) (test : Z → Bool)
     → lists.find test (map g (map f xs)) ≡ option_map g (option_map f (lists.find (λ x. test (g (f x))) xs))
@@ -46,8 +43,8 @@ stepped_named {K = K} {X = X} R o es sorted name wide earlier later x v steps is
     let rest = lists.find (λ e. later (name (key e))) es in
     found_through es key name earlier
     ∙ ap (λ f. option_map name (option_map key f)) (stepped R o wide (λ k. earlier (name k)) (λ k. later (name k)) x v steps es sorted is)
-    ∙ ap (option_map name) (sym (found_in_map_step key (x, v) rest (earlier (name x))))
-    ∙ sym (found_in_map_step name x (option_map key rest) (earlier (name x)))
+    ∙ ap (option_map name) (at_either (option_map key) (earlier (name x)) (Some (x, v)) rest)
+    ∙ at_either (option_map name) (earlier (name x)) (Some x) (option_map key rest)
     ∙ ap (cond (earlier (name x)) (Some (name x))) (sym (found_through es key name later))
 
 nothing_named : {K X Z : Type 0} (es : List (K × X)) (name : K → Z) (wide : K → Bool) (test : Z → Bool) → ((k : K) → wide k ≡ false → test (name k) ≡ false)

@@ -1,20 +1,18 @@
 -- A list that takes the place of another one of its length, as what is lent of an array does; and so a resident that took its
 -- answer.
 use Rattle.std.proofs.Common.{◌≡◌, ◌∙◌, ℕ, zero, suc, true, List, [], ◌∷◌, Option, Some, length, get_or, refl, sym, ap}
+use Rattle.std.proofs.Math.Nat.{suc_inj}
 use Rattle.std.specs.Prelude.{is_some, slice_get, slice_set}
 use Rattle.std.specs.List.{refill}
 use Rattle.mpm_base.specs.Calls.{Answer}
 use Rattle.mpm_residents.specs.Natives.{native_in, native_took, answer_taken}
 use Rattle.mpm_residents.specs.declared.native.Native.{Native}
 
-same_rest : (m n : ℕ) → suc m ≡ suc n → m ≡ n
-same_rest m n e = cc
-
 pub refilled : {X : Type 0} (old new : List X) → length new ≡ length old → refill (length old) old new ≡ new
 refilled [] [] same = refl
 refilled [] (x ∷ others) same = absurd (cc)
 refilled (x ∷ xs) [] same = absurd (cc)
-refilled (x ∷ xs) (y ∷ ys) same = ap (λ rest. y ∷ rest) (refilled xs ys (same_rest (length ys) (length xs) same))
+refilled (x ∷ xs) (y ∷ ys) same = ap (λ rest. y ∷ rest) (refilled xs ys (suc_inj same))
 
 found_there : {X : Type 0} (xs : List X) (p : ℕ) (other : X) → is_some (slice_get xs p) ≡ true → slice_get xs p ≡ Some (get_or xs p other)
 found_there [] p other some = absurd (cc)

@@ -37,12 +37,12 @@ pub record Elsewhere (drive : ℕ) (old new : Disks) : Type 0 where
   pub names : (other : ℕ) → new.name_of other ≡ old.name_of other
   pub others : (other : List ℕ) → old.name_of drive ≢ Some other → new.image other ≡ old.image other
 
--- the bytes of a cleared sector
-unfoldable pub zeros : List ℕ
-zeros = replicate 128 0
+-- a record that was never written, in a block that is: what a cleared sector holds
+abbrev pub zero_record : List ℕ
+zero_record = replicate 128 0
 
 abbrev pub cleared : ℕ → Write
-cleared sector = record { sector = sector; bytes = zeros }
+cleared sector = record { sector = sector; bytes = zero_record }
 
 -- zeros in some sectors in a row
 unfoldable pub zeros_from : ℕ → ℕ → List Write

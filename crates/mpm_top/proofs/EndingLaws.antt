@@ -1,5 +1,5 @@
 -- Where files are told, a command ends as they say.
-use Rattle.std.proofs.Common.{◌≡◌, ◌∙◌, ℕ, ◌<◌, ◌≤◌, true, false, List, [], ◌∷◌, ◌++◌, Option, Some, None, IsSome, MatchOption, length, option_map, option_and_then, nat_lt, inl, inr, refl, sym, ap, subst, arith}
+use Rattle.std.proofs.Common.{◌≡◌, ◌∙◌, ℕ, ◌<◌, ◌≤◌, List, [], ◌∷◌, ◌++◌, Option, Some, None, IsSome, MatchOption, length, option_map, option_and_then, nat_lt, inl, inr, refl, sym, ap, subst, arith}
 use Rattle.std.specs.Prelude.{⊤, Result, Ok, Err, IsOk}
 use Rattle.std.proofs.lemmas.List.{length-append}
 use Rattle.std.proofs.lemmas.Option.{same_Some}

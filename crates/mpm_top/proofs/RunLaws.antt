@@ -235,6 +235,7 @@ in_part_so : (T U : List Output → Type 0) (kept : Filed) (old : System) → ((
 in_part_so T U kept old so part = record {
   change = part.change;
   made = part.made;
+  stand = part.stand;
   begun = part.begun;
   left = part.left;
   as_kept = part.as_kept;

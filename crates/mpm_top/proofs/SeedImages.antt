@@ -3,6 +3,7 @@ use Rattle.std.proofs.Common.{◌≡◌, ◌∙◌, ℕ, suc, ◌+◌, ◌-◌, 
 use Rattle.std.specs.Prelude.{◌||◌, Bool, None, codes}
 use Rattle.std.specs.List.{flat_map}
 use Rattle.std.proofs.lemmas.List.{drop-take, length-replicate, get_or_append_left, get_or-append_right, get_or-replicate}
+use Rattle.std.proofs.Math.Seq.{drop-append_seam}
 use Rattle.mpm_base.specs.declared.kind.Kind.TheVariants.{Hd4}
 use Rattle.mpm_blocks.specs.Sectors.{Sectors, sectors_of}
 use Rattle.mpm_dirent.specs.declared.kinds.Entry.{Entry}
@@ -43,14 +44,10 @@ slot_part image slot =
 
 -- parts behind one another
 
-drop_behind : (before behind : List ℕ) → drop (length before) (before ++ behind) ≡ behind
-drop_behind [] behind = refl
-drop_behind (x ∷ before) behind = drop_behind before behind
-
 part_at : (before here behind : List ℕ) (from count : ℕ) → length before ≡ from → length here ≡ count → part from count (before ++ (here ++ behind)) ≡ here
 part_at before here behind from count place size =
     ap (λ n. take count (drop n (before ++ (here ++ behind)))) (sym place)
-    ∙ ap (take count) (drop_behind before (here ++ behind))
+    ∙ ap (take count) (drop-append_seam before (here ++ behind))
     ∙ take_at here behind count size
 
 -- the entries of a directory that begins with three of 32 bytes, and has E5h up to 16,384 bytes

@@ -1,4 +1,4 @@
-ghost use Rattle.std.specs.Prelude.{◌≡◌, ◌<◌, ◌≤◌, Option, Some, None, MatchOption, IfSome, true, false};
+ghost use Rattle.std.specs.Prelude.{◌≡◌, ◌≤◌, Option, Some, None, MatchOption, IfSome, true, false};
 ghost use Rattle.mpm_top.specs.Words.{texts, steps_of as number_of, form_of as form_said, command_with, command_of, IsAsked, AreAsking};
 
 use mpm_script::GREATEST_STEP;

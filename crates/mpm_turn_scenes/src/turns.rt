@@ -9,7 +9,7 @@ use crate::scene::{FREE, Scene, Seen, call_count, seen_after, slot_of};
 use mpm_base::{Kind, Steps};
 use mpm_blocks::geometry;
 use mpm_cache::Cache;
-use mpm_files::{Job, JobKind, Progress, Work, plan, turn, turns};
+use mpm_files::{Job, JobKind, Progress, RecordError, Work, plan, turn, turns};
 use mpm_images::image;
 use mpm_mount::{Mounted, mount};
 use mpm_port::MemoryDrives;
@@ -49,8 +49,8 @@ pub struct Came {
     pub turns: u32,
     /// How many records it moved.
     pub moved: u8,
-    /// The code that it ended with.
-    pub code: u8,
+    /// Why it ended with these.
+    pub error: Option<RecordError>,
     /// The byte that the first records of its bytes have, each throughout.
     pub bytes: [u8; 4],
 }
@@ -67,7 +67,7 @@ fn came_of(work: &Work) -> Came {
     Came {
         turns: turns(work),
         moved: work.moved(),
-        code: work.code(),
+        error: work.error(),
         bytes,
     }
 }

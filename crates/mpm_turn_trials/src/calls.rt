@@ -1,6 +1,6 @@
 //! Calls one after the other on a disk that was empty.
 use mpm_base::Kind;
-use mpm_files::{Job, JobKind};
+use mpm_files::{Job, JobKind, RecordError};
 use mpm_turn_scenes::{Came, FREE, Left, NO_RECORD, Scene, Seen, Slot, job, left_of};
 use std::alloc::Global;
 use std::test::Fail;
@@ -57,11 +57,11 @@ fn made(came: Came, free: u32, entry: Slot, zeros: usize) -> Left {
 }
 
 /// What a job comes to.
-fn come_to(turns: u32, moved: u8, code: u8, bytes: [u8; 4]) -> Came {
+fn come_to(turns: u32, moved: u8, error: Option<RecordError>, bytes: [u8; 4]) -> Came {
     Came {
         turns,
         moved,
-        code,
+        error,
         bytes,
     }
 }
@@ -93,11 +93,16 @@ fn a_record_takes_its_block_with_zeros_before_it(rt: HostRuntime) -> Result<(), 
     assert_eq!(rt; free_at_first(rt.alloc(), kind)?, 0x788);
     assert_eq!(rt;
         after_record(rt.alloc(), kind, 20, reading(16, 4))?,
-        made(come_to(4, 4, 0, [0; 4]), 0x780, entry, 4)
+        made(come_to(4, 4, None, [0; 4]), 0x780, entry, 4)
     );
     assert_eq!(rt;
         after_record(rt.alloc(), kind, 20, reading(0, 1))?,
-        made(come_to(1, 0, 1, [1; 4]), 0x780, entry, 4)
+        made(
+            come_to(1, 0, Some(RecordError::UnwrittenData), [1; 4]),
+            0x780,
+            entry,
+            4
+        )
     );
     Ok(())
 }
@@ -110,11 +115,16 @@ fn a_record_of_the_second_extent_is_in_the_first_entry(rt: HostRuntime) -> Resul
     assert_eq!(rt; turns_of(rt.alloc(), kind, 130)?, 2);
     assert_eq!(rt;
         after_record(rt.alloc(), kind, 130, reading(128, 2))?,
-        made(come_to(2, 2, 0, [0, 0, 1, 1]), 0xFF60, entry, 2)
+        made(come_to(2, 2, None, [0, 0, 1, 1]), 0xFF60, entry, 2)
     );
     assert_eq!(rt;
         after_record(rt.alloc(), kind, 130, reading(0, 1))?,
-        made(come_to(1, 0, 1, [1; 4]), 0xFF60, entry, 2)
+        made(
+            come_to(1, 0, Some(RecordError::UnwrittenData), [1; 4]),
+            0xFF60,
+            entry,
+            2
+        )
     );
     Ok(())
 }

@@ -11,7 +11,7 @@ fn ended(turns: u32) -> Came {
     Came {
         turns,
         moved: 0,
-        code: 0,
+        error: None,
         bytes: [1, 2, 3, 4],
     }
 }

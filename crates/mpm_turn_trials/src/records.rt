@@ -1,17 +1,17 @@
 //! Calls that read, write, or test and write records, on each kind of disk: each call of the drive fails once, and then none.
 use mpm_base::Kind;
-use mpm_files::{Job, JobKind};
+use mpm_files::{Job, JobKind, RecordError};
 use mpm_images::{Entry, UNUSED, file, held, layout_of, other, xfcb};
 use mpm_turn_scenes::{Came, Does, KINDS, Left, Scene, first_other, job};
 use std::alloc::Global;
 use std::test::Fail;
 
 /// What a job comes to that moves the records that it says, of bytes 1, 2 and so on.
-fn moved(turns: u32, moved: u8, code: u8) -> Came {
+fn moved(turns: u32, moved: u8, error: Option<RecordError>) -> Came {
     Came {
         turns,
         moved,
-        code,
+        error,
         bytes: [1, 2, 3, 4],
     }
 }
@@ -60,7 +60,7 @@ fn sixteen(alloc: Global, kind: Kind) -> Result<Option<(u64, Left)>, Fail> {
             &one_block
         },
     };
-    first_other(alloc, &scene, moved(turns_on(kind, 16), 16, 0))
+    first_other(alloc, &scene, moved(turns_on(kind, 16), 16, None))
 }
 
 #[test]
@@ -114,7 +114,7 @@ fn across(alloc: Global, kind: Kind) -> Result<Option<(u64, Left)>, Fail> {
         held: 0,
         calls: &calls,
     };
-    first_other(alloc, &scene, moved(turns_on(kind, 17), 16, 0))
+    first_other(alloc, &scene, moved(turns_on(kind, 17), 16, None))
 }
 
 #[test]
@@ -184,7 +184,11 @@ fn ended_early(alloc: Global, kind: Kind) -> Result<Option<(u64, Left)>, Fail> {
         held: 0,
         calls: &calls,
     };
-    first_other(alloc, &scene, moved(turns_on(kind, 2), 2, 2))
+    first_other(
+        alloc,
+        &scene,
+        moved(turns_on(kind, 2), 2, Some(RecordError::NoDataBlock)),
+    )
 }
 
 #[test]
@@ -215,7 +219,7 @@ fn two_written(
         held: 0,
         calls,
     };
-    first_other(alloc, &scene, moved(turns_on(kind, 2), 2, 0))
+    first_other(alloc, &scene, moved(turns_on(kind, 2), 2, None))
 }
 
 fn stamped_beside(alloc: Global, kind: Kind) -> Result<Option<(u64, Left)>, Fail> {
@@ -318,7 +322,7 @@ fn a_record_is_read_and_then_written_where_it_is_the_same(rt: HostRuntime) -> Re
     ];
     let came = Came {
         bytes: [0xE5, 0xE5, 7, 7],
-        ..moved(2, 2, 0)
+        ..moved(2, 2, None)
     };
     for kind in KINDS {
         assert_eq!(rt;
@@ -334,7 +338,7 @@ fn nothing_is_written_from_a_mismatch_on(rt: HostRuntime) -> Result<(), Fail> {
     let calls = [Does::Unseen(1), Does::Byte(0, 7), Does::Unseen(1)];
     let came = Came {
         bytes: [0xE5, 7, 7, 7],
-        ..moved(3, 1, 7)
+        ..moved(3, 1, Some(RecordError::Mismatch))
     };
     for kind in KINDS {
         assert_eq!(rt;
@@ -357,7 +361,7 @@ fn each_record_is_read_by_one_call(rt: HostRuntime) -> Result<(), Fail> {
     let kind = Kind::Ibm3740;
     let came = Came {
         bytes: [0xE5, 0xE5, 0, 0],
-        ..moved(2, 2, 1)
+        ..moved(2, 2, Some(RecordError::UnwrittenData))
     };
     assert_eq!(rt;
         tested(rt.alloc(), kind, reading(14, 3), &[Does::Unseen(2)], came)?,
@@ -365,7 +369,7 @@ fn each_record_is_read_by_one_call(rt: HostRuntime) -> Result<(), Fail> {
     );
     let came = Came {
         bytes: [0; 4],
-        ..moved(1, 0, 4)
+        ..moved(1, 0, Some(RecordError::UnwrittenExtent))
     };
     assert_eq!(rt; tested(rt.alloc(), kind, reading(128, 1), &[], came)?, None);
     Ok(())
@@ -389,7 +393,7 @@ fn a_record_that_was_written_is_read_without_a_call(rt: HostRuntime) -> Result<(
     };
     let came = Came {
         bytes: [1, 2, 0, 0],
-        ..moved(2, 2, 0)
+        ..moved(2, 2, None)
     };
     assert_eq!(rt; first_other(rt.alloc(), &scene, came)?, None);
     Ok(())

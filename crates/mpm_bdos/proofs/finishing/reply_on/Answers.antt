@@ -1,11 +1,10 @@
 use Rattle.std.proofs.Common.{◌∙◌, sym, ap, subst}
 use Rattle.mpm_base.specs.Calls.{Taken}
 use Rattle.std.specs.Option.{option_copied}
-use Rattle.std.proofs.lemmas.Option.{same_Some}
+use Rattle.std.proofs.lemmas.Option.{same_Some, none-some}
 use Rattle.mpm_requests.specs.Asking.{called}
 use Rattle.mpm_bdos.specs.Replying.{IsAnswering}
 use Rattle.mpm_bdos.proofs.Answerable.{nothing_granted}
-use Rattle.mpm_bdos.proofs.Started.{nothing_some}
 use Rattle.mpm_bdos.proofs.finishing.reply_on.Goals as goal
 
 pub returns-in-Some-clause-replied : goal.returns-in-Some-clause-replied
@@ -16,7 +15,7 @@ returns-in-Some-clause-replied c = λ image d drives marks moment there answerin
     (subst (λ one. IsAnswering s image one c.args.work.now c.args.deleted.now) same answering)
 
 pub returns-in-None-clause-replied : goal.returns-in-None-clause-replied
-returns-in-None-clause-replied c = λ image d drives marks moment there answering. absurd (nothing_some d (sym (ap option_copied c.in-None.is) ∙ there))
+returns-in-None-clause-replied c = λ image d drives marks moment there answering. absurd (none-some d (sym (ap option_copied c.in-None.is) ∙ there))
 
 pub returns-in-None-clause-may : goal.returns-in-None-clause-may
 returns-in-None-clause-may c =

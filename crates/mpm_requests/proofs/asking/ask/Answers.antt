@@ -1,11 +1,12 @@
-use Rattle.std.proofs.Common.{◌≡◌, ◌∙◌, false, ap}
+use Rattle.std.proofs.Common.{◌≡◌, ◌∙◌, false, sym, ap}
 use Rattle.std.specs.Prelude.{is_some, option_map, option_and_then, unwrap_or, slice_index_or}
+use Rattle.mpm_base.proofs.Options.{still_some}
 use Rattle.mpm_dirent.specs.Names.{plain}
 use Rattle.mpm_fcb.specs.Blocks.{block_of}
 use Rattle.mpm_opens.specs.Items.{file_named}
 use Rattle.mpm_requests.specs.Subjects.{drive_by, drive_number, number_by, item_number, drive_at, subject, subject_by, found, found_by, is_protected}
 use Rattle.mpm_requests.specs.Asking.{opened_as, key_of_item, found_as, open_item, called}
-use Rattle.mpm_requests.proofs.AskedLaws.{item_key, mapped_some}
+use Rattle.mpm_requests.proofs.AskedLaws.{item_key}
 use Rattle.mpm_requests.proofs.OwnItems.{own_user}
 use Rattle.mpm_requests.proofs.asking.ask.Goals as goal
 
@@ -38,7 +39,7 @@ returns-clause-asked c = λ image drives marks moment stands.
     ∙ (λ i. (subject_by (drive_at s) (record { user = caller.user; name = plain (block_is i).name }) (key_is i) function).user)
     in
     let found_is : c.is_some.result ≡ is_some (found s) =
-    c.is_some.ensures ∙ mapped_some (found_as c.args.mounted.now.kind) c.found.result
+    c.is_some.ensures ∙ sym (still_some c.found.result (found_as c.args.mounted.now.kind))
     ∙ ap is_some (c.found.ensures image (drive_at s) stands ∙ (λ i. found_by (drive_at s) caller.user (block_is i) (search_is i) function))
     in
     let protected_is : c.has.result ≡ is_protected s = c.has.ensures ∙ ap (λ drive. slice_index_or c.args.protected.now drive false) drive_is in

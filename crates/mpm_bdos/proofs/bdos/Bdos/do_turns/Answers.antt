@@ -1,12 +1,12 @@
-use Rattle.std.proofs.Common.{◌≡◌, ◌+◌, refl, subst, ◌∙◌, arith}
+use Rattle.std.proofs.Common.{◌≡◌, ◌+◌, refl, sym, subst, ◌∙◌, arith, add-zero}
 use Rattle.mpm_bdos.specs.Serving.{Serves}
 use Rattle.mpm_bdos.specs.Turns.{told_images}
-use Rattle.mpm_bdos.proofs.AtOnceLaws.{no_turns, no_more, one_more, one_more_turn, rests_again, still_none, cause_since, is_ok_or_err}
+use Rattle.mpm_bdos.proofs.AtOnceLaws.{no_turns, one_more, one_more_turn, rests_again, still_none, cause_since, is_ok_or_err}
 use Rattle.mpm_bdos.proofs.bdos.Bdos.do_turns.Goals as goal
 
 pub loop-turn-init : goal.loop-turn-init
 loop-turn-init g c = record {
-  serves = λ s ended first few. subst (Serves (told_images (g.D.Drives.disks c.args.drives.now)) c.args.self.now s) (no_more ended) first;
+  serves = λ s ended first few. subst (Serves (told_images (g.D.Drives.disks c.args.drives.now)) c.args.self.now s) (sym (add-zero ended)) first;
   left = no_turns g.D.Drives.attached g.D.Drives.disks g.D.Drives.failed_names g.D.Drives.unsynced c.args.self.now c.args.drives.now c.requires.fits;
   calls = omega arith;
   idle = λ none. record { kept = refl; device = refl; calls = refl };

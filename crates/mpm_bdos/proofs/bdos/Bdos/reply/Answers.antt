@@ -1,10 +1,10 @@
 use Rattle.std.proofs.Common.{◌∙◌, sym, ap, subst}
+use Rattle.std.proofs.lemmas.Option.{none-some}
 use Rattle.mpm_bdos.specs.Jobs.{call_turns}
 use Rattle.mpm_bdos.specs.Serving.{Kept, Serves}
 use Rattle.mpm_bdos.specs.Answering.{HasEntered}
 use Rattle.mpm_bdos.proofs.Answerable.{entered_answers, of_served_drive}
 use Rattle.mpm_bdos.proofs.FinishLaws.{uncached, comes_still}
-use Rattle.mpm_bdos.proofs.Started.{nothing_some}
 use Rattle.mpm_bdos.proofs.bdos.Bdos.reply.Goals as goal
 
 pub returns-in-Some-clause-comes : goal.returns-in-Some-clause-comes
@@ -23,7 +23,7 @@ returns-in-None-clause-comes c = λ images s serves.
     let inside = c.self.inside in
     let old : Kept = record { mounted = inside.mounted; cached = inside.cache; protected = inside.protected; opens = inside.opens; marks = inside.marks; searches = inside.searches; service = inside.service } in
     let its = subst (λ (k : Kept). Serves images k s (call_turns s)) (sym c.self.view_is) serves in
-    absurd (nothing_some its.service (sym c.in-None.is ∙ its.there))
+    absurd (none-some its.service (sym c.in-None.is ∙ its.there))
 
 pub returns-in-Some-clause-may : goal.returns-in-Some-clause-may
 returns-in-Some-clause-may c = λ caller function call entered.

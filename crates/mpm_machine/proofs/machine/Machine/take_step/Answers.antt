@@ -11,107 +11,71 @@ use Rattle.mpm_machine.specs.Stepping.{files_begun}
 use Rattle.mpm_machine.proofs.DriveLaws.{keeps_both}
 use Rattle.mpm_machine.proofs.FilesStepLaws.{has_stepped, stays_served, begun_as_before, ended_as_before, stopped_as_before, has_stepped_to, begun_has_stopped, disk_has_stopped, ended_has_stopped, begun_stops_by, ended_stops_by}
 use Rattle.mpm_machine.proofs.TakeStepLaws.{does_nothing, no_turn, turn_worked, begun_worked, begun_apart, not_at_once, step_calls, turn_calls, turn_fails_so, write_stops, begun_stops_on, work_cause, begun_cause, begun_fails, ended_fails, ended_stays, holds_ended}
-use Rattle.mpm_machine.proofs.OwnCallStepLaws.{own_stepped, own_stopped, own_stepped_to, own_stops_by, own_images, own_holds, own_turn_steps}
 use Rattle.mpm_machine.proofs.machine.Machine.take_step.Goals as goal
 
 pub end_step-requires-clause-begun : goal.end_step-requires-clause-begun
 end_step-requires-clause-begun g c =
-    c.in-Ok-begin_step.ensures.holds.begun
+    c.in-Ok.ensures.holds.begun
 
 pub end_step-requires-clause-filed : goal.end_step-requires-clause-filed
 end_step-requires-clause-filed g c =
-    c.in-Ok-begin_step.ensures.holds.filed
+    c.in-Ok.ensures.holds.filed
 
 pub end_step-requires-clause-own : goal.end_step-requires-clause-own
 end_step-requires-clause-own g c =
-    c.in-Ok-begin_step.ensures.holds.own
-
--- it is nothing but a call that concerns its caller alone
-
-pub returns-in-Ok-clause-ok : goal.returns-in-Ok-clause-ok
-returns-in-Ok-clause-ok g c files stands =
-    own_stepped_to files (seen g.S.Sink.written g.S.Sink.faults c.args.render.now c.args.sink.now) (seen g.S.Sink.written g.S.Sink.faults c.do_own_call.new.render c.do_own_call.new.sink)
-    _ _ c.args.self.now.system c.do_own_call.new.self c.args.self.now.bdos (g.D.Drives.disks c.args.drives.now) c.requires.whole c.in-Some.ensures
-    c.do_own_call.ensures.system c.in-Ok.ensures.wrote.ok stands
-
-pub returns-in-Ok-clause-step : goal.returns-in-Ok-clause-step
-returns-in-Ok-clause-step g c =
-    own_stepped c.args.self.now.bdos (seen g.S.Sink.written g.S.Sink.faults c.args.render.now c.args.sink.now)
-    (seen g.S.Sink.written g.S.Sink.faults c.do_own_call.new.render c.do_own_call.new.sink) _ _ c.args.self.now.system c.do_own_call.new.self c.requires.whole
-    c.in-Some.ensures c.do_own_call.ensures.system c.in-Ok.ensures.wrote.ok
-
-pub returns-in-Ok-clause-holds : goal.returns-in-Ok-clause-holds
-returns-in-Ok-clause-holds g c =
-    own_holds g.D.Drives.attached g.D.Drives.disks _ _ c.args.self.now.system c.do_own_call.new.self c.args.self.now.bdos c.args.drives.now c.requires.whole
-    c.in-Some.ensures c.do_own_call.ensures.system c.requires.holds
-
-pub returns-in-Ok-clause-turn_steps : goal.returns-in-Ok-clause-turn_steps
-returns-in-Ok-clause-turn_steps g c = own_turn_steps _ _ c.args.self.now.system c.do_own_call.new.self c.requires.whole c.in-Some.ensures c.do_own_call.ensures.system
-
-pub returns-in-Err-clause-err : goal.returns-in-Err-clause-err
-returns-in-Err-clause-err g c files stands =
-    own_stops_by files _ _ _ _ c.args.self.now.system c.requires.whole c.in-Some.ensures c.in-Err.ensures.wrote.err
-
-pub returns-in-Err-clause-images : goal.returns-in-Err-clause-images
-returns-in-Err-clause-images g c files stands =
-    own_images files _ _ c.args.self.now.system c.args.self.now.bdos (g.D.Drives.disks c.args.drives.now) c.requires.whole c.in-Some.ensures stands
-
-pub returns-in-Err-clause-stops : goal.returns-in-Err-clause-stops
-returns-in-Err-clause-stops g c =
-    own_stopped c.args.self.now.bdos (seen g.S.Sink.written g.S.Sink.faults c.args.render.now c.args.sink.now)
-    (seen g.S.Sink.written g.S.Sink.faults c.do_own_call.new.render c.do_own_call.new.sink) _ _ c.args.self.now.system c.requires.whole c.in-Some.ensures c.in-Err.ensures.wrote.err
+    c.in-Ok.ensures.holds.own
 
 -- a drive failed in the disk's work
 
-pub returns-in-Err-work-clause-images : goal.returns-in-Err-work-clause-images
-returns-in-Err-work-clause-images g c files stands =
-    turn_fails_so c.args.self.now.system (g.D.Drives.disks c.work.new.drives) files c.work.new.bdos.mounted (c.in-Err-work.ensures.err files stands)
+pub returns-in-Err-clause-images : goal.returns-in-Err-clause-images
+returns-in-Err-clause-images g c files stands =
+    turn_fails_so c.args.self.now.system (g.D.Drives.disks c.work.new.drives) files c.work.new.bdos.mounted (c.in-Err.ensures.err files stands)
 
-pub returns-in-Err-work-clause-stops : goal.returns-in-Err-work-clause-stops
-returns-in-Err-work-clause-stops g c =
+pub returns-in-Err-clause-stops : goal.returns-in-Err-clause-stops
+returns-in-Err-clause-stops g c =
     disk_has_stopped c.args.self.now.bdos (seen g.S.Sink.written g.S.Sink.faults c.args.render.now c.args.sink.now) c.args.self.now.system
-    (turn_worked c.args.self.now.system (λ none. false≢true (c.in-Err-work.ensures.idle none).0))
-    (true_from_ne_false (has_work c.args.self.now.bdos.service) (λ less. false≢true (c.in-Err-work.ensures.workless less)))
+    (turn_worked c.args.self.now.system (λ none. false≢true (c.in-Err.ensures.idle none).0))
+    (true_from_ne_false (has_work c.args.self.now.bdos.service) (λ less. false≢true (c.in-Err.ensures.workless less)))
 
-pub returns-in-Err-work-clause-unfailing : goal.returns-in-Err-work-clause-unfailing
-returns-in-Err-work-clause-unfailing g c none =
-    absurd (false≢true (c.in-Err-work.ensures.unfailing none))
+pub returns-in-Err-clause-unfailing : goal.returns-in-Err-clause-unfailing
+returns-in-Err-clause-unfailing g c none =
+    absurd (false≢true (c.in-Err.ensures.unfailing none))
 
-pub returns-in-Err-work-clause-sink : goal.returns-in-Err-work-clause-sink
-returns-in-Err-work-clause-sink g c none =
-    absurd (false≢true (c.in-Err-work.ensures.idle (does_nothing c.args.self.now.system none).1).0)
+pub returns-in-Err-clause-sink : goal.returns-in-Err-clause-sink
+returns-in-Err-clause-sink g c none =
+    absurd (false≢true (c.in-Err.ensures.idle (does_nothing c.args.self.now.system none).1).0)
 
-pub returns-in-Err-work-clause-drives : goal.returns-in-Err-work-clause-drives
-returns-in-Err-work-clause-drives g c none =
+pub returns-in-Err-clause-drives : goal.returns-in-Err-clause-drives
+returns-in-Err-clause-drives g c none =
     (c.work.ensures.idle (does_nothing c.args.self.now.system none).1).1
 
-pub returns-in-Err-work-clause-device_calls : goal.returns-in-Err-work-clause-device_calls
-returns-in-Err-work-clause-device_calls g c none =
+pub returns-in-Err-clause-device_calls : goal.returns-in-Err-clause-device_calls
+returns-in-Err-clause-device_calls g c none =
     (c.work.ensures.idle (does_nothing c.args.self.now.system none).1).2
 
-pub returns-in-Err-work-clause-calls : goal.returns-in-Err-work-clause-calls
-returns-in-Err-work-clause-calls g c files stands =
-    turn_calls c.args.self.now.system c.args.self.now.bdos (g.D.Drives.disks c.args.drives.now) files _ _ stands (λ none. false≢true (c.in-Err-work.ensures.idle none).0) c.work.ensures.few
+pub returns-in-Err-clause-calls : goal.returns-in-Err-clause-calls
+returns-in-Err-clause-calls g c files stands =
+    turn_calls c.args.self.now.system c.args.self.now.bdos (g.D.Drives.disks c.args.drives.now) files _ _ stands (λ none. false≢true (c.in-Err.ensures.idle none).0) c.work.ensures.few
 
-pub returns-in-Err-work-clause-cause : goal.returns-in-Err-work-clause-cause
-returns-in-Err-work-clause-cause g c =
-    work_cause _ (g.S.Sink.faults c.args.sink.now) _ _ c.in-Err-work.ensures.cause
+pub returns-in-Err-clause-cause : goal.returns-in-Err-clause-cause
+returns-in-Err-clause-cause g c =
+    work_cause _ (g.S.Sink.faults c.args.sink.now) _ _ c.in-Err.ensures.cause
 
 -- what it begins with stopped
 
 pub returns-in-Err-begin_step-clause-err : goal.returns-in-Err-begin_step-clause-err
 returns-in-Err-begin_step-clause-err g c files stands =
-    begun_stops_by c.in-Err-begin_step.fault files _ _ c.args.self.now.system (c.in-Err-begin_step.ensures.err files (c.in_default-work.ensures.ok files stands))
+    begun_stops_by c.in-Err-begin_step.fault files _ _ c.args.self.now.system (c.in-Err-begin_step.ensures.err files (c.in_default.ensures.ok files stands))
 
 pub returns-in-Err-begin_step-clause-images : goal.returns-in-Err-begin_step-clause-images
 returns-in-Err-begin_step-clause-images g c files stands =
-    let worked = c.in_default-work.ensures.ok files stands in
+    let worked = c.in_default.ensures.ok files stands in
     begun_stops_on c.in-Err-begin_step.fault c.args.self.now.system c.begin_step.new.self.bdos (g.D.Drives.disks c.begin_step.new.drives) files c.requires.whole c.requires.holds.filed
     (c.in-Err-begin_step.ensures.images files worked) (c.in-Err-begin_step.ensures.stands files worked)
 
 pub returns-in-Err-begin_step-clause-stops : goal.returns-in-Err-begin_step-clause-stops
 returns-in-Err-begin_step-clause-stops g c =
-    begun_has_stopped c.in-Err-begin_step.fault c.args.self.now.bdos c.work.new.bdos _ _ c.args.self.now.system c.requires.whole c.requires.no_completions
+    begun_has_stopped c.in-Err-begin_step.fault c.args.self.now.bdos c.work.new.bdos _ _ c.args.self.now.system c.tell_sound.ensures.stand c.requires.whole c.requires.no_completions
     (begun_worked c.in-Err-begin_step.fault c.args.self.now.system (λ none. (c.in-Err-begin_step.ensures.idle none).0))
     (begun_apart c.in-Err-begin_step.fault c.args.self.now.system (λ some. (c.in-Err-begin_step.ensures.apart some).0)) c.work.ensures.kept
     (λ off. (c.work.ensures.idle off).3) c.in-Err-begin_step.ensures.stops
@@ -126,7 +90,7 @@ returns-in-Err-begin_step-clause-sink g c none =
 
 pub returns-in-Err-begin_step-clause-cause : goal.returns-in-Err-begin_step-clause-cause
 returns-in-Err-begin_step-clause-cause g c =
-    begun_fails _ c.in-Err-begin_step.fault _ _ _ _ _ c.in_default-work.ensures.cause c.in-Err-begin_step.ensures.cause
+    begun_fails _ c.in-Err-begin_step.fault _ _ _ _ _ c.in_default.ensures.cause c.in-Err-begin_step.ensures.cause
 
 pub returns-in-Err-begin_step-clause-keeps : goal.returns-in-Err-begin_step-clause-keeps
 returns-in-Err-begin_step-clause-keeps g c =
@@ -147,7 +111,7 @@ returns-in-Err-begin_step-clause-device_calls g c none =
 pub returns-in-Err-begin_step-clause-calls : goal.returns-in-Err-begin_step-clause-calls
 returns-in-Err-begin_step-clause-calls g c files stands =
     step_calls c.args.self.now.system c.args.self.now.bdos (g.D.Drives.disks c.args.drives.now) files _ _ _ stands c.work.ensures.few (λ off. (c.work.ensures.idle off).2)
-    (λ some. (c.begin_step.ensures.apart some).2) (c.begin_step.ensures.calls files (c.in_default-work.ensures.ok files stands))
+    (λ some. (c.begin_step.ensures.apart some).2) (c.begin_step.ensures.calls files (c.in_default.ensures.ok files stands))
 
 pub returns-in-Err-begin_step-clause-few : goal.returns-in-Err-begin_step-clause-few
 returns-in-Err-begin_step-clause-few g c some =
@@ -157,27 +121,27 @@ returns-in-Err-begin_step-clause-few g c some =
 
 pub returns-in-Err-end_step-clause-err : goal.returns-in-Err-end_step-clause-err
 returns-in-Err-end_step-clause-err g c files stands =
-    let begun = c.in-Ok-begin_step.ensures.ok files (c.in_default-work.ensures.ok files stands) in
-    ended_stops_by c.in-Ok-begin_step.instruction files _ (seen g.S.Sink.written g.S.Sink.faults c.begin_step.new.render c.begin_step.new.sink) (seen g.S.Sink.written g.S.Sink.faults c.end_step.new.render c.end_step.new.sink) c.args.self.now.system c.begin_step.new.self.system c.begin_step.new.self.bdos (g.D.Drives.disks c.begin_step.new.drives)
-    c.in-Ok-begin_step.ensures.step.instruction_is begun (c.in-Err-end_step.ensures.err (g.D.Drives.disks c.begin_step.new.drives) (files_begun c.args.self.now.system files) begun.stands)
+    let begun = c.in-Ok.ensures.ok files (c.in_default.ensures.ok files stands) in
+    ended_stops_by c.in-Ok.instruction files _ (seen g.S.Sink.written g.S.Sink.faults c.begin_step.new.render c.begin_step.new.sink) (seen g.S.Sink.written g.S.Sink.faults c.end_step.new.render c.end_step.new.sink) c.args.self.now.system c.begin_step.new.self.system c.begin_step.new.self.bdos (g.D.Drives.disks c.begin_step.new.drives)
+    c.in-Ok.ensures.step.instruction_is begun (c.in-Err-end_step.ensures.err (g.D.Drives.disks c.begin_step.new.drives) (files_begun c.args.self.now.system files) begun.stands)
 
 pub returns-in-Err-end_step-clause-images : goal.returns-in-Err-end_step-clause-images
 returns-in-Err-end_step-clause-images g c files stands =
-    let begun = c.in-Ok-begin_step.ensures.ok files (c.in_default-work.ensures.ok files stands) in
-    write_stops c.in-Ok-begin_step.instruction files c.args.self.now.system c.begin_step.new.self.system (g.D.Drives.disks c.begin_step.new.drives) c.end_step.new.self.bdos.mounted
-    c.in-Ok-begin_step.ensures.step.instruction_is begun.system (c.in-Err-end_step.ensures.stands (g.D.Drives.disks c.begin_step.new.drives) (files_begun c.args.self.now.system files) begun.stands)
+    let begun = c.in-Ok.ensures.ok files (c.in_default.ensures.ok files stands) in
+    write_stops c.in-Ok.instruction files c.args.self.now.system c.begin_step.new.self.system (g.D.Drives.disks c.begin_step.new.drives) c.end_step.new.self.bdos.mounted
+    c.in-Ok.ensures.step.instruction_is begun.system (c.in-Err-end_step.ensures.stands (g.D.Drives.disks c.begin_step.new.drives) (files_begun c.args.self.now.system files) begun.stands)
 
 pub returns-in-Err-end_step-clause-stops : goal.returns-in-Err-end_step-clause-stops
 returns-in-Err-end_step-clause-stops g c =
-    ended_has_stopped c.in-Ok-begin_step.instruction _ (seen g.S.Sink.written g.S.Sink.faults c.begin_step.new.render c.begin_step.new.sink) _ c.args.self.now.system c.begin_step.new.self.system c.requires.whole c.requires.no_completions
-    (begun_as_before c.args.self.now.bdos c.work.new.bdos c.begin_step.new.self.bdos c.in-Ok-begin_step.instruction _ _ c.args.self.now.system c.begin_step.new.self.system c.work.ensures.kept
-    (λ off. (c.work.ensures.idle off).3) c.in-Ok-begin_step.ensures.step)
-    (stopped_as_before c.args.self.now.bdos c.work.new.bdos c.begin_step.new.self.bdos c.in-Ok-begin_step.instruction _ _ c.begin_step.new.self.system
-    c.work.ensures.at_rest (λ some. c.begin_step.ensures.kept (sym (ap (λ (call : Option Served). is_some call) c.in-Ok-begin_step.ensures.served) ∙ some)) c.in-Err-end_step.ensures.stops)
+    ended_has_stopped c.in-Ok.instruction _ (seen g.S.Sink.written g.S.Sink.faults c.begin_step.new.render c.begin_step.new.sink) _ c.args.self.now.system c.begin_step.new.self.system c.tell_sound.ensures.stand c.requires.whole c.requires.no_completions
+    (begun_as_before c.args.self.now.bdos c.work.new.bdos c.begin_step.new.self.bdos c.in-Ok.instruction _ _ c.args.self.now.system c.begin_step.new.self.system c.work.ensures.kept
+    (λ off. (c.work.ensures.idle off).3) c.in-Ok.ensures.step)
+    (stopped_as_before c.args.self.now.bdos c.work.new.bdos c.begin_step.new.self.bdos c.in-Ok.instruction _ _ c.begin_step.new.self.system
+    c.work.ensures.at_rest (λ some. c.begin_step.ensures.kept (sym (ap (λ (call : Option Served). is_some call) c.in-Ok.ensures.served) ∙ some)) c.in-Err-end_step.ensures.stops)
 
 pub returns-in-Err-end_step-clause-cause : goal.returns-in-Err-end_step-clause-cause
 returns-in-Err-end_step-clause-cause g c =
-    ended_fails _ _ _ _ _ _ _ (begun_cause _ (Ok c.in-Ok-begin_step.instruction) _ _ _ _ _ c.in_default-work.ensures.cause c.in-Ok-begin_step.ensures.cause) c.in-Err-end_step.ensures.cause
+    ended_fails _ _ _ _ _ _ _ (begun_cause _ (Ok c.in-Ok.instruction) _ _ _ _ _ c.in_default.ensures.cause c.in-Ok.ensures.cause) c.in-Err-end_step.ensures.cause
 
 pub returns-in-Err-end_step-clause-keeps : goal.returns-in-Err-end_step-clause-keeps
 returns-in-Err-end_step-clause-keeps g c =
@@ -203,7 +167,7 @@ returns-in-Err-end_step-clause-device_calls g c none =
 pub returns-in-Err-end_step-clause-calls : goal.returns-in-Err-end_step-clause-calls
 returns-in-Err-end_step-clause-calls g c files stands =
     step_calls c.args.self.now.system c.args.self.now.bdos (g.D.Drives.disks c.args.drives.now) files _ _ _ stands c.work.ensures.few (λ off. (c.work.ensures.idle off).2)
-    (λ some. (c.begin_step.ensures.apart some).2) (c.begin_step.ensures.calls files (c.in_default-work.ensures.ok files stands))
+    (λ some. (c.begin_step.ensures.apart some).2) (c.begin_step.ensures.calls files (c.in_default.ensures.ok files stands))
 
 pub returns-in-Err-end_step-clause-few : goal.returns-in-Err-end_step-clause-few
 returns-in-Err-end_step-clause-few g c some =
@@ -213,9 +177,9 @@ returns-in-Err-end_step-clause-few g c some =
 
 pub returns-in-Ok-end_step-clause-ok : goal.returns-in-Ok-end_step-clause-ok
 returns-in-Ok-end_step-clause-ok g c files stands =
-    let begun = c.in-Ok-begin_step.ensures.ok files (c.in_default-work.ensures.ok files stands) in
-    has_stepped_to c.in-Ok-begin_step.instruction files _ (seen g.S.Sink.written g.S.Sink.faults c.begin_step.new.render c.begin_step.new.sink) (seen g.S.Sink.written g.S.Sink.faults c.end_step.new.render c.end_step.new.sink) c.args.self.now.system c.begin_step.new.self.system c.end_step.new.self.system c.begin_step.new.self.bdos c.end_step.new.self.bdos
-    (g.D.Drives.disks c.begin_step.new.drives) c.in-Ok-begin_step.ensures.step.instruction_is begun (c.in-Ok-end_step.ensures.ok (g.D.Drives.disks c.begin_step.new.drives) (files_begun c.args.self.now.system files) begun.stands)
+    let begun = c.in-Ok.ensures.ok files (c.in_default.ensures.ok files stands) in
+    has_stepped_to c.in-Ok.instruction files _ (seen g.S.Sink.written g.S.Sink.faults c.begin_step.new.render c.begin_step.new.sink) (seen g.S.Sink.written g.S.Sink.faults c.end_step.new.render c.end_step.new.sink) c.args.self.now.system c.begin_step.new.self.system c.end_step.new.self.system c.begin_step.new.self.bdos c.end_step.new.self.bdos
+    (g.D.Drives.disks c.begin_step.new.drives) c.in-Ok.ensures.step.instruction_is begun (c.in-Ok-end_step.ensures.ok (g.D.Drives.disks c.begin_step.new.drives) (files_begun c.args.self.now.system files) begun.stands)
 
 pub returns-in-Ok-end_step-clause-step : goal.returns-in-Ok-end_step-clause-step
 returns-in-Ok-end_step-clause-step g c =
@@ -223,10 +187,10 @@ returns-in-Ok-end_step-clause-step g c =
     let worked = c.work.new.bdos in
     let begun = c.begin_step.new.self in
     let ended = c.in-Ok-end_step.ensures.step in
-    let served = c.in-Ok-begin_step.ensures.served in
-    has_stepped c.in-Ok-begin_step.instruction _ (seen g.S.Sink.written g.S.Sink.faults c.begin_step.new.render c.begin_step.new.sink) _ old.system begun.system c.end_step.new.self.system
-    c.requires.whole c.requires.no_completions
-    (begun_as_before old.bdos worked begun.bdos c.in-Ok-begin_step.instruction _ _ old.system begun.system c.work.ensures.kept (λ off. (c.work.ensures.idle off).3) c.in-Ok-begin_step.ensures.step) ended
+    let served = c.in-Ok.ensures.served in
+    has_stepped c.in-Ok.instruction _ (seen g.S.Sink.written g.S.Sink.faults c.begin_step.new.render c.begin_step.new.sink) _ old.system begun.system c.end_step.new.self.system
+    c.tell_sound.ensures.stand c.requires.whole c.requires.no_completions
+    (begun_as_before old.bdos worked begun.bdos c.in-Ok.instruction _ _ old.system begun.system c.work.ensures.kept (λ off. (c.work.ensures.idle off).3) c.in-Ok.ensures.step) ended
     (ended_as_before old.bdos worked begun.bdos ended.left begun.system ended.telling.at_disk c.work.ensures.at_rest
     (λ some. c.begin_step.ensures.kept (sym (ap (λ (call : Option Served). is_some call) served) ∙ some)) ended.as_kept)
     (λ some still. stays_served old.bdos worked c.end_step.new.self.bdos old.system c.work.ensures.kept (λ none. (c.work.ensures.idle none).3) c.work.ensures.at_rest
@@ -236,11 +200,11 @@ returns-in-Ok-end_step-clause-step g c =
 pub returns-in-Ok-end_step-clause-holds : goal.returns-in-Ok-end_step-clause-holds
 returns-in-Ok-end_step-clause-holds g c =
     holds_ended g.D.Drives.attached g.D.Drives.disks c.begin_step.new.self.system.kernel c.end_step.new.self.system.kernel c.begin_step.new.self.bdos c.end_step.new.self.bdos
-    c.begin_step.new.drives c.in-Ok-begin_step.ensures.holds c.in-Ok-end_step.ensures.filed c.in-Ok-end_step.ensures.own c.in-Ok-end_step.ensures.begun c.end_step.ensures.kept c.end_step.ensures.workless
+    c.begin_step.new.drives c.in-Ok.ensures.holds c.in-Ok-end_step.ensures.filed c.in-Ok-end_step.ensures.own c.in-Ok-end_step.ensures.begun c.end_step.ensures.kept c.end_step.ensures.workless
 
 pub returns-in-Ok-end_step-clause-cause : goal.returns-in-Ok-end_step-clause-cause
 returns-in-Ok-end_step-clause-cause g c =
-    ended_stays _ _ _ _ _ _ _ _ (begun_cause _ (Ok c.in-Ok-begin_step.instruction) _ _ _ _ _ c.in_default-work.ensures.cause c.in-Ok-begin_step.ensures.cause) c.in-Ok-end_step.ensures.cause
+    ended_stays _ _ _ _ _ _ _ _ (begun_cause _ (Ok c.in-Ok.instruction) _ _ _ _ _ c.in_default.ensures.cause c.in-Ok.ensures.cause) c.in-Ok-end_step.ensures.cause
 
 pub returns-in-Ok-end_step-clause-keeps : goal.returns-in-Ok-end_step-clause-keeps
 returns-in-Ok-end_step-clause-keeps g c =
@@ -266,7 +230,7 @@ returns-in-Ok-end_step-clause-device_calls g c none =
 pub returns-in-Ok-end_step-clause-calls : goal.returns-in-Ok-end_step-clause-calls
 returns-in-Ok-end_step-clause-calls g c files stands =
     step_calls c.args.self.now.system c.args.self.now.bdos (g.D.Drives.disks c.args.drives.now) files _ _ _ stands c.work.ensures.few (λ off. (c.work.ensures.idle off).2)
-    (λ some. (c.begin_step.ensures.apart some).2) (c.begin_step.ensures.calls files (c.in_default-work.ensures.ok files stands))
+    (λ some. (c.begin_step.ensures.apart some).2) (c.begin_step.ensures.calls files (c.in_default.ensures.ok files stands))
 
 pub returns-in-Ok-end_step-clause-few : goal.returns-in-Ok-end_step-clause-few
 returns-in-Ok-end_step-clause-few g c some =
@@ -311,4 +275,4 @@ pub returns-in-Err-begin_step-clause-bare : goal.returns-in-Err-begin_step-claus
 returns-in-Err-begin_step-clause-bare g c none = c.begin_step.ensures.bare (c.work.ensures.bare none)
 
 pub returns-in-Ok-end_step-clause-turn_steps : goal.returns-in-Ok-end_step-clause-turn_steps
-returns-in-Ok-end_step-clause-turn_steps g c = c.in-Ok-end_step.ensures.turn_steps ∙ c.in-Ok-begin_step.ensures.turn_steps
+returns-in-Ok-end_step-clause-turn_steps g c = c.in-Ok-end_step.ensures.turn_steps ∙ c.in-Ok.ensures.turn_steps

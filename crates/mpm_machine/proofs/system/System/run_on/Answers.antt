@@ -1,7 +1,9 @@
-use Rattle.std.proofs.Common.{◌∙◌, sym, arith}
+use Rattle.std.proofs.Common.{◌≤◌, ◌-◌, sym, ap, arith}
 use Rattle.mpm_kernel.proofs.SoundLaws.{runner_lives}
+use Rattle.mpm_machine.specs.declared.system.System.{System}
+use Rattle.mpm_machine.specs.Moving.{Quiet, CanPass}
 use Rattle.mpm_machine.proofs.WholeLaws.{segment_is_home}
-use Rattle.mpm_machine.proofs.MovingLaws.{moved_disk, runs_on, quiet_steps, moved_state, moved_steps, moved_settled, whole_moved, no_completions_moved, steps_moved}
+use Rattle.mpm_machine.proofs.MovingLaws.{moved_disk, quiet_steps, quiet_ahead, moved_state, moved_steps, moved_settled, whole_moved, no_completions_moved, steps_moved, ahead_moved, ahead_is, told_ahead, none_ahead}
 use Rattle.mpm_machine.proofs.PassingLaws.{fewer_can, passes_nothing}
 use Rattle.mpm_machine.proofs.IdleLaws.{Idles, idle_state, idle_steps, idle_settled, idle_whole, idle_handed}
 use Rattle.mpm_machine.proofs.PassedLaws.{alike_itself, calls_moved, calls_idle}
@@ -9,31 +11,52 @@ use Rattle.mpm_machine.proofs.NextLaws.{still_state, still_steps}
 use Rattle.mpm_machine.proofs.NobodyDueLaws.{none_aborted_due}
 use Rattle.mpm_machine.proofs.system.System.run_on.Goals as goal
 
-pub segment-requires : goal.segment-requires
-segment-requires c = runner_lives c.args.self.now.kernel c.in-Some.p c.requires.whole.sound c.in-Some.ensures.running
-
 pub run_process-requires : goal.run_process-requires
 run_process-requires c =
-    let on = runs_on c.args.self.now c.in-Some.p c.in-Some-segment.seg c.requires.whole c.in-Some.ensures.running c.in-Some.ensures.first (sym c.segment.ensures ∙ c.in-Some-segment.is) c.requires.no_completions c.if-self.false in
-    let lives = runner_lives c.args.self.now.kernel c.in-Some.p c.requires.whole.sound on.running in
+    let here = c.in-Some.here in
+    let ahead = ahead_is c.args.ahead.now here c.args.self.now c.in-Some.is c.requires.ahead in
+    let lives = runner_lives c.args.self.now.kernel here.p c.requires.whole.sound ahead.on.running in
+    let few : c.steps_ahead-few.result ≤ c.args.most = omega (arith, c.steps_ahead-few.ensures) in
+    let within : c.steps_ahead-few.result ≤ here.last - c.args.self.now.steps = omega (arith, c.steps_ahead-few.ensures) in
     record {
       lives = lives;
-      home = segment_is_home c.args.self.now c.in-Some.p c.in-Some-segment.seg c.requires.whole lives on.home;
-      room = omega (arith, c.requires.room, c.quiet_for-most.ensures.few);
+      home = segment_is_home c.args.self.now here.p here.seg c.requires.whole lives ahead.on.home;
+      room = omega (arith, c.requires.room, few);
       sound = c.requires.whole.sound;
-      short = c.quiet_for-most.ensures.short;
-      passing = c.quiet_for-most.ensures.passing;
+      short = omega (arith, c.requires.room, few);
+      passing = fewer_can c.steps_ahead-few.result (here.last - c.args.self.now.steps) c.args.self.now.kernel.disk within ahead.passing;
     }
 
-pub returns-clause-whole : goal.returns-clause-whole
-returns-clause-whole c =
-    let on = runs_on c.args.self.now c.in-Some.p c.in-Some-segment.seg c.requires.whole c.in-Some.ensures.running c.in-Some.ensures.first (sym c.segment.ensures ∙ c.in-Some-segment.is) c.requires.no_completions c.if-self.false in
-    let lives = runner_lives c.args.self.now.kernel c.in-Some.p c.requires.whole.sound on.running in
-    whole_moved c.run_process.result c.in-Some.p c.in-Some-segment.seg c.args.self.now c.run_process.new.self c.requires.whole lives c.run_process.ensures.moved
+-- instructions of the process that runs ahead
 
-pub returns-clause-done : goal.returns-clause-done
-returns-clause-done c =
-    steps_moved c.run_process.result c.in-Some.p c.in-Some-segment.seg c.args.self.now c.run_process.new.self c.run_process.ensures.moved
+pub returns : goal.returns
+returns c =
+    let here = c.in-Some.here in
+    let old = c.args.self.now in
+    let new = c.run_process.new.self in
+    let done = c.run_process.result in
+    let ahead = ahead_is c.args.ahead.now here old c.in-Some.is c.requires.ahead in
+    let on = ahead.on in
+    let lives = runner_lives old.kernel here.p c.requires.whole.sound on.running in
+    let moved = c.run_process.ensures.moved in
+    let few : done ≤ c.args.most = omega (arith, c.steps_ahead-few.ensures, c.run_process.ensures.count) in
+    let within : done ≤ here.last - old.steps = omega (arith, c.steps_ahead-few.ensures, c.run_process.ensures.count) in
+    let quiet : Quiet done old = quiet_ahead done here old within ahead in
+    let passing : CanPass done old.kernel.disk = fewer_can done (here.last - old.steps) old.kernel.disk within ahead.passing in
+    record {
+      count = few;
+      states = λ s is inside. moved_state done here.p here.seg old new s c.requires.whole on moved quiet passing inside is;
+      disk = moved_disk done here.p here.seg old new moved;
+      calls = calls_moved done here.p here.seg old new moved;
+      steps = λ kept stand. moved_steps done here.p here.seg kept old new stand c.requires.whole on moved quiet passing;
+      due = λ some. none_aborted_due new.kernel (moved_settled done here.p here.seg old new c.requires.whole on moved);
+      whole = whole_moved done here.p here.seg old new c.requires.whole lives moved;
+      no_completions = no_completions_moved done here.p here.seg old new moved c.requires.no_completions;
+      done = steps_moved done here.p here.seg old new moved;
+      ahead = told_ahead c.args.ahead.now here new c.in-Some.is (ahead_moved done here old new c.requires.whole within moved ahead);
+    }
+
+-- nothing is done, as no process runs and none is ready
 
 pub idle-requires : goal.idle-requires
 idle-requires c = record {
@@ -43,102 +66,46 @@ idle-requires c = record {
   passing = c.quiet_for-most.ensures.passing;
 }
 
-pub returns-in_default-clause-whole : goal.returns-in_default-clause-whole
-returns-in_default-clause-whole c = idle_whole c.idle.result c.args.self.now c.idle.new.self c.requires.whole c.idle.ensures.system
-
-pub returns-clause-no_completions : goal.returns-clause-no_completions
-returns-clause-no_completions c =
-    no_completions_moved c.run_process.result c.in-Some.p c.in-Some-segment.seg c.args.self.now c.run_process.new.self c.run_process.ensures.moved c.requires.no_completions
-
-pub returns-clause-states : goal.returns-clause-states
-returns-clause-states c s is within =
-    let on = runs_on c.args.self.now c.in-Some.p c.in-Some-segment.seg c.requires.whole c.in-Some.ensures.running c.in-Some.ensures.first (sym c.segment.ensures ∙ c.in-Some-segment.is) c.requires.no_completions c.if-self.false in
-    moved_state c.run_process.result c.in-Some.p c.in-Some-segment.seg c.args.self.now c.run_process.new.self s c.requires.whole on
-    c.run_process.ensures.moved
-    (quiet_steps c.run_process.result c.quiet_for-most.result c.args.self.now (omega (arith, c.run_process.ensures.count)) c.quiet_for-most.ensures.quiet) (fewer_can c.run_process.result c.quiet_for-most.result c.args.self.now.kernel.disk c.run_process.ensures.count c.quiet_for-most.ensures.passing) within is
-
-pub returns-clause-steps : goal.returns-clause-steps
-returns-clause-steps c kept =
-    let on = runs_on c.args.self.now c.in-Some.p c.in-Some-segment.seg c.requires.whole c.in-Some.ensures.running c.in-Some.ensures.first (sym c.segment.ensures ∙ c.in-Some-segment.is) c.requires.no_completions c.if-self.false in
-    moved_steps c.run_process.result c.in-Some.p c.in-Some-segment.seg kept c.args.self.now c.run_process.new.self c.requires.whole on
-    c.run_process.ensures.moved
-    (quiet_steps c.run_process.result c.quiet_for-most.result c.args.self.now (omega (arith, c.run_process.ensures.count)) c.quiet_for-most.ensures.quiet) (fewer_can c.run_process.result c.quiet_for-most.result c.args.self.now.kernel.disk c.run_process.ensures.count c.quiet_for-most.ensures.passing)
-
-pub returns-clause-due : goal.returns-clause-due
-returns-clause-due c some =
-    let on = runs_on c.args.self.now c.in-Some.p c.in-Some-segment.seg c.requires.whole c.in-Some.ensures.running c.in-Some.ensures.first (sym c.segment.ensures ∙ c.in-Some-segment.is) c.requires.no_completions c.if-self.false in
-    none_aborted_due c.run_process.new.self.kernel
-    (moved_settled c.run_process.result c.in-Some.p c.in-Some-segment.seg c.args.self.now c.run_process.new.self c.requires.whole on c.run_process.ensures.moved)
-
-pub returns-in_default-clause-states : goal.returns-in_default-clause-states
-returns-in_default-clause-states c s is within =
-    let on : Idles c.args.self.now c.idle.result = record {
+pub returns-in_default : goal.returns-in_default
+returns-in_default c =
+    let old = c.args.self.now in
+    let new = c.idle.new.self in
+    let done = c.idle.result in
+    let on : Idles old done = record {
       idle = c.idle.ensures.idle;
       no_completions = c.requires.no_completions;
       settled = c.requires.whole.settled c.if-self.false;
       none_deferred = c.if-self.false;
-      passing = fewer_can c.idle.result c.quiet_for-most.result c.args.self.now.kernel.disk c.idle.ensures.count c.quiet_for-most.ensures.passing;
-      quiet = quiet_steps c.idle.result c.quiet_for-most.result c.args.self.now (omega (arith, c.idle.ensures.count)) c.quiet_for-most.ensures.quiet;
+      passing = fewer_can done c.quiet_for-most.result old.kernel.disk c.idle.ensures.count c.quiet_for-most.ensures.passing;
+      quiet = quiet_steps done c.quiet_for-most.result old c.idle.ensures.count c.quiet_for-most.ensures.quiet;
     } in
-    idle_state c.idle.result c.args.self.now c.idle.new.self s on within c.idle.ensures.system is
+    record {
+      count = omega (arith, c.idle.ensures.count, c.quiet_for-most.ensures.few);
+      states = λ s is inside. idle_state done old new s on inside c.idle.ensures.system is;
+      disk = ap (λ (system : System). system.kernel.disk) c.idle.ensures.system;
+      calls = calls_idle done old new c.idle.ensures.system;
+      steps = λ kept stand. idle_steps done kept old new stand c.requires.whole on c.idle.ensures.system;
+      due = λ some. none_aborted_due new.kernel (idle_settled done old new on c.idle.ensures.system);
+      whole = idle_whole done old new c.requires.whole c.idle.ensures.system;
+      no_completions = idle_handed done old new c.requires.no_completions c.idle.ensures.system;
+      done = ap (λ (system : System). system.steps) c.idle.ensures.system;
+      ahead = none_ahead c.args.ahead.now new c.in_default.is;
+    }
 
-pub returns-in_default-clause-steps : goal.returns-in_default-clause-steps
-returns-in_default-clause-steps c kept =
-    let on : Idles c.args.self.now c.idle.result = record {
-      idle = c.idle.ensures.idle;
+-- nor where an end may be put off
+
+pub returns-then-self : goal.returns-then-self
+returns-then-self c =
+    let old = c.args.self.now in
+    record {
+      count = omega arith;
+      states = λ s is inside. still_state old s is;
+      disk = sym (passes_nothing old.kernel.disk);
+      calls = alike_itself old.kernel.dispatcher.procs;
+      steps = λ kept stand. still_steps kept old;
+      due = λ some. absurd (omega (arith, some));
+      whole = c.requires.whole;
       no_completions = c.requires.no_completions;
-      settled = c.requires.whole.settled c.if-self.false;
-      none_deferred = c.if-self.false;
-      passing = fewer_can c.idle.result c.quiet_for-most.result c.args.self.now.kernel.disk c.idle.ensures.count c.quiet_for-most.ensures.passing;
-      quiet = quiet_steps c.idle.result c.quiet_for-most.result c.args.self.now (omega (arith, c.idle.ensures.count)) c.quiet_for-most.ensures.quiet;
-    } in
-    idle_steps c.idle.result kept c.args.self.now c.idle.new.self c.requires.whole on c.idle.ensures.system
-
-pub returns-in_default-clause-due : goal.returns-in_default-clause-due
-returns-in_default-clause-due c some =
-    let on : Idles c.args.self.now c.idle.result = record {
-      idle = c.idle.ensures.idle;
-      no_completions = c.requires.no_completions;
-      settled = c.requires.whole.settled c.if-self.false;
-      none_deferred = c.if-self.false;
-      passing = fewer_can c.idle.result c.quiet_for-most.result c.args.self.now.kernel.disk c.idle.ensures.count c.quiet_for-most.ensures.passing;
-      quiet = quiet_steps c.idle.result c.quiet_for-most.result c.args.self.now (omega (arith, c.idle.ensures.count)) c.quiet_for-most.ensures.quiet;
-    } in
-    none_aborted_due c.idle.new.self.kernel (idle_settled c.idle.result c.args.self.now c.idle.new.self on c.idle.ensures.system)
-
-pub returns-in_default-segment-clause-states : goal.returns-in_default-segment-clause-states
-returns-in_default-segment-clause-states c s is within = still_state c.args.self.now s is
-
-pub returns-in_default-segment-clause-steps : goal.returns-in_default-segment-clause-steps
-returns-in_default-segment-clause-steps c kept = still_steps kept c.args.self.now
-
-pub returns-then-self-clause-states : goal.returns-then-self-clause-states
-returns-then-self-clause-states c s is within = still_state c.args.self.now s is
-
-pub returns-then-self-clause-steps : goal.returns-then-self-clause-steps
-returns-then-self-clause-steps c kept = still_steps kept c.args.self.now
-
-pub returns-clause-disk : goal.returns-clause-disk
-returns-clause-disk c = moved_disk c.run_process.result c.in-Some.p c.in-Some-segment.seg c.args.self.now c.run_process.new.self c.run_process.ensures.moved
-
-pub returns-in_default-segment-clause-disk : goal.returns-in_default-segment-clause-disk
-returns-in_default-segment-clause-disk c = sym (passes_nothing c.args.self.now.kernel.disk)
-
-pub returns-then-self-clause-disk : goal.returns-then-self-clause-disk
-returns-then-self-clause-disk c = sym (passes_nothing c.args.self.now.kernel.disk)
-
-pub returns-in_default-clause-no_completions : goal.returns-in_default-clause-no_completions
-returns-in_default-clause-no_completions c = idle_handed c.idle.result c.args.self.now c.idle.new.self c.requires.no_completions c.idle.ensures.system
-
-pub returns-clause-calls : goal.returns-clause-calls
-returns-clause-calls c =
-    calls_moved c.run_process.result c.in-Some.p c.in-Some-segment.seg c.args.self.now c.run_process.new.self c.run_process.ensures.moved
-
-pub returns-in_default-clause-calls : goal.returns-in_default-clause-calls
-returns-in_default-clause-calls c = calls_idle c.idle.result c.args.self.now c.idle.new.self c.idle.ensures.system
-
-pub returns-in_default-segment-clause-calls : goal.returns-in_default-segment-clause-calls
-returns-in_default-segment-clause-calls c = alike_itself c.args.self.now.kernel.dispatcher.procs
-
-pub returns-then-self-clause-calls : goal.returns-then-self-clause-calls
-returns-then-self-clause-calls c = alike_itself c.args.self.now.kernel.dispatcher.procs
+      done = omega arith;
+      ahead = c.requires.ahead;
+    }

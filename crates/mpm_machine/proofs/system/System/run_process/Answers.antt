@@ -1,28 +1,27 @@
-use Rattle.std.proofs.Common.{Bool, refl, subst}
+use Rattle.std.proofs.Common.{◌∙◌, Bool, ap, sym, subst}
+use Rattle.mpm_procs.specs.Table.{process_in}
+use Rattle.mpm_kernel.specs.Kernel.{Kernel}
 use Rattle.mpm_processor.specs.Moving.{View, Moves}
-use Rattle.mpm_processor.proofs.MovingLaws.{view_is, moves_from}
-use Rattle.mpm_machine.specs.Moving.{with_view, view_of}
+use Rattle.mpm_processor.proofs.AloneLaws.{whole_moves}
+use Rattle.mpm_machine.specs.Moving.{with_view, view_of, CanPass, later}
 use Rattle.mpm_machine.proofs.PassingLaws.{fewer_can}
-use Rattle.mpm_machine.proofs.PassedLaws.{sound_within}
 use Rattle.mpm_machine.proofs.system.System.run_process.Goals as goal
 
 pub returns-clause-moved : goal.returns-clause-moved
 unfolding with_view
 returns-clause-moved c =
-    let new : View = record { regs = c.run_instructions-done.new.regs; memory = c.run_instructions-done.new.banks; devices = c.run_instructions-done.new.devices } in
-    let P : Bool → Type 0 = λ inside. Moves inside c.run_instructions-done.result c.args.seg (view_of c.args.self.now c.args.p) new in
+    let done = c.run-done.result in
+    let after = c.run-done.new.self in
+    let new : View = record { regs = (process_in after.dispatcher.procs c.args.p).regs; memory = c.run-done.new.banks; devices = after.devices } in
+    let P : Bool → Type 0 = λ inside. Moves inside done c.args.seg (view_of c.args.self.now c.args.p) new in
     record {
       view = new;
       moves = subst P c.is_inside-inside.ensures
-          (moves_from c.is_inside-inside.result c.run_instructions-done.result c.args.seg (view_of c.args.self.now c.args.p) _ new c.run_instructions-done.ensures.moved
-          (view_is _ (view_of c.args.self.now c.args.p) c.regs_mut-regs.ensures.value refl c.devices_mut.ensures.value));
-      is = c.pass.ensures;
+          (whole_moves c.is_inside-inside.result done c.args.seg (view_of c.args.self.now c.args.p) new c.requires.home.exists c.run-done.ensures.ran.moved c.run-done.ensures.others);
+      is = c.pass.ensures ∙ ap (λ (k : Kernel). later (record c.args.self.now { kernel = k; memory = c.run-done.new.banks }) done) c.run-done.ensures.kernel;
     }
-
-pub pass-requires-clause-sound : goal.pass-requires-clause-sound
-pass-requires-clause-sound c =
-    sound_within c.args.self.now.kernel c.run_instructions-done.new.devices c.args.p c.run_instructions-done.new.regs c.requires.sound c.requires.lives
 
 pub pass-requires-clause-passing : goal.pass-requires-clause-passing
 pass-requires-clause-passing c =
-    fewer_can c.run_instructions-done.result c.args.most c.args.self.now.kernel.disk c.run_instructions-done.ensures.count c.requires.passing
+    subst (λ (k : Kernel). CanPass c.run-done.result k.disk) (sym c.run-done.ensures.kernel)
+    (fewer_can c.run-done.result c.args.most c.args.self.now.kernel.disk c.run-done.ensures.ran.count c.requires.passing)

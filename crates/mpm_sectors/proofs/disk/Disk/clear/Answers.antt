@@ -1,5 +1,4 @@
 use Rattle.std.proofs.Common.{refl, ◌∙◌, arith}
-use Rattle.mpm_sectors.specs.Writes.{zeros}
 use Rattle.mpm_sectors.proofs.WriteLaws.{zeros_at_first, zeros_one_more, zeros_stopped}
 use Rattle.mpm_sectors.proofs.LeavesLaws.{leaves_itself, leaves_over}
 use Rattle.mpm_sectors.proofs.disk.Disk.clear.Goals as goal
@@ -17,7 +16,6 @@ pub put-requires-clause-apart : goal.put-requires-clause-apart
 put-requires-clause-apart g c = c.loop-number.invariant.leaves.alone c.requires.apart
 
 pub returns-in-Err-clause-puts : goal.returns-in-Err-clause-puts
-unfolding zeros
 returns-in-Err-clause-puts g c = record {
   ok = tt;
   err = zeros_stopped c.args.self.now.drive c.args.self.now.kind c.args.first c.loop-number.number c.args.count (g.D.Drives.disks c.args.drives.now)
@@ -25,7 +23,6 @@ returns-in-Err-clause-puts g c = record {
 }
 
 pub loop-number-preserved : goal.loop-number-preserved
-unfolding zeros
 loop-number-preserved g c = record {
   written = zeros_one_more c.args.self.now.drive c.args.self.now.kind c.args.first c.loop-number.number (g.D.Drives.disks c.args.drives.now)
       (g.D.Drives.disks c.loop-number.drives) (g.D.Drives.disks c.put.new.drives) c.loop-number.invariant.written c.in-Ok.ensures.puts.ok;

@@ -1,0 +1,22 @@
+-- Steps in a row in which nothing comes out and no drive is called.
+use Rattle.std.specs.Prelude.{◌≡◌, ℕ, ◌+◌, ◌<◌, List, Option}
+use Rattle.mpm_port.specs.Disks.{Disks}
+use Rattle.mpm_output.specs.Outside.{Outside}
+use Rattle.mpm_machine.specs.declared.machine.Machine.{Machine}
+use Rattle.mpm_machine.specs.State.{State, IsWhole, NoCompletions, StandsWithDrives}
+use Rattle.mpm_machine.specs.Due.{NobodyDue}
+use Rattle.mpm_machine.specs.Holding.{HoldsDrives}
+use Rattle.mpm_machine.specs.After.{after, HasRun}
+
+-- a machine did so many steps, while all that is outside of it stayed as it is: its drives, and what the renderer has and the sink got
+pub record WentOn {D : Type 0} (attached : D → ℕ → Option ℕ) (disks : D → Option Disks) (drives : D) (outside : Outside) (n : ℕ) (old new : Machine) : Type 0 where
+  pub ok : (s : State) (first : Option (List ℕ)) → StandsWithDrives old outside.kept outside.written (disks drives) s first
+      → StandsWithDrives new outside.kept outside.written (disks drives) (after n s) first
+  pub steps : HasRun n old.bdos new.bdos outside outside old.system new.system
+  pub due : 0 < n → NobodyDue new.system.kernel
+  pub whole : IsWhole new.system
+  pub no_completions : NoCompletions new.system
+  pub done : new.system.steps ≡ old.system.steps + n
+  pub holds : HoldsDrives attached disks new.system.kernel new.bdos drives
+  pub turn_steps : new.system.kernel.disk.turn_steps ≡ old.system.kernel.disk.turn_steps
+  pub bdos : new.bdos ≡ old.bdos
