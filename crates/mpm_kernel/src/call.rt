@@ -9,8 +9,8 @@ use mpm_base::{Outcome, Pid, Reply, functions};
 use mpm_clock::{tell_date, tell_time};
 use mpm_consoles::echoes;
 
-/// The version that functions 12 and 163 answer: MP/M II, whose file system is that of CP/M 3.
-pub const VERSION: u16 = 0x0130;
+/// The version of the system, which functions 12 and 163 answer: MP/M II, whose file system is that of CP/M 3.
+pub const MPM_VERSION: u16 = 0x0130;
 
 /// The answer of a function that isn't there.
 pub(crate) const NO_FUNCTION: u16 = 0xFFFF;
@@ -82,7 +82,7 @@ impl Kernel {
             | functions::READ_CONSOLE_BUFFER
             | functions::GET_CONSOLE_STATUS => return self.console_call(p, reply),
             functions::RETURN_VERSION_NUMBER | functions::RETURN_MPM_VERSION_NUMBER => reply.hl =
-                VERSION,
+                MPM_VERSION,
             functions::RETURN_CURRENT_DISK => reply.hl = u16::from(
                 self.dispatcher.procs.get(p).drive,
             ),

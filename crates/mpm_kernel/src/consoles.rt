@@ -11,14 +11,14 @@ use mpm_dispatcher::{READY, done};
 use mpm_line_input::Echo;
 
 impl Kernel {
-    ghost use Rattle.mpm_procs.specs.Table.{Lives, call_of, process_in};
+    ghost use Rattle.mpm_procs.specs.Table.{Lives, call_of};
     ghost use Rattle.mpm_consoles.specs.Consoles.{owner_of};
     ghost use Rattle.mpm_consoles.specs.Handling.{may_attach};
     ghost use Rattle.mpm_consoles.specs.declared.unit.Unit.TheVariants.{Console as ConsoleUnit};
-    ghost use Rattle.mpm_dispatcher.specs.Dispatch.{IsReady, made_ready};
+    ghost use Rattle.mpm_dispatcher.specs.Dispatch.{IsReady};
     ghost use Rattle.mpm_kernel.specs.Kernel.{IsSound, HasConsole};
     ghost use Rattle.mpm_kernel.specs.Columns.{spoke, wrote, spaces_for};
-    ghost use Rattle.mpm_kernel.specs.Consoling.{unit_left, attaching, attached, attached_now, console_changed, printer_changed, console_set, printer_set, owner_made, is_meant, assigned_to, assigned, printer_called, unit_called, given, handed_over, echoed, key_done, KeyNames, is_of_resident, key_came, abort_taken};
+    ghost use Rattle.mpm_kernel.specs.Consoling.{unit_left, attaching, attached, attached_now, console_changed, printer_changed, console_set, printer_set, owner_made, assigned_to, assigned, printer_called, unit_called, given, handed_over, echoed, key_done, KeyNames, is_of_resident, key_came, abort_taken};
 
     /// A byte is written to a console or a printer: the column of a console moves. Answers the number of spaces that stand for a
     /// tab that is expanded, 0 where the byte stands for itself. (MP/M II Programmer's Guide, "Function 2: Console Output".)

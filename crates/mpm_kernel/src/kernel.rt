@@ -231,7 +231,7 @@ impl Kernel {
 
     /// Does a burst of what a living process of a segment does. Its registers and the devices are lent, not copied.
     #[inline(always)]
-    pub fn run<B: Burst>(&mut self, p: Pid, burst: &B, seg: Seg, banks: &mut Banks) -> u64
+    pub fn run_burst<B: Burst>(&mut self, p: Pid, burst: &B, seg: Seg, banks: &mut Banks) -> u64
         requires sound { IsSound self.old }
         requires lives { Lives self.old.dispatcher.procs p }
         requires segment { HasSegment banks.old seg }

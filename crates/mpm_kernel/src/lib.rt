@@ -15,7 +15,7 @@ mod procedures;
 mod queueing;
 mod waiting;
 
-pub use call::VERSION;
+pub use call::MPM_VERSION;
 pub use kernel::Kernel;
 pub use mpm_line_input::Echo;
 pub use mpm_procs::NoSlot;

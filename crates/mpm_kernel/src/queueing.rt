@@ -6,10 +6,10 @@ use mpm_dispatcher::done;
 use mpm_queues::QueueOutcome;
 
 impl Kernel {
-    ghost use Rattle.mpm_procs.specs.Table.{Lives, process_in, call_of};
+    ghost use Rattle.mpm_procs.specs.Table.{Lives, call_of};
     ghost use Rattle.mpm_queues.specs.Queues.{IsMade, make_error};
     ghost use Rattle.mpm_queues.specs.Handling.{woken_by, may_wait, read_outcome, read_reply, write_outcome};
-    ghost use Rattle.mpm_dispatcher.specs.Dispatch.{IsReady, with_other};
+    ghost use Rattle.mpm_dispatcher.specs.Dispatch.{IsReady};
     ghost use Rattle.mpm_kernel.specs.Kernel.{IsSound};
     ghost use Rattle.mpm_kernel.specs.Queueing.{with_system_queue, OnlySystems, IfNotNow, queue_made, queue_opened, queue_deleted, pointed, queued, blocked_or_refused, taken_from, queue_read, given_to, queue_written};
 

@@ -19,7 +19,7 @@ pub(crate) const LAST_FLAG: u8 = 31;
 impl Kernel {
     ghost use Rattle.mpm_procs.specs.Table.{Lives, call_of};
     ghost use Rattle.mpm_flags.specs.States.{flag_at, set_answer};
-    ghost use Rattle.mpm_dispatcher.specs.Dispatch.{IsReady, with_completed, at_rest, unlisted, moved, all_ready, all_woken};
+    ghost use Rattle.mpm_dispatcher.specs.Dispatch.{IsReady};
     ghost use Rattle.mpm_kernel.specs.Kernel.{IsSound};
     ghost use Rattle.mpm_kernel.specs.Called.{low_parameter};
     ghost use Rattle.mpm_kernel.specs.Waiting.{polled, flag_waited, flag_set as flag_set_by, process_delayed, signalled};

@@ -1,5 +1,5 @@
 -- Steps that are instructions of one process.
-use Rattle.std.proofs.Common.{◌≡◌, ◌∙◌, ℕ, zero, suc, ◌+◌, ◌-◌, ◌*◌, ◌<◌, ◌≤◌, false, ◌&&◌, Option, Some, None, IfSome, is_some, option_map, inl, inr, length, refl, sym, ap, subst, arith, add-one, set-set, get_or-set_same}
+use Rattle.std.proofs.Common.{◌≡◌, ◌∙◌, ℕ, zero, suc, ◌+◌, ◌-◌, ◌*◌, ◌<◌, ◌≤◌, false, ◌&&◌, Option, Some, None, is_some, option_map, inl, inr, length, refl, sym, ap, subst, arith, add-one, set-set, get_or-set_same}
 use Rattle.std.proofs.lemmas.Bool.{cases_eq}
 use Rattle.z80_regs.specs.declared.regs.Regs.{Regs}
 use Rattle.z80_ext.specs.Instruction.{instruction, registers_after, actions_of}
@@ -297,9 +297,8 @@ runs_on system p seg w running first home no_completions off =
     record { running = running; first = first; home = home; no_completions = no_completions; none_deferred = off; settled = w.settled off }
 
 -- so many steps in which nothing is due
-pub quiet_steps : (n quiet : ℕ) (system : System) → n ≤ quiet
-    → ((step : ℕ) → step ≤ system.steps + quiet → system.steps < step → due step system.interrupts ≡ None) → Quiet n system
-quiet_steps n quiet system few none = λ k below. none (system.steps + k + 1) (omega (arith, few, below)) (omega arith)
+pub quiet_steps : (n : ℕ) (system : System) → ((step : ℕ) → step ≤ system.steps + n → system.steps < step → due step system.interrupts ≡ None) → Quiet n system
+quiet_steps n system none = λ k below. none (system.steps + k + 1) (omega (arith, below)) (omega arith)
 
 -- what becomes of a state in them
 pub moved_state : (n p seg : ℕ) (old new : System) (s : State) → IsWhole old → RunsOn old p seg → Moved n p seg old new → Quiet n old → CanPass n old.kernel.disk
@@ -395,14 +394,3 @@ ahead_moved n ahead old new w few moved here =
 
 pub quiet_ahead : (n : ℕ) (ahead : Ahead) (system : System) → n ≤ ahead.last - system.steps → RunsAhead ahead system → Quiet n system
 quiet_ahead n ahead system few here = λ k below. here.quiet (system.steps + k + 1) (omega (arith, few, below)) (omega arith)
-
--- where it is told, or not
-
-pub ahead_is : (told : Option Ahead) (ahead : Ahead) (system : System) → told ≡ Some ahead → IfSome told (λ (a : Ahead). RunsAhead a system) → RunsAhead ahead system
-ahead_is told ahead system is here = subst (λ (o : Option Ahead). IfSome o (λ (a : Ahead). RunsAhead a system)) is here
-
-pub told_ahead : (told : Option Ahead) (ahead : Ahead) (system : System) → told ≡ Some ahead → RunsAhead ahead system → IfSome told (λ (a : Ahead). RunsAhead a system)
-told_ahead told ahead system is here = subst (λ (o : Option Ahead). IfSome o (λ (a : Ahead). RunsAhead a system)) (sym is) here
-
-pub none_ahead : (told : Option Ahead) (system : System) → told ≡ None → IfSome told (λ (a : Ahead). RunsAhead a system)
-none_ahead told system is = subst (λ (o : Option Ahead). IfSome o (λ (a : Ahead). RunsAhead a system)) (sym is) tt

@@ -2,7 +2,7 @@
 -- return address, and its record joins the others.
 use Rattle.std.proofs.Common.{◌≡◌, ◌≢◌, ◌∙◌, ℕ, ◌==◌, Bool, true, false, ◌&&◌, ◌||◌, if◌then◌else◌, List, [], ◌∷◌, eqb-true, refl, sym, ap, subst}
 use Rattle.std.proofs.lemmas.Bool.{false≢true}
-use Rattle.mpm_base.specs.Lists.{is_among}
+use Rattle.mpm_base.specs.Lists.{is_among, zeros}
 use Rattle.mpm_base.specs.Calls.{Taken, answering}
 use Rattle.mpm_base.specs.declared.functions.TheConstants.{CONSOLE_OUTPUT, RAW_CONSOLE_OUTPUT, LIST_OUTPUT, DIRECT_CONSOLE_IO, PRINT_STRING, CALL_RESIDENT_SYSTEM_PROCEDURE, RETURN_VERSION_NUMBER, RETURN_CURRENT_DISK, SET_DMA_ADDRESS, SET_GET_USER_CODE, SET_MULTI_SECTOR_COUNT, SET_BDOS_ERROR_MODE, RETURN_MPM_VERSION_NUMBER}
 use Rattle.mpm_banks.specs.Memory.{Memory, byte_at}
@@ -32,7 +32,7 @@ use Rattle.mpm_machine.specs.State.{Change, IsWhole, silent}
 use Rattle.mpm_machine.specs.Calling.{Served, served_by, calling}
 use Rattle.mpm_machine.specs.FileCalls.{is_of_files}
 use Rattle.mpm_machine.specs.Serving.{asked, keeping, served, served_to_all, telling, string_of, after_echo, popped, replied, is_entry, with_entry, reply_at_entry, answering_call, fulfilling, completing, outcome_of, gate_step}
-use Rattle.mpm_machine.specs.OwnCalls.{is_own, asked_alone}
+use Rattle.mpm_machine.specs.OwnCalls.{is_own}
 use Rattle.mpm_machine.proofs.SayingLaws.{says_nothing}
 use Rattle.mpm_machine.proofs.WholeLaws.{keeps_call, same_regs}
 
@@ -175,7 +175,12 @@ pub asked_word : (p seg : ℕ) (system : System)
 unfolding asked Rattle.mpm_gate.specs.Calls.taken_call
 asked_word p seg system = refl
 
--- and reads registers alone
+-- and reads no memory: what it takes stands in its process's registers, and its DMA address is noted
+abbrev pub asked_alone : ℕ → System → Taken
+asked_alone p system =
+    let process = process_in system.kernel.dispatcher.procs p in
+    record { function = process.regs.c; word = word_of process.regs.e process.regs.d; dma = process.dma; fcb = zeros 36; bytes = [] }
+
 own_reads : (f : ℕ) → is_own f ≡ true → reads_of f ≡ Registers
 unfolding reads_of
 own_reads f is = own_each (λ n. reads_of n ≡ Registers) f is refl refl refl refl refl refl refl

@@ -1,19 +1,17 @@
--- Laws of steps in a row in which nothing comes out and no drive is called.
+-- Laws of steps in a row in which nothing is written and no drive is called.
 use Rattle.std.proofs.Common.{◌≡◌, ◌∙◌, ℕ, zero, suc, ◌+◌, ◌<◌, Option, refl, ap, sym, subst, arith}
 use Rattle.mpm_port.specs.Disks.{Disks}
 use Rattle.mpm_output.specs.Outside.{Outside}
 use Rattle.mpm_output.specs.Writing.{Wrote}
-use Rattle.mpm_service.specs.Ahead.{passed_by}
 use Rattle.mpm_bdos.specs.Serving.{Kept, StandForSome}
 use Rattle.mpm_machine.specs.declared.system.System.{System}
 use Rattle.mpm_machine.specs.declared.machine.Machine.{Machine}
-use Rattle.mpm_machine.specs.State.{State, Change, IsWhole, NoCompletions, StandsWithDrives, silent}
+use Rattle.mpm_machine.specs.State.{State, Change, IsWhole, NoCompletions, StandsWithDrives}
 use Rattle.mpm_machine.specs.Due.{NobodyDue}
-use Rattle.mpm_machine.specs.Files.{AreWithin}
-use Rattle.mpm_machine.specs.Holding.{HoldsDrives, CallsAlike}
+use Rattle.mpm_machine.specs.Holding.{HoldsDrives}
 use Rattle.mpm_machine.specs.After.{after, AreSteps, HasRun, HasStepped}
 use Rattle.mpm_machine.specs.OwnCalls.{MakesOwnCall, with_own_call}
-use Rattle.mpm_machine.specs.Quietly.{WentOn}
+use Rattle.mpm_machine.specs.Quietly.{WentSilently, WentOn}
 use Rattle.mpm_machine.proofs.NextLaws.{after_nothing, after_one, after_both, run_nothing, run_silent, run_both, run_step}
 use Rattle.mpm_machine.proofs.PassedLaws.{holds_passed, turn_steps_passed}
 use Rattle.mpm_machine.proofs.StandingLaws.{ran_on, step_stands}
@@ -22,20 +20,17 @@ use Rattle.mpm_machine.proofs.OwnCallStepLaws.{own_stepped, own_stepped_to, own_
 
 -- instructions of a process, or steps in which nothing is done
 pub went_silent : {D : Type 0} (attached : D → ℕ → Option ℕ) (disks : D → Option Disks) (drives : D) (o : Outside) (n : ℕ) (old : Machine) (new : System)
-    → ((s : State) → s.system ≡ old.system → AreWithin old.system.kernel.disk.served s.files → after n s ≡ record s { system = new })
-    → new.kernel.disk ≡ passed_by n old.system.kernel.disk → CallsAlike old.system.kernel.dispatcher.procs new.kernel.dispatcher.procs
-    → ((kept : Kept) → StandForSome kept.mounted → AreSteps n kept kept old.system (silent new)) → (0 < n → NobodyDue new.kernel) → IsWhole new → NoCompletions new
-    → new.steps ≡ old.system.steps + n → HoldsDrives attached disks old.system.kernel old.bdos drives → StandForSome old.bdos.mounted
+    → WentSilently n old.system new → HoldsDrives attached disks old.system.kernel old.bdos drives → StandForSome old.bdos.mounted
     → WentOn attached disks drives o n old (record old { system = new })
-went_silent attached disks drives o n old new states passed alike steps due whole none done holds stand = record {
-  ok = λ s first stands. ran_on old (record old { system = new }) n o.kept o.written (disks drives) (after n s) s first refl passed (states s) stands;
-  steps = run_silent n o old.system new (steps old.bdos stand);
-  due = due;
-  whole = whole;
-  no_completions = none;
-  done = done;
-  holds = holds_passed attached disks n old.system.kernel new.kernel old.bdos old.bdos drives passed alike refl holds;
-  turn_steps = turn_steps_passed n _ _ passed;
+went_silent attached disks drives o n old new went holds stand = record {
+  ok = λ s first stands. ran_on old (record old { system = new }) n o.kept o.written (disks drives) (after n s) s first refl went.disk (went.states s) stands;
+  steps = run_silent n o old.system new (went.steps old.bdos stand);
+  due = went.due;
+  whole = went.whole;
+  no_completions = went.no_completions;
+  done = went.done;
+  holds = holds_passed attached disks n old.system.kernel new.kernel old.bdos old.bdos drives went.disk went.calls refl holds;
+  turn_steps = turn_steps_passed n _ _ went.disk;
   bdos = refl;
 }
 

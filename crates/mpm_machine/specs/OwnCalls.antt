@@ -2,9 +2,7 @@
 -- the disk, no end by an abort is put off, and the process runs on. (MP/M II Programmer's Guide, functions 12 and 163, return version
 -- number; 25, return current disk; 26, set DMA address; 32, set or get user code; 44, set multi-sector count; 45, set BDOS error mode.)
 use Rattle.std.specs.Prelude.{◌≡◌, ℕ, ◌+◌, Bool, true, List, [], ◌∷◌, Some, None}
-use Rattle.z80_regs.specs.Words.{word_of}
-use Rattle.mpm_base.specs.Calls.{Taken}
-use Rattle.mpm_base.specs.Lists.{is_among, zeros}
+use Rattle.mpm_base.specs.Lists.{is_among}
 use Rattle.mpm_base.specs.declared.functions.TheConstants.{RETURN_VERSION_NUMBER, RETURN_CURRENT_DISK, SET_DMA_ADDRESS, SET_GET_USER_CODE, SET_MULTI_SECTOR_COUNT, SET_BDOS_ERROR_MODE, RETURN_MPM_VERSION_NUMBER}
 use Rattle.mpm_ready.specs.Order.{first_of}
 use Rattle.mpm_procs.specs.Table.{process_in}
@@ -24,12 +22,6 @@ is_own function =
     is_among function
     (RETURN_VERSION_NUMBER ∷ RETURN_CURRENT_DISK ∷ SET_DMA_ADDRESS ∷ SET_GET_USER_CODE ∷ SET_MULTI_SECTOR_COUNT ∷ SET_BDOS_ERROR_MODE
     ∷ RETURN_MPM_VERSION_NUMBER ∷ [])
-
--- what such a call of a process takes: it reads registers alone
-abbrev pub asked_alone : ℕ → System → Taken
-asked_alone p system =
-    let process = process_in system.kernel.dispatcher.procs p in
-    record { function = process.regs.c; word = word_of process.regs.e process.regs.d; dma = process.dma; fcb = zeros 36; bytes = [] }
 
 pub record MakesOwnCall (p seg : ℕ) (system : System) : Type 0 where
   pub on : RunsOn system p seg

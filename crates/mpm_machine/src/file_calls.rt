@@ -23,7 +23,7 @@ const FIRST_DMA: u8 = 0x80;
 impl System {
     ghost use Rattle.mpm_processor.specs.Gates.{IsHome};
     ghost use Rattle.mpm_machine.specs.State.{IsWhole, HasRoom};
-    ghost use Rattle.mpm_machine.specs.Step.{coming, counted, gate_before};
+    ghost use Rattle.mpm_machine.specs.Step.{coming, counted};
     ghost use Rattle.std.specs.Prelude.{is_none};
     ghost use Rattle.mpm_functions.specs.declared.refusals.Extended.{Extended};
     ghost use Rattle.mpm_directories.specs.Direct.{Resets};

@@ -47,8 +47,7 @@ impl Machine {
     ghost use Rattle.mpm_procs.specs.Table.{process_at, lowest_free};
     ghost use Rattle.mpm_kernel.specs.Kernel.{HasConsole};
     ghost use Rattle.mpm_consoles.specs.Consoles.{console_at};
-    ghost use Rattle.mpm_render.specs.Outputs.{Output, rendered, closed};
-    ghost use Rattle.mpm_render.specs.Shown.{Shows};
+    ghost use Rattle.mpm_render.specs.Outputs.{rendered};
     ghost use Rattle.mpm_machine_file.specs.MachineFiles.{IsMachine};
     ghost use Rattle.mpm_drives.specs.Images.{image_named};
     ghost use Rattle.mpm_drives.specs.Mounted.{SameBeside, number_of, placed};
@@ -57,14 +56,13 @@ impl Machine {
     ghost use Rattle.mpm_opens.specs.Opens.{AreOpen};
     ghost use Rattle.mpm_directories.specs.Places.{directory_at, in_places};
     ghost use Rattle.mpm_bdos.specs.Serving.{nothing_kept};
-    ghost use Rattle.mpm_bdos.specs.Syncing.{AreSynced, mounted_count};
+    ghost use Rattle.mpm_bdos.specs.Syncing.{AreSynced};
     ghost use Rattle.mpm_output.specs.Outside.{seen};
-    ghost use Rattle.mpm_machine.specs.State.{State, silent, StandsWithDrives, IsWhole, NoCompletions};
-    ghost use Rattle.mpm_machine.specs.Files.{Files, Between, AreWithin, StandsForFiles};
-    ghost use Rattle.mpm_machine.specs.Holding.{HoldsDrives, CallsAlike};
+    ghost use Rattle.mpm_machine.specs.State.{State, StandsWithDrives, IsWhole, NoCompletions};
+    ghost use Rattle.mpm_machine.specs.Files.{Files, Between, StandsForFiles};
+    ghost use Rattle.mpm_machine.specs.Holding.{HoldsDrives};
     ghost use Rattle.mpm_machine.specs.Stepping.{stepped};
     ghost use Rattle.mpm_service.specs.Disk.{no_service};
-    ghost use Rattle.mpm_service.specs.Ahead.{passed_by, turns_left};
     ghost use Rattle.mpm_machine.specs.Faults.{counts, HaveCause, itself, of_run, EndsBy};
     ghost use Rattle.mpm_machine.specs.Due.{NobodyDue};
     ghost use Rattle.mpm_machine.specs.Slots.{HasResidents};
@@ -72,7 +70,7 @@ impl Machine {
     ghost use Rattle.mpm_machine.specs.Opening.{booted, opened, IsBare, MayPlace, with_placed, opening_system, command_queue, with_residents};
     ghost use Rattle.mpm_kernel.specs.Queueing.{OnlySystems};
     ghost use Rattle.mpm_queues.specs.Queues.{make_error};
-    ghost use Rattle.mpm_machine.specs.After.{next, after, IsNextOf, AreSteps, HasRun, HasStepped, HasSteppedTo, HasStopped, HasStoppedIn, StopsBy, ShowsBefore, EndsInStep};
+    ghost use Rattle.mpm_machine.specs.After.{next, after, IsNextOf, HasRun, HasStepped, HasSteppedTo, HasStopped, HasStoppedIn, StopsBy, ShowsBefore, EndsInStep};
     ghost use Rattle.mpm_machine.specs.Chain.{IsChain};
     ghost use Rattle.mpm_machine.specs.Mounting.{HasMounted, HasNoDrive, HasDrives, KeepsMounted, OpensOn, untouched};
     ghost use Rattle.mpm_machine.specs.Failing.{HaveImagesOf, StopsOn, StopsWithImages, does_work, turns_done, working_in};
@@ -461,7 +459,8 @@ impl Machine {
         Ok(())
     }
 
-    /// At least one step and at most so many: instructions of the running process, and what comes after them.
+    /// At least one step and at most so many: instructions of the running process and its calls that concern it alone, or steps in which
+    /// nothing is done, and the step of another sort that comes after them.
     #[inline(always)]
     fn advance<D: Drives, S: Sink, L: Ledger>(
         &mut self,

@@ -7,7 +7,7 @@ ghost use Rattle.mpm_machine.specs.OwnCalls.{is_own};
 
 use crate::system::System;
 use mpm_base::{Pid, Seg, functions};
-use mpm_kernel::VERSION;
+use mpm_kernel::MPM_VERSION;
 
 /// Whether the call of a function concerns its caller alone: it reads and changes nothing else, and answers at once.
 #[inline(always)]
@@ -29,10 +29,11 @@ pub(crate) fn is_own(function: u8) -> bool
 impl System {
     ghost use Rattle.mpm_kernel.specs.Calls.{call_done};
     ghost use Rattle.mpm_machine.specs.State.{IsWhole};
-    ghost use Rattle.mpm_machine.specs.Serving.{keeping, replied};
-    ghost use Rattle.mpm_machine.specs.OwnCalls.{MakesOwnCall, with_own_call, asked_alone, IsRecord};
+    ghost use Rattle.mpm_machine.specs.Serving.{asked, keeping, replied};
+    ghost use Rattle.mpm_machine.specs.OwnCalls.{MakesOwnCall, with_own_call, IsRecord};
 
-    /// The step that is nothing but the call of a process of a segment, which concerns it alone. No record comes out: none is asked for.
+    /// The step that is nothing but the call of a process of a segment, which concerns it alone. Its record isn't written: none is asked
+    /// for.
     #[inline(always)]
     pub fn do_own_call(&mut self, p: Pid, seg: Seg)
         requires most { self.old.steps < GREATEST_STEP }
@@ -56,9 +57,10 @@ impl System {
     #[tactic(auto, using(mpm_procs::proofs::MapLaws::lives_changed), unfolding(crate::specs::Serving::keeping))]
     fn take_own(&mut self, p: Pid, function: u8, word: u16)
         requires lives { Lives self.old.kernel.dispatcher.procs p }
+        requires own { is_own function ≡ true }
         requires function { function ≡ (process_in self.old.kernel.dispatcher.procs p).regs.c }
         requires word { word ≡ word_of (process_in self.old.kernel.dispatcher.procs p).regs.e (process_in self.old.kernel.dispatcher.procs p).regs.d }
-        ensures { self.new ≡ keeping p (asked_alone p self.old) self.old }
+        ensures { (seg : ℕ) → self.new ≡ keeping p (asked p seg self.old) self.old }
     {
         let process = self.kernel.process_mut(p);
         let dma = process.dma;
@@ -91,7 +93,7 @@ impl System {
                 self.kernel.process_mut(p).set_error_mode(byte);
                 0
             }
-            _ => VERSION,
+            _ => MPM_VERSION,
         }
     }
 

@@ -28,7 +28,7 @@ impl Machine {
     ghost use Rattle.mpm_machine.specs.State.{State, StandsWithDrives, IsWhole, NoCompletions};
     ghost use Rattle.mpm_machine.specs.Files.{Files, Within, StandsForFiles, filing_in};
     ghost use Rattle.mpm_machine.specs.Holding.{IsOwn, HoldsDrives};
-    ghost use Rattle.mpm_machine.specs.Faults.{counts, HaveCause, itself, EndsBy, OnDiskFault, OnWriteFault};
+    ghost use Rattle.mpm_machine.specs.Faults.{counts, HaveCause, itself, EndsBy, OnDiskFault};
     ghost use Rattle.mpm_machine.specs.Mounting.{HasNoDrive, KeepsMounted};
     ghost use Rattle.mpm_machine.specs.Failing.{HaveImages};
     ghost use Rattle.mpm_machine.specs.After.{EndKeeps};

@@ -11,13 +11,12 @@ use mpm_service::Turn;
 use std::sync::ledger::Ledger;
 
 impl Machine {
-    ghost use Rattle.mpm_machine.specs.declared.system.System.{System};
     ghost use Rattle.mpm_procs.specs.Table.{Lives, call_of};
     ghost use Rattle.mpm_bdos.specs.Serving.{Serves, filing_of};
     ghost use Rattle.mpm_output.specs.Outside.{seen};
     ghost use Rattle.mpm_output.specs.Writing.{Wrote, Stopped};
     ghost use Rattle.mpm_machine.specs.State.{silent, IsWhole, NoCompletions, HasRoom, HasRoomForAll};
-    ghost use Rattle.mpm_machine.specs.Files.{Files, Between, StandsBetween, StandsWorked, StandsForFiles, drives_in, filing_in, all_left};
+    ghost use Rattle.mpm_machine.specs.Files.{Files, Between, StandsBetween, StandsWorked, StandsForFiles, drives_in, all_left};
     ghost use Rattle.mpm_machine.specs.Holding.{IsOwn, OwnsService, AreFiled, HoldsDrives};
     ghost use Rattle.mpm_machine.specs.DiskStep.{is_done_at_once, file_called, files_called, told_at_gate, told_of_call, process_over, call_over, disk_served, files_served, all_paid, call_entered, files_entered, turns_within};
     ghost use Rattle.mpm_machine.specs.Stepping.{rest_of, nothing_told, before_disk, files_begun, told_within, telling_then, files_rest};
@@ -31,7 +30,7 @@ impl Machine {
     ghost use Rattle.mpm_functions.specs.Functions.{function_of};
     ghost use Rattle.mpm_bdos.specs.Jobs.{call_turns};
     ghost use Rattle.mpm_bdos.specs.Outcomes.{file_call};
-    ghost use Rattle.mpm_bdos.specs.Turns.{FitsDrives, has_work, told_images};
+    ghost use Rattle.mpm_bdos.specs.Turns.{has_work, told_images};
     ghost use Rattle.mpm_machine.specs.Faults.{counts, HaveCause, itself, OnDiskFault, OnWriteFault};
     ghost use Rattle.mpm_machine.specs.Due.{NobodyDue};
     ghost use Rattle.mpm_machine.specs.FileCalls.{file_caller, told_of, concluded};

@@ -1,10 +1,9 @@
-ghost use Rattle.std.specs.Prelude.{◌≡◌, ◌<◌, ◌≤◌, ◌+◌, ℕ, true, Option, Some, None, is_some, IfSome, IfOk, OnOk, length};
+ghost use Rattle.std.specs.Prelude.{◌≡◌, ◌<◌, ◌≤◌, ◌+◌, true, Some, None, is_some, IfOk, OnOk, length};
 ghost use Rattle.mpm_script.specs.declared.line.TheConstants.{GREATEST_STEP};
 ghost use Rattle.mpm_procs.specs.Table.{Lives, process_in};
 ghost use Rattle.mpm_dispatcher.specs.Dispatch.{IsReady};
 ghost use Rattle.mpm_output.specs.Writing.{Writes};
 
-use crate::ahead::Ahead;
 use crate::owed::Owed;
 use crate::records::Records;
 use mpm_banks::Banks;
@@ -13,7 +12,7 @@ use mpm_interrupts::Schedule;
 use mpm_kernel::Kernel;
 use mpm_output::{illegal_text, write_bytes};
 use mpm_port::{Failed, Sink};
-use mpm_processor::{Gate, Instructions, execute, gate_at, page_of_gates};
+use mpm_processor::{Gate, execute, gate_at, page_of_gates};
 use mpm_render::Render;
 use mpm_residents::Residents;
 
@@ -37,150 +36,11 @@ pub(crate) struct System {
 impl System {
     ghost use Rattle.mpm_processor.specs.Gates.{IsHome};
     ghost use Rattle.mpm_machine.specs.Gates.{is_inside};
-    ghost use Rattle.mpm_machine.specs.State.{State, silent, IsWhole, NoCompletions, HasRoom, HasRoomForAll};
-    ghost use Rattle.mpm_machine.specs.Due.{NobodyDue};
-    ghost use Rattle.mpm_bdos.specs.Serving.{Kept, StandForSome};
-    ghost use Rattle.mpm_machine.specs.After.{after, AreSteps};
-    ghost use Rattle.mpm_ready.specs.Order.{first_of};
-    ghost use Rattle.mpm_ready.specs.Tables.{list_at};
-    ghost use Rattle.mpm_dispatcher.specs.Dispatch.{ready};
-    ghost use Rattle.mpm_machine.specs.Moving.{Moved, IsIdle, later, CanPass, RunsAhead};
-    ghost use Rattle.mpm_interrupts.specs.Interrupts.{due};
+    ghost use Rattle.mpm_machine.specs.State.{IsWhole, NoCompletions, HasRoom, HasRoomForAll};
     ghost use Rattle.mpm_processor.specs.declared.gate.Gate.TheVariants.{Return};
     ghost use Rattle.mpm_machine.specs.Step.{acted, acted_at, at_instruction, gate_before, is_no_gate, coming, begun_by, instruction_unless, instruction_at, instructed, executed, illegal};
     ghost use Rattle.mpm_machine.specs.Finishing.{all_answered};
     ghost use Rattle.mpm_machine.specs.Stepping.{begun_alone, is_instruction};
-    ghost use Rattle.mpm_service.specs.Ahead.{passed_by};
-    ghost use Rattle.mpm_machine.specs.Files.{AreWithin};
-    ghost use Rattle.mpm_machine.specs.Holding.{CallsAlike};
-    ghost use Rattle.mpm_kernel.specs.Kernel.{IsSound};
-
-    /// Steps at most so many, that need no look at anything between them. Answers how many were done. They are instructions of
-    /// the process that runs ahead, up to a gate or an unlisted opcode; where no process runs and none is ready, nothing is done
-    /// in them.
-    #[inline(always)]
-    pub fn run_on(&mut self, ahead: &Option<Ahead>, most: u64) -> u64
-        requires whole { IsWhole self.old }
-        requires no_completions { NoCompletions self.old }
-        requires room { self.old.steps + most ≤ GREATEST_STEP }
-        requires ahead { IfSome ahead.now (λ ahead. RunsAhead ahead self.old) }
-        ensures count { result ≤ most }
-        ensures states { (s : State) → s.system ≡ self.old → AreWithin self.old.kernel.disk.served s.files → after result s ≡ record s { system = self.new } }
-        ensures disk { self.new.kernel.disk ≡ passed_by result self.old.kernel.disk }
-        ensures calls { CallsAlike self.old.kernel.dispatcher.procs self.new.kernel.dispatcher.procs }
-        ensures steps { (kept : Kept) → StandForSome kept.mounted → AreSteps result kept kept self.old (silent self.new) }
-        ensures due { 0 < result → NobodyDue self.new.kernel }
-        ensures whole { IsWhole self.new }
-        ensures no_completions { NoCompletions self.new }
-        ensures done { self.new.steps ≡ self.old.steps + result }
-        ensures ahead { IfSome ahead.now (λ ahead. RunsAhead ahead self.new) }
-    {
-        let Some(here) = ahead else {
-            if self.abort_deferred {
-                return 0;
-            }
-            let most = self.quiet_for(most);
-            return self.idle(most);
-        };
-        let few = self.steps_ahead(here.last, most);
-        self.run_process(here.p, here.seg, few)
-    }
-
-    /// So many steps, at most, in which no interrupt is due and the disk's only pass.
-    #[tactic(auto, using(crate::proofs::PassingLaws::fewer_can))]
-    fn quiet_for(&self, most: u64) -> u64
-        requires { self.now.steps + most ≤ GREATEST_STEP }
-        ensures few { result ≤ most }
-        ensures short { result ≤ 4294967295 }
-        ensures quiet { (step : ℕ) → step ≤ self.now.steps + result → self.now.steps < step → due step self.now.interrupts ≡ None }
-        ensures passing { CanPass result self.now.kernel.disk }
-    {
-        self.disk_quiet(most.min(self.quiet()))
-    }
-
-    /// Steps in which nothing is done, at most so many: where no process runs and none is ready. Answers how many.
-    #[cold]
-    #[inline(never)]
-    #[tactic(auto, using(crate::proofs::PassedLaws::later_none))]
-    fn idle(&mut self, most: u64) -> u64
-        requires sound { IsSound self.old.kernel }
-        requires room { self.old.steps + most ≤ GREATEST_STEP }
-        requires short { most ≤ 4294967295 }
-        requires passing { CanPass most self.old.kernel.disk }
-        ensures count { result ≤ most }
-        ensures idle { 0 < result → IsIdle self.old }
-        ensures system { self.new ≡ later self.old result }
-    {
-        if self.kernel.running().is_some() || self.kernel.first_ready().is_some() {
-            return 0;
-        }
-        self.pass(most);
-        most
-    }
-
-    /// So many of these steps, at most, in which the disk's only pass.
-    pub fn disk_quiet(&self, most: u64) -> u64
-        ensures few { result ≤ most }
-        ensures passing { CanPass result self.now.kernel.disk }
-    {
-        match self.kernel.disk().quiet() {
-            Some(steps) => most.min(u64::from(steps)),
-            None => most,
-        }
-    }
-
-    /// So many steps are done, in which the disk's pass.
-    #[tactic(auto, using(crate::proofs::PassedLaws::passes_within))]
-    fn pass(&mut self, steps: u64)
-        requires sound { IsSound self.old.kernel }
-        requires room { self.old.steps + steps ≤ GREATEST_STEP }
-        requires short { steps ≤ 4294967295 }
-        requires passing { CanPass steps self.old.kernel.disk }
-        ensures { self.new ≡ later self.old steps }
-    {
-        self.steps += steps;
-        self.kernel.pass_disk(steps as u32);
-    }
-
-    /// So many steps at least in which no interrupt is due.
-    pub fn quiet(&self) -> u64
-        ensures { (step : ℕ) → step ≤ self.now.steps + result → self.now.steps < step → due step self.now.interrupts ≡ None }
-    {
-        self.interrupts
-            .next_step()
-            .saturating_sub(self.steps)
-            .saturating_sub(1)
-    }
-
-    /// The running process, where it is the first of the ready list, so that it runs on after each instruction.
-    pub fn runner(&self) -> Option<Pid>
-        ensures running { IfSome result (λ p. self.now.kernel.dispatcher.running ≡ Some p) }
-        ensures first { IfSome result (λ p. first_of (list_at self.now.kernel.dispatcher.lists ready) ≡ Some p) }
-    {
-        let p = self.kernel.running()?;
-        let first = self.kernel.first_ready()?;
-        if first.0 == p.0 { Some(p) } else { None }
-    }
-
-    /// Instructions of a process of a segment, at most so many.
-    #[tactic(auto, unfolding(crate::specs::Moving::with_view))]
-    #[inline(always)]
-    fn run_process(&mut self, p: Pid, seg: Seg, most: u64) -> u64
-        requires sound { IsSound self.old.kernel }
-        requires short { most ≤ 4294967295 }
-        requires passing { CanPass most self.old.kernel.disk }
-        requires lives { Lives self.old.kernel.dispatcher.procs p }
-        requires home { IsHome self.old.memory seg }
-        requires room { self.old.steps + most ≤ GREATEST_STEP }
-        ensures count { result ≤ most }
-        ensures moved { Moved result p seg self.old self.new }
-    {
-        let inside = self.is_inside(p);
-        let burst = Instructions { inside, most };
-        let done = self.kernel.run(p, &burst, seg, &mut self.memory);
-        self.pass(done);
-        done
-    }
 
     /// What a step begins with in which no process makes a file call: an event, or what the running process does; and the held calls
     /// that this completed. Answers whether that was an instruction.

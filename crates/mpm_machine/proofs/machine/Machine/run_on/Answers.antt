@@ -1,8 +1,10 @@
-use Rattle.std.proofs.Common.{◌≡◌, ◌∙◌, ◌+◌, true, false, Option, IfSome, sym, subst, arith}
+use Rattle.std.proofs.Common.{◌≡◌, ◌∙◌, ◌+◌, true, false, sym, arith}
+use Rattle.std.specs.Prelude.{⊤}
+use Rattle.std.proofs.lemmas.Option.{MatchOption-at_some}
 use Rattle.mpm_output.specs.Outside.{seen}
 use Rattle.mpm_machine.specs.declared.ahead.Ahead.{Ahead}
 use Rattle.mpm_machine.specs.declared.machine.Machine.{Machine}
-use Rattle.mpm_machine.proofs.MovingLaws.{ahead_is}
+use Rattle.mpm_machine.specs.Moving.{RunsAhead}
 use Rattle.mpm_machine.proofs.OwnCallStepLaws.{own_wrote, ahead_called}
 use Rattle.mpm_machine.proofs.QuietlyLaws.{went_nowhere, went_silent, went_alone, went_both}
 use Rattle.mpm_machine.proofs.machine.Machine.run_on.Goals as goal
@@ -11,9 +13,8 @@ use Rattle.mpm_machine.proofs.machine.Machine.run_on.Goals as goal
 
 pub returns-in_default-clause-went : goal.returns-in_default-clause-went
 returns-in_default-clause-went g c =
-    let ran = c.run_on.ensures in
-    went_silent g.D.Drives.attached g.D.Drives.disks c.args.drives.now (seen g.S.Sink.written g.S.Sink.faults c.args.render.now c.args.sink.now) c.run_on.result
-    c.args.self.now c.run_on.new.self ran.states ran.disk ran.calls ran.steps ran.due ran.whole ran.no_completions ran.done c.requires.holds c.tell_sound.ensures.stand
+    went_silent g.D.Drives.attached g.D.Drives.disks c.args.drives.now (seen g.S.Sink.written g.S.Sink.faults c.args.render.now c.args.sink.now) c.idle.result
+    c.args.self.now c.idle.new.self c.idle.ensures.went c.requires.holds c.tell_sound.ensures.stand
 
 pub loop-done-init : goal.loop-done-init
 loop-done-init g c = record {
@@ -21,7 +22,7 @@ loop-done-init g c = record {
   went = went_nowhere g.D.Drives.attached g.D.Drives.disks c.args.drives.now (seen g.S.Sink.written g.S.Sink.faults c.args.render.now c.args.sink.now) c.args.self.now
       c.requires.whole c.requires.no_completions c.requires.holds;
   stand = c.tell_sound.ensures.stand;
-  ahead = ahead_is c.look_ahead-ahead.result c.in-Some.here c.args.self.now.system c.in-Some.is c.look_ahead-ahead.ensures.ahead;
+  ahead = MatchOption-at_some ⊤ (λ (a : Ahead). RunsAhead a c.args.self.now.system) c.in-Some.here c.in-Some.is c.look_ahead-ahead.ensures.ahead;
 }
 
 -- its instructions, behind which it makes no call that concerns it alone, or none is to be made any more
@@ -30,11 +31,10 @@ pub returns-then-done-most-clause-went : goal.returns-then-done-most-clause-went
 returns-then-done-most-clause-went g c =
     let o = seen g.S.Sink.written g.S.Sink.faults c.args.render.now c.args.sink.now in
     let so_far = c.loop-done.invariant.went in
-    let ran = c.run_on-done.ensures in
     let before : Machine = c.loop-done.self in
-    went_both g.D.Drives.attached g.D.Drives.disks c.args.drives.now o c.loop-done.done c.run_on-done.result c.args.self.now before (record before { system = c.run_on-done.new.self }) so_far
-    (went_silent g.D.Drives.attached g.D.Drives.disks c.args.drives.now o c.run_on-done.result before c.run_on-done.new.self
-    ran.states ran.disk ran.calls ran.steps ran.due ran.whole ran.no_completions ran.done so_far.holds c.loop-done.invariant.stand)
+    went_both g.D.Drives.attached g.D.Drives.disks c.args.drives.now o c.loop-done.done c.run_burst-done.result c.args.self.now before (record before { system = c.run_burst-done.new.self }) so_far
+    (went_silent g.D.Drives.attached g.D.Drives.disks c.args.drives.now o c.run_burst-done.result before c.run_burst-done.new.self
+    c.run_burst-done.ensures.went so_far.holds c.loop-done.invariant.stand)
 
 -- and such a call
 
@@ -46,23 +46,21 @@ loop-done-preserved g c =
     let drives = c.args.drives.now in
     let here : Ahead = c.in-Some.here in
     let so_far = c.loop-done.invariant.went in
-    let ran = c.run_on-done.ensures in
+    let ran = c.run_burst-done.ensures in
     let before : Machine = c.loop-done.self in
-    let there : Machine = record before { system = c.run_on-done.new.self } in
+    let there : Machine = record before { system = c.run_burst-done.new.self } in
     let behind : Machine = record before { system = c.do_own_call.new.self } in
-    let burst = went_silent attached disks drives o c.run_on-done.result before c.run_on-done.new.self
-    ran.states ran.disk ran.calls ran.steps ran.due ran.whole ran.no_completions ran.done so_far.holds c.loop-done.invariant.stand in
+    let burst = went_silent attached disks drives o c.run_burst-done.result before c.run_burst-done.new.self ran.went so_far.holds c.loop-done.invariant.stand in
     let makes = c.if-not-makes_own_call.ensures.own in
     let unasked : here.alone ≡ true → c.is_tracing.result ≡ false =
-    subst (λ (o : Option Ahead). IfSome o (λ (a : Ahead). a.alone ≡ true → c.is_tracing.result ≡ false)) c.in-Some.is c.look_ahead-ahead.ensures.untraced in
+    MatchOption-at_some ⊤ (λ (a : Ahead). a.alone ≡ true → c.is_tracing.result ≡ false) here c.in-Some.is c.look_ahead-ahead.ensures.untraced in
     let off : c.args.render.now.trace ≡ false = sym c.is_tracing.ensures ∙ unasked c.if-not-makes_own_call.ensures.alone in
-    let alone = went_alone attached disks drives o here.p here.seg there c.do_own_call.new.self ran.whole makes c.do_own_call.ensures.system
+    let alone = went_alone attached disks drives o here.p here.seg there c.do_own_call.new.self ran.went.whole makes c.do_own_call.ensures.system
     (own_wrote o _ off c.do_own_call.ensures.emitted) burst.holds c.loop-done.invariant.stand in
     record {
       count = omega (arith, ran.count, c.loop-done.invariant.count, c.if-done-most.false);
-      went = went_both attached disks drives o (c.loop-done.done + c.run_on-done.result) 1 c.args.self.now there behind
-          (went_both attached disks drives o c.loop-done.done c.run_on-done.result c.args.self.now before there so_far burst) alone;
+      went = went_both attached disks drives o (c.loop-done.done + c.run_burst-done.result) 1 c.args.self.now there behind
+          (went_both attached disks drives o c.loop-done.done c.run_burst-done.result c.args.self.now before there so_far burst) alone;
       stand = c.loop-done.invariant.stand;
-      ahead = ahead_called here c.run_on-done.new.self c.do_own_call.new.self ran.whole makes c.do_own_call.ensures.system
-          (ahead_is c.look_ahead-ahead.result here c.run_on-done.new.self c.in-Some.is ran.ahead);
+      ahead = ahead_called here c.run_burst-done.new.self c.do_own_call.new.self ran.went.whole makes c.do_own_call.ensures.system ran.ahead;
     }

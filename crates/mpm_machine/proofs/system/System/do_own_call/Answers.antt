@@ -6,7 +6,7 @@ use Rattle.mpm_kernel.proofs.SoundLaws.{runner_lives}
 use Rattle.mpm_machine.specs.Serving.{asked}
 use Rattle.mpm_machine.specs.OwnCalls.{is_own}
 use Rattle.mpm_machine.proofs.CallLaws.{kept_after}
-use Rattle.mpm_machine.proofs.OwnCallLaws.{keeps_own, asked_function, asked_word, lives_popped}
+use Rattle.mpm_machine.proofs.OwnCallLaws.{asked_function, asked_word, lives_popped}
 use Rattle.mpm_machine.proofs.OwnCallStepLaws.{own_lives, own_steps, own_call_made, own_call_written}
 use Rattle.mpm_machine.proofs.system.System.do_own_call.Goals as goal
 
@@ -16,10 +16,14 @@ regs-regs-requires c = runner_lives c.args.self.now.kernel c.args.p c.requires.w
 pub take_own-requires-clause-lives : goal.take_own-requires-clause-lives
 take_own-requires-clause-lives c = runner_lives c.args.self.now.kernel c.args.p c.requires.whole.sound c.requires.makes.on.running
 
+pub take_own-requires-clause-own : goal.take_own-requires-clause-own
+take_own-requires-clause-own c =
+    subst (λ (function : ℕ). is_own function ≡ true) (sym (ap (λ (regs : Regs). regs.c) c.regs-regs.ensures)) c.requires.makes.function
+
 pub serve_own-value-requires : goal.serve_own-value-requires
 serve_own-value-requires c =
     let kept = kept_after c.args.p c.args.seg c.args.self.now c.take_own.new.self c.requires.whole
-    (runner_lives c.args.self.now.kernel c.args.p c.requires.whole.sound c.requires.makes.on.running) (keeps_own c.args.p c.args.seg c.args.self.now c.take_own.new.self c.requires.makes.function c.take_own.ensures) in
+    (runner_lives c.args.self.now.kernel c.args.p c.requires.whole.sound c.requires.makes.on.running) (c.take_own.ensures c.args.seg) in
     let same = ap (λ (regs : Regs). regs.c) c.regs-regs.ensures in
     let made : c.from_le_bytes-word.result ≡ word_of c.regs-regs.result.now.e c.regs-regs.result.now.d = omega (arith, c.from_le_bytes-word.ensures) in
     record {
@@ -32,7 +36,7 @@ serve_own-value-requires c =
 pub pop-requires : goal.pop-requires
 pop-requires c =
     record {
-      lives = own_lives c.args.p c.args.seg c.args.self.now c.take_own.new.self c.serve_own-value.new.self c.requires.whole c.requires.makes (keeps_own c.args.p c.args.seg c.args.self.now c.take_own.new.self c.requires.makes.function c.take_own.ensures)
+      lives = own_lives c.args.p c.args.seg c.args.self.now c.take_own.new.self c.serve_own-value.new.self c.requires.whole c.requires.makes (c.take_own.ensures c.args.seg)
           c.serve_own-value.ensures.system;
     }
 
@@ -40,7 +44,7 @@ pub place_value-requires : goal.place_value-requires
 place_value-requires c =
     record {
       lives = lives_popped c.args.p c.args.seg c.serve_own-value.new.self c.pop.new.self
-          (own_lives c.args.p c.args.seg c.args.self.now c.take_own.new.self c.serve_own-value.new.self c.requires.whole c.requires.makes (keeps_own c.args.p c.args.seg c.args.self.now c.take_own.new.self c.requires.makes.function c.take_own.ensures)
+          (own_lives c.args.p c.args.seg c.args.self.now c.take_own.new.self c.serve_own-value.new.self c.requires.whole c.requires.makes (c.take_own.ensures c.args.seg)
           c.serve_own-value.ensures.system) c.pop.ensures;
     }
 
@@ -50,7 +54,7 @@ overflow_add-self c =
       arith,
       c.requires.most,
       own_steps c.serve_own-value.result c.args.p c.args.seg c.args.self.now c.take_own.new.self c.serve_own-value.new.self c.pop.new.self c.place_value.new.self (record {
-        kept_is = (keeps_own c.args.p c.args.seg c.args.self.now c.take_own.new.self c.requires.makes.function c.take_own.ensures);
+        kept_is = c.take_own.ensures c.args.seg;
         done_is = c.serve_own-value.ensures.system;
         reply_is = c.serve_own-value.ensures.reply;
         gone_is = c.pop.ensures;
@@ -62,7 +66,7 @@ pub returns-clause-system : goal.returns-clause-system
 returns-clause-system c =
     own_call_made c.serve_own-value.result c.args.p c.args.seg c.args.self.now c.take_own.new.self c.serve_own-value.new.self c.pop.new.self c.place_value.new.self
     c.requires.whole c.requires.makes (record {
-      kept_is = (keeps_own c.args.p c.args.seg c.args.self.now c.take_own.new.self c.requires.makes.function c.take_own.ensures);
+      kept_is = c.take_own.ensures c.args.seg;
       done_is = c.serve_own-value.ensures.system;
       reply_is = c.serve_own-value.ensures.reply;
       gone_is = c.pop.ensures;
@@ -74,7 +78,7 @@ returns-clause-emitted c = (
   _,
   sym (own_call_written c.serve_own-value.result c.args.p c.args.seg c.args.self.now c.take_own.new.self c.serve_own-value.new.self c.pop.new.self c.place_value.new.self
       c.requires.whole c.requires.makes (record {
-        kept_is = (keeps_own c.args.p c.args.seg c.args.self.now c.take_own.new.self c.requires.makes.function c.take_own.ensures);
+        kept_is = c.take_own.ensures c.args.seg;
         done_is = c.serve_own-value.ensures.system;
         reply_is = c.serve_own-value.ensures.reply;
         gone_is = c.pop.ensures;

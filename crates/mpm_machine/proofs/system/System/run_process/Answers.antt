@@ -10,18 +10,18 @@ use Rattle.mpm_machine.proofs.system.System.run_process.Goals as goal
 pub returns-clause-moved : goal.returns-clause-moved
 unfolding with_view
 returns-clause-moved c =
-    let done = c.run-done.result in
-    let after = c.run-done.new.self in
-    let new : View = record { regs = (process_in after.dispatcher.procs c.args.p).regs; memory = c.run-done.new.banks; devices = after.devices } in
+    let done = c.run_burst-done.result in
+    let after = c.run_burst-done.new.self in
+    let new : View = record { regs = (process_in after.dispatcher.procs c.args.p).regs; memory = c.run_burst-done.new.banks; devices = after.devices } in
     let P : Bool → Type 0 = λ inside. Moves inside done c.args.seg (view_of c.args.self.now c.args.p) new in
     record {
       view = new;
       moves = subst P c.is_inside-inside.ensures
-          (whole_moves c.is_inside-inside.result done c.args.seg (view_of c.args.self.now c.args.p) new c.requires.home.exists c.run-done.ensures.ran.moved c.run-done.ensures.others);
-      is = c.pass.ensures ∙ ap (λ (k : Kernel). later (record c.args.self.now { kernel = k; memory = c.run-done.new.banks }) done) c.run-done.ensures.kernel;
+          (whole_moves c.is_inside-inside.result done c.args.seg (view_of c.args.self.now c.args.p) new c.requires.home.exists c.run_burst-done.ensures.ran.moved c.run_burst-done.ensures.others);
+      is = c.pass.ensures ∙ ap (λ (k : Kernel). later (record c.args.self.now { kernel = k; memory = c.run_burst-done.new.banks }) done) c.run_burst-done.ensures.kernel;
     }
 
 pub pass-requires-clause-passing : goal.pass-requires-clause-passing
 pass-requires-clause-passing c =
-    subst (λ (k : Kernel). CanPass c.run-done.result k.disk) (sym c.run-done.ensures.kernel)
-    (fewer_can c.run-done.result c.args.most c.args.self.now.kernel.disk c.run-done.ensures.ran.count c.requires.passing)
+    subst (λ (k : Kernel). CanPass c.run_burst-done.result k.disk) (sym c.run_burst-done.ensures.kernel)
+    (fewer_can c.run_burst-done.result c.args.most c.args.self.now.kernel.disk c.run_burst-done.ensures.ran.count c.requires.passing)

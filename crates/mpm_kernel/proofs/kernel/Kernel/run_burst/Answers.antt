@@ -5,7 +5,7 @@ use Rattle.mpm_procs.specs.declared.process.Process.{Process}
 use Rattle.mpm_kernel.specs.contracts.kernel.Kernel.{the_view}
 use Rattle.mpm_kernel.specs.Kernel.{Kernel, IsSound, with_changed}
 use Rattle.mpm_kernel.proofs.BurstLaws.{process_put, at_equal, burst_left, sound_burst}
-use Rattle.mpm_kernel.proofs.kernel.Kernel.run.Goals as goal
+use Rattle.mpm_kernel.proofs.kernel.Kernel.run_burst.Goals as goal
 
 pub returns : goal.returns
 returns g c =
