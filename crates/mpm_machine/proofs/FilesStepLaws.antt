@@ -270,11 +270,11 @@ begun_has_stopped WriteFault kept worked o n old stand w handed works apart keep
           (fails_before TheSink o n (begun_as begun.told old).emitted (rest_of i rest (silent middle)).emitted begun.stops);
     }
 begun_has_stopped DiskFault kept worked o n old stand w handed works apart keeps still begun =
-    (begun.still, record { works = works.1; job = inl (works.0, subst (λ (k : Kept). HasJob k (file_caller old) (made_in (file_caller old) old)) (still apart) begun.job) })
+    (begun.still, record { works = works.1; stand = stand; job = inl (works.0, subst (λ (k : Kept). HasJob k (file_caller old) (made_in (file_caller old) old)) (still apart) begun.job) })
 
 -- the disk did, before anything was written
-pub disk_has_stopped : (kept : Kept) (o : Outside) (old : System) → (works_in_turn old ≡ true) × (does_work old ≡ true) → has_work kept.service ≡ true → HasStopped DiskFault kept o o old
-disk_has_stopped kept o old works work = (refl, record { works = works.1; job = inr (works.0, work) })
+pub disk_has_stopped : (kept : Kept) (o : Outside) (old : System) → StandForSome kept.mounted → (works_in_turn old ≡ true) × (does_work old ≡ true) → has_work kept.service ≡ true → HasStopped DiskFault kept o o old
+disk_has_stopped kept o old stand works work = (refl, record { works = works.1; stand = stand; job = inr (works.0, work) })
 
 -- or the rest of it
 pub ended_has_stopped : {kept between : Kept} (instruction : Bool) (o m n : Outside) (old middle : System) → StandForSome kept.mounted → IsWhole old → NoCompletions old → HasBegunStep kept between instruction o m old middle

@@ -265,9 +265,11 @@ HasJob kept (Some p) system =
     (function : FileFunction) (images : ℕ → List ℕ) (drives : List (Option Drive)) → function_of (call_of system.kernel.dispatcher.procs p).function ≡ Some function
     → IsJobless images kept.mounted (situation_of (filing_of kept drives) function p system) → ⊥
 
--- a step works on a drive, for a call that is done at once and has a job, or for the one in service, of which a turn ends and which has work
+-- a step works on a drive, for a call that is done at once and has a job, or for the one in service, of which a turn ends and which has work;
+-- there are images and drives for which the directories stand that were kept
 pub record WorksOnDrive (kept : Filed) (old : System) : Type 0 where
   pub works : does_work old ≡ true
+  pub stand : StandForSome kept.mounted
   pub job : ((works_at_once (file_caller old) old ≡ true) × HasJob kept (file_caller old) (made_in (file_caller old) old))
       ⊎ ((works_in_turn old ≡ true) × (has_work kept.service ≡ true))
 

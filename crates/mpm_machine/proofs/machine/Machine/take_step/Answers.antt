@@ -33,7 +33,7 @@ returns-in-Err-clause-images g c files stands =
 
 pub returns-in-Err-clause-stops : goal.returns-in-Err-clause-stops
 returns-in-Err-clause-stops g c =
-    disk_has_stopped c.args.self.now.bdos (seen g.S.Sink.written g.S.Sink.faults c.args.render.now c.args.sink.now) c.args.self.now.system
+    disk_has_stopped c.args.self.now.bdos (seen g.S.Sink.written g.S.Sink.faults c.args.render.now c.args.sink.now) c.args.self.now.system c.tell_sound.ensures.stand
     (turn_worked c.args.self.now.system (λ none. false≢true (c.in-Err.ensures.idle none).0))
     (true_from_ne_false (has_work c.args.self.now.bdos.service) (λ less. false≢true (c.in-Err.ensures.workless less)))
 
