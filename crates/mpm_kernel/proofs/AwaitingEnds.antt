@@ -1,10 +1,11 @@
 -- What an event, an end, a process that begins and a console that is given leave of who is ready and of the completions that are left;
 -- and what a process's own calls on queues do.
-use Rattle.std.proofs.Common.{◌≡◌, ◌≢◌, ◌∙◌, ℕ, ◌+◌, ◌<◌, ◌≤◌, zero, suc, Bool, true, false, ◌==◌, List, [], ◌∷◌, length, drop, if◌then◌else◌, Option, Some, None, IfSome, inl, inr, map, refl, sym, ap, subst, arith}
-use Rattle.std.specs.Prelude.{nat_lt}
+use Rattle.std.proofs.Common.{◌≡◌, ◌≢◌, ◌∙◌, ℕ, ◌+◌, ◌<◌, ◌≤◌, zero, suc, Bool, true, false, ◌==◌, List, [], ◌∷◌, length, drop, if◌then◌else◌, Option, Some, None, inl, inr, map, refl, sym, ap, subst, arith}
+use Rattle.std.specs.Prelude.{nat_lt, ⊤}
 use Rattle.std.specs.List.{range_with_len}
 use Rattle.std.proofs.lemmas.Bool.{cases_eq}
 use Rattle.std.proofs.lemmas.Bool.Decides.{nat_tests}
+use Rattle.std.proofs.lemmas.Option.{MatchOption-at_some}
 use Rattle.mpm_base.proofs.Choices.{either}
 use Rattle.mpm_base.proofs.CountLaws.{one_if, count_cons}
 use Rattle.mpm_base.specs.Calls.{Taken}
@@ -149,10 +150,6 @@ awaits_ticked k q kernel s a =
     awaits_lists_behind k q kernel.dispatcher.running (dispatched (all_woken woken) (with_tick kernel))
     (λ p runs. lives_below kernel.dispatcher.procs p s.slots (listed kernel p ready s (s.runs p runs))) all
 
-pub if_some : (P : ℕ → Type 0) (o : Option ℕ) (h : ℕ) → IfSome o P → o ≡ Some h → P h
-if_some P None h all is = absurd (cc)
-if_some P (Some r) h all is = (let same : r ≡ h = cc in subst P same all)
-
 only_it : (P : ℕ → Type 0) (b : Bool) (from h : ℕ) → P from → if_it b from ≡ Some h → P h
 only_it P true from h all is = (let same : from ≡ h = cc in subst P same all)
 only_it P false from h all is = absurd (cc)
@@ -164,12 +161,12 @@ awaits_key_done k q Stored console waited kernel slots names a = a
 awaits_key_done k q Dropped console waited kernel slots names a = a
 awaits_key_done k q Nothing console waited kernel slots names a = a
 awaits_key_done k q (Wakes p) console waited kernel slots names a =
-    awaits_heir k q (Some p) kernel.dispatcher.procs kernel.dispatcher.lists kernel.dispatcher.completed slots (λ h is. if_some (Lives kernel.dispatcher.procs) (Some p) h names is) a
+    awaits_heir k q (Some p) kernel.dispatcher.procs kernel.dispatcher.lists kernel.dispatcher.completed slots (λ h is. MatchOption-at_some ⊤ (Lives kernel.dispatcher.procs) h is names) a
 awaits_key_done k q (Aborts p) console waited kernel slots names a = a
 awaits_key_done k q (Passes from to) console waited kernel slots names a =
     let procs = kernel.dispatcher.procs in
     awaits_heir k q (if_it waited from) procs _ kernel.dispatcher.completed slots (λ h is. only_it (Lives procs) waited from h names.0 is)
-    (awaits_heir k q to procs kernel.dispatcher.lists kernel.dispatcher.completed slots (λ h is. if_some (Lives procs) to h names.1 is) a)
+    (awaits_heir k q to procs kernel.dispatcher.lists kernel.dispatcher.completed slots (λ h is. MatchOption-at_some ⊤ (Lives procs) h is names.1) a)
 
 awaits_key : (k q console byte : ℕ) (kernel : Kernel) → IsSound kernel → AwaitsIn k q kernel → AwaitsIn k q (key_came console byte kernel)
 unfolding key_came

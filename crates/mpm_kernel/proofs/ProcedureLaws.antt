@@ -2,6 +2,7 @@
 use Rattle.std.proofs.Common.{◌≡◌, ◌≢◌, ◌∙◌, ℕ, ◌≤◌, ◌==◌, Bool, true, false, List, length, Option, Some, None, if◌then◌else◌, refl, sym, ap, arith}
 use Rattle.std.specs.List.{AllByRecursion}
 use Rattle.std.proofs.lemmas.Bool.{false≢true, eq-eqb}
+use Rattle.std.proofs.lemmas.Option.{none-some}
 use Rattle.mpm_base.proofs.Choices.{either}
 use Rattle.mpm_procs.specs.Table.{Table, lives, Lives, process_in, with_process}
 use Rattle.mpm_procs.proofs.MapLaws.{lives_changed, lives_after}
@@ -13,7 +14,7 @@ use Rattle.mpm_kernel.specs.Called.{valued}
 use Rattle.mpm_dispatcher.specs.Dispatch.{first_completed, with_other}
 use Rattle.mpm_kernel.specs.Queueing.{given_to}
 use Rattle.mpm_kernel.specs.Procedures.{writing, still_completed, outside, given_back_to, given_back}
-use Rattle.mpm_kernel.proofs.Soundness.{none_and_some, sound_changed, sound_call, sound_with_completed}
+use Rattle.mpm_kernel.proofs.Soundness.{sound_changed, sound_call, sound_with_completed}
 use Rattle.mpm_kernel.proofs.Staying.{StaysSound, live_kept, kernel_if}
 use Rattle.mpm_kernel.proofs.QueueingLaws.{sound_given, may_by_write, lives_written}
 use Rattle.mpm_kernel.proofs.QueueCalls.{stays_other}
@@ -29,7 +30,7 @@ sound_outside p kernel s h =
     let process = record (process_in kernel.dispatcher.procs p) { procedure = None } in
     sound_with_completed _ (still_completed (first_completed kernel.dispatcher.completed) p kernel.dispatcher.procs)
     (sound_call (with_changed kernel p process) p (writing (process_in kernel.dispatcher.procs p).kept)
-    (sound_changed kernel p process s h (record { console = fit.console; printer = fit.printer; some = fit.some; few = fit.few }) (λ q is. absurd (none_and_some None q refl is))))
+    (sound_changed kernel p process s h (record { console = fit.console; printer = fit.printer; some = fit.some; few = fit.few }) (λ q is. absurd (none-some q is))))
 
 pub lives_outside : (p q : ℕ) (kernel : Kernel) → Lives kernel.dispatcher.procs q → Lives (outside p kernel).dispatcher.procs q
 unfolding outside

@@ -2,7 +2,7 @@
 use Rattle.std.proofs.Common.{◌≡◌, ◌∙◌, ℕ, Bool, true, false, not, ◌&&◌, [], ◌∷◌, ◌++◌, Option, Some, None, refl, ap, subst, arith}
 use Rattle.std.specs.Prelude.{is_some, is_none, nat_le}
 use Rattle.std.proofs.lemmas.Bool.Decides.{nat_tests}
-use Rattle.std.proofs.lemmas.Option.{same_Some}
+use Rattle.std.proofs.lemmas.Option.{none-some, same_Some}
 use Rattle.mpm_base.specs.Calls.{Taken, word_at, name_at}
 use Rattle.mpm_procs.specs.Table.{Lives, process_in}
 use Rattle.mpm_procs.specs.Finding.{is_entered}
@@ -17,7 +17,7 @@ use Rattle.mpm_kernel.specs.Kernel.{Kernel, IsOfTwo, IsSound, CompletedLive, wit
 use Rattle.mpm_kernel.specs.Called.{valued, done, failure_code}
 use Rattle.mpm_kernel.specs.Queueing.{with_queue, queue_made, opened, queue_opened, may_delete, deleted, queue_deleted, pointed, queued, blocked_or_refused, taken_from, was_read, read_at, queue_read, given_to, was_written, write_at, queue_written}
 use Rattle.mpm_kernel.specs.Procedures.{no_procedure, is_two, of_two_bytes, procedure_queue, inside, procedure_read, procedure_at, procedure_called}
-use Rattle.mpm_kernel.proofs.Soundness.{MayBeReady, none_and_some, listed_once, sound_changed, sound_ready, sound_unlisted, sound_with_completed}
+use Rattle.mpm_kernel.proofs.Soundness.{MayBeReady, listed_once, sound_changed, sound_ready, sound_unlisted, sound_with_completed}
 use Rattle.mpm_kernel.proofs.Staying.{StaysSound, Calls, nobody, all_and_one, live_kept, called_if, same}
 use Rattle.mpm_kernel.proofs.QueueingLaws.{ready_waits_nowhere, found_made, pointed_if, pointed_made, two_made, sound_with_queue, sound_with_deleted, width_read, sound_taken, may_by_read, sound_given, may_by_write, lives_written, may_wait_read, may_wait_write, queues_enlisted}
 
@@ -147,7 +147,7 @@ two_bytes (Some n) is = (let same : n ≡ 2 = grind (arith, nat_tests, is) in ap
 
 procedure_there : (slot : Option ℕ) (t : Queues) (k : ℕ) → of_two_bytes slot t ≡ Some k → IsOfTwo t k
 unfolding of_two_bytes
-procedure_there None t k is = absurd (none_and_some None k refl is)
+procedure_there None t k is = absurd (none-some k is)
 procedure_there (Some q) t k is =
     let chosen = pointed_if (is_two (width_of t q)) q k is in subst (IsOfTwo t) chosen.1 (two_bytes (width_of t q) chosen.0)
 

@@ -5,7 +5,7 @@ use Rattle.std.specs.Prelude.{IfSome, nat_lt, is_some, is_none, slice_index_or}
 use Rattle.std.specs.Option.{option_map_or}
 use Rattle.std.proofs.lemmas.Bool.{false≢true, cases_eq, cases_lt, not-true, not-false, or_parts}
 use Rattle.std.proofs.lemmas.Bool.Decides.{nat_tests}
-use Rattle.std.proofs.lemmas.Option.{same_Some}
+use Rattle.std.proofs.lemmas.Option.{none-some, same_Some}
 use Rattle.mpm_base.proofs.Choices.{either}
 use Rattle.mpm_base.proofs.Options.{none_there}
 use Rattle.mpm_base.specs.declared.number.Name8.{Name8}
@@ -29,7 +29,7 @@ use Rattle.mpm_queues.proofs.WaitLaws.{waits_one, nowhere_waits, named_made, kep
 use Rattle.mpm_dispatcher.specs.Dispatch.{ready, IsReady, with_procs}
 use Rattle.mpm_kernel.specs.Kernel.{Kernel, IsOfTwo, IsSound, dispatched}
 use Rattle.mpm_kernel.specs.Queueing.{OnlySystems, IfNotNow, made_at, pointed, taken_from, given_to}
-use Rattle.mpm_kernel.proofs.Soundness.{AreQueues, own_queues, MayBeReady, none_and_some, listed_once, sound_fewer, sound_call}
+use Rattle.mpm_kernel.proofs.Soundness.{AreQueues, own_queues, MayBeReady, listed_once, sound_fewer, sound_call}
 
 -- who waits at a queue lives
 pub waiters_live : (kernel : Kernel) (q p : ℕ) → IsSound kernel → waits_at kernel.queues q p ≡ true → Lives kernel.dispatcher.procs p
@@ -72,7 +72,7 @@ both false b c h = absurd (cc)
 
 pub pointed_if : (b : Bool) (n q : ℕ) → (if b then Some n else None) ≡ Some q → (b ≡ true) × (n ≡ q)
 pointed_if true n q is = (refl, same_Some n q is)
-pointed_if false n q is = absurd (none_and_some None q refl is)
+pointed_if false n q is = absurd (none-some q is)
 
 pub pointed_made : (t : Queues) (pointer q : ℕ) → pointed t pointer ≡ Some q → IsMade t q
 unfolding pointed
@@ -179,7 +179,7 @@ width_left false t q k other = refl
 
 -- and in whose resident procedure nobody is
 is_this : (k q : ℕ) (o : Option ℕ) → o ≡ Some k → k ≡ q → is_queue q o ≡ true
-is_this k q None is same = absurd (none_and_some None k refl is)
+is_this k q None is same = absurd (none-some k is)
 is_this k q (Some other) is same = (let equal = same_Some other k is in grind (arith, nat_tests, equal, same))
 
 inside_apart : (kernel : Kernel) (q p k : ℕ) → IsSound kernel → is_entered kernel.dispatcher.procs q ≡ false → Lives kernel.dispatcher.procs p
@@ -205,7 +205,7 @@ sound_with_deleted kernel q s is own none =
 
 -- a message is read
 woken_or_not : (o : Option ℕ) (p : ℕ) → (o ≡ Some p) ⊎ (o ≢ Some p)
-woken_or_not None p = inr (λ is. none_and_some None p refl is)
+woken_or_not None p = inr (λ is. none-some p is)
 woken_or_not (Some other) p = elim (cases_eq other p) [
   | inl same ↦ inl (ap (λ (n : ℕ). Some n) same)
   | inr apart ↦ inr (λ is. apart (same_Some other p is))

@@ -50,7 +50,7 @@ use Rattle.mpm_kernel.proofs.UnitCalls.{stays_unit_called}
 use Rattle.mpm_kernel.proofs.InputCalls.{stays_console_called}
 use Rattle.mpm_kernel.proofs.KeyLaws.{sound_key_came, procs_key_came, completed_key_came}
 use Rattle.mpm_kernel.proofs.QueueCalls.{stays_queue_made, stays_queue_opened, stays_queue_deleted, stays_queue_read, stays_queue_written, stays_procedure_called}
-pub use Rattle.mpm_kernel.proofs.Soundness.{none_and_some, sound_new, sound_changed, sound_process, sound_call, sound_devices, sound_spoke, first_is_ready, listed, listed_once, not_delayed, runner_lives, sound_picked, free_is_unlisted, sound_begun, sound_afresh, sound_admitted, sound_in_slot, completed_in_slot, sound_ready, sound_moved, sound_unlisted, sound_fewer, own_queues, sound_behind_equals, lives_behind_equals, sound_all_ready, procs_all_ready, running_all_ready, is_ready_true, sound_runner_behind, sound_with_completed, MayBeReady}
+pub use Rattle.mpm_kernel.proofs.Soundness.{sound_new, sound_changed, sound_process, sound_call, sound_devices, sound_spoke, first_is_ready, listed, listed_once, not_delayed, runner_lives, sound_picked, free_is_unlisted, sound_begun, sound_afresh, sound_admitted, sound_in_slot, completed_in_slot, sound_ready, sound_moved, sound_unlisted, sound_fewer, own_queues, sound_behind_equals, lives_behind_equals, sound_all_ready, procs_all_ready, running_all_ready, is_ready_true, sound_runner_behind, sound_with_completed, MayBeReady}
 
 -- a byte comes to a unit
 pub sound_wrote : (kernel : Kernel) (unit : Unit) (byte : ℕ) (tabs : Bool) → IsSound kernel → IsSound (wrote kernel unit byte tabs)

@@ -5,7 +5,7 @@ use Rattle.std.proofs.lemmas.Bool.{cases_eq, cases_lt, false≢true, both_ways}
 use Rattle.std.proofs.lemmas.Bool.Decides.{nat_tests}
 use Rattle.std.specs.Prelude.{count_by}
 use Rattle.std.proofs.lemmas.List.{length-set, set_past}
-use Rattle.std.proofs.lemmas.Option.{same_Some}
+use Rattle.std.proofs.lemmas.Option.{none-some, same_Some}
 use Rattle.mpm_base.proofs.CountLaws.{count_cons}
 use Rattle.mpm_base.proofs.Lists.{all_at}
 use Rattle.mpm_base.specs.Calls.{Taken}
@@ -43,10 +43,6 @@ use Rattle.mpm_kernel.specs.Kernel.{Kernel, in_lists, flags_of, waits_in, waits_
 use Rattle.mpm_kernel.specs.Columns.{spoke}
 pub use Rattle.mpm_dispatcher.proofs.ReadyLaws.{is_ready_true}
 use Rattle.mpm_kernel.proofs.PlaceLaws.{in_some, in_none, in_at_most, not_equal, moved_lists, table_moved, list_moved, list_moved_other, flags_none}
-
-pub none_and_some : (o : Option ℕ) (n : ℕ) → o ≡ None → o ≡ Some n → ⊥
-none_and_some None n e f = absurd (cc)
-none_and_some (Some m) n e f = absurd (cc)
 
 -- where nobody lives, nobody stands anywhere
 no_waits : (p : ℕ) → waits no_queues p ≡ 0
@@ -105,7 +101,7 @@ sound_new consoles printers now some few more = record {
   inside = λ p q living is. absurd (both_ways _ (nobody_lives p) living);
   once = λ p. omega (arith, nowhere p, nowhere_new consoles printers p, at_none 0 p);
   live = λ p some. absurd (omega (arith, nowhere p, nowhere_new consoles printers p, at_none 0 p));
-  runs = λ p e. absurd (none_and_some None p refl e);
+  runs = λ p e. absurd (none-some p e);
 }
 
 -- a process is another one that fits
@@ -272,7 +268,9 @@ unlisted_if_dead (Some list) h = absurd (h list refl)
 pub runs_other : (p q : ℕ) (running : Option ℕ) → runs_still p running ≡ Some q → (q ≢ p) × (running ≡ Some q)
 runs_other p q None e = absurd (cc)
 runs_other p q (Some other) e = elim (cases_eq other p) [
-  | inl same ↦ absurd (none_and_some (runs_still p (Some other)) q (grind (arith, nat_tests)) e)
+  | inl same ↦
+      let stops : runs_still p (Some other) ≡ None = grind (arith, nat_tests) in
+      absurd (none-some q (sym stops ∙ e))
   | inr distinct ↦
       let stays : runs_still p (Some other) ≡ Some other = grind (arith, nat_tests) in
       let is : Some other ≡ Some q = sym stays ∙ e in
@@ -382,7 +380,7 @@ sound_admitted kernel p new s free console =
       inside = λ q k living is. elim (cases_eq q p) [
         | inl same ↦
             let at = ap (process_in (added kernel.dispatcher.procs p new)) same ∙ process_added kernel.dispatcher.procs p new (omega (arith, s.slots.processes)) in
-            absurd (none_and_some _ k (opening_outside new) (ap (λ x. x.procedure) (sym at) ∙ is))
+            absurd (none-some k (sym (opening_outside new) ∙ ap (λ x. x.procedure) (sym at) ∙ is))
         | inr other ↦
             s.inside q k (sym (lives_added_other kernel.dispatcher.procs p q new other) ∙ living)
             (ap (λ x. x.procedure) (sym (process_added_other kernel.dispatcher.procs p q new other)) ∙ is)

@@ -3,12 +3,12 @@
 use Rattle.std.proofs.Common.{ℕ, [], ◌≡◌, ◌≢◌, ◌∙◌, zero, suc, true, false, List, ◌∷◌, length, Option, Some, None, refl, sym, ap, arith, eqb-true}
 use Rattle.std.specs.Prelude.{slice_get, slice_set, is_none}
 use Rattle.std.proofs.lemmas.Bool.{false≢true}
+use Rattle.std.proofs.lemmas.Option.{none-some}
 use Rattle.mpm_base.specs.Calls.{Taken, Answer}
 use Rattle.mpm_base.specs.declared.functions.TheConstants.{CHAIN_TO_PROGRAM}
 use Rattle.mpm_cli.proofs.StandingLaws.{stands_took, consoles_took}
 use Rattle.mpm_cli.specs.Interpreters.{took}
 use Rattle.mpm_kernel.proofs.Beside.{StaysBeside}
-use Rattle.mpm_kernel.proofs.Soundness.{none_and_some}
 use Rattle.mpm_kernel.specs.Kernel.{is_resident}
 use Rattle.mpm_procs.proofs.MapLaws.{lives_below, call_changed, process_after, lives_after}
 use Rattle.mpm_procs.specs.Table.{process_in, call_of}
@@ -42,7 +42,7 @@ acts_with old new residents beside count a = record {
 
 pub another : (p seg : ℕ) (system : System) → IsActing system → (process_in system.kernel.dispatcher.procs p).seg ≡ Some seg → 0 ≢ p
 another p seg system a home =
-    λ is. none_and_some (process_in system.kernel.dispatcher.procs 0).seg seg a.resides (ap (λ n. (process_in system.kernel.dispatcher.procs n).seg) is ∙ home)
+    λ is. none-some seg (sym a.resides ∙ ap (λ n. (process_in system.kernel.dispatcher.procs n).seg) is ∙ home)
 
 pub not_resident : (p : ℕ) (system : System) → IsActing system → is_resident system.kernel.dispatcher.procs p ≡ false → 0 ≢ p
 not_resident p system a e = λ is. false≢true (sym e ∙ ap (is_resident system.kernel.dispatcher.procs) (sym is) ∙ ap is_none a.resides)

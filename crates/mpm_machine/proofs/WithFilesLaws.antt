@@ -1,7 +1,8 @@
 -- What a step begins with in which a process makes a file call: the call is made, it is done at once or waits, and the held calls that
 -- this completed are answered.
 use Rattle.std.proofs.Common.{◌≡◌, ◌∙◌, ℕ, ◌+◌, ◌*◌, ◌≤◌, ◌&&◌, true, false, List, [], Option, Some, None, refl, sym, ap, subst, arith}
-use Rattle.std.specs.Prelude.{is_some}
+use Rattle.std.specs.Prelude.{is_some, ⊤}
+use Rattle.std.proofs.lemmas.Option.{MatchOption-at_some}
 use Rattle.mpm_port.specs.Disks.{Disks}
 use Rattle.mpm_procs.specs.Table.{Lives, process_in, call_of}
 use Rattle.mpm_service.specs.declared.service.Served.{Served}
@@ -14,7 +15,6 @@ use Rattle.mpm_output.specs.Writing.{Wrote, Stopped}
 use Rattle.mpm_directories.specs.Direct.{Directly}
 use Rattle.mpm_requests.specs.Filing.{Filing, Situation}
 use Rattle.mpm_functions.specs.Functions.{function_of}
-use Rattle.mpm_kernel.proofs.AwaitingEnds.{if_some}
 use Rattle.mpm_bdos.specs.Serving.{Kept}
 use Rattle.mpm_machine.specs.declared.system.System.{System}
 use Rattle.mpm_machine.specs.declared.machine.StepFault.{StepFault}
@@ -43,10 +43,10 @@ use Rattle.mpm_machine.proofs.BegunLaws.{made_serves, called_serves, filed_calle
 -- who makes it lives, and is ready
 
 pub lives_to_call : (p : ℕ) (system : System) → IsWhole system → file_caller system ≡ Some p → Lives system.kernel.dispatcher.procs p
-lives_to_call p system w is = if_some (λ q. Lives system.kernel.dispatcher.procs q) (file_caller system) p (caller_lives system w) is
+lives_to_call p system w is = MatchOption-at_some ⊤ (λ q. Lives system.kernel.dispatcher.procs q) p is (caller_lives system w)
 
 pub ready_to_call : (p : ℕ) (system : System) → IsWhole system → file_caller system ≡ Some p → IsReady system.kernel.dispatcher p
-ready_to_call p system w is = if_some (λ q. IsReady system.kernel.dispatcher q) (file_caller system) p (caller_ready system w) is
+ready_to_call p system w is = MatchOption-at_some ⊤ (λ q. IsReady system.kernel.dispatcher q) p is (caller_ready system w)
 
 pub made_so : (p : ℕ) (old made : System) → IsWhole old → file_caller old ≡ Some p → made ≡ call_made p old → Made p old made
 made_so p old made w caller is = subst (Made p old) (sym is) (makes p old w (lives_to_call p old w caller))
