@@ -45,6 +45,7 @@ impl Directories {
     pub(crate) fn tell_sound(&self)
         ensures { StandForSome self.now }
     {
+        // The use of a field tells what is so of its type's values.
         let _ = &self.places;
     }
 
