@@ -54,7 +54,7 @@ impl Machine {
 
 /// What lies ahead: who runs in the steps to come, up to the last one in which nothing else happens, as long as they are its
 /// instructions, and its calls that concern it alone.
-#[derive(Clone, Copy)]
+#[derive(Drop)]
 pub(crate) struct Ahead {
     /// The running process, the first of the ready list.
     pub p: Pid,
