@@ -1,7 +1,6 @@
 //! Terminal message processors, line by line, and who acts in a slot.
 use mpm_base::{Call, Pid, Reply, functions};
-use mpm_cli::{Act, Cli};
-use mpm_residents::{Native, Residents, Tmp};
+use mpm_residents::{Act, Cli, Native, Residents, Tmp};
 
 /// A processor, and the call and the reply with which it is driven.
 #[derive(Drop)]

@@ -10,8 +10,8 @@ use Rattle.mpm_dispatcher.specs.Dispatch.{IsReady}
 use Rattle.mpm_kernel.proofs.SoundLaws.{runner_lives}
 use Rattle.mpm_residents.specs.Natives.{native_act, native_call, native_in}
 use Rattle.mpm_residents.specs.declared.native.Native.{Native}
-use Rattle.mpm_cli.specs.declared.act.Act.{Act}
-use Rattle.mpm_cli.specs.declared.act.Act.TheVariants.{Ask, Place, Patch, Begin, Give}
+use Rattle.mpm_residents.specs.declared.cli.act.Act.{Act}
+use Rattle.mpm_residents.specs.declared.cli.act.Act.TheVariants.{Ask, Place, Patch, Begin, Give}
 use Rattle.mpm_kernel.specs.Called.{low_parameter}
 use Rattle.mpm_machine.specs.declared.system.System.{System}
 use Rattle.mpm_processor.specs.declared.gate.Gate.{Gate}

@@ -30,8 +30,8 @@ use Rattle.mpm_kernel.proofs.DiskStays.{disk_given_back}
 use Rattle.mpm_kernel.proofs.EndingLaws.{call_given_back, beside_given_back}
 use Rattle.mpm_xdos.specs.Procedures.{returned_from_procedure, leaving}
 use Rattle.mpm_output.specs.Texts.{illegal_text}
-use Rattle.mpm_cli.specs.declared.act.Act.{Act}
-use Rattle.mpm_cli.specs.declared.act.Act.TheVariants.{Ask, Place, Patch, Begin, Give}
+use Rattle.mpm_residents.specs.declared.cli.act.Act.{Act}
+use Rattle.mpm_residents.specs.declared.cli.act.Act.TheVariants.{Ask, Place, Patch, Begin, Give}
 use Rattle.mpm_residents.specs.declared.native.Native.{Native}
 use Rattle.mpm_residents.specs.Natives.{native_in, native_call, native_act}
 use Rattle.mpm_machine.specs.declared.system.System.{System}

@@ -35,8 +35,8 @@ use Rattle.mpm_machine.specs.Calling.{Served, asking}
 use Rattle.mpm_machine.specs.Sending.{chains}
 use Rattle.mpm_machine.specs.Loading.{is_console, ChangesOnly}
 use Rattle.mpm_machine.specs.Serving.{asked, keeping, served_to_all, served, reserving, releasing, creating, aborted, aborting_this, aborting, parsing, said_by, popped, replied, with_entry, reply_at_entry, fulfilling, recorded, answering_call, completing, returning, outcome_of, gate_step}
-use Rattle.mpm_cli.specs.declared.act.Act.{Act}
-use Rattle.mpm_cli.specs.declared.act.Act.TheVariants.{Ask, Place, Patch, Begin, Give}
+use Rattle.mpm_residents.specs.declared.cli.act.Act.{Act}
+use Rattle.mpm_residents.specs.declared.cli.act.Act.TheVariants.{Ask, Place, Patch, Begin, Give}
 use Rattle.mpm_kernel.specs.Called.{low_parameter}
 use Rattle.mpm_residents.specs.Natives.{native_act, native_call, native_in}
 use Rattle.mpm_residents.specs.declared.native.Native.{Native}

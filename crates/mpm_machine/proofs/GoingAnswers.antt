@@ -6,9 +6,9 @@ use Rattle.std.proofs.lemmas.Bool.Decides.{nat_tests}
 use Rattle.std.specs.List.{range_with_len}
 use Rattle.mpm_base.proofs.Choices.{either}
 use Rattle.mpm_base.proofs.CountLaws.{count_cons, one_if_true}
-use Rattle.mpm_cli.specs.Interpreters.{Interpreter}
-use Rattle.mpm_cli.specs.declared.table.Row.{Row}
-use Rattle.mpm_cli.specs.declared.table.Row.TheVariants.{ReadCommand, OpenQueue, WriteQueue, SetUser, OpenRelocatable, OpenAbsolute, ReadHeader, ComputeSize, SetUserZero, Reserve, Place, Patch, ReadOn, Free, CloseAfter, Close, Tell, Give, PlaceBasePage, Begin}
+use Rattle.mpm_residents.specs.Interpreters.{Interpreter}
+use Rattle.mpm_residents.specs.declared.cli.table.Row.{Row}
+use Rattle.mpm_residents.specs.declared.cli.table.Row.TheVariants.{ReadCommand, OpenQueue, WriteQueue, SetUser, OpenRelocatable, OpenAbsolute, ReadHeader, ComputeSize, SetUserZero, Reserve, Place, Patch, ReadOn, Free, CloseAfter, Close, Tell, Give, PlaceBasePage, Begin}
 use Rattle.mpm_consoles.specs.Consoles.{Consoles}
 use Rattle.mpm_dispatcher.specs.Dispatch.{first_completed}
 use Rattle.mpm_interrupts.specs.Interrupts.{due_taken}

@@ -8,9 +8,9 @@ use Rattle.mpm_base.proofs.CountLaws.{one_if_true}
 use Rattle.mpm_base.specs.Calls.{Answer}
 use Rattle.mpm_directories.specs.Direct.{Directly, CallerChange, Resets, Selects, Stays}
 use Rattle.mpm_functions.specs.declared.refusals.Extended.{Extended}
-use Rattle.mpm_cli.specs.Interpreters.{Interpreter, call_at, next_call}
-use Rattle.mpm_cli.specs.declared.table.Row.{Row}
-use Rattle.mpm_cli.specs.declared.table.Row.TheVariants.{ReadCommand, OpenQueue, WriteQueue, SetUser, OpenRelocatable, OpenAbsolute, ReadHeader, ComputeSize, SetUserZero, Reserve, Place, Patch, ReadOn, Free, CloseAfter, Close, Tell, Give, PlaceBasePage, Begin}
+use Rattle.mpm_residents.specs.Interpreters.{Interpreter, call_at, next_call}
+use Rattle.mpm_residents.specs.declared.cli.table.Row.{Row}
+use Rattle.mpm_residents.specs.declared.cli.table.Row.TheVariants.{ReadCommand, OpenQueue, WriteQueue, SetUser, OpenRelocatable, OpenAbsolute, ReadHeader, ComputeSize, SetUserZero, Reserve, Place, Patch, ReadOn, Free, CloseAfter, Close, Tell, Give, PlaceBasePage, Begin}
 use Rattle.mpm_dispatcher.specs.Dispatch.{IsReady}
 use Rattle.mpm_kernel.proofs.AwaitingLaws.{awaits_removed}
 use Rattle.mpm_kernel.proofs.Beside.{beside_same, beside_changed}

@@ -6,8 +6,8 @@ use Rattle.std.proofs.lemmas.Bool.{false≢true}
 use Rattle.std.proofs.lemmas.Option.{none-some}
 use Rattle.mpm_base.specs.Calls.{Taken, Answer}
 use Rattle.mpm_base.specs.declared.functions.TheConstants.{CHAIN_TO_PROGRAM}
-use Rattle.mpm_cli.proofs.StandingLaws.{stands_took, consoles_took}
-use Rattle.mpm_cli.specs.Interpreters.{took}
+use Rattle.mpm_residents.proofs.StandingLaws.{stands_took, consoles_took}
+use Rattle.mpm_residents.specs.Interpreters.{took}
 use Rattle.mpm_kernel.proofs.Beside.{StaysBeside}
 use Rattle.mpm_kernel.specs.Kernel.{is_resident}
 use Rattle.mpm_procs.proofs.MapLaws.{lives_below, call_changed, process_after, lives_after}

@@ -6,11 +6,11 @@ use Rattle.mpm_base.proofs.Choices.{either}
 use Rattle.mpm_base.specs.Calls.{Taken, Answer, answering}
 use Rattle.mpm_base.specs.declared.call.Outcome.{Outcome as Ended_how}
 use Rattle.mpm_base.specs.declared.call.Outcome.TheVariants.{Done, Held, Retry, Ended}
-use Rattle.mpm_cli.specs.Interpreters.{Interpreter, took, next_act, next_call, act_at, call_at, asking as asking_call, asking_file, took_at, process_of}
-use Rattle.mpm_cli.specs.declared.table.Message.{Message}
-use Rattle.mpm_cli.specs.declared.act.Act.TheVariants.{Ask, Patch as MoveCode, Give as GiveConsole}
-use Rattle.mpm_cli.specs.declared.table.Row.{Row}
-use Rattle.mpm_cli.specs.declared.table.Row.TheVariants.{ReadCommand, OpenQueue, WriteQueue, SetUser, OpenRelocatable, OpenAbsolute, ReadHeader, ComputeSize, SetUserZero, Reserve, Place, Patch, ReadOn, Free, CloseAfter, Close, Tell, Give, PlaceBasePage, Begin}
+use Rattle.mpm_residents.specs.Interpreters.{Interpreter, took, next_act, next_call, act_at, call_at, asking as asking_call, asking_file, took_at, process_of}
+use Rattle.mpm_residents.specs.declared.cli.table.Message.{Message}
+use Rattle.mpm_residents.specs.declared.cli.act.Act.TheVariants.{Ask, Patch as MoveCode, Give as GiveConsole}
+use Rattle.mpm_residents.specs.declared.cli.table.Row.{Row}
+use Rattle.mpm_residents.specs.declared.cli.table.Row.TheVariants.{ReadCommand, OpenQueue, WriteQueue, SetUser, OpenRelocatable, OpenAbsolute, ReadHeader, ComputeSize, SetUserZero, Reserve, Place, Patch, ReadOn, Free, CloseAfter, Close, Tell, Give, PlaceBasePage, Begin}
 use Rattle.mpm_dispatcher.specs.Dispatch.{IsReady, admitted}
 use Rattle.mpm_gate.specs.Replies.{answered}
 use Rattle.mpm_kernel.proofs.Beside.{StaysBeside, beside_same, beside_both}
@@ -50,7 +50,7 @@ use Rattle.mpm_banks.proofs.SegmentLaws.{count_allocated}
 use Rattle.mpm_banks.proofs.WindowLaws.{same_segments_put_range}
 use Rattle.mpm_banks.proofs.WrittenBytes.{same_segments_with_bytes}
 use Rattle.mpm_prl.specs.Relocation.{relocated}
-use Rattle.mpm_cli.specs.Standing.{is_loading}
+use Rattle.mpm_residents.specs.Standing.{is_loading}
 use Rattle.mpm_service.specs.Places.{at_disk}
 use Rattle.mpm_kernel.specs.Awaiting.{AwaitsIn}
 use Rattle.mpm_kernel.proofs.DiskLaws.{ready_not_at_disk}

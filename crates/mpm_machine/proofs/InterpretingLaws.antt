@@ -22,14 +22,14 @@ use Rattle.mpm_kernel.specs.Columns.{column_of, expanded}
 use Rattle.mpm_kernel.specs.Consoling.{given}
 use Rattle.mpm_loader.specs.Pieces.{marks_in, marked_length}
 use Rattle.mpm_loader.proofs.Parts.{some_marked}
-use Rattle.mpm_cli.specs.Interpreters.{Interpreter, asking, act_at, call_at, next_act, next_call, process_of, reserved, row_for_piece, Counts}
-use Rattle.mpm_cli.specs.Standing.{is_loading, StandsIn, AreInPages, HandsIn}
-use Rattle.mpm_cli.specs.declared.act.Act.{Act}
-use Rattle.mpm_cli.specs.declared.act.Act.TheVariants.{Ask, Place as PlaceBytes, Patch as MoveCode, Begin as BeginProcess, Give as GiveConsole}
-use Rattle.mpm_cli.specs.declared.table.Message.TheVariants.{NoMemory}
-use Rattle.mpm_cli.specs.declared.table.Row.{Row}
-use Rattle.mpm_cli.specs.declared.table.Row.TheVariants.{ReadCommand, OpenQueue, WriteQueue, SetUser, OpenRelocatable, OpenAbsolute, ReadHeader, ComputeSize, SetUserZero, Reserve, Place, Patch, ReadOn, Free, CloseAfter, Close, Tell, Give, PlaceBasePage, Begin}
-use Rattle.mpm_cli.proofs.StandingLaws.{hands_at, counts_at}
+use Rattle.mpm_residents.specs.Interpreters.{Interpreter, asking, act_at, call_at, next_act, next_call, process_of, reserved, row_for_piece, Counts}
+use Rattle.mpm_residents.specs.Standing.{is_loading, StandsIn, AreInPages, HandsIn}
+use Rattle.mpm_residents.specs.declared.cli.act.Act.{Act}
+use Rattle.mpm_residents.specs.declared.cli.act.Act.TheVariants.{Ask, Place as PlaceBytes, Patch as MoveCode, Begin as BeginProcess, Give as GiveConsole}
+use Rattle.mpm_residents.specs.declared.cli.table.Message.TheVariants.{NoMemory}
+use Rattle.mpm_residents.specs.declared.cli.table.Row.{Row}
+use Rattle.mpm_residents.specs.declared.cli.table.Row.TheVariants.{ReadCommand, OpenQueue, WriteQueue, SetUser, OpenRelocatable, OpenAbsolute, ReadHeader, ComputeSize, SetUserZero, Reserve, Place, Patch, ReadOn, Free, CloseAfter, Close, Tell, Give, PlaceBasePage, Begin}
+use Rattle.mpm_residents.proofs.StandingLaws.{hands_at, counts_at}
 use Rattle.mpm_residents.specs.Natives.{native_in, native_act, native_call, interprets_if_there, interprets}
 use Rattle.mpm_residents.specs.declared.native.Native.{Native}
 use Rattle.mpm_residents.specs.declared.native.Native.TheVariants.{Tmp, Cli}

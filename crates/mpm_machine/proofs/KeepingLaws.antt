@@ -33,8 +33,8 @@ use Rattle.mpm_xdos.specs.Creating.{created, all_admitted, children_of, may_crea
 use Rattle.mpm_xdos.specs.Procedures.{entered, returned_from_procedure}
 use Rattle.mpm_residents.specs.declared.native.Native.{Native}
 use Rattle.mpm_residents.specs.Natives.{native_in, native_call, native_act}
-use Rattle.mpm_cli.specs.declared.act.Act.{Act}
-use Rattle.mpm_cli.specs.declared.act.Act.TheVariants.{Ask, Place, Patch, Begin, Give}
+use Rattle.mpm_residents.specs.declared.cli.act.Act.{Act}
+use Rattle.mpm_residents.specs.declared.cli.act.Act.TheVariants.{Ask, Place, Patch, Begin, Give}
 use Rattle.mpm_interrupts.specs.Interrupts.{due_taken}
 use Rattle.mpm_output.specs.Texts.{illegal_text}
 use Rattle.mpm_functions.specs.declared.refusals.Extended.{Extended}

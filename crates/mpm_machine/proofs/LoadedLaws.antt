@@ -23,14 +23,14 @@ use Rattle.mpm_loader.specs.Plans.{code_end, all_bytes}
 use Rattle.mpm_loader.specs.declared.plan.Plan.{Plan}
 use Rattle.mpm_loader.proofs.Parts.{within_part, some_marked}
 use Rattle.mpm_loader.proofs.Moving.{moved as by_mark}
-use Rattle.mpm_cli.specs.Interpreters.{Interpreter, act_at, call_at, next_act, next_call, took, took_at, process_of, last_page, code_address, records_in, with_block, read_on, row_for_piece, row_behind_code, row_behind_marks}
-use Rattle.mpm_cli.specs.Standing.{is_loading, StandsIn, AreInPages}
-use Rattle.mpm_cli.specs.declared.table.Message.TheVariants.{BadLoad, NoProcess}
-use Rattle.mpm_cli.specs.declared.table.Row.{Row}
-use Rattle.mpm_cli.specs.declared.table.Row.TheVariants.{ReadCommand, OpenQueue, WriteQueue, SetUser, OpenRelocatable, OpenAbsolute, ReadHeader, ComputeSize, SetUserZero, Reserve, Place, Patch, ReadOn, Free, CloseAfter, Close, Tell, Give, PlaceBasePage, Begin}
-use Rattle.mpm_cli.proofs.Filling.{base_page_size}
-use Rattle.mpm_cli.proofs.Laws.{code_stands_at}
-use Rattle.mpm_cli.proofs.StandingLaws.{hands_at}
+use Rattle.mpm_residents.specs.Interpreters.{Interpreter, act_at, call_at, next_act, next_call, took, took_at, process_of, last_page, code_address, records_in, with_block, read_on, row_for_piece, row_behind_code, row_behind_marks}
+use Rattle.mpm_residents.specs.Standing.{is_loading, StandsIn, AreInPages}
+use Rattle.mpm_residents.specs.declared.cli.table.Message.TheVariants.{BadLoad, NoProcess}
+use Rattle.mpm_residents.specs.declared.cli.table.Row.{Row}
+use Rattle.mpm_residents.specs.declared.cli.table.Row.TheVariants.{ReadCommand, OpenQueue, WriteQueue, SetUser, OpenRelocatable, OpenAbsolute, ReadHeader, ComputeSize, SetUserZero, Reserve, Place, Patch, ReadOn, Free, CloseAfter, Close, Tell, Give, PlaceBasePage, Begin}
+use Rattle.mpm_residents.proofs.Filling.{base_page_size}
+use Rattle.mpm_residents.proofs.InterpreterLaws.{code_stands_at}
+use Rattle.mpm_residents.proofs.StandingLaws.{hands_at}
 use Rattle.mpm_machine.specs.Interpreting.{HasReserved, Interprets}
 use Rattle.mpm_machine.specs.Loaded.{IsPiece, code_byte, HasCode, HasLoadedAt}
 use Rattle.mpm_machine.specs.Loading.{ChangesOnly, moved, moving, placing, beginning, handed_over}

@@ -8,12 +8,12 @@ use Rattle.mpm_base.specs.declared.call.Outcome.TheVariants.{Done, Held, Retry, 
 use Rattle.mpm_base.specs.declared.functions.TheConstants.{CREATE_PROCESS, ABORT_SPECIFIED_PROCESS, PARSE_FILENAME, SYSTEM_DATA_ADDRESS, RETURN_PROCESS_DESCRIPTOR_ADDRESS, CHAIN_TO_PROGRAM}
 use Rattle.mpm_banks.specs.Memory.{Memory, IsMemory, byte_at, segment_of}
 use Rattle.mpm_banks.proofs.SegmentLaws.{SameBytes, reads_alike, same_bytes_itself}
-use Rattle.mpm_cli.specs.Interpreters.{Interpreter, act_at, call_at, next_act, next_call, took}
-use Rattle.mpm_cli.specs.Standing.{is_loading, StandsIn}
-use Rattle.mpm_cli.specs.declared.act.Act.{Act}
-use Rattle.mpm_cli.specs.declared.act.Act.TheVariants.{Ask, Place as PlaceBytes, Patch as MoveCode, Begin as BeginProcess, Give as GiveConsole}
-use Rattle.mpm_cli.specs.declared.table.Row.{Row}
-use Rattle.mpm_cli.specs.declared.table.Row.TheVariants.{ReadCommand, OpenQueue, WriteQueue, SetUser, OpenRelocatable, OpenAbsolute, ReadHeader, ComputeSize, SetUserZero, Reserve, Place, Patch, ReadOn, Free, CloseAfter, Close, Tell, Give, PlaceBasePage, Begin}
+use Rattle.mpm_residents.specs.Interpreters.{Interpreter, act_at, call_at, next_act, next_call, took}
+use Rattle.mpm_residents.specs.Standing.{is_loading, StandsIn}
+use Rattle.mpm_residents.specs.declared.cli.act.Act.{Act}
+use Rattle.mpm_residents.specs.declared.cli.act.Act.TheVariants.{Ask, Place as PlaceBytes, Patch as MoveCode, Begin as BeginProcess, Give as GiveConsole}
+use Rattle.mpm_residents.specs.declared.cli.table.Row.{Row}
+use Rattle.mpm_residents.specs.declared.cli.table.Row.TheVariants.{ReadCommand, OpenQueue, WriteQueue, SetUser, OpenRelocatable, OpenAbsolute, ReadHeader, ComputeSize, SetUserZero, Reserve, Place, Patch, ReadOn, Free, CloseAfter, Close, Tell, Give, PlaceBasePage, Begin}
 use Rattle.mpm_kernel.specs.Called.{low_parameter}
 use Rattle.mpm_kernel.specs.Columns.{column_of, expanded}
 use Rattle.mpm_kernel.proofs.SoundLaws.{runner_lives}

@@ -10,11 +10,11 @@ use Rattle.mpm_command.specs.declared.command.Command.{Command}
 use Rattle.mpm_loader.specs.Pieces.{Loading, begun, with_first, with_piece, has_all, code_in, marks_in}
 use Rattle.mpm_loader.specs.Plans.{pages_of, plan_of}
 use Rattle.mpm_loader.specs.declared.plan.Plan.{Plan}
-use Rattle.mpm_cli.specs.Interpreters.{Interpreter, act_at, call_at, took_at, not_found, followed, message_in, after_open, row_for_memory, row_behind_marks, row_behind_code, row_for_piece, headed, records_in, absolute, sized, size_in, byte_at, is_segment_of, reserved, read_on, with_block}
-use Rattle.mpm_cli.specs.Standing.{is_loading, StandsIn}
-use Rattle.mpm_cli.specs.declared.table.Message.TheVariants.{NotFound, BadLoad, NoMemory, NoProcess, QueueFull}
-use Rattle.mpm_cli.specs.declared.table.Row.{Row}
-use Rattle.mpm_cli.specs.declared.table.Row.TheVariants.{ReadCommand, OpenQueue, WriteQueue, SetUser, OpenRelocatable, OpenAbsolute, ReadHeader, ComputeSize, SetUserZero, Reserve, Place, Patch, ReadOn, Free, CloseAfter, Close, Tell, Give, PlaceBasePage, Begin}
+use Rattle.mpm_residents.specs.Interpreters.{Interpreter, act_at, call_at, took_at, not_found, followed, message_in, after_open, row_for_memory, row_behind_marks, row_behind_code, row_for_piece, headed, records_in, absolute, sized, size_in, byte_at, is_segment_of, reserved, read_on, with_block}
+use Rattle.mpm_residents.specs.Standing.{is_loading, StandsIn}
+use Rattle.mpm_residents.specs.declared.cli.table.Message.TheVariants.{NotFound, BadLoad, NoMemory, NoProcess, QueueFull}
+use Rattle.mpm_residents.specs.declared.cli.table.Row.{Row}
+use Rattle.mpm_residents.specs.declared.cli.table.Row.TheVariants.{ReadCommand, OpenQueue, WriteQueue, SetUser, OpenRelocatable, OpenAbsolute, ReadHeader, ComputeSize, SetUserZero, Reserve, Place, Patch, ReadOn, Free, CloseAfter, Close, Tell, Give, PlaceBasePage, Begin}
 use Rattle.z80_regs.specs.Words.{word_of}
 use Rattle.mpm_machine.proofs.LoadedLaws.{loaded_first, loaded_read, loaded_goes_on}
 use Rattle.mpm_machine.specs.Interpreting.{HasReserved}

@@ -9,10 +9,10 @@ use Rattle.mpm_banks.specs.Memory.{Memory, byte_at}
 use Rattle.mpm_directories.specs.Direct.{Directly, CallerChange, Resets, Selects, Stays}
 use Rattle.mpm_bdos.specs.Serving.{Kept}
 use Rattle.mpm_functions.specs.declared.refusals.Extended.{Extended}
-use Rattle.mpm_cli.specs.Interpreters.{Interpreter, call_at, next_call}
-use Rattle.mpm_cli.specs.Standing.{is_loading}
-use Rattle.mpm_cli.specs.declared.table.Row.{Row}
-use Rattle.mpm_cli.specs.declared.table.Row.TheVariants.{ReadCommand, OpenQueue, WriteQueue, SetUser, OpenRelocatable, OpenAbsolute, ReadHeader, ComputeSize, SetUserZero, Reserve, Place, Patch, ReadOn, Free, CloseAfter, Close, Tell, Give, PlaceBasePage, Begin}
+use Rattle.mpm_residents.specs.Interpreters.{Interpreter, call_at, next_call}
+use Rattle.mpm_residents.specs.Standing.{is_loading}
+use Rattle.mpm_residents.specs.declared.cli.table.Row.{Row}
+use Rattle.mpm_residents.specs.declared.cli.table.Row.TheVariants.{ReadCommand, OpenQueue, WriteQueue, SetUser, OpenRelocatable, OpenAbsolute, ReadHeader, ComputeSize, SetUserZero, Reserve, Place, Patch, ReadOn, Free, CloseAfter, Close, Tell, Give, PlaceBasePage, Begin}
 use Rattle.mpm_dispatcher.specs.Dispatch.{IsReady, first_completed}
 use Rattle.mpm_gate.proofs.ReplyLaws.{segments_keep}
 use Rattle.mpm_kernel.proofs.AwaitingEnds.{none_handed_out}

@@ -18,7 +18,7 @@ use Rattle.mpm_base.specs.declared.number.Name8.{Name8}
 use Rattle.mpm_residents.specs.Terminals.{opening}
 use Rattle.mpm_residents.specs.declared.native.Native.{Native}
 use Rattle.mpm_residents.specs.declared.native.Native.TheVariants.{Tmp, Cli}
-use Rattle.mpm_cli.specs.Interpreters.{opening as opening_interpreter}
+use Rattle.mpm_residents.specs.Interpreters.{opening as opening_interpreter}
 use Rattle.mpm_script.specs.declared.event.Timed.{Timed}
 use Rattle.mpm_machine_file.specs.declared.machine_file.MachineFile.{MachineFile}
 use Rattle.mpm_machine.specs.declared.system.System.{System}

@@ -21,12 +21,12 @@ use Rattle.z80_regs.specs.Words.{word_of}
 use Rattle.mpm_command.specs.Commands.{command_in, console_in}
 use Rattle.mpm_command.specs.declared.command.Command.{Command}
 use Rattle.mpm_loader.specs.Pieces.{Loading, begun, with_piece}
-use Rattle.mpm_cli.specs.Interpreters.{Interpreter, byte_at, not_found, message_in, followed, after_open, headed, records_in, absolute, size_in, sized, with_block, read_on, row_for_memory, row_for_piece, row_behind_code, row_behind_marks, took, took_at, reserved as with_reserved}
-use Rattle.mpm_cli.specs.declared.table.Message.TheVariants.{NotFound, BadLoad, NoProcess, QueueFull}
-use Rattle.mpm_cli.specs.declared.table.Row.TheVariants.{ReadCommand, OpenQueue, WriteQueue, SetUser, OpenRelocatable, OpenAbsolute, ReadHeader, ComputeSize, SetUserZero, Reserve, Place, Patch, ReadOn, Free, CloseAfter, Close, Tell, Give, PlaceBasePage, Begin}
-use Rattle.mpm_cli.specs.Standing.{is_loading}
-use Rattle.mpm_cli.specs.declared.table.Row.{Row}
-use Rattle.mpm_cli.proofs.StandingLaws.{none_for_memory}
+use Rattle.mpm_residents.specs.Interpreters.{Interpreter, byte_at, not_found, message_in, followed, after_open, headed, records_in, absolute, size_in, sized, with_block, read_on, row_for_memory, row_for_piece, row_behind_code, row_behind_marks, took, took_at, reserved as with_reserved}
+use Rattle.mpm_residents.specs.declared.cli.table.Message.TheVariants.{NotFound, BadLoad, NoProcess, QueueFull}
+use Rattle.mpm_residents.specs.declared.cli.table.Row.TheVariants.{ReadCommand, OpenQueue, WriteQueue, SetUser, OpenRelocatable, OpenAbsolute, ReadHeader, ComputeSize, SetUserZero, Reserve, Place, Patch, ReadOn, Free, CloseAfter, Close, Tell, Give, PlaceBasePage, Begin}
+use Rattle.mpm_residents.specs.Standing.{is_loading}
+use Rattle.mpm_residents.specs.declared.cli.table.Row.{Row}
+use Rattle.mpm_residents.proofs.StandingLaws.{none_for_memory}
 use Rattle.mpm_machine.specs.declared.system.System.{System}
 use Rattle.mpm_machine.specs.State.{IsWhole}
 use Rattle.mpm_machine.specs.Serving.{reserve_reply}

@@ -11,7 +11,7 @@ use Rattle.mpm_dispatcher.specs.Dispatch.{IsReady}
 use Rattle.mpm_kernel.specs.Columns.{column_of, expanded, tab_text}
 use Rattle.mpm_kernel.specs.Called.{low_parameter}
 use Rattle.mpm_kernel.specs.ConsoleInput.{writes}
-use Rattle.mpm_cli.specs.declared.act.Act.{Act}
+use Rattle.mpm_residents.specs.declared.cli.act.Act.{Act}
 use Rattle.mpm_residents.specs.Natives.{native_act, native_call, native_in, answer_taken}
 use Rattle.mpm_residents.specs.declared.native.Native.{Native}
 use Rattle.mpm_render.specs.declared.unit.Unit2.TheVariants.{Printer}

@@ -22,7 +22,7 @@ use Rattle.mpm_kernel.proofs.SoundLaws.{free_is_unlisted}
 use Rattle.mpm_residents.specs.Terminals.{opening}
 use Rattle.mpm_residents.specs.declared.native.Native.{Native}
 use Rattle.mpm_residents.specs.declared.native.Native.TheVariants.{Tmp, Cli}
-use Rattle.mpm_cli.specs.Interpreters.{opening as opening_interpreter}
+use Rattle.mpm_residents.specs.Interpreters.{opening as opening_interpreter}
 use Rattle.mpm_script.specs.declared.event.Timed.{Timed}
 use Rattle.mpm_machine_file.specs.declared.machine_file.MachineFile.{MachineFile}
 use Rattle.mpm_machine.specs.declared.system.System.{System}
@@ -34,7 +34,7 @@ use Rattle.mpm_banks.specs.Allocations.{new_segment, new_memory}
 use Rattle.mpm_base.specs.declared.segment.SegmentSpec.{SegmentSpec}
 use Rattle.mpm_machine_file.specs.MachineFiles.{IsMachine}
 use Rattle.mpm_residents.specs.Natives.{native_in, interprets_if_there}
-use Rattle.mpm_cli.proofs.StandingLaws.{stands_opening}
+use Rattle.mpm_residents.proofs.StandingLaws.{stands_opening}
 use Rattle.mpm_processor.specs.Gates.{IsHome}
 use Rattle.mpm_service.specs.Disk.{DiskService, no_service}
 use Rattle.mpm_service.specs.Places.{at_disk}

@@ -19,8 +19,8 @@ use Rattle.mpm_machine.specs.State.{HasRoomForAll, Change, speaking}
 use Rattle.mpm_machine.specs.Ending.{ended}
 use Rattle.mpm_dispatcher.specs.Dispatch.{first_completed}
 use Rattle.mpm_kernel.specs.Called.{low_parameter}
-use Rattle.mpm_cli.specs.declared.act.Act.{Act}
-use Rattle.mpm_cli.specs.declared.act.Act.TheVariants.{Ask, Place, Patch, Begin, Give}
+use Rattle.mpm_residents.specs.declared.cli.act.Act.{Act}
+use Rattle.mpm_residents.specs.declared.cli.act.Act.TheVariants.{Ask, Place, Patch, Begin, Give}
 use Rattle.mpm_machine.specs.Calling.{Served, asking}
 use Rattle.mpm_machine.specs.Sending.{chains}
 use Rattle.mpm_machine.specs.Loading.{is_console, begins, handed_over}

@@ -10,10 +10,10 @@ use Rattle.mpm_kernel.specs.Awaiting.{AwaitsIn}
 use Rattle.mpm_procs.specs.Table.{Lives, process_in, call_of}
 use Rattle.mpm_processor.specs.Gates.{IsHome}
 use Rattle.mpm_service.specs.Places.{at_disk}
-use Rattle.mpm_cli.specs.Interpreters.{Interpreter, next_call}
-use Rattle.mpm_cli.specs.declared.table.Row.{Row}
-use Rattle.mpm_cli.specs.declared.table.Row.TheVariants.{ReadCommand}
-use Rattle.mpm_cli.specs.Standing.{is_loading, Stands}
+use Rattle.mpm_residents.specs.Interpreters.{Interpreter, next_call}
+use Rattle.mpm_residents.specs.declared.cli.table.Row.{Row}
+use Rattle.mpm_residents.specs.declared.cli.table.Row.TheVariants.{ReadCommand}
+use Rattle.mpm_residents.specs.Standing.{is_loading, Stands}
 use Rattle.mpm_residents.specs.Natives.{native_in, interprets_if_there}
 use Rattle.mpm_residents.specs.declared.native.Native.TheVariants.{Cli}
 use Rattle.mpm_machine.specs.declared.system.System.{System}

@@ -6,10 +6,10 @@ use Rattle.mpm_prl.specs.Relocation.{relocated_byte}
 use Rattle.mpm_loader.specs.Pieces.{Loading, has_all}
 use Rattle.mpm_loader.specs.Plans.{code_end, all_bytes}
 use Rattle.mpm_loader.specs.declared.plan.Plan.{Plan}
-use Rattle.mpm_cli.specs.Interpreters.{Interpreter}
-use Rattle.mpm_cli.specs.declared.table.Row.{Row}
-use Rattle.mpm_cli.specs.declared.table.Row.TheVariants.{Reserve, Place, Patch, Close, PlaceBasePage, Begin}
-use Rattle.mpm_cli.specs.Standing.{is_loading}
+use Rattle.mpm_residents.specs.Interpreters.{Interpreter}
+use Rattle.mpm_residents.specs.declared.cli.table.Row.{Row}
+use Rattle.mpm_residents.specs.declared.cli.table.Row.TheVariants.{Reserve, Place, Patch, Close, PlaceBasePage, Begin}
+use Rattle.mpm_residents.specs.Standing.{is_loading}
 use Rattle.mpm_residents.specs.Natives.{native_in}
 use Rattle.mpm_residents.specs.declared.native.Native.TheVariants.{Cli}
 use Rattle.mpm_bdos.specs.Serving.{Kept}

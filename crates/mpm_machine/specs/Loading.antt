@@ -16,8 +16,8 @@ use Rattle.mpm_dispatcher.specs.Dispatch.{admitted}
 use Rattle.mpm_kernel.specs.Kernel.{Kernel, dispatched}
 use Rattle.mpm_kernel.specs.Called.{failure_code}
 use Rattle.mpm_kernel.specs.Consoling.{given}
-use Rattle.mpm_cli.specs.declared.act.Act.{Act}
-use Rattle.mpm_cli.specs.declared.act.Act.TheVariants.{Ask, Place, Patch, Begin, Give}
+use Rattle.mpm_residents.specs.declared.cli.act.Act.{Act}
+use Rattle.mpm_residents.specs.declared.cli.act.Act.TheVariants.{Ask, Place, Patch, Begin, Give}
 use Rattle.mpm_machine.specs.declared.system.System.{System}
 
 -- bytes come into a segment, from an address on

@@ -18,7 +18,7 @@ use Rattle.mpm_kernel.specs.Disk.{in_turns}
 use Rattle.mpm_kernel.specs.Queueing.{with_system_queue}
 use Rattle.mpm_kernel.specs.Consoling.{given}
 use Rattle.mpm_residents.specs.Terminals.{opening}
-use Rattle.mpm_cli.specs.Interpreters.{opening as opening_interpreter}
+use Rattle.mpm_residents.specs.Interpreters.{opening as opening_interpreter}
 use Rattle.mpm_residents.specs.declared.native.Native.TheVariants.{Tmp, Cli}
 use Rattle.mpm_clock.specs.declared.moment.Moment.{Moment}
 use Rattle.mpm_script.specs.declared.event.Timed.{Timed}

@@ -6,8 +6,8 @@ use Rattle.mpm_base.specs.Calls.{Taken, Answer, answering}
 use Rattle.mpm_base.specs.declared.call.Outcome.{Outcome}
 use Rattle.mpm_base.specs.declared.call.Outcome.TheVariants.{Done, Held, Retry, Ended}
 use Rattle.mpm_base.specs.declared.functions.TheConstants.{PRINT_STRING}
-use Rattle.mpm_cli.specs.declared.act.Act.{Act}
-use Rattle.mpm_cli.specs.declared.act.Act.TheVariants.{Ask}
+use Rattle.mpm_residents.specs.declared.cli.act.Act.{Act}
+use Rattle.mpm_residents.specs.declared.cli.act.Act.TheVariants.{Ask}
 use Rattle.mpm_residents.specs.Natives.{native_call, native_act, native_in, interprets_if_there, answer_taken}
 use Rattle.mpm_residents.specs.declared.native.Native.{Native}
 use Rattle.mpm_kernel.specs.Called.{low_parameter}

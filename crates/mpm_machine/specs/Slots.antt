@@ -5,7 +5,7 @@ use Rattle.mpm_dispatcher.specs.Dispatch.{IsReady}
 use Rattle.mpm_procs.specs.Table.{Lives, process_in, call_of}
 use Rattle.mpm_residents.specs.Terminals.{opening}
 use Rattle.mpm_residents.specs.declared.native.Native.TheVariants.{Tmp, Cli}
-use Rattle.mpm_cli.specs.Interpreters.{opening as opening_interpreter}
+use Rattle.mpm_residents.specs.Interpreters.{opening as opening_interpreter}
 use Rattle.mpm_machine.specs.declared.system.System.{System}
 use Rattle.mpm_machine.specs.Opening.{terminal_name}
 use Rattle.mpm_residents.specs.Natives.{native_in}

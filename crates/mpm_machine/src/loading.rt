@@ -10,7 +10,7 @@ ghost use Rattle.mpm_machine.specs.Loading.{moved, may_live as may_be_lived_in, 
 use crate::system::System;
 use mpm_banks::Banks;
 use mpm_base::{FAILURE_CODE, Pid, Seg};
-use mpm_cli::Act;
+use mpm_residents::Act;
 use mpm_gate::put_bytes;
 use mpm_kernel::Kernel;
 use mpm_prl::patch;

@@ -1,5 +1,5 @@
 ghost use Rattle.std.specs.Prelude.{◌≡◌, is_some, true, OnOk, IfSome};
-ghost use Rattle.mpm_cli.specs.declared.act.Act.TheVariants.{Ask};
+ghost use Rattle.mpm_residents.specs.declared.cli.act.Act.TheVariants.{Ask};
 ghost use Rattle.mpm_procs.specs.Table.{Lives, call_of};
 ghost use Rattle.mpm_dispatcher.specs.Dispatch.{IsReady};
 ghost use Rattle.mpm_kernel.specs.Called.{low_parameter};
@@ -7,7 +7,7 @@ ghost use Rattle.mpm_output.specs.Writing.{Writes};
 
 use crate::system::System;
 use mpm_base::{Outcome, Pid, Reply, functions};
-use mpm_cli::Act;
+use mpm_residents::Act;
 use mpm_output::write_kept;
 use mpm_port::{Failed, Sink};
 use mpm_render::Render;

@@ -1,8 +1,8 @@
 //! The command line interpreter, call by call, as it is driven by answers.
 use mpm_base::{Call, Name8, Reply, Seg, functions};
-use mpm_cli::{Act, Cli};
 use mpm_command::base_page;
 use mpm_procs::NewProcess;
+use mpm_residents::{Act, Cli};
 
 /// An interpreter of two consoles, and the call and the reply with which it is driven.
 #[derive(Drop)]

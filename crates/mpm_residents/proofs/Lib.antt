@@ -1,3 +1,6 @@
+pub mod InterpreterLaws
+pub mod Filling
+pub mod StandingLaws
 pub mod Runs
-pub mod Examples
 pub mod Refilling
+pub mod examples

@@ -4,8 +4,8 @@ use Rattle.std.specs.Prelude.{ℕ, ◌-◌, ◌<◌, Bool, not, ◌==◌, ◌&&�
 use Rattle.std.specs.Char.{is_ascii_alphabetic, to_ascii_uppercase, to_ascii_lowercase}
 use Rattle.std.specs.List.{range_with_len, prefix_len, suffix_len}
 use Rattle.mpm_base.specs.Texts.{ends_text}
-use Rattle.mpm_residents.specs.declared.line.LineForm.{LineForm}
-use Rattle.mpm_residents.specs.declared.line.LineForm.TheVariants.{Empty, Drive, User, Command}
+use Rattle.mpm_residents.specs.declared.tmp.line.LineForm.{LineForm}
+use Rattle.mpm_residents.specs.declared.tmp.line.LineForm.TheVariants.{Empty, Drive, User, Command}
 
 abbrev pub is_space : ℕ → Bool
 is_space byte = byte == 32

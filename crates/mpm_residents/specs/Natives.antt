@@ -2,9 +2,9 @@
 -- Processes"; User's Guide, "Command Line Interpreter", "Terminal Message Processor".)
 use Rattle.std.specs.Prelude.{ℕ, Bool, true, false, List, Option, Some, None, slice_get, slice_set}
 use Rattle.mpm_base.specs.Calls.{Taken, Answer}
-use Rattle.mpm_cli.specs.Interpreters.{next_act, next_call as interpreters_call, took as interpreter_took, IsAct}
-use Rattle.mpm_cli.specs.declared.act.Act.{Act}
-use Rattle.mpm_cli.specs.declared.act.Act.TheVariants.{Ask}
+use Rattle.mpm_residents.specs.Interpreters.{next_act, next_call as interpreters_call, took as interpreter_took, IsAct}
+use Rattle.mpm_residents.specs.declared.cli.act.Act.{Act}
+use Rattle.mpm_residents.specs.declared.cli.act.Act.TheVariants.{Ask}
 use Rattle.mpm_residents.specs.Terminals.{next_call, took}
 use Rattle.mpm_residents.specs.declared.native.Native.{Native}
 use Rattle.mpm_residents.specs.declared.native.Native.TheVariants.{Tmp, Cli}

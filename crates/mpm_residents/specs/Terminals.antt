@@ -6,8 +6,8 @@ use Rattle.std.specs.Prelude.{ℕ, ◌+◌, ◌*◌, ◌%◌, ◌<◌, ◌==◌,
 use Rattle.mpm_base.specs.Calls.{Taken, Answer, asking}
 use Rattle.mpm_base.specs.declared.functions.TheConstants.{CONSOLE_OUTPUT, PRINT_STRING, READ_CONSOLE_BUFFER, SELECT_DISK, SET_GET_USER_CODE, ATTACH_CONSOLE, SEND_CLI_COMMAND}
 use Rattle.mpm_residents.specs.Lines.{form_of, command_text}
-use Rattle.mpm_residents.specs.declared.line.LineForm.{LineForm}
-use Rattle.mpm_residents.specs.declared.line.LineForm.TheVariants.{Empty, Drive, User, Command}
+use Rattle.mpm_residents.specs.declared.tmp.line.LineForm.{LineForm}
+use Rattle.mpm_residents.specs.declared.tmp.line.LineForm.TheVariants.{Empty, Drive, User, Command}
 use Rattle.mpm_residents.specs.declared.tmp.Row.{Row}
 use Rattle.mpm_residents.specs.declared.tmp.Row.TheVariants.{Attach, Prompt, ReadLine, NewLine, SelectDrive, SetUser, SendCommand, NoDrive}
 

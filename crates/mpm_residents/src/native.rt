@@ -1,10 +1,9 @@
 ghost use Rattle.std.specs.Prelude.{◌≡◌};
 ghost use Rattle.mpm_residents.specs.Natives.{native_act, native_call, native_took, interprets as is_interpreter, IsNativeAct};
-ghost use Rattle.mpm_cli.specs.Interpreters.{Counts};
+ghost use Rattle.mpm_residents.specs.Interpreters.{Counts};
 
-use crate::Tmp;
+use crate::{Act, Cli, Tmp};
 use mpm_base::{Call, Reply};
-use mpm_cli::{Act, Cli};
 
 /// A process of the system.
 #[derive(Drop)]

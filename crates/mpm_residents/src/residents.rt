@@ -1,9 +1,8 @@
 ghost use Rattle.std.specs.Prelude.{◌≡◌, ◌<◌, ◌++◌, ◌∷◌, [], length, true, is_some, option_map, IfSome};
 
-use crate::{Native, Tmp};
+use crate::{Act, Cli, Native, Tmp};
 use arrayvec::ArrayVec;
 use mpm_base::{Call, Pid, Reply};
-use mpm_cli::{Act, Cli};
 use std::marker::Model;
 
 /// The residents that act, by their slots, of which the first is 0: nine at most, an interpreter and a terminal message
@@ -26,7 +25,7 @@ impl Residents {
     ghost use Rattle.mpm_residents.specs.Terminals.{opening};
     ghost use Rattle.mpm_residents.specs.Natives.{native_act, native_call, native_in, interprets_if_there, answer_taken, IsNativeAct};
     ghost use Rattle.mpm_residents.specs.declared.native.Native.TheVariants.{Tmp as Terminal, Cli as Interpreter};
-    ghost use Rattle.mpm_cli.specs.Interpreters.{opening as opening_interpreter, Counts};
+    ghost use Rattle.mpm_residents.specs.Interpreters.{opening as opening_interpreter, Counts};
 
     /// None.
     pub fn none() -> Residents

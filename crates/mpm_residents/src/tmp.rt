@@ -1,6 +1,8 @@
 ghost use Rattle.std.specs.Prelude.{◌≡◌};
 
-use crate::line::{LineForm, command_text, form_of};
+mod line;
+
+use crate::tmp::line::{LineForm, command_text, form_of};
 use itoa::Buffer;
 use mpm_base::{Call, Reply, functions};
 use std::marker::Model;

@@ -1,4 +1,0 @@
-pub mod Laws
-pub mod Filling
-pub mod StandingLaws
-pub mod Examples
