@@ -1,3 +1,4 @@
+pub mod GateLaws
 pub mod BytesLaws
 pub mod TextLaws
 pub mod TakenLaws

@@ -1,3 +1,4 @@
+pub mod Gates
 pub mod Bytes
 pub mod Texts
 pub mod Reads

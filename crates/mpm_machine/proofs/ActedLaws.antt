@@ -14,8 +14,8 @@ use Rattle.mpm_residents.specs.declared.cli.act.Act.{Act}
 use Rattle.mpm_residents.specs.declared.cli.act.Act.TheVariants.{Ask, Place, Patch, Begin, Give}
 use Rattle.mpm_kernel.specs.Called.{low_parameter}
 use Rattle.mpm_machine.specs.declared.system.System.{System}
-use Rattle.mpm_processor.specs.declared.gate.Gate.{Gate}
-use Rattle.mpm_processor.specs.declared.gate.Gate.TheVariants.{End, Call, Return}
+use Rattle.mpm_gate.specs.declared.gate.Gate.{Gate}
+use Rattle.mpm_gate.specs.declared.gate.Gate.TheVariants.{End, Call, Return}
 use Rattle.mpm_machine.specs.State.{Change, IsWhole}
 use Rattle.mpm_machine.specs.Calling.{Served, asking}
 use Rattle.mpm_machine.specs.Sending.{has_interpreter}

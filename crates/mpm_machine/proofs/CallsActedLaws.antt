@@ -15,8 +15,8 @@ use Rattle.mpm_procs.proofs.MapLaws.{free_is_dead, process_added_other, call_add
 use Rattle.mpm_script.specs.declared.event.Event.{Event}
 use Rattle.mpm_service.specs.Places.{at_disk}
 use Rattle.mpm_dispatcher.specs.Dispatch.{IsReady, admitted, first_completed}
-use Rattle.mpm_processor.specs.declared.gate.Gate.{Gate}
-use Rattle.mpm_processor.specs.declared.gate.Gate.TheVariants.{End, Call, Return}
+use Rattle.mpm_gate.specs.declared.gate.Gate.{Gate}
+use Rattle.mpm_gate.specs.declared.gate.Gate.TheVariants.{End, Call, Return}
 use Rattle.mpm_banks.specs.Actions.{devices_after}
 use Rattle.mpm_kernel.specs.Kernel.{Kernel, IsSound, dispatched as with_dispatcher}
 use Rattle.mpm_kernel.specs.Called.{low_parameter}

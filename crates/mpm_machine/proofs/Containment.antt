@@ -27,8 +27,8 @@ use Rattle.mpm_kernel.proofs.SoundLaws.{runner_lives}
 use Rattle.mpm_xdos.specs.Ending.{is_home, vacated_if_empty, memory_without}
 use Rattle.mpm_xdos.specs.Aborting.{waits_to_end, target, memory_after_abort}
 use Rattle.mpm_machine.specs.declared.system.System.{System}
-use Rattle.mpm_processor.specs.declared.gate.Gate.{Gate}
-use Rattle.mpm_processor.specs.declared.gate.Gate.TheVariants.{End, Call, Return}
+use Rattle.mpm_gate.specs.declared.gate.Gate.{Gate}
+use Rattle.mpm_gate.specs.declared.gate.Gate.TheVariants.{End, Call, Return}
 use Rattle.mpm_machine.specs.State.{Change, IsWhole, speaking}
 use Rattle.mpm_machine.specs.Ending.{ended}
 use Rattle.mpm_machine.specs.Calling.{Served, asking}

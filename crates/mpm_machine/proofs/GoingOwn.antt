@@ -59,7 +59,7 @@ use Rattle.mpm_kernel.specs.Queueing.{opened, write_at, was_written, blocked_or_
 use Rattle.mpm_kernel.proofs.AwaitingLaws.{awaits_none}
 use Rattle.mpm_kernel.proofs.AwaitingCalls.{awaits_write_at}
 use Rattle.mpm_kernel.proofs.AwaitingEnds.{awaits_gave, awaits_in_slot, AwaitsAfter, own_read}
-use Rattle.mpm_processor.specs.Gates.{IsHome}
+use Rattle.mpm_gate.specs.Gates.{IsHome}
 use Rattle.mpm_queues.specs.Handling.{write_outcome}
 use Rattle.mpm_queues.specs.declared.queues.QueueOutcome.{QueueOutcome}
 use Rattle.mpm_queues.specs.declared.queues.QueueOutcome.TheVariants.{Done as Passed, NotNow}

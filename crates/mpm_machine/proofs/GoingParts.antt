@@ -19,8 +19,8 @@ use Rattle.mpm_kernel.specs.Consoling.{given}
 use Rattle.mpm_kernel.specs.Kernel.{Kernel, is_resident, with_changed}
 use Rattle.mpm_kernel.specs.Procedures.{given_back}
 use Rattle.mpm_output.specs.Texts.{illegal_text}
-use Rattle.mpm_processor.specs.declared.gate.Gate.{Gate}
-use Rattle.mpm_processor.specs.declared.gate.Gate.TheVariants.{End, Call, Return}
+use Rattle.mpm_gate.specs.declared.gate.Gate.{Gate}
+use Rattle.mpm_gate.specs.declared.gate.Gate.TheVariants.{End, Call, Return}
 use Rattle.mpm_procs.specs.Table.{Lives, process_in, call_of}
 use Rattle.mpm_procs.specs.declared.process.Process.{Process}
 use Rattle.mpm_xdos.proofs.CreatedLaws.{Made, made_created}

@@ -21,7 +21,7 @@ use Rattle.mpm_procs.specs.Table.{Table, process_in}
 use Rattle.mpm_kernel.specs.Kernel.{Kernel}
 use Rattle.mpm_kernel.specs.Ending.{discharged}
 use Rattle.mpm_xdos.specs.Ending.{is_home, vacated_if_empty, memory_without}
-use Rattle.mpm_processor.specs.Gates.{IsHome}
+use Rattle.mpm_gate.specs.Gates.{IsHome}
 use Rattle.mpm_machine.specs.State.{IsOccupied}
 use Rattle.mpm_machine.proofs.SizeLaws.{SameSizes, memory_allocated, memory_released, memory_same, sizes_after, sizes_placed}
 

@@ -9,7 +9,7 @@ use Rattle.mpm_banks.specs.Actions.{memory_after, devices_after}
 use Rattle.mpm_banks.proofs.ActionLaws.{same_segments_after, last_bytes_stay}
 use Rattle.mpm_procs.specs.Table.{process_in}
 use Rattle.mpm_machine.specs.declared.system.System.{System}
-use Rattle.mpm_processor.specs.declared.gate.Gate.{Gate}
+use Rattle.mpm_gate.specs.declared.gate.Gate.{Gate}
 use Rattle.mpm_machine.specs.State.{Change, silent}
 use Rattle.mpm_machine.specs.Serving.{with_regs}
 use Rattle.mpm_machine.specs.Step.{instructed, executed, instruction_at, acted_at, acted_by, acted, running_segment, is_no_gate, instruction_by, at_instruction, counted}

@@ -33,7 +33,7 @@ use Rattle.mpm_residents.proofs.StandingLaws.{hands_at, counts_at}
 use Rattle.mpm_residents.specs.Natives.{native_in, native_act, native_call, interprets_if_there, interprets}
 use Rattle.mpm_residents.specs.declared.native.Native.{Native}
 use Rattle.mpm_residents.specs.declared.native.Native.TheVariants.{Tmp, Cli}
-use Rattle.mpm_processor.specs.Gates.{IsHome}
+use Rattle.mpm_gate.specs.Gates.{IsHome}
 use Rattle.mpm_machine.specs.declared.system.System.{System}
 use Rattle.mpm_machine.specs.State.{IsWhole, silent, speaking}
 use Rattle.mpm_machine.specs.Serving.{reserve_reply}

@@ -16,8 +16,8 @@ use Rattle.mpm_script.specs.declared.event.Event.{Event}
 use Rattle.mpm_service.specs.Disk.{DiskService}
 use Rattle.mpm_service.specs.Places.{at_disk, is_call_of, without_call}
 use Rattle.mpm_service.proofs.PlaceLaws.{served_stays_without}
-use Rattle.mpm_processor.specs.declared.gate.Gate.{Gate}
-use Rattle.mpm_processor.specs.declared.gate.Gate.TheVariants.{End, Call, Return}
+use Rattle.mpm_gate.specs.declared.gate.Gate.{Gate}
+use Rattle.mpm_gate.specs.declared.gate.Gate.TheVariants.{End, Call, Return}
 use Rattle.mpm_dispatcher.specs.Dispatch.{IsReady, first_completed, in_slot, admitted}
 use Rattle.mpm_kernel.specs.Kernel.{Kernel, IsSound, is_resident, dispatched}
 use Rattle.mpm_kernel.specs.Consoling.{abort_taken, given, is_from, handed_over as handed_console, owner_made, unit_left}

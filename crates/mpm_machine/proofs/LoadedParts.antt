@@ -17,8 +17,8 @@ use Rattle.mpm_residents.specs.declared.cli.table.Row.TheVariants.{ReadCommand, 
 use Rattle.mpm_kernel.specs.Called.{low_parameter}
 use Rattle.mpm_kernel.specs.Columns.{column_of, expanded}
 use Rattle.mpm_kernel.proofs.SoundLaws.{runner_lives}
-use Rattle.mpm_processor.specs.declared.gate.Gate.{Gate}
-use Rattle.mpm_processor.specs.declared.gate.Gate.TheVariants.{End, Call, Return}
+use Rattle.mpm_gate.specs.declared.gate.Gate.{Gate}
+use Rattle.mpm_gate.specs.declared.gate.Gate.TheVariants.{End, Call, Return}
 use Rattle.mpm_procs.specs.Table.{Lives, process_in}
 use Rattle.mpm_residents.specs.Natives.{native_in, native_call, interprets_if_there}
 use Rattle.mpm_residents.specs.declared.native.Native.{Native}

@@ -25,7 +25,7 @@ use Rattle.mpm_kernel.specs.Consoling.{given}
 use Rattle.mpm_kernel.proofs.SoundLaws.{sound_admitted, live_kept}
 use Rattle.mpm_kernel.proofs.HomeLaws.{homes_stay, aborts_admitted, lives_on}
 use Rattle.mpm_kernel.proofs.GivingLaws.{sound_gave, procs_gave, completed_gave}
-use Rattle.mpm_processor.specs.Gates.{IsHome}
+use Rattle.mpm_gate.specs.Gates.{IsHome}
 use Rattle.mpm_machine.specs.declared.system.System.{System}
 use Rattle.mpm_machine.specs.State.{IsOccupied, IsWhole}
 use Rattle.mpm_machine.specs.Loading.{placing, moved, may_move, moving, is_console, giving, may_live, is_slot, begun_for, begins, beginning, ChangesOnly}

@@ -16,11 +16,11 @@ use Rattle.mpm_dispatcher.specs.Dispatch.{ready, with_procs}
 use Rattle.mpm_kernel.specs.Kernel.{Kernel, dispatched}
 use Rattle.mpm_kernel.proofs.SoundLaws.{sound_devices, runner_lives}
 use Rattle.mpm_kernel.proofs.HomeLaws.{homes_stay}
-use Rattle.mpm_processor.specs.declared.gate.Gate.{Gate}
+use Rattle.mpm_gate.specs.declared.gate.Gate.{Gate}
 use Rattle.mpm_banks.specs.Gates.{last_page, call_gate}
 use Rattle.mpm_banks.proofs.ActionLaws.{same_segments_after}
-use Rattle.mpm_processor.specs.Gates.{gate_of}
-use Rattle.mpm_processor.proofs.GateLaws.{page_stays}
+use Rattle.mpm_gate.specs.Gates.{gate_of}
+use Rattle.mpm_gate.proofs.GateLaws.{page_stays}
 use Rattle.mpm_processor.specs.Moving.{View, instruction_in, moved, moves, CanMove}
 use Rattle.mpm_machine.specs.declared.system.System.{System}
 use Rattle.mpm_machine.specs.declared.ahead.Ahead.{Ahead}

@@ -9,10 +9,10 @@ use Rattle.mpm_procs.specs.Table.{process_in, Lives, call_of, with_process}
 use Rattle.mpm_interrupts.specs.Interrupts.{due}
 use Rattle.mpm_banks.specs.Memory.{Memory, byte_at}
 use Rattle.mpm_banks.specs.Gates.{last_page, call_gate}
-use Rattle.mpm_processor.proofs.GateLaws.{calls_there}
+use Rattle.mpm_gate.proofs.GateLaws.{calls_there}
 use Rattle.mpm_machine.specs.Gates.{is_inside}
 use Rattle.mpm_gate.specs.Replies.{answered, returned}
-use Rattle.mpm_processor.specs.declared.gate.Gate.{Gate}
+use Rattle.mpm_gate.specs.declared.gate.Gate.{Gate}
 use Rattle.mpm_dispatcher.specs.Dispatch.{ready, first_completed}
 use Rattle.mpm_service.specs.declared.service.Served.{Served}
 use Rattle.mpm_service.specs.Disk.{DiskService, turned, turn_answer}

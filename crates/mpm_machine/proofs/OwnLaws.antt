@@ -31,7 +31,7 @@ use Rattle.mpm_machine.specs.declared.system.System.{System}
 use Rattle.mpm_machine.specs.State.{IsWhole}
 use Rattle.mpm_machine.specs.Serving.{reserve_reply}
 use Rattle.mpm_machine.specs.Residing.{taking}
-use Rattle.mpm_processor.specs.Gates.{IsHome}
+use Rattle.mpm_gate.specs.Gates.{IsHome}
 use Rattle.mpm_service.specs.Places.{at_disk}
 use Rattle.mpm_kernel.specs.Awaiting.{AwaitsIn}
 use Rattle.mpm_machine.specs.Interpreting.{HasReserved, awaited, Interprets}

@@ -37,7 +37,7 @@ use Rattle.mpm_residents.specs.declared.native.Native.{Native}
 use Rattle.mpm_machine_file.specs.MachineFiles.{IsSegment}
 use Rattle.mpm_machine_file.specs.declared.machine_file.MachineFile.{MachineFile}
 use Rattle.mpm_banks.specs.Gates.{last_page}
-use Rattle.mpm_processor.specs.Gates.{IsHome}
+use Rattle.mpm_gate.specs.Gates.{IsHome}
 use Rattle.mpm_render.specs.Completions.{Completion}
 use Rattle.mpm_machine.specs.declared.system.System.{System}
 use Rattle.mpm_interrupts.specs.declared.interrupts.Interrupts.{Interrupts}

@@ -27,7 +27,7 @@ use Rattle.mpm_machine.specs.Sending.{has_interpreter, sending, chaining}
 use Rattle.mpm_machine.specs.Serving.{asked, keeping, reserve_reply, base_asked, reserving, releasing, creating, aborted, aborting_this, aborting, parsing, served_to_all, served, gate_step, telling_system, telling_descriptor}
 use Rattle.mpm_residents.specs.Natives.{native_in, interprets_if_there}
 use Rattle.mpm_residents.specs.declared.native.Native.{Native}
-use Rattle.mpm_processor.specs.declared.gate.Gate.{Gate}
+use Rattle.mpm_gate.specs.declared.gate.Gate.{Gate}
 use Rattle.mpm_machine.specs.State.{Change}
 use Rattle.mpm_machine.specs.Step.{acted_at, acted_by, acted, running_segment, is_no_gate, instruction_by, at_instruction, begun_by, instruction_unless, then_also, counted}
 use Rattle.mpm_machine.specs.FileCalls.{file_caller}

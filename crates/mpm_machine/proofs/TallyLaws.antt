@@ -12,8 +12,8 @@ use Rattle.mpm_procs.specs.Table.{process_in}
 use Rattle.mpm_xdos.specs.Aborting.{waits_to_end, target}
 use Rattle.mpm_machine.specs.declared.system.System.{System}
 use Rattle.mpm_machine.proofs.FinishLaws.{first_finished, one_record}
-use Rattle.mpm_processor.specs.declared.gate.Gate.{Gate}
-use Rattle.mpm_processor.specs.declared.gate.Gate.TheVariants.{End, Call, Return}
+use Rattle.mpm_gate.specs.declared.gate.Gate.{Gate}
+use Rattle.mpm_gate.specs.declared.gate.Gate.TheVariants.{End, Call, Return}
 use Rattle.mpm_render.specs.Completions.{Completion}
 use Rattle.mpm_machine.specs.State.{HasRoomForAll, Change, speaking}
 use Rattle.mpm_machine.specs.Ending.{ended}

@@ -35,7 +35,7 @@ use Rattle.mpm_xdos.proofs.TargetLaws.{target_lives}
 use Rattle.mpm_xdos.proofs.Homes.{home_here}
 use Rattle.mpm_xdos.proofs.CreatedLaws.{made_created}
 use Rattle.mpm_machine.specs.declared.system.System.{System}
-use Rattle.mpm_processor.specs.Gates.{IsHome}
+use Rattle.mpm_gate.specs.Gates.{IsHome}
 use Rattle.mpm_render.specs.Completions.{Completion}
 use Rattle.mpm_machine.specs.State.{HasRoom, IsWhole, NobodyAborted, speaking}
 use Rattle.mpm_machine.specs.Owing.{owing_unless}

@@ -13,8 +13,8 @@ use Rattle.mpm_gate.specs.Replies.{IsPlacedAt}
 use Rattle.mpm_procs.specs.Table.{Lives, process_in, call_of}
 use Rattle.mpm_kernel.specs.Waiting.{completion_reply}
 use Rattle.mpm_machine.specs.declared.system.System.{System}
-use Rattle.mpm_processor.specs.declared.gate.Gate.{Gate}
-use Rattle.mpm_processor.specs.declared.gate.Gate.TheVariants.{End, Call, Return}
+use Rattle.mpm_gate.specs.declared.gate.Gate.{Gate}
+use Rattle.mpm_gate.specs.declared.gate.Gate.TheVariants.{End, Call, Return}
 use Rattle.mpm_machine.specs.Calling.{Served, asking}
 use Rattle.mpm_machine.specs.Serving.{with_regs, asked, keeping, served, served_to_all, string_of, said_by, popped, reply_at_entry, after_echo, outcome_of}
 use Rattle.mpm_machine.specs.Loading.{handed_over, handed_value}

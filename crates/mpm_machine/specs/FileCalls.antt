@@ -13,8 +13,8 @@ use Rattle.mpm_clock.specs.Times.{moment_of}
 use Rattle.mpm_clock.specs.PackedDecimal.{stamp}
 use Rattle.mpm_kernel.specs.Kernel.{with_changed}
 use Rattle.mpm_kernel.specs.Called.{low_parameter}
-use Rattle.mpm_processor.specs.declared.gate.Gate.{Gate}
-use Rattle.mpm_processor.specs.declared.gate.Gate.TheVariants.{End, Call, Return}
+use Rattle.mpm_gate.specs.declared.gate.Gate.{Gate}
+use Rattle.mpm_gate.specs.declared.gate.Gate.TheVariants.{End, Call, Return}
 use Rattle.mpm_residents.specs.declared.native.Native.{Native}
 use Rattle.mpm_residents.specs.Natives.{native_call, native_in}
 use Rattle.mpm_output.specs.Texts.{error_text}

@@ -8,7 +8,7 @@ use Rattle.mpm_banks.specs.declared.segment.Allocation.TheVariants.{Reserved}
 use Rattle.mpm_base.specs.declared.functions.TheConstants.{SET_BDOS_ERROR_MODE, CHAIN_TO_PROGRAM}
 use Rattle.mpm_kernel.specs.Awaiting.{AwaitsIn}
 use Rattle.mpm_procs.specs.Table.{Lives, process_in, call_of}
-use Rattle.mpm_processor.specs.Gates.{IsHome}
+use Rattle.mpm_gate.specs.Gates.{IsHome}
 use Rattle.mpm_service.specs.Places.{at_disk}
 use Rattle.mpm_residents.specs.Interpreters.{Interpreter, next_call}
 use Rattle.mpm_residents.specs.declared.cli.table.Row.{Row}

@@ -9,7 +9,7 @@ use Rattle.mpm_procs.specs.Table.{process_in}
 use Rattle.mpm_interrupts.specs.Interrupts.{due}
 use Rattle.mpm_render.specs.Completions.{Completion}
 use Rattle.mpm_render.specs.Outputs.{Output, Completed}
-use Rattle.mpm_processor.specs.declared.gate.Gate.TheVariants.{Call}
+use Rattle.mpm_gate.specs.declared.gate.Gate.TheVariants.{Call}
 use Rattle.mpm_machine.specs.declared.system.System.{System}
 use Rattle.mpm_machine.specs.State.{Change}
 use Rattle.mpm_machine.specs.Serving.{gate_step}

@@ -3,7 +3,7 @@ use Rattle.std.specs.Prelude.{◌≡◌, ◌<◌, ◌≤◌, ◌+◌, ℕ, false
 use Rattle.mpm_banks.specs.Memory.{Memory, IsMemory, segment_of}
 use Rattle.mpm_banks.specs.declared.segment.Allocation.TheVariants.{Occupied}
 use Rattle.mpm_procs.specs.Table.{Lives, process_in}
-use Rattle.mpm_processor.specs.Gates.{IsHome}
+use Rattle.mpm_gate.specs.Gates.{IsHome}
 use Rattle.mpm_script.specs.Events.{IsTimed}
 use Rattle.mpm_kernel.specs.Kernel.{Kernel, IsSound, CompletedLive, is_aborted}
 use Rattle.mpm_kernel.specs.Columns.{spoke}

@@ -6,8 +6,9 @@ use crate::machine::Machine;
 use crate::own_calls::is_own;
 use crate::system::System;
 use mpm_base::{Pid, Seg};
+use mpm_gate::gate_of_calls;
 use mpm_port::{Drives, Sink};
-use mpm_processor::{Instructions, gate_of_calls};
+use mpm_processor::Instructions;
 use mpm_render::Render;
 use mpm_script::GREATEST_STEP;
 
@@ -74,7 +75,7 @@ impl System {
     ghost use Rattle.mpm_ready.specs.Tables.{list_at};
     ghost use Rattle.mpm_dispatcher.specs.Dispatch.{ready};
     ghost use Rattle.mpm_kernel.specs.Kernel.{IsSound};
-    ghost use Rattle.mpm_processor.specs.Gates.{IsHome};
+    ghost use Rattle.mpm_gate.specs.Gates.{IsHome};
     ghost use Rattle.mpm_interrupts.specs.Interrupts.{due};
     ghost use Rattle.mpm_machine.specs.State.{IsWhole, NoCompletions};
     ghost use Rattle.mpm_machine.specs.Moving.{RunsAhead, Moved, IsIdle, later, CanPass, IsUntraced};

@@ -7,9 +7,9 @@ ghost use Rattle.mpm_machine.specs.FileCalls.{is_of_files as is_file_function};
 use crate::system::System;
 use mpm_base::{Pid, Reply, Seg, functions};
 use mpm_bdos::{DirectFunction, Extended, FileFunction};
+use mpm_gate::Gate;
 use mpm_output::{error_text, write_bytes};
 use mpm_port::{Failed, Sink};
-use mpm_processor::Gate;
 use mpm_render::Render;
 
 /// The error modes of a process that takes extended errors as answers, and of one that has them told beside.
@@ -21,7 +21,7 @@ const TELLS_AND_ANSWERS: u8 = 0xFE;
 const FIRST_DMA: u8 = 0x80;
 
 impl System {
-    ghost use Rattle.mpm_processor.specs.Gates.{IsHome};
+    ghost use Rattle.mpm_gate.specs.Gates.{IsHome};
     ghost use Rattle.mpm_machine.specs.State.{IsWhole, HasRoom};
     ghost use Rattle.mpm_machine.specs.Step.{coming, counted};
     ghost use Rattle.std.specs.Prelude.{is_none};

@@ -4,7 +4,7 @@ ghost use Rattle.mpm_banks.specs.Ranges.{range_of};
 ghost use Rattle.mpm_procs.specs.Table.{Lives, lowest_free, call_of};
 ghost use Rattle.mpm_kernel.specs.Kernel.{IsSound};
 ghost use Rattle.mpm_kernel.specs.Called.{failure_code};
-ghost use Rattle.mpm_processor.specs.Gates.{IsHome};
+ghost use Rattle.mpm_gate.specs.Gates.{IsHome};
 ghost use Rattle.mpm_machine.specs.Loading.{moved, may_live as may_be_lived_in, is_slot, begun_for};
 
 use crate::system::System;

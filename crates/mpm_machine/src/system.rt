@@ -8,11 +8,12 @@ use crate::owed::Owed;
 use crate::records::Records;
 use mpm_banks::Banks;
 use mpm_base::{Pid, Reply, Seg};
+use mpm_gate::{Gate, gate_at, page_of_gates};
 use mpm_interrupts::Schedule;
 use mpm_kernel::Kernel;
 use mpm_output::{illegal_text, write_bytes};
 use mpm_port::{Failed, Sink};
-use mpm_processor::{Gate, execute, gate_at, page_of_gates};
+use mpm_processor::execute;
 use mpm_render::Render;
 use mpm_residents::Residents;
 
@@ -34,10 +35,10 @@ pub(crate) struct System {
 }
 
 impl System {
-    ghost use Rattle.mpm_processor.specs.Gates.{IsHome};
+    ghost use Rattle.mpm_gate.specs.Gates.{IsHome};
     ghost use Rattle.mpm_machine.specs.Gates.{is_inside};
     ghost use Rattle.mpm_machine.specs.State.{IsWhole, NoCompletions, HasRoom, HasRoomForAll};
-    ghost use Rattle.mpm_processor.specs.declared.gate.Gate.TheVariants.{Return};
+    ghost use Rattle.mpm_gate.specs.declared.gate.Gate.TheVariants.{Return};
     ghost use Rattle.mpm_machine.specs.Step.{acted, acted_at, at_instruction, gate_before, is_no_gate, coming, begun_by, instruction_unless, instruction_at, instructed, executed, illegal};
     ghost use Rattle.mpm_machine.specs.Finishing.{all_answered};
     ghost use Rattle.mpm_machine.specs.Stepping.{begun_alone, is_instruction};
@@ -155,7 +156,7 @@ impl System {
     }
 
     /// The gate at which a process of a segment stands, if any.
-    #[tactic(auto, using(mpm_processor::proofs::GateLaws::returns_inside))]
+    #[tactic(auto, using(mpm_gate::proofs::GateLaws::returns_inside))]
     pub fn gate(&self, p: Pid, seg: Seg) -> Option<Gate>
         requires lives { Lives self.now.kernel.dispatcher.procs p }
         requires home { IsHome self.now.memory seg }

@@ -10,7 +10,7 @@ use Rattle.mpm_banks.specs.Sides.{with_sides, reach_of}
 use Rattle.mpm_banks.specs.Ports.{port_byte}
 use Rattle.mpm_banks.specs.Actions.{memory_after, devices_after}
 use Rattle.mpm_banks.proofs.SideLaws.{Alike, acted_alike, reads_same, reach_alike, whole_of, side_of}
-use Rattle.mpm_processor.specs.Gates.{gate_in, gate_of}
+use Rattle.mpm_gate.specs.Gates.{gate_in, gate_of}
 use Rattle.mpm_processor.specs.Moving.{View, instruction_in, moved, moves, CanMove, Moves}
 use Rattle.mpm_processor.proofs.MovingLaws.{view_is}
 

@@ -1,4 +1,3 @@
-pub mod GateLaws
 pub mod MovingLaws
 pub mod AloneLaws
 pub mod PlainLaws

@@ -10,7 +10,7 @@ use Rattle.mpm_base.specs.declared.devices.Devices.{Devices}
 use Rattle.mpm_base.specs.declared.segment.SegmentSpec.{SegmentSpec}
 use Rattle.mpm_banks.specs.Sides.{alone}
 use Rattle.mpm_banks.specs.Actions.{memory_after, devices_after}
-use Rattle.mpm_processor.specs.Gates.{gate_of}
+use Rattle.mpm_gate.specs.Gates.{gate_of}
 use Rattle.mpm_processor.specs.Moving.{View, view_of, instruction_in, moved, moves, CanMove, Moves}
 
 pub view_is : (a b : View) → a.regs ≡ b.regs → a.memory ≡ b.memory → a.devices ≡ b.devices → a ≡ b

@@ -10,8 +10,8 @@ use Rattle.mpm_banks.specs.Ports.{port_byte}
 use Rattle.mpm_banks.specs.Actions.{memory_after, devices_after}
 use Rattle.z80_ext.specs.declared.stepped.Stepped.{Stepped}
 use Rattle.z80_ext.specs.declared.stepped.Stepped.TheVariants.{Ran, Illegal}
-use Rattle.mpm_processor.specs.declared.gate.Gate.{Gate}
-use Rattle.mpm_processor.specs.Gates.{gate_of}
+use Rattle.mpm_gate.specs.declared.gate.Gate.{Gate}
+use Rattle.mpm_gate.specs.Gates.{gate_of}
 use Rattle.mpm_processor.specs.Moving.{View, instruction_in, moved, Moves, IsPaused}
 use Rattle.mpm_processor.proofs.MovingLaws.{view_is, moves_none, moves_more, moves_to, unmoved, some_unless, ran_or_not}
 

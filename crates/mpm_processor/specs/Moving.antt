@@ -11,7 +11,7 @@ use Rattle.mpm_banks.specs.Ports.{port_byte}
 use Rattle.mpm_banks.specs.Actions.{memory_after, devices_after}
 use Rattle.mpm_processor.specs.declared.instruction.Instructions.{Instructions}
 use Rattle.mpm_processor.specs.declared.instruction.Paused.{Paused}
-use Rattle.mpm_processor.specs.Gates.{gate_of}
+use Rattle.mpm_gate.specs.Gates.{gate_of}
 
 -- what an instruction changes: the registers of its process, memory, and the devices
 pub record View : Type 0 where

@@ -7,12 +7,12 @@ ghost use Rattle.mpm_banks.specs.Memory.{byte_at};
 ghost use Rattle.mpm_banks.specs.Sides.{alone};
 ghost use Rattle.mpm_banks.specs.Ports.{port_byte};
 ghost use Rattle.mpm_banks.specs.Actions.{memory_after, devices_after};
-ghost use Rattle.mpm_processor.specs.Gates.{IsHome, gate_in, gate_of};
+ghost use Rattle.mpm_gate.specs.Gates.{IsHome, gate_in, gate_of};
 ghost use Rattle.mpm_processor.specs.Moving.{CanMove, Moves, IsPaused, view_of};
 
-use crate::gate::is_gate;
 use mpm_banks::{Banks, Burst, SliceBus, last_page};
 use mpm_base::{Devices, Seg, SegmentSpec};
+use mpm_gate::is_gate;
 use z80_ext::{Fetched, Stepped, begin_all, step_load_up, step_other, step_unbegun};
 use z80_regs::{Bus, Regs};
 
@@ -60,7 +60,7 @@ fn fetch_below_gates(spec: SegmentSpec, address: u16, segment: &[u8]) -> Option<
 /// The opcode at an address and the two bytes behind it, None where a gate is for a process in a resident procedure (`inside`) or
 /// in none.
 #[inline(always)]
-#[tactic(auto, using(crate::proofs::GateLaws::none_below, mpm_base::proofs::Options::none_there))]
+#[tactic(auto, using(mpm_gate::proofs::GateLaws::none_below, mpm_base::proofs::Options::none_there))]
 fn fetch(
     inside: bool,
     spec: SegmentSpec,

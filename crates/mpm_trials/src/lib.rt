@@ -7,6 +7,8 @@ mod devices;
 #[cfg(test)]
 mod gate;
 #[cfg(test)]
+mod gates;
+#[cfg(test)]
 mod memory;
 #[cfg(test)]
 mod values;

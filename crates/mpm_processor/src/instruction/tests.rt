@@ -1,10 +1,10 @@
 ghost use Rattle.std.specs.Prelude.{◌≡◌, false, None, IfOk};
 ghost use Rattle.mpm_banks.specs.Memory.{SameSegments};
-ghost use Rattle.mpm_processor.specs.Gates.{IsHome, gate_of};
+ghost use Rattle.mpm_gate.specs.Gates.{IsHome, gate_of};
 
 use super::*;
-use crate::gate::page_of_gates;
 use mpm_banks::OutOfMemory;
+use mpm_gate::page_of_gates;
 use std::alloc::Global;
 
 /// A segment from 4000h to 43FFh, so that its gates are at 4303h, 4306h and 4309h.

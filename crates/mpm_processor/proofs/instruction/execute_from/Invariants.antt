@@ -2,7 +2,7 @@ use Rattle.std.proofs.Common.{◌≡◌, ◌<◌, ◌-◌, None, length}
 use Rattle.z80_ext.specs.Instruction.{IsRareAt}
 use Rattle.mpm_banks.specs.Memory.{byte_at}
 use Rattle.mpm_banks.specs.Sides.{alone}
-use Rattle.mpm_processor.specs.Gates.{gate_of}
+use Rattle.mpm_gate.specs.Gates.{gate_of}
 use Rattle.mpm_processor.specs.Moving.{Moves, view_of}
 use Rattle.mpm_processor.proofs.instruction.execute_from.Given as goal
 

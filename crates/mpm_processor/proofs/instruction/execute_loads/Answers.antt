@@ -2,7 +2,7 @@ use Rattle.std.proofs.Common.{◌∙◌, refl}
 use Rattle.mpm_banks.proofs.SideLaws.{lengths_stay}
 use Rattle.z80_ext.specs.Instruction.{actions_of}
 use Rattle.mpm_processor.specs.Moving.{View, view_of, instruction_in, moved}
-use Rattle.mpm_processor.proofs.GateLaws.{none_below}
+use Rattle.mpm_gate.proofs.GateLaws.{none_below}
 use Rattle.mpm_processor.proofs.MovingLaws.{moves_none, moves_more, view_is}
 use Rattle.mpm_processor.proofs.instruction.execute_loads.Goals as goal
 

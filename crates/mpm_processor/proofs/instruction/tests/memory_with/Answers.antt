@@ -3,8 +3,8 @@ use Rattle.mpm_banks.specs.Memory.{Memory}
 use Rattle.mpm_banks.specs.MemoryLaws.{same_segments_both}
 use Rattle.mpm_banks.specs.Allocations.{new_memory}
 use Rattle.mpm_banks.specs.Gates.{last_page}
-use Rattle.mpm_processor.specs.Gates.{IsHome, gate_in}
-use Rattle.mpm_processor.proofs.GateLaws.{home_stays, page_stays}
+use Rattle.mpm_gate.specs.Gates.{IsHome, gate_in}
+use Rattle.mpm_gate.proofs.GateLaws.{home_stays, page_stays}
 use Rattle.mpm_processor.proofs.instruction.tests.memory_with.Goals as goal
 
 abbrev begun : Memory

@@ -1,4 +1,5 @@
-use super::*;
+//! Where the gates of a segment are.
+use mpm_gate::{Gate, gate_at, is_gate};
 
 /// Whether the gate at an address of page 43h is this one, and there is one exactly where that is told.
 fn is_at(inside: bool, address: u16, place: u8) -> bool {

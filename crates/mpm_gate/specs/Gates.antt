@@ -3,8 +3,8 @@
 use Rattle.std.specs.Prelude.{ℕ, ◌+◌, ◌*◌, ◌≤◌, Bool, Option, Some, None, ◌==◌, ◌&&◌, if◌then◌else◌}
 use Rattle.mpm_banks.specs.Memory.{Memory, HasSegment, segment_of}
 use Rattle.mpm_banks.specs.Gates.{last_page, end_gate, call_gate, return_gate}
-use Rattle.mpm_processor.specs.declared.gate.Gate.{Gate}
-use Rattle.mpm_processor.specs.declared.gate.Gate.TheVariants.{End, Call, Return}
+use Rattle.mpm_gate.specs.declared.gate.Gate.{Gate}
+use Rattle.mpm_gate.specs.declared.gate.Gate.TheVariants.{End, Call, Return}
 
 -- a process may live in the segment: it has at least four pages and ends below common memory
 pub record IsHome (memory : Memory) (seg : ℕ) : Type 0 where

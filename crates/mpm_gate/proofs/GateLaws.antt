@@ -2,9 +2,9 @@
 use Rattle.std.proofs.Common.{◌≡◌, ◌∙◌, ℕ, Bool, true, false, ◌&&◌, ◌==◌, ◌+◌, ◌-◌, ◌*◌, ◌<◌, Some, None, if◌then◌else◌, refl, ap, arith}
 use Rattle.std.proofs.lemmas.Bool.{eqb-true, false_from_ne_true, eq-eqb}
 use Rattle.mpm_banks.specs.Memory.{Memory, SameSegments, segment_of}
-use Rattle.mpm_processor.specs.declared.gate.Gate.TheVariants.{End, Call, Return}
+use Rattle.mpm_gate.specs.declared.gate.Gate.TheVariants.{End, Call, Return}
 use Rattle.mpm_banks.specs.Gates.{last_page, end_gate, call_gate, return_gate}
-use Rattle.mpm_processor.specs.Gates.{IsHome, gate_in}
+use Rattle.mpm_gate.specs.Gates.{IsHome, gate_in}
 
 by_tests : (a b inside c : Bool) → (if a then Some End else (if b then Some Call else (if inside && c then Some Return else None))) ≡ Some Return → inside ≡ true
 by_tests true b inside c e = absurd (cc)

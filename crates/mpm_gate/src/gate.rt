@@ -1,6 +1,6 @@
 ghost use Rattle.std.specs.Prelude.{◌≡◌, ◌+◌, ◌*◌, is_some};
 ghost use Rattle.mpm_banks.specs.Gates.{last_page as last_page_of, call_gate};
-ghost use Rattle.mpm_processor.specs.Gates.{IsHome, gate_in};
+ghost use Rattle.mpm_gate.specs.Gates.{IsHome, gate_in};
 
 use mpm_banks::{Banks, CALL_GATE, END_GATE, RETURN_GATE, last_page};
 use mpm_base::Seg;
@@ -50,7 +50,7 @@ pub fn gate_at(inside: bool, page: u8, address: u16) -> Option<Gate>
 /// Whether there is a gate at an address, for a process that is in a resident procedure (`inside`) or in none.
 #[inline]
 #[tactic(auto, unfolding(crate::specs::Gates::gate_in))]
-pub(crate) fn is_gate(inside: bool, page: u8, address: u16) -> bool
+pub fn is_gate(inside: bool, page: u8, address: u16) -> bool
     ensures { result ≡ is_some (gate_in inside page address) }
 {
     if address == u16::from_le_bytes([CALL_GATE, page]) {
@@ -59,6 +59,3 @@ pub(crate) fn is_gate(inside: bool, page: u8, address: u16) -> bool
     let [place, high] = address.to_le_bytes();
     high == page && (place == END_GATE || inside && place == RETURN_GATE)
 }
-
-#[cfg(test)]
-mod tests;
