@@ -16,12 +16,6 @@ use Rattle.mpm_directories.specs.Places.{directory_at, AreInPlace}
 use Rattle.mpm_bdos.specs.Syncing.{AreAttached}
 use Rattle.mpm_bdos.specs.Turns.{FitsDrives, KeepsImages, KeepsUnsynced, StaysBeside, HasLeft, has_directory, labelled}
 
--- what is in a place that is there
-pub in_place : {X : Type 0} (xs : List X) (n : ℕ) (x y : X) → n < length xs → slice_index_or xs n x ≡ slice_index_or xs n y
-in_place [] n x y h = absurd (omega (arith, h))
-in_place (z ∷ zs) zero x y h = refl
-in_place (z ∷ zs) (suc n) x y h = in_place zs n x y (omega (arith, h))
-
 -- a directory that comes into another's place, of the same drive and kind, leaves each place's drive and kind
 pub labels_stay : (mounted : List (Option Directory)) (number other : ℕ) (new : Option Directory) → option_map labelled new ≡ option_map labelled (directory_at mounted number)
     → option_map labelled (directory_at (slice_set mounted number new) other) ≡ option_map labelled (directory_at mounted other)

@@ -2,11 +2,11 @@
 use Rattle.std.proofs.Common.{◌≡◌, ◌≢◌, ◌∙◌, ℕ, suc, ◌+◌, ◌<◌, ◌≤◌, inl, inr, Bool, true, false, List, Option, Some, None, IfSome, refl, sym, ap, subst, length, get_or, take, arith}
 use Rattle.std.specs.Prelude.{is_some, if◌then◌else◌}
 use Rattle.std.proofs.lemmas.Bool.{cases_eq, false≢true}
+use Rattle.std.proofs.lemmas.List.{get_or_default}
 use Rattle.std.proofs.lemmas.List.Sums.{count_by_more_yes, sum_by_more, sum_by-take-le}
 use Rattle.mpm_mount.specs.Directories.{Directory}
 use Rattle.mpm_directories.specs.Places.{AreInPlace, directory_at}
 use Rattle.mpm_bdos.specs.Syncing.{StopsAtDrive, mounted_count}
-use Rattle.mpm_bdos.proofs.Fitting.{in_place}
 
 -- those of the first places are synced
 abbrev pub AreSyncedTo : ℕ → (ℕ → Bool) → List (Option Directory) → Type 0
@@ -31,7 +31,7 @@ synced_more mounted k old now placed before stay here number less = elim (cases_
 
 -- and that of the item that stands there
 item_there : (mounted : List (Option Directory)) (k : ℕ) (place : Option Directory) → k < length mounted → place ≡ get_or mounted k place → directory_at mounted k ≡ place
-item_there mounted k place within is = in_place mounted k None place within ∙ sym is
+item_there mounted k place within is = get_or_default mounted k None place within ∙ sym is
 
 pub item_synced : (mounted : List (Option Directory)) (k : ℕ) (place : Option Directory) (old now : ℕ → Bool) → AreInPlace mounted → k < length mounted → place ≡ get_or mounted k place
     → AreSyncedTo k old mounted → ((n : ℕ) → old n ≡ false → now n ≡ false) → IfSome place (λ d. now d.drive ≡ false) → AreSyncedTo (k + 1) now mounted

@@ -1,4 +1,5 @@
 pub mod Gates
+pub mod Descriptors
 pub mod Bytes
 pub mod Texts
 pub mod Reads

@@ -17,7 +17,8 @@ use Rattle.mpm_procs.specs.Table.{Table, process_in}
 use Rattle.mpm_kernel.specs.Kernel.{Kernel, is_resident}
 use Rattle.mpm_kernel.specs.Called.{Called}
 use Rattle.mpm_kernel.specs.Calls.{called}
-use Rattle.mpm_xdos.specs.Copies.{segment_descriptor, segment_descriptors, with_zeros, system_page, system_answer, descriptor_answer}
+use Rattle.mpm_gate.specs.Descriptors.{segment_descriptor}
+use Rattle.mpm_xdos.specs.Copies.{segment_descriptors, with_zeros, system_page, system_answer, descriptor_answer}
 use Rattle.mpm_xdos.specs.Creating.{home_base, created, create_answer}
 use Rattle.mpm_xdos.specs.Ending.{is_home, vacated_if_empty, memory_without}
 use Rattle.mpm_xdos.specs.Aborting.{waits_to_end, target, memory_after_abort}

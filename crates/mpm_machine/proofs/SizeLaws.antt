@@ -1,7 +1,7 @@
 -- Memory stays memory: each segment keeps its bytes, as many as its pages have, whatever is written and whoever has it.
 use Rattle.std.proofs.Common.{◌≡◌, ◌∙◌, ℕ, ◌*◌, ◌<◌, ◌≤◌, List, [], ◌∷◌, Option, Some, None, length, refl, sym, ap, subst, arith}
 use Rattle.std.specs.Prelude.{All, slice_set}
-use Rattle.std.proofs.lemmas.List.{length-set}
+use Rattle.std.proofs.lemmas.List.{length-set, get_or_default}
 use Rattle.z80_regs.specs.Words.{onward}
 use Rattle.z80_regs.specs.Outcome.{Action, Write, Input}
 use Rattle.mpm_base.specs.Calls.{Answer}
@@ -17,7 +17,6 @@ use Rattle.mpm_banks.specs.Allocations.{FitsBelowCommon, new_memory, allocated, 
 use Rattle.mpm_banks.proofs.SegmentLaws.{count_allocated, same_bytes_allocated, all_released_is_memory, new_is_memory}
 use Rattle.mpm_gate.specs.Replies.{with_block, placed}
 use Rattle.mpm_machine_file.specs.MachineFiles.{IsSegment as HasPages}
-use Rattle.mpm_bdos.proofs.Fitting.{in_place}
 
 -- no space grows or shrinks
 abbrev pub SameSizes : Memory → Memory → Type 0
@@ -75,7 +74,7 @@ still_memory : (old new : Memory) → KeepsPlaces old new → IsMemory old → I
 still_memory old new keeps is = record {
   segments = λ k d below.
       let there : k < length old.segments = omega (arith, keeps.count, below) in
-      subst IsSegment (in_place new.segments k no_segment d below)
+      subst IsSegment (get_or_default new.segments k no_segment d below)
       (segment_still (segment_of old k) (segment_of new k) (keeps.base k) (keeps.pages k) (keeps.sizes (InSegment k)) (is.segments k no_segment there));
   some = omega (arith, keeps.count, is.some);
   count = omega (arith, keeps.count, is.count);

@@ -28,7 +28,8 @@ use Rattle.mpm_kernel.specs.Called.{low_parameter}
 use Rattle.mpm_kernel.specs.ConsoleInput.{writes}
 use Rattle.mpm_xdos.specs.Creating.{home_base, created, create_answer}
 use Rattle.mpm_xdos.specs.Aborting.{waits_to_end, target, abort_done, memory_after_abort}
-use Rattle.mpm_xdos.specs.Copies.{segment_descriptor, system_answer, descriptor_answer}
+use Rattle.mpm_gate.specs.Descriptors.{segment_descriptor}
+use Rattle.mpm_xdos.specs.Copies.{system_answer, descriptor_answer}
 use Rattle.mpm_xdos.specs.Procedures.{entered, entry_reply, returned_from_procedure}
 use Rattle.mpm_render.specs.declared.unit.Unit2.TheVariants.{Printer}
 use Rattle.mpm_render.specs.Outputs.{said}

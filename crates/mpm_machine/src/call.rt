@@ -9,12 +9,10 @@ ghost use Rattle.mpm_output.specs.Writing.{spoken, Writes};
 use crate::system::System;
 use mpm_base::{FAILURE_CODE, Outcome, Pid, Reply, Seg, functions};
 use mpm_consoles::{AWAIT_KEY, echoes};
+use mpm_gate::segment_descriptor;
 use mpm_output::{put_bytes, write_bytes, write_string, write_tabbed};
 use mpm_port::{Failed, Sink};
 use mpm_render::{Render, Unit2};
-
-/// The attributes of a memory segment's descriptor: it is allocated.
-const ALLOCATED: u8 = 0x80;
 
 /// Whether the call of a function needs more than the kernel. No lower one does.
 #[inline(always)]
@@ -244,8 +242,7 @@ impl System {
         let pages = call.byte(1);
         match self.memory.reserve(p, base, pages) {
             Some(seg) => {
-                let spec = self.memory.spec(seg);
-                reply.answer_with(0, word, &[spec.base, spec.pages, ALLOCATED, seg.0]);
+                reply.answer_with(0, word, &segment_descriptor(&self.memory, seg));
             }
             None => reply.answer(FAILURE_CODE),
         }

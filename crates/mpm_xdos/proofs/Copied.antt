@@ -2,7 +2,8 @@
 use Rattle.std.proofs.Common.{◌≡◌, ℕ, ◌+◌, ◌<◌, ◌≤◌, [], ◌++◌, refl, arith, ap, sym, add-one}
 use Rattle.mpm_banks.specs.Memory.{Memory}
 use Rattle.mpm_xdos.specs.Aborting.{copy_address}
-use Rattle.mpm_xdos.specs.Copies.{segment_descriptor, segment_descriptors}
+use Rattle.mpm_gate.specs.Descriptors.{segment_descriptor}
+use Rattle.mpm_xdos.specs.Copies.{segment_descriptors}
 
 pub no_descriptor : (memory : Memory) → [] ≡ segment_descriptors 0 memory
 unfolding segment_descriptors

@@ -5,15 +5,12 @@ use Rattle.std.specs.Prelude.{ℕ, zero, suc, List, [], ◌∷◌, ◌++◌, len
 use Rattle.z80_regs.specs.Words.{low, high}
 use Rattle.mpm_base.specs.Lists.{zeros}
 use Rattle.mpm_base.specs.Calls.{Answer, answering}
-use Rattle.mpm_banks.specs.Memory.{Memory, segment_of}
+use Rattle.mpm_banks.specs.Memory.{Memory}
+use Rattle.mpm_gate.specs.Descriptors.{segment_descriptor}
 use Rattle.mpm_procs.specs.declared.process.Process.{Process}
 use Rattle.mpm_xdos.specs.Aborting.{copy_address}
 
--- the descriptor of a segment: its base page and its pages, attributes, which are 80h, and its bank
-abbrev pub segment_descriptor : Memory → ℕ → List ℕ
-segment_descriptor memory seg = (segment_of memory seg).base ∷ (segment_of memory seg).pages ∷ 128 ∷ seg ∷ []
-
--- those of the segments below a number
+-- the descriptors of the segments below a number
 unfoldable pub segment_descriptors : ℕ → Memory → List ℕ
 segment_descriptors zero memory = []
 segment_descriptors (suc n) memory = segment_descriptors n memory ++ segment_descriptor memory n

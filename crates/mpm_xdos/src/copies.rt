@@ -1,20 +1,17 @@
 ghost use Rattle.std.specs.Prelude.{◌≡◌, ◌≤◌, length};
-ghost use Rattle.mpm_banks.specs.Memory.{HasSegment};
 ghost use Rattle.mpm_procs.specs.Table.{Lives, process_in};
-ghost use Rattle.mpm_xdos.specs.Copies.{segment_descriptor as descriptor_of_segment, segment_descriptors as descriptors_of_segments, segment_number as number_of_segment, with_zeros as zeros_behind, system_page as system_page_of, system_answer, process_descriptor as descriptor_of_process, descriptor_answer};
+ghost use Rattle.mpm_xdos.specs.Copies.{segment_descriptors as descriptors_of_segments, segment_number as number_of_segment, with_zeros as zeros_behind, system_page as system_page_of, system_answer, process_descriptor as descriptor_of_process, descriptor_answer};
 
 use crate::aborting::copy_address;
 use arrayvec::ArrayVec;
 use mpm_banks::Banks;
 use mpm_base::{Pid, Reply, Seg};
+use mpm_gate::segment_descriptor;
 use mpm_kernel::Kernel;
 use mpm_procs::Process;
 
 /// Where the system data page is copied to: the last page of common memory.
 const SYSTEM_PAGE: u16 = 0xFF00;
-
-/// The attributes of a segment in its descriptor.
-const ATTRIBUTES: u8 = 0x80;
 
 /// The answer of function 154: the system data page is copied into common memory.
 pub fn tell_system(kernel: &Kernel, banks: &Banks, reply: &mut Reply)
@@ -76,15 +73,6 @@ fn segment_descriptors(banks: &Banks, segments: u8) -> ArrayVec<u8, 64>
             .unwrap();
     }
     descriptors
-}
-
-/// The descriptor of a segment.
-fn segment_descriptor(banks: &Banks, seg: Seg) -> [u8; 4]
-    requires { HasSegment banks.now seg }
-    ensures { result ≡ descriptor_of_segment banks.now seg }
-{
-    let spec = banks.spec(seg);
-    [spec.base, spec.pages, ATTRIBUTES, seg.0]
 }
 
 /// The descriptor of a process, written from its end on.

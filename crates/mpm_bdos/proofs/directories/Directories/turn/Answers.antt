@@ -1,13 +1,13 @@
 use Rattle.std.proofs.Common.{◌≡◌, suc, ◌<◌, ◌≤◌, None, Some, IfSome, length, refl, sym, ap, subst, ◌∙◌, arith}
 use Rattle.std.specs.Prelude.{IfOk, OnOk, OnErr, option_map, slice_set}
-use Rattle.std.proofs.lemmas.List.{get_or-set_other, get_or_past}
+use Rattle.std.proofs.lemmas.List.{get_or-set_other, get_or_default, get_or_past}
 use Rattle.std.proofs.lemmas.Grind.{get_or-set_at}
 use Rattle.mpm_port.specs.Disks.{Told}
 use Rattle.mpm_files.specs.Serving.{turns_in}
 use Rattle.mpm_files.specs.Turning.{IsNextCached}
 use Rattle.mpm_directories.specs.Places.{directory_at}
 use Rattle.mpm_bdos.specs.Turns.{FitsDrives, IsCounted, IsWorking, IsContainedAt, KeepsImages, KeepsUnsynced, StaysBeside, labelled, progress_after}
-use Rattle.mpm_bdos.proofs.Fitting.{in_place, fits_after, labels_stay, images_after, stays_after, stays_same, unsynced_after, unsynced_same}
+use Rattle.mpm_bdos.proofs.Fitting.{fits_after, labels_stay, images_after, stays_after, stays_same, unsynced_after, unsynced_same}
 use Rattle.mpm_files.proofs.Causing.{cause_none}
 use Rattle.mpm_bdos.proofs.TurnedAt.{nothing_there, left_names, left_attached}
 use Rattle.mpm_bdos.proofs.directories.Directories.turn.Goals as goal
@@ -26,7 +26,7 @@ returns-then-place-len g c =
     let disks = g.D.Drives.disks c.args.drives.now in
     let disks' = g.D.Drives.disks c.turn_at.new.drives in
     let within : number < length mounted = omega (arith, c.if-place-len.true, c.len.ensures) in
-    let its : directory_at mounted number ≡ old = in_place mounted number None _ within ∙ sym c.index_mut.ensures.value in
+    let its : directory_at mounted number ≡ old = get_or_default mounted number None _ within ∙ sym c.index_mut.ensures.value in
     let here : directory_at c.args.self.now c.args.number ≡ old =
     ap (λ m. directory_at m c.args.number) (sym c.self.view_is) ∙ ap (directory_at mounted) (sym c.from-place.ensures) ∙ its in
     let there : directory_at (slice_set mounted number new) c.args.number ≡ new = get_or-set_at mounted number c.args.number new None (sym c.from-place.ensures) within in
