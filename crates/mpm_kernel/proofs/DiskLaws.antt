@@ -11,6 +11,7 @@ use Rattle.mpm_service.specs.Disk.{DiskService, no_service, entered, served_proc
 use Rattle.mpm_service.specs.Ahead.{passed_by, unserved}
 use Rattle.mpm_service.specs.Places.{is_call_of, at_disk, served_without, without_call}
 use Rattle.mpm_service.proofs.PlaceLaws.{at_none, at_entered, at_entered_other, at_turned, at_last, at_begun, at_passed, at_unserved, at_unserved_own, waits_not, served_not, without_absent}
+use Rattle.mpm_dispatcher.specs.declared.dispatcher.Dispatcher.{Dispatcher}
 use Rattle.mpm_dispatcher.specs.Dispatch.{ready, IsReady, descheduled, lists_ready}
 use Rattle.mpm_kernel.specs.Kernel.{Kernel, places, IsSound, dispatched}
 use Rattle.mpm_kernel.specs.Disk.{with_disk, is_served, in_turns, waiting_for_disk, ready_again, IsOver}
@@ -99,6 +100,13 @@ served_discharged kernel p q other is =
 -- so the end of one who is ready leaves the disk as it is
 pub disk_ended : (kernel : Kernel) (p : ℕ) → IsSound kernel → IsReady kernel.dispatcher p → (discharged kernel p).disk ≡ kernel.disk
 disk_ended kernel p s is_ready = disk_discharged kernel p ∙ without_absent kernel.disk p (ready_not_at_disk kernel p s is_ready)
+
+-- the parts of the kernel in which a process's call waits
+pub waits_for_disk : (kernel : Kernel) (p : ℕ) (d : Dispatcher) (disk : DiskService) → d ≡ descheduled p kernel.dispatcher
+    → disk ≡ entered kernel.disk p (process_in kernel.dispatcher.procs p).priority → record kernel { dispatcher = d; disk = disk } ≡ waiting_for_disk p kernel
+unfolding waiting_for_disk
+waits_for_disk kernel p d disk quiet waits =
+    ap (λ d. record kernel { dispatcher = d; disk = disk }) quiet ∙ ap (λ disk. record kernel { dispatcher = descheduled p kernel.dispatcher; disk = disk }) waits
 
 -- a ready process's call waits
 pub sound_waiting_for_disk : (kernel : Kernel) (p : ℕ) → IsSound kernel → Lives kernel.dispatcher.procs p → IsReady kernel.dispatcher p → IsSound (waiting_for_disk p kernel)

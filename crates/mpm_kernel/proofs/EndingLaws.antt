@@ -1,5 +1,5 @@
 -- What stays so as a process ends: all that it gives back while it still lives and waits for nothing, and then its end.
-use Rattle.std.proofs.Common.{◌≡◌, ◌≢◌, ◌∙◌, ℕ, suc, ◌+◌, ◌<◌, ◌≤◌, true, false, List, [], ◌∷◌, ◌++◌, length, Option, Some, None, inl, inr, refl, sym, ap, subst, arith, get_or-set_other}
+use Rattle.std.proofs.Common.{◌≡◌, ◌≢◌, ◌∙◌, ℕ, suc, ◌+◌, ◌<◌, ◌≤◌, Bool, true, false, List, [], ◌∷◌, ◌++◌, length, if◌then◌else◌, Option, Some, None, inl, inr, refl, sym, ap, subst, arith, get_or-set_other}
 use Rattle.std.specs.List.{AllByRecursion, range_with_len}
 use Rattle.std.proofs.lemmas.Bool.{cases_eq, false≢true, both_ways}
 use Rattle.std.proofs.lemmas.List.{length-append}
@@ -27,7 +27,7 @@ use Rattle.mpm_kernel.specs.Kernel.{Kernel, in_lists, places, IsOfTwo, IsFit, Is
 use Rattle.mpm_kernel.specs.Called.{valued}
 use Rattle.mpm_kernel.specs.Queueing.{given_to}
 use Rattle.mpm_kernel.specs.Procedures.{writing, outside, given_back_to, given_back}
-use Rattle.mpm_kernel.specs.Ending.{dropped_out, returned, all_returned, units_left, relieved, vacated, discharged, Leaves}
+use Rattle.mpm_kernel.specs.Ending.{dropped_out, returned, all_returned, consoles_left, printers_left, units_left, relieved, vacated, discharged, Leaves}
 use Rattle.mpm_kernel.proofs.PlaceLaws.{in_none, not_equal, list_moved_other, flags_without_own, flags_without_other, length_without_waiter}
 use Rattle.mpm_kernel.proofs.Soundness.{AreUnits, fit_kept, listed_once, runs_other, sound_ready, sound_with_completed, MayBeReady}
 use Rattle.mpm_kernel.proofs.UnitWaits.{units_without_own, units_without_other, length_units_without, printers_units_without, has_units_without, owner_units_without}
@@ -262,6 +262,10 @@ returned_more p start now next q so is = record {
   leaves = subst (Leaves p) (sym is) (leaves_returned p q now so.leaves);
   few = omega (arith, ap (λ (kernel : Kernel). length kernel.dispatcher.completed) is, few_returned p q now, so.few);
 }
+
+pub returned_by : (p q : ℕ) (b : Bool) (now next : Kernel) → b ≡ holds now.queues p q → next ≡ (if b then given_back_to (Some q) p now else now) → next ≡ returned p q now
+unfolding returned
+returned_by p q b now next same is = is ∙ ap (λ b. if b then given_back_to (Some q) p now else now) same
 
 none_returned : (p : ℕ) (kernel : Kernel) → all_returned [] p kernel ≡ kernel
 unfolding all_returned
@@ -516,14 +520,25 @@ consoles_discharged kernel p s h =
     ∙ length_units_without kernel.units p
 
 -- the code: after each part of an end
-pub leaves_let_go : (p : ℕ) (kernel gone back afterwards : Kernel) → IsSound kernel → Lives kernel.dispatcher.procs p → gone ≡ dropped_out p kernel
+pub leaves_messages_back : (p : ℕ) (kernel gone back afterwards : Kernel) → IsSound kernel → Lives kernel.dispatcher.procs p → gone ≡ dropped_out p kernel
     → back ≡ given_back p gone → afterwards ≡ all_returned (range_with_len 0 32) p back → Leaves p afterwards
-leaves_let_go p kernel gone back afterwards s h is_gone is_back is_behind =
+leaves_messages_back p kernel gone back afterwards s h is_gone is_back is_behind =
     let first : back ≡ given_back p (dropped_out p kernel) = is_back ∙ ap (given_back p) is_gone in
     subst (Leaves p) (sym (is_behind ∙ ap (all_returned (range_with_len 0 32) p) first)) (leaves_messages p kernel s h)
 
-pub lives_after_units : (p : ℕ) (old new : Kernel) → Leaves p old → new ≡ units_left p old → Lives new.dispatcher.procs p
-lives_after_units p old new l is = ap (λ (kernel : Kernel). lives kernel.dispatcher.procs p) is ∙ (leaves_units_left p old l).lives
+pub units_by : (p : ℕ) (kernel without_consoles new : Kernel) → without_consoles ≡ consoles_left p (length kernel.units.consoles) kernel
+    → new ≡ printers_left p (length without_consoles.units.printers) without_consoles → new ≡ units_left p kernel
+unfolding units_left
+units_by p kernel without_consoles new consoles printers =
+    printers ∙ ap (λ (k : Kernel). printers_left p (length k.units.printers) k) consoles
+
+pub discharged_by : (p : ℕ) (kernel gone back afterwards left new : Kernel) → gone ≡ dropped_out p kernel → back ≡ given_back p gone
+    → afterwards ≡ all_returned (range_with_len 0 32) p back → left ≡ units_left p afterwards → new ≡ vacated p left → new ≡ discharged kernel p
+unfolding discharged relieved
+discharged_by p kernel gone back afterwards left new is_gone is_back is_behind is_left is_new =
+    let first = is_back ∙ ap (given_back p) is_gone in
+    let all = is_behind ∙ ap (all_returned (range_with_len 0 32) p) first in
+    is_new ∙ ap (vacated p) (is_left ∙ ap (units_left p) all)
 
 -- who is ready waits at no queue
 pub ready_waits_at_none : (kernel : Kernel) (p : ℕ) → IsSound kernel → IsReady kernel.dispatcher p → waits kernel.queues p ≡ 0

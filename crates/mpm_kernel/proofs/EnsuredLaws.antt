@@ -1,6 +1,5 @@
 -- That the kernel stays sound, in the form in which calls ensure it.
-use Rattle.std.proofs.Common.{◌≡◌, ℕ, ◌≤◌, length, Result, Ok, Err, sym, subst}
-use Rattle.std.specs.Prelude.{IfOk}
+use Rattle.std.proofs.Common.{◌≡◌, ℕ, ◌≤◌, length, sym, subst}
 use Rattle.std.proofs.lemmas.List.{length-replicate}
 use Rattle.mpm_consoles.specs.Console.{new_console}
 use Rattle.mpm_consoles.specs.Consoles.{no_owners}
@@ -8,10 +7,9 @@ use Rattle.mpm_clock.specs.declared.moment.Moment.{Moment}
 use Rattle.mpm_kernel.specs.Kernel.{Kernel, IsSound, new_kernel}
 use Rattle.mpm_kernel.proofs.SoundLaws.{sound_new}
 
-pub sound_if_new : {E : Type 0} (result : Result Kernel E) (consoles printers : ℕ) (now : Moment) → 1 ≤ consoles → consoles ≤ 8 → printers ≤ 4
-    → IfOk result (λ kernel. kernel ≡ new_kernel consoles printers now) → IfOk result (λ kernel. IsSound kernel)
-sound_if_new (Ok kernel) consoles printers now some few more is = subst IsSound (sym is) (sound_new consoles printers now some few more)
-sound_if_new (Err fault) consoles printers now some few more is = tt
+pub sound_if_new : (kernel : Kernel) (consoles printers : ℕ) (now : Moment) → 1 ≤ consoles → consoles ≤ 8 → printers ≤ 4 → kernel ≡ new_kernel consoles printers now
+    → IsSound kernel
+sound_if_new kernel consoles printers now some few more is = subst IsSound (sym is) (sound_new consoles printers now some few more)
 
 -- how many consoles there are at first
 pub many_new : (consoles printers : ℕ) (now : Moment) → length (new_kernel consoles printers now).units.consoles ≡ consoles

@@ -10,7 +10,7 @@ use Rattle.mpm_kernel.proofs.Passing.{sound_unit_left}
 use Rattle.mpm_kernel.proofs.UnitCalls.{sound_owner_made}
 use Rattle.mpm_kernel.proofs.UnitCounts.{many_detached, many_assigned}
 
-sound_handed : (console : ℕ) (from to : Option ℕ) (kernel : Kernel) → IsSound kernel → console < length kernel.units.consoles → IfLives kernel.dispatcher.procs to
+pub sound_handed : (console : ℕ) (from to : Option ℕ) (kernel : Kernel) → IsSound kernel → console < length kernel.units.consoles → IfLives kernel.dispatcher.procs to
     → IsSound (handed_over console from to kernel)
 sound_handed console None None kernel s below lives = s
 sound_handed console (Some p) None kernel s below lives = sound_unit_left kernel p (ConsoleUnit console) s below

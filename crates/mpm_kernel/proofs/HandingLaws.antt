@@ -1,8 +1,9 @@
 -- What stays so where a process whose held call was completed is handed out.
-use Rattle.std.proofs.Common.{◌≡◌, ℕ, List, [], ◌∷◌, ◌==◌, drop, Option, Some, None, refl}
+use Rattle.std.proofs.Common.{◌≡◌, ◌∙◌, ℕ, List, [], ◌∷◌, ◌==◌, drop, Option, Some, None, refl, sym, ap}
 use Rattle.std.specs.List.{AllByRecursion}
 use Rattle.mpm_queues.specs.Queue.{block_size}
 use Rattle.mpm_procs.specs.Table.{Table, Lives, call_of}
+use Rattle.mpm_dispatcher.specs.declared.dispatcher.Dispatcher.{Dispatcher}
 use Rattle.mpm_dispatcher.specs.Dispatch.{with_completed, first_completed}
 use Rattle.mpm_kernel.specs.Kernel.{Kernel, IsOfTwo, IsSound, CompletedLive, dispatched}
 use Rattle.mpm_kernel.specs.Called.{valued}
@@ -59,3 +60,11 @@ sound_completed kernel s live = (is_handed kernel s live).sound
 
 pub live_handed_out : (kernel : Kernel) → IsSound kernel → CompletedLive kernel → CompletedLive (handed_out kernel)
 live_handed_out kernel s live = (is_handed kernel s live).live
+
+-- who is handed out first
+pub handed_first_out : (p : ℕ) (d : Dispatcher) (kernel new : Kernel) → first_completed kernel.dispatcher.completed ≡ Some p
+    → d ≡ with_completed (drop 1 kernel.dispatcher.completed) kernel.dispatcher → new ≡ with_procedure p (record kernel { dispatcher = d }) → new ≡ handed_out kernel
+unfolding handed_out
+handed_first_out p d kernel new first left is =
+    is ∙ ap (λ d. with_procedure p (record kernel { dispatcher = d })) left
+    ∙ ap (λ o. with_first o (dispatched (with_completed (drop 1 kernel.dispatcher.completed)) kernel)) (sym first)

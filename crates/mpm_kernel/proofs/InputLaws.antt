@@ -1,7 +1,6 @@
 -- What the calls that read from a console and write to it need.
 use Rattle.std.proofs.Common.{◌≡◌, ◌∙◌, ℕ, ◌<◌, Bool, true, false, not, ◌||◌, ◌==◌, if◌then◌else◌, List, length, Option, Some, None, refl, sym, ap, arith}
-use Rattle.std.specs.Bool.{OnTrue}
-use Rattle.std.proofs.lemmas.Bool.{false≢true, OnTrue_from}
+use Rattle.std.proofs.lemmas.Bool.{false≢true}
 use Rattle.std.proofs.lemmas.List.{length-set}
 use Rattle.mpm_base.proofs.Choices.{either}
 use Rattle.mpm_base.specs.Calls.{Taken}
@@ -88,9 +87,9 @@ has_then_attached kernel new p n unit wait is has =
     omega (arith, ap (λ (k : Kernel). length k.units.consoles) is, has_attached kernel p n unit wait has)
 
 pub owns_then_attached : (kernel new : Kernel) (p : ℕ) (unit : Unit) (wait b : Bool) → new ≡ attaching p unit wait kernel → HasUnit kernel.units unit
-    → b ≡ may_attach kernel.units p unit → OnTrue b (owns new.units p unit ≡ true)
-owns_then_attached kernel new p unit wait b same has is =
-    OnTrue_from b _ (λ may. ap (λ (k : Kernel). owns k.units p unit) same ∙ owns_attached kernel p unit wait has (sym is ∙ may))
+    → b ≡ may_attach kernel.units p unit → b ≡ true → owns new.units p unit ≡ true
+owns_then_attached kernel new p unit wait b same has is may =
+    ap (λ (k : Kernel). owns k.units p unit) same ∙ owns_attached kernel p unit wait has (sym is ∙ may)
 
 -- what the kernel writes by itself changes no process
 pub procs_echoed : (console : ℕ) (bytes : List ℕ) (kernel : Kernel) → (echoed console bytes kernel).dispatcher.procs ≡ kernel.dispatcher.procs

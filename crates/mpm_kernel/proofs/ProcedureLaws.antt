@@ -64,7 +64,7 @@ others_outside p kernel =
     all_still (λ q. Lives (outside p kernel).dispatcher.procs q × (q ≢ p)) (first_completed kernel.dispatcher.completed) p kernel.dispatcher.procs
     (λ q living apart. (lives_outside p q kernel living, apart))
 
-live_outside : (p : ℕ) (kernel : Kernel) → CompletedLive (outside p kernel)
+pub live_outside : (p : ℕ) (kernel : Kernel) → CompletedLive (outside p kernel)
 unfolding outside
 live_outside p kernel =
     all_still (λ q. Lives (outside p kernel).dispatcher.procs q) (first_completed kernel.dispatcher.completed) p kernel.dispatcher.procs
@@ -92,10 +92,15 @@ stays_given (Some q) p kernel s h live =
     (λ r first. may_by_write kernel p q r s first))
     (λ _. record { sound = s; lives = h; completed = live })
 
+-- of the queue whose procedure it left
+pub stays_written_back : (queue : Option ℕ) (p : ℕ) (kernel : Kernel) → IsSound kernel → Lives kernel.dispatcher.procs p
+    → StaysSound p (valued 0 (given_back_to queue p (outside p kernel)))
+stays_written_back queue p kernel s h =
+    stays_given queue p (outside p kernel) (sound_outside p kernel s h) (lives_outside p p kernel h) (live_outside p kernel)
+
 pub stays_given_back : (p : ℕ) (kernel : Kernel) → IsSound kernel → Lives kernel.dispatcher.procs p → StaysSound p (valued 0 (given_back p kernel))
 unfolding given_back
-stays_given_back p kernel s h =
-    stays_given (process_in kernel.dispatcher.procs p).procedure p (outside p kernel) (sound_outside p kernel s h) (lives_outside p p kernel h) (live_outside p kernel)
+stays_given_back p kernel s h = stays_written_back (process_in kernel.dispatcher.procs p).procedure p kernel s h
 
 homes_delivered : (o : Option ℕ) (b : Bool) (kernel new : Kernel) (message : _) → new.dispatcher.procs ≡ (if b then kernel.dispatcher.procs else (delivered_to o message kernel.dispatcher.procs)) → SameHomes kernel new
 homes_delivered o true kernel new message e = homes_stay kernel new e

@@ -392,14 +392,19 @@ stays_call_done call p kernel c =
 begun : (p : ℕ) (echoes : Bool) (kernel : Kernel) → IsSound kernel → Lives kernel.dispatcher.procs p → IsReady kernel.dispatcher p → Calls p (call_begun echoes kernel)
 begun p echoes kernel s h is_ready = record { sound = sound_begun echoes kernel s; lives = h; ready = is_ready; none = refl }
 
+-- and so his call, whether or not it echoes, leaves the kernel sound
+pub stays_called : (p : ℕ) (echoes : Bool) (kernel : Kernel) → IsSound kernel → Lives kernel.dispatcher.procs p → IsReady kernel.dispatcher p
+    → StaysSound p (call_done (call_of kernel.dispatcher.procs p) p (process_in kernel.dispatcher.procs p) (call_begun echoes kernel))
+stays_called p echoes kernel s h is_ready = stays_call_done (call_of kernel.dispatcher.procs p) p _ (begun p echoes kernel s h is_ready)
+
 pub sound_called : (p : ℕ) (kernel : Kernel) → IsSound kernel → Lives kernel.dispatcher.procs p → IsReady kernel.dispatcher p → IsSound (called p kernel).kernel
-sound_called p kernel s h is_ready = (stays_call_done (call_of kernel.dispatcher.procs p) p _ (begun p _ kernel s h is_ready)).sound
+sound_called p kernel s h is_ready = (stays_called p _ kernel s h is_ready).sound
 
 pub lives_called : (p : ℕ) (kernel : Kernel) → IsSound kernel → Lives kernel.dispatcher.procs p → IsReady kernel.dispatcher p → Lives (called p kernel).kernel.dispatcher.procs p
-lives_called p kernel s h is_ready = (stays_call_done (call_of kernel.dispatcher.procs p) p _ (begun p _ kernel s h is_ready)).lives
+lives_called p kernel s h is_ready = (stays_called p _ kernel s h is_ready).lives
 
 pub live_called : (p : ℕ) (kernel : Kernel) → IsSound kernel → Lives kernel.dispatcher.procs p → IsReady kernel.dispatcher p → CompletedLive (called p kernel).kernel
-live_called p kernel s h is_ready = (stays_call_done (call_of kernel.dispatcher.procs p) p _ (begun p _ kernel s h is_ready)).completed
+live_called p kernel s h is_ready = (stays_called p _ kernel s h is_ready).completed
 
 -- events
 

@@ -1,5 +1,5 @@
 -- The system's queues, which are made at boot, one after the other.
-use Rattle.std.proofs.Common.{◌≡◌, ◌≢◌, ◌∙◌, ℕ, ◌*◌, ◌<◌, ◌≤◌, Bool, true, false, not, ◌||◌, ◌==◌, Option, replicate, Some, None, if◌then◌else◌, inl, inr, refl, sym, ap, arith, get_or-set_same, get_or-set_other}
+use Rattle.std.proofs.Common.{◌≡◌, ◌≢◌, ◌∙◌, ℕ, ◌+◌, ◌*◌, ◌<◌, ◌≤◌, Bool, true, false, not, ◌||◌, ◌==◌, Option, replicate, Some, None, if◌then◌else◌, inl, inr, refl, sym, ap, arith, get_or-set_same, get_or-set_other}
 use Rattle.std.specs.Prelude.{is_some, is_none, nat_lt}
 use Rattle.std.proofs.lemmas.Bool.{false≢true, cases_eq, cases_lt}
 use Rattle.std.proofs.lemmas.Bool.Decides.{nat_tests}
@@ -67,6 +67,15 @@ made_before : (slot : Option ℕ) (t : Queues) (name : Name8) (width count k : �
 unfolding made
 made_before None t name width count k other = refl
 made_before (Some q) t name width count k other = get_or-set_other t.alive q k true false (λ same. other (ap (λ (n : ℕ). Some n) (sym same)))
+
+-- a queue of the system has the lowest free number, and so they have the lowest
+pub system_made : (kernel : Kernel) (name : Name8) (width count q : ℕ) (queues : Queues) → IsSound kernel → OnlySystems kernel → lowest_free kernel.queues ≡ Some q
+    → queues ≡ made kernel.queues q name width count → record kernel { queues = queues; system_queues = q + 1 } ≡ with_system_queue kernel name width count
+unfolding with_system_queue with_queue
+system_made kernel name width count q queues s only free is =
+    ap (λ queues. record kernel { queues = queues; system_queues = q + 1 }) is
+    ∙ ap (λ slot. record kernel { queues = made_at slot kernel.queues name width count; system_queues = q + 1 }) (sym free)
+    ∙ ap (λ (n : ℕ). record (with_queue kernel name width count) { system_queues = n + 1 }) (system_is_lowest kernel q s only free)
 
 pub sound_system_queue : (kernel : Kernel) (name : Name8) (width count : ℕ) → IsSound kernel → OnlySystems kernel
     → make_error kernel.queues name width count ≡ None → IsSound (with_system_queue kernel name width count)

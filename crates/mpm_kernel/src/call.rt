@@ -23,6 +23,7 @@ impl Kernel {
 
     /// Does the call that a ready process keeps.
     #[inline(always)]
+    #[tactic(auto, using(crate::proofs::SoundLaws::sound_begun))]
     pub fn call(&mut self, p: Pid, reply: &mut Reply) -> Outcome
         requires sound { IsSound self.old }
         requires lives { Lives self.old.dispatcher.procs p }
@@ -32,20 +33,6 @@ impl Kernel {
         ensures reply { reply.new ≡ (called p self.old).reply }
         ensures sound { IsSound self.new }
         ensures live { CompletedLive self.new }
-    {
-        self.serve(p, reply)
-    }
-
-    /// The call that a process keeps begins, and is done.
-    #[inline(always)]
-    #[tactic(auto, using(crate::proofs::SoundLaws::sound_begun))]
-    fn serve(&mut self, p: Pid, reply: &mut Reply) -> Outcome
-        requires sound { IsSound self.old }
-        requires lives { Lives self.old.dispatcher.procs p }
-        requires ready { IsReady self.old.dispatcher p }
-        ensures kernel { self.new ≡ (called p self.old).kernel }
-        ensures outcome { result ≡ (called p self.old).outcome }
-        ensures reply { reply.new ≡ (called p self.old).reply }
     {
         let call = self.dispatcher.procs.call(p);
         let function = call.function;

@@ -1,4 +1,3 @@
-ghost use Rattle.std.specs.Bool.{OnTrue};
 ghost use Rattle.std.specs.Prelude.{◌≡◌, ◌<◌, true, MatchOption};
 
 use crate::Kernel;
@@ -10,19 +9,18 @@ use mpm_line_input::{answer_line, edited, full_line, is_full, key_echo};
 impl Kernel {
     ghost use Rattle.mpm_procs.specs.Table.{Lives, call_of, process_in};
     ghost use Rattle.mpm_consoles.specs.Consoles.{owns};
-    ghost use Rattle.mpm_consoles.specs.Handling.{may_attach};
     ghost use Rattle.mpm_consoles.specs.declared.unit.Unit.TheVariants.{Console as ConsoleUnit};
     ghost use Rattle.mpm_line_input.specs.Lines.{ends};
     ghost use Rattle.mpm_dispatcher.specs.Dispatch.{IsReady};
     ghost use Rattle.mpm_kernel.specs.Kernel.{IsSound, HasConsole};
-    ghost use Rattle.mpm_kernel.specs.Consoling.{attaching, awaited};
-    ghost use Rattle.mpm_kernel.specs.ConsoleInput.{raw_if, key_taken, next_key, key_shown, shown_key, read_key, polled_key, direct, line_of, greatest, line_done, key_joined, line_with, line_read, console_served, unless_stopped, console_called};
+    ghost use Rattle.mpm_kernel.specs.Consoling.{awaited};
+    ghost use Rattle.mpm_kernel.specs.ConsoleInput.{raw_if, key_taken, next_key, shown_key, read_key, polled_key, direct, line_of, greatest, line_done, key_joined, line_with, line_read, console_served, unless_stopped, console_called};
 
     /// The calls that read from the caller's console or write to it: it is attached first, or waited for. (MP/M II Programmer's
     /// Guide, functions 1 to 4, 6 and 9 to 11.)
     #[cold]
     #[inline(never)]
-    #[tactic(auto, using(crate::proofs::UnitLaws::has_own_console, crate::proofs::InputCalls::stays_console_called), unfolding(crate::specs::ConsoleInput::console_called, crate::specs::Consoling::retried))]
+    #[tactic(auto, using(crate::proofs::UnitLaws::has_own_console, crate::proofs::InputLaws::has_then_attached, crate::proofs::InputCalls::stays_console_called), unfolding(crate::specs::ConsoleInput::console_called, crate::specs::Consoling::retried))]
     pub(crate) fn console_call(&mut self, p: Pid, reply: &mut Reply) -> Outcome
         requires sound { IsSound self.old }
         requires lives { Lives self.old.dispatcher.procs p }
@@ -32,7 +30,7 @@ impl Kernel {
         ensures reply { reply.new ≡ (console_called (call_of self.old.dispatcher.procs p) p self.old).reply }
     {
         let console = self.dispatcher.procs.get(p).console;
-        if !self.attach_console(p, console) {
+        if !self.attach(p, Unit::Console { n: console }, true) {
             return self.dispatcher.retry(p, reply);
         }
         let cooks = is_cooked(self.dispatcher.procs.call(p).function);
@@ -90,20 +88,12 @@ impl Kernel {
     {
         match self.take_key(console) {
             Some(key) => {
-                self.show_key(console, key);
+                let column = self.units.column(console);
+                self.show(console, key_echo(key, column));
                 done(reply, u16::from(key))
             }
             None => self.wait_at_gate(p, console, true, reply),
         }
-    }
-
-    /// A key that was taken is shown, a tab as spaces.
-    fn show_key(&mut self, console: u8, key: u8)
-        requires { HasConsole self.old console }
-        ensures { self.new ≡ key_shown key console self.old }
-    {
-        let column = self.units.column(console);
-        self.show(console, key_echo(key, column));
     }
 
     /// Function 3, and function 6 with FDh: a key is taken. (MP/M II Programmer's Guide, "Function 3: Raw Console Input".)
@@ -237,21 +227,6 @@ impl Kernel {
         ensures kernel { MatchOption result (self.new ≡ self.old) (λ key. self.new ≡ key_taken console self.old) }
     {
         self.units.take(console)
-    }
-
-    /// A process attaches a console, or waits for it.
-    #[tactic(auto, using(crate::proofs::InputLaws::has_then_attached, crate::proofs::InputLaws::owns_then_attached))]
-    fn attach_console(&mut self, p: Pid, console: u8) -> bool
-        requires sound { IsSound self.old }
-        requires lives { Lives self.old.dispatcher.procs p }
-        requires ready { IsReady self.old.dispatcher p }
-        requires has { HasConsole self.old console }
-        ensures answer { result ≡ may_attach self.old.units p (ConsoleUnit console) }
-        ensures kernel { self.new ≡ attaching p (ConsoleUnit console) true self.old }
-        ensures has { HasConsole self.new console }
-        ensures owner { OnTrue result (owns self.new.units p (ConsoleUnit console) ≡ true) }
-    {
-        self.attach(p, Unit::Console { n: console }, true)
     }
 
     /// A console is made raw, or not, if it is at all.

@@ -22,21 +22,12 @@ impl Kernel {
 
     /// A byte is written to a console or a printer: the column of a console moves. Answers the number of spaces that stand for a
     /// tab that is expanded, 0 where the byte stands for itself. (MP/M II Programmer's Guide, "Function 2: Console Output".)
+    #[tactic(auto, unfolding(crate::specs::Columns::wrote))]
     pub fn write(&mut self, unit: Unit, byte: u8, tabs: bool) -> u8
         requires { HasUnit self.old.units unit }
         ensures kernel { self.new ≡ wrote self.old unit byte tabs }
         ensures spaces { result ≡ spaces_for self.old unit byte tabs }
         ensures sound { IsSound self.old → IsSound self.new }
-    {
-        self.put(unit, byte, tabs)
-    }
-
-    /// A byte is written, or the spaces for it.
-    #[tactic(auto, unfolding(crate::specs::Columns::wrote))]
-    fn put(&mut self, unit: Unit, byte: u8, tabs: bool) -> u8
-        requires { HasUnit self.old.units unit }
-        ensures kernel { self.new ≡ wrote self.old unit byte tabs }
-        ensures spaces { result ≡ spaces_for self.old unit byte tabs }
     {
         self.units.output(unit, byte, tabs)
     }
@@ -70,6 +61,7 @@ impl Kernel {
 
     /// A console that `from` owns, or nobody where that is None, comes to `to`, or where that is None to the process that waits
     /// for it first. Nothing changes where `from` isn't its owner.
+    #[tactic(auto, unfolding(crate::specs::Consoling::given))]
     pub fn give(&mut self, console: u8, from: Option<Pid>, to: Option<Pid>)
         requires sound { IsSound self.old }
         requires console { console < length self.old.units.consoles }
@@ -77,18 +69,6 @@ impl Kernel {
         requires to { IfSome to (λ p. Lives self.old.dispatcher.procs p) }
         ensures kernel { self.new ≡ given console from to self.old }
         ensures sound { IsSound self.new }
-    {
-        self.give_console(console, from, to);
-    }
-
-    /// A console is given, where `from` is its owner.
-    #[tactic(auto, unfolding(crate::specs::Consoling::given))]
-    fn give_console(&mut self, console: u8, from: Option<Pid>, to: Option<Pid>)
-        requires sound { IsSound self.old }
-        requires console { console < length self.old.units.consoles }
-        requires from { IfSome from (λ p. Lives self.old.dispatcher.procs p) }
-        requires to { IfSome to (λ p. Lives self.old.dispatcher.procs p) }
-        ensures { self.new ≡ given console from to self.old }
     {
         let owner = self.console_owner(console);
         match from {

@@ -13,17 +13,11 @@ impl Kernel {
     ghost use Rattle.mpm_kernel.specs.Kernel.{IsSound};
     ghost use Rattle.mpm_kernel.specs.Disk.{with_disk, is_served, in_turns, waiting_for_disk, ready_again, IsOver};
 
-    /// The disk serves in turns of so many steps, where `Kernel::new` lets no call wait for it. It is called before any does.
+    /// The disk serves in turns of so many steps, and nobody yet, where `Kernel::new` lets no call wait for it. It is called before
+    /// any does.
     pub fn set_disk_turn(&mut self, turn_steps: u32)
         ensures kernel { self.new ≡ in_turns turn_steps self.old }
         ensures sound { IsSound self.old → IsSound self.new }
-    {
-        self.renew_disk(turn_steps);
-    }
-
-    /// The disk serves nobody yet.
-    fn renew_disk(&mut self, turn_steps: u32)
-        ensures { self.new ≡ in_turns turn_steps self.old }
     {
         self.disk = Service::new(turn_steps);
     }
@@ -48,6 +42,7 @@ impl Kernel {
 
     /// The file call of a ready process waits for the disk from now on, behind all of equal or better priority: the process runs no
     /// more, and stands in no list of the dispatcher.
+    #[tactic(auto, using(crate::proofs::DiskLaws::ready_waits_not, crate::proofs::DiskLaws::ready_served_not), unfolding(crate::specs::Disk::waiting_for_disk))]
     pub fn wait_for_disk(&mut self, p: Pid)
         requires sound { IsSound self.old }
         requires lives { Lives self.old.dispatcher.procs p }
@@ -55,18 +50,6 @@ impl Kernel {
         requires steps { 0 < self.old.disk.turn_steps }
         ensures kernel { self.new ≡ waiting_for_disk p self.old }
         ensures sound { IsSound self.new }
-    {
-        self.queue_for_disk(p);
-    }
-
-    /// The process leaves its list, and its call waits.
-    #[tactic(auto, using(crate::proofs::DiskLaws::ready_waits_not, crate::proofs::DiskLaws::ready_served_not), unfolding(crate::specs::Disk::waiting_for_disk))]
-    fn queue_for_disk(&mut self, p: Pid)
-        requires sound { IsSound self.old }
-        requires lives { Lives self.old.dispatcher.procs p }
-        requires ready { IsReady self.old.dispatcher p }
-        requires steps { 0 < self.old.disk.turn_steps }
-        ensures { self.new ≡ waiting_for_disk p self.old }
     {
         let priority = self.dispatcher.procs.get(p).priority;
         self.dispatcher.unlist(p);
@@ -86,17 +69,6 @@ impl Kernel {
         ensures over { (p : ℕ) → result ≡ Turn.Work p true → IsOver p self.new }
         ensures last { (p : ℕ) → result ≡ Turn.Work p true → self.new.disk.served ≡ None }
     {
-        self.step_disk()
-    }
-
-    /// A step of the disk's service.
-    fn step_disk(&mut self) -> Turn
-        requires { HasBegun self.old.disk }
-        ensures kernel { self.new ≡ with_disk turned self.old }
-        ensures answer { result ≡ turn_answer self.old.disk }
-        ensures after { IsAfter result self.new.disk }
-        ensures last { (p : ℕ) → result ≡ Turn.Work p true → self.new.disk.served ≡ None }
-    {
         self.disk.turn()
     }
 
@@ -107,17 +79,6 @@ impl Kernel {
         requires some { 0 < turns }
         ensures kernel { self.new ≡ with_disk (λ disk. begun disk turns) self.old }
         ensures sound { IsSound self.new }
-        ensures begun { HasBegun self.new.disk }
-        ensures turns { IfSome self.new.disk.served (TakesTurns self.new.disk.turn_steps turns) }
-    {
-        self.begin_service(turns);
-    }
-
-    /// The call has its turns.
-    fn begin_service(&mut self, turns: u32)
-        requires entered { HasEntered self.old.disk }
-        requires some { 0 < turns }
-        ensures kernel { self.new ≡ with_disk (λ disk. begun disk turns) self.old }
         ensures begun { HasBegun self.new.disk }
         ensures turns { IfSome self.new.disk.served (TakesTurns self.new.disk.turn_steps turns) }
     {
@@ -133,16 +94,6 @@ impl Kernel {
         ensures sound { IsSound self.new }
         ensures begun { HasBegun self.old.disk → HasBegun self.new.disk }
     {
-        self.pass_service(steps);
-    }
-
-    /// So many steps of the service pass.
-    fn pass_service(&mut self, steps: u32)
-        requires { IfSome self.old.disk.served (λ call. call.passed + steps < self.old.disk.turn_steps) }
-        ensures kernel { self.new ≡ with_disk (passed_by steps) self.old }
-        ensures turned { IfSome self.old.disk.served (λ _. self.new.disk ≡ turned_by steps self.old.disk) }
-        ensures begun { HasBegun self.old.disk → HasBegun self.new.disk }
-    {
         self.disk.pass(steps);
     }
 
@@ -156,15 +107,6 @@ impl Kernel {
         ensures begun { HasBegun self.new.disk }
         ensures over { (p : ℕ) → served_process self.old.disk ≡ Some p → IsOver p self.new }
     {
-        self.finish_service()
-    }
-
-    /// The service of the call ends.
-    fn finish_service(&mut self) -> u32
-        ensures kernel { self.new ≡ with_disk unserved self.old }
-        ensures turns { result ≡ turns_left self.old.disk }
-        ensures begun { HasBegun self.new.disk }
-    {
         self.disk.finish()
     }
 
@@ -175,14 +117,6 @@ impl Kernel {
         ensures kernel { self.new ≡ ready_again p self.old }
         ensures sound { IsSound self.new }
         ensures ready { IsReady self.new.dispatcher p }
-    {
-        self.make_ready_again(p);
-    }
-
-    /// The process comes into the ready list.
-    fn make_ready_again(&mut self, p: Pid)
-        requires { IsOver p self.old }
-        ensures { self.new ≡ ready_again p self.old }
     {
         self.dispatcher.make_one_ready(Some(p));
     }

@@ -9,12 +9,13 @@ impl Kernel {
     ghost use Rattle.mpm_procs.specs.Table.{Lives};
     ghost use Rattle.mpm_queues.specs.Queues.{holds};
     ghost use Rattle.mpm_kernel.specs.Kernel.{IsSound, CompletedLive};
-    ghost use Rattle.mpm_kernel.specs.Ending.{dropped_out, returned, all_returned, consoles_left, printers_left, units_left, vacated, discharged, Leaves};
+    ghost use Rattle.mpm_kernel.specs.Ending.{dropped_out, all_returned, consoles_left, printers_left, discharged, Leaves};
 
     /// A process ends: it stands in no list and waits for nothing, the message of its resident procedure goes back and then
     /// those of the mutual exclusion queues that it holds, by rising number, its consoles and then its printers pass on by
     /// number, each to the process that waits for it first, and its slot is free: it holds nothing then. The held calls that
     /// are completed by that are handed out in the order in which they were.
+    #[tactic(auto, using(crate::proofs::EndingLaws::lives_dropped, crate::proofs::EndingLaws::few_given_back))]
     pub fn discharge(&mut self, p: Pid)
         requires sound { IsSound self.old }
         requires lives { Lives self.old.dispatcher.procs p }
@@ -23,28 +24,11 @@ impl Kernel {
         ensures live { CompletedLive self.new }
         ensures nothing { (q : ℕ) → holds self.new.queues p q ≡ false }
     {
-        self.let_go(p);
-    }
-
-    /// A process ends: it drops out, its messages go back, its consoles and printers pass on, and its slot is free.
-    #[tactic(auto, using(crate::proofs::EndingLaws::sound_dropped, crate::proofs::EndingLaws::lives_dropped, crate::proofs::EndingLaws::leaves_given_back, crate::proofs::EndingLaws::few_given_back), unfolding(crate::specs::Ending::discharged, crate::specs::Ending::relieved))]
-    fn let_go(&mut self, p: Pid)
-        requires sound { IsSound self.old }
-        requires lives { Lives self.old.dispatcher.procs p }
-        ensures { self.new ≡ discharged self.old p }
-    {
         self.drop_out(p);
-        self.give_back(p);
+        self.put_back(p);
         self.return_held(p);
-        self.leave_units(p);
-        self.vacate(p);
-    }
-
-    /// The slot of a process is free.
-    fn vacate(&mut self, p: Pid)
-        requires { Lives self.old.dispatcher.procs p }
-        ensures { self.new ≡ vacated p self.old }
-    {
+        self.leave_consoles(p);
+        self.leave_printers(p);
         self.dispatcher.procs.end(p);
     }
 
@@ -63,37 +47,17 @@ impl Kernel {
     }
 
     /// The messages of mutual exclusion queues that a process holds go back, by rising number.
+    #[tactic(auto, using(crate::proofs::EndingLaws::held_made))]
     fn return_held(&mut self, p: Pid)
         requires leaves { Leaves p self.old }
         requires few { length self.old.dispatcher.completed ≤ 2 }
         ensures { self.new ≡ all_returned (range_with_len 0 32) p self.old }
     {
         for q in 0..32 {
-            self.return_if_held(p, q);
+            if self.queues.holds(p, q) {
+                self.write_back(p, q);
+            }
         }
-    }
-
-    /// The message of a mutual exclusion queue goes back where a process holds it.
-    #[tactic(auto, using(crate::proofs::EndingLaws::held_made), unfolding(crate::specs::Ending::returned))]
-    fn return_if_held(&mut self, p: Pid, q: u8)
-        requires leaves { Leaves p self.old }
-        requires below { q < 32 }
-        requires room { length self.old.dispatcher.completed < 64 }
-        ensures { self.new ≡ returned p q self.old }
-    {
-        if self.queues.holds(p, q) {
-            self.write_back(p, q);
-        }
-    }
-
-    /// The consoles that a process owns and then its printers pass on.
-    #[tactic(auto, using(crate::proofs::LeavingLaws::sound_consoles_left), unfolding(crate::specs::Ending::units_left))]
-    fn leave_units(&mut self, p: Pid)
-        requires { Leaves p self.old }
-        ensures { self.new ≡ units_left p self.old }
-    {
-        self.leave_consoles(p);
-        self.leave_printers(p);
     }
 
     /// The consoles that a process owns pass on, by number.

@@ -9,22 +9,13 @@ impl Kernel {
     ghost use Rattle.mpm_kernel.specs.Events.{MayCome, clock_ticked, device_ready as device_is_ready, flag_came, happened};
 
     /// An event comes: a tick of the clock, a device that is ready, a flag that is set, or a key.
+    #[tactic(auto, using(crate::proofs::SoundLaws::sound_afresh), unfolding(crate::specs::Events::happens))]
     pub fn event(&mut self, event: Event)
         requires sound { IsSound self.old }
         requires comes { MayCome event }
         ensures kernel { self.new ≡ happened event self.old }
         ensures sound { IsSound self.new }
         ensures live { CompletedLive self.new }
-    {
-        self.accept(event);
-    }
-
-    /// What an event does, behind those before.
-    #[tactic(auto, using(crate::proofs::SoundLaws::sound_afresh), unfolding(crate::specs::Events::happens))]
-    fn accept(&mut self, event: Event)
-        requires sound { IsSound self.old }
-        requires comes { MayCome event }
-        ensures { self.new ≡ happened event self.old }
     {
         self.begin_event();
         match event {

@@ -61,6 +61,7 @@ impl Kernel {
     ///
     /// # Errors
     /// Where no memory is found. All that it will need is taken here.
+    #[tactic(auto, unfolding(crate::specs::Kernel::new_kernel))]
     pub fn new(
         alloc: Global,
         consoles: u8,
@@ -73,18 +74,6 @@ impl Kernel {
         requires time { IsTime now }
         ensures kernel { IfOk result (λ kernel. kernel ≡ new_kernel consoles printers now) }
         ensures sound { IfOk result (λ kernel. IsSound kernel) }
-    {
-        Kernel::empty(alloc, consoles, printers, now)
-    }
-
-    /// No process lives.
-    #[tactic(auto, unfolding(crate::specs::Kernel::new_kernel))]
-    fn empty(alloc: Global, consoles: u8, printers: u8, now: Moment) -> Result<Kernel, OutOfMemory>
-        requires some { 1 ≤ consoles }
-        requires few { consoles ≤ 8 }
-        requires printers { printers ≤ 4 }
-        requires time { IsTime now }
-        ensures { IfOk result (λ kernel. kernel ≡ new_kernel consoles printers now) }
     {
         Ok(Kernel {
             dispatcher: Dispatcher::new(alloc)?,
@@ -295,7 +284,9 @@ impl Kernel {
         self.dispatcher.completed.has_some()
     }
 
-    /// Hands out the process whose held call was completed first by the last call or event, with that call's reply.
+    /// Hands out the process whose held call was completed first by the last call or event, with that call's reply. Where it
+    /// called a resident procedure it is in that one then.
+    #[tactic(auto, using(crate::proofs::SoundLaws::completed_lives), unfolding(crate::specs::Events::handed_out))]
     pub fn completed(&mut self, reply: &mut Reply) -> Option<Pid>
         requires { CompletedLive self.old }
         ensures process { result ≡ first_completed self.old.dispatcher.completed }
@@ -303,17 +294,6 @@ impl Kernel {
         ensures reply { MatchOption result (reply.new ≡ reply.old) (λ p. reply.new ≡ completion_reply self.old p) }
         ensures sound { IsSound self.old → IsSound self.new }
         ensures live { IsSound self.old → CompletedLive self.new }
-    {
-        self.hand_out(reply)
-    }
-
-    /// Hands out the process whose held call was completed first, which is in a resident procedure then where it called one.
-    #[tactic(auto, using(crate::proofs::SoundLaws::completed_lives), unfolding(crate::specs::Events::handed_out))]
-    fn hand_out(&mut self, reply: &mut Reply) -> Option<Pid>
-        requires { CompletedLive self.old }
-        ensures process { result ≡ first_completed self.old.dispatcher.completed }
-        ensures kernel { self.new ≡ handed_out self.old }
-        ensures reply { MatchOption result (reply.new ≡ reply.old) (λ p. reply.new ≡ completion_reply self.old p) }
     {
         let p = self.dispatcher.hand_out()?;
         complete(self.dispatcher.procs.call(p), reply);

@@ -85,22 +85,13 @@ impl Kernel {
 
     /// The message of a process's resident procedure, where it is in one, is written back to its queue, which loses it where
     /// it is full; the process is in no procedure then.
+    #[tactic(auto, using(crate::proofs::ProcedureLaws::sound_outside, crate::proofs::ProcedureLaws::lives_outside), unfolding(crate::specs::Procedures::given_back, crate::specs::Procedures::given_back_to))]
     pub fn put_back(&mut self, p: Pid)
         requires sound { IsSound self.old }
         requires lives { Lives self.old.dispatcher.procs p }
         ensures kernel { self.new ≡ given_back p self.old }
         ensures sound { IsSound self.new }
         ensures live { CompletedLive self.new }
-    {
-        self.give_back(p);
-    }
-
-    /// The message of a process's resident procedure goes back.
-    #[tactic(auto, using(crate::proofs::ProcedureLaws::sound_outside, crate::proofs::ProcedureLaws::lives_outside), unfolding(crate::specs::Procedures::given_back, crate::specs::Procedures::given_back_to))]
-    pub(crate) fn give_back(&mut self, p: Pid)
-        requires sound { IsSound self.old }
-        requires lives { Lives self.old.dispatcher.procs p }
-        ensures { self.new ≡ given_back p self.old }
     {
         let queue = self.leave_procedure(p);
         if let Some(q) = queue {

@@ -1,7 +1,7 @@
 ghost use Rattle.std.specs.Prelude.{◌≡◌, ◌<◌, ◌&&◌, Some, None, true, false, length, IfSome};
 
 use crate::Kernel;
-use mpm_base::{Call, FAILURE_CODE, Name8, Outcome, Pid, Reply};
+use mpm_base::{FAILURE_CODE, Name8, Outcome, Pid, Reply};
 use mpm_dispatcher::done;
 use mpm_queues::QueueOutcome;
 
@@ -11,27 +11,17 @@ impl Kernel {
     ghost use Rattle.mpm_queues.specs.Handling.{woken_by, may_wait, read_outcome, read_reply, write_outcome};
     ghost use Rattle.mpm_dispatcher.specs.Dispatch.{IsReady};
     ghost use Rattle.mpm_kernel.specs.Kernel.{IsSound};
-    ghost use Rattle.mpm_kernel.specs.Queueing.{with_system_queue, OnlySystems, IfNotNow, queue_made, queue_opened, queue_deleted, pointed, queued, blocked_or_refused, taken_from, queue_read, given_to, queue_written};
+    ghost use Rattle.mpm_kernel.specs.Queueing.{with_system_queue, OnlySystems, IfNotNow, queue_made, queue_opened, queue_deleted, pointed, blocked_or_refused, taken_from, queue_read, given_to, queue_written};
 
     /// Makes a queue of the system, which no process deletes, for `count` messages of `message_length` bytes. It is made at
     /// boot, before any other.
+    #[tactic(auto, using(crate::proofs::QueueingLaws::system_is_lowest, crate::proofs::QueueingLaws::number_below), unfolding(crate::specs::Queueing::with_system_queue, crate::specs::Queueing::with_queue))]
     pub fn system_queue(&mut self, name: Name8, message_length: u16, count: u16)
         requires sound { IsSound self.old }
         requires boot { OnlySystems self.old }
         requires room { make_error self.old.queues name message_length count ≡ None }
         ensures kernel { self.new ≡ with_system_queue self.old name message_length count }
         ensures sound { IsSound self.new }
-    {
-        self.make_system_queue(name, message_length, count);
-    }
-
-    /// A queue of the system is made.
-    #[tactic(auto, using(crate::proofs::QueueingLaws::system_is_lowest, crate::proofs::QueueingLaws::number_below), unfolding(crate::specs::Queueing::with_system_queue, crate::specs::Queueing::with_queue))]
-    fn make_system_queue(&mut self, name: Name8, message_length: u16, count: u16)
-        requires sound { IsSound self.old }
-        requires boot { OnlySystems self.old }
-        requires room { make_error self.old.queues name message_length count ≡ None }
-        ensures { self.new ≡ with_system_queue self.old name message_length count }
     {
         if let Ok(number) = self.queues.make(name, message_length, count) {
             self.system_queues = number + 1;
@@ -187,8 +177,9 @@ impl Kernel {
         self.queues.write(p, q, &mut self.dispatcher.procs)
     }
 
-    /// A call that can't be done now is held, if it may wait, or else refused.
-    #[tactic(auto, unfolding(crate::specs::Queueing::blocked_or_refused))]
+    /// A call that can't be done now is held, if it may wait, or else refused: the ready process of one that is held waits at
+    /// the queue from now on, and stands in no list.
+    #[tactic(auto, using(crate::proofs::QueueingLaws::ready_waits_nowhere), unfolding(crate::specs::Queueing::blocked_or_refused, crate::specs::Queueing::queued))]
     pub(crate) fn block_or_refuse(
         &mut self,
         p: Pid,
@@ -207,25 +198,12 @@ impl Kernel {
         ensures reply { reply.new ≡ (blocked_or_refused waits p q reader self.old).reply }
     {
         if waits {
-            self.queue_up(p, q, reader);
+            let priority = self.dispatcher.procs.get(p).priority;
+            self.dispatcher.unlist(p);
+            self.queues.enlist(p, priority, q, reader);
             self.dispatcher.hold(p, reply)
         } else {
             done(reply, FAILURE_CODE)
         }
-    }
-
-    /// A ready process waits at a queue from now on, and stands in no list.
-    #[tactic(auto, using(crate::proofs::QueueingLaws::ready_waits_nowhere), unfolding(crate::specs::Queueing::queued))]
-    fn queue_up(&mut self, p: Pid, q: u8, reader: bool)
-        requires sound { IsSound self.old }
-        requires lives { Lives self.old.dispatcher.procs p }
-        requires ready { IsReady self.old.dispatcher p }
-        requires queue { IsMade self.old.queues q }
-        requires waits { may_wait self.old.queues q reader ≡ true }
-        ensures { self.new ≡ queued self.old p q reader }
-    {
-        let priority = self.dispatcher.procs.get(p).priority;
-        self.dispatcher.unlist(p);
-        self.queues.enlist(p, priority, q, reader);
     }
 }

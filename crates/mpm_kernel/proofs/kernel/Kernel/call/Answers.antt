@@ -1,12 +1,18 @@
-use Rattle.std.proofs.Common.{sym, subst}
-use Rattle.mpm_kernel.specs.Kernel.{IsSound, CompletedLive}
-use Rattle.mpm_kernel.proofs.SoundLaws.{sound_called, live_called}
+use Rattle.std.proofs.Common.{◌∙◌, sym, ap, subst}
+use Rattle.mpm_procs.specs.Table.{call_of, process_in}
+use Rattle.mpm_kernel.specs.Kernel.{Kernel, IsSound, CompletedLive}
+use Rattle.mpm_kernel.specs.Calls.{call_done}
+use Rattle.mpm_kernel.proofs.SoundLaws.{stays_called}
 use Rattle.mpm_kernel.proofs.kernel.Kernel.call.Goals as goal
 
 pub returns-clause-sound : goal.returns-clause-sound
 returns-clause-sound c =
-    subst IsSound (sym c.serve.ensures.kernel) (sound_called c.args.p c.args.self.now c.requires.sound c.requires.lives c.requires.ready)
+    let p = c.args.p in
+    let after : Kernel → Kernel = λ k. (call_done (call_of k.dispatcher.procs p) p (process_in k.dispatcher.procs p) k).kernel in
+    subst IsSound (sym (c.serve_begun.ensures.kernel ∙ ap after c.begin_call.ensures)) (stays_called p _ c.args.self.now c.requires.sound c.requires.lives c.requires.ready).sound
 
 pub returns-clause-live : goal.returns-clause-live
 returns-clause-live c =
-    subst CompletedLive (sym c.serve.ensures.kernel) (live_called c.args.p c.args.self.now c.requires.sound c.requires.lives c.requires.ready)
+    let p = c.args.p in
+    let after : Kernel → Kernel = λ k. (call_done (call_of k.dispatcher.procs p) p (process_in k.dispatcher.procs p) k).kernel in
+    subst CompletedLive (sym (c.serve_begun.ensures.kernel ∙ ap after c.begin_call.ensures)) (stays_called p _ c.args.self.now c.requires.sound c.requires.lives c.requires.ready).completed
