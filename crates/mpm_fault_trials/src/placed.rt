@@ -2,7 +2,7 @@
 ghost use Rattle.std.specs.Prelude.{ℕ, ◌≡◌, ◌<◌, ◌≤◌, ◌+◌, ◌*◌, length, get_or};
 ghost use Rattle.std.specs.Bool.{OnTrue};
 ghost use Rattle.mpm_machine_file.specs.MachineFiles.{IsMachine};
-ghost use Rattle.mpm_machine.specs.Opening.{IsBare, MayPlace};
+ghost use Rattle.mpm_system.specs.Opening.{IsBare, MayPlace};
 
 use crate::play::run;
 use mpm_base::{Name8, Seg};

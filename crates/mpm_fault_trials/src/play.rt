@@ -1,7 +1,7 @@
 //! Runs of a machine that begins, and what they leave of its disk.
 ghost use Rattle.std.specs.Prelude.{◌≡◌, ◌<◌, ◌≤◌, Some};
 ghost use Rattle.mpm_port.specs.MemoryDisks.{size_of, disks_of};
-ghost use Rattle.mpm_machine.specs.State.{IsWhole, NoCompletions};
+ghost use Rattle.mpm_system.specs.Whole.{IsWhole, NoCompletions};
 ghost use Rattle.mpm_machine.specs.Holding.{HoldsDrives};
 
 use mpm_base::Steps;

@@ -17,7 +17,7 @@ pub struct Interrupts {
 impl Interrupts {
     ghost use Rattle.std.specs.Prelude.{◌≡◌, ◌<◌, ◌≤◌, ℕ, false, None, is_some, IfSome, IfNone, All};
     ghost use Rattle.mpm_script.specs.Events.{IsEvent, IsTimed};
-    ghost use Rattle.mpm_interrupts.specs.Interrupts.{due, due_taken, is_tick_due, script_due};
+    ghost use Rattle.mpm_interrupts.specs.Interrupts.{due, due_taken, is_tick_due};
 
     /// The ticks and the events of a script, of which none was accepted yet. (The script tells with its length that its
     /// events are such as there may be.)
@@ -106,7 +106,7 @@ impl Model for Pending {
 }
 
 impl Pending {
-    ghost use Rattle.std.specs.Prelude.{◌≡◌, ◌<◌, ℕ, None, is_some, IfSome, IfNone, drop, length, slice_get};
+    ghost use Rattle.std.specs.Prelude.{◌≡◌, ◌<◌, ℕ, None, is_some, IfSome, IfNone, drop, slice_get};
     ghost use Rattle.mpm_script.specs.Events.{IsEvent};
     ghost use Rattle.mpm_interrupts.specs.Interrupts.{script_due, script_after};
 

@@ -13,20 +13,25 @@ use Rattle.mpm_residents.specs.declared.native.Native.{Native}
 use Rattle.mpm_residents.specs.declared.cli.act.Act.{Act}
 use Rattle.mpm_residents.specs.declared.cli.act.Act.TheVariants.{Ask, Place, Patch, Begin, Give}
 use Rattle.mpm_kernel.specs.Called.{low_parameter}
-use Rattle.mpm_machine.specs.declared.system.System.{System}
 use Rattle.mpm_gate.specs.declared.gate.Gate.{Gate}
 use Rattle.mpm_gate.specs.declared.gate.Gate.TheVariants.{End, Call, Return}
-use Rattle.mpm_machine.specs.State.{Change, IsWhole}
-use Rattle.mpm_machine.specs.Calling.{Served, asking}
-use Rattle.mpm_machine.specs.Sending.{has_interpreter}
-use Rattle.mpm_machine.specs.Serving.{asked, keeping, reserving, releasing, parsing, served_to_all, served, outcome_of, gate_step}
-use Rattle.mpm_machine.specs.Loading.{is_console, handed_over}
-use Rattle.mpm_machine.specs.Residing.{native_outcome, calling_step, tells, text_told, telling_step, handing_step, native_step, resided}
+use Rattle.mpm_system.specs.declared.system.System.{System}
+use Rattle.mpm_system.specs.Whole.{Change, IsWhole}
+use Rattle.mpm_system.specs.Calling.{Served, asking}
+use Rattle.mpm_system.specs.Sending.{has_interpreter}
+use Rattle.mpm_system.specs.Taking.{asked, keeping}
+use Rattle.mpm_system.specs.Segments.{reserving, releasing}
+use Rattle.mpm_system.specs.Parsing.{parsing}
+use Rattle.mpm_system.specs.Loading.{is_console, handed_over}
+use Rattle.mpm_system.specs.Residents.{tells, text_told, telling_step, handing_step}
+use Rattle.mpm_system.proofs.HomeLaws.{keeps_reserved, keeps_released}
+use Rattle.mpm_system.proofs.WholeLaws.{keeps_call, keeps_asked, whole_calling, whole_residents}
+use Rattle.mpm_system.proofs.LoadingLaws.{whole_placing, whole_moving, whole_giving, whole_beginning}
+use Rattle.mpm_machine.specs.Serving.{served_to_all, served, outcome_of, gate_step}
+use Rattle.mpm_machine.specs.Residing.{native_outcome, calling_step, native_step, resided}
 use Rattle.mpm_machine.specs.Step.{instruction_at, acted_at, gate_before, acted_by, acted}
-use Rattle.mpm_machine.proofs.HomeLaws.{keeps_reserved, keeps_released}
-use Rattle.mpm_machine.proofs.WholeLaws.{StaysServed, stays_as_served, keeps_call, keeps_asked, whole_aborting, whole_creating, whole_banks, whole_calling, whole_completing, whole_ended, whole_popped, whole_said, whole_speaking, whole_residents, whole_returning, whole_instructed}
+use Rattle.mpm_machine.proofs.WholeLaws.{StaysServed, stays_as_served, whole_aborting, whole_creating, whole_banks, whole_completing, whole_ended, whole_popped, whole_said, whole_speaking, whole_returning, whole_instructed}
 use Rattle.mpm_machine.proofs.SendingLaws.{whole_sending, whole_chaining}
-use Rattle.mpm_machine.proofs.LoadingLaws.{whole_placing, whole_moving, whole_giving, whole_beginning}
 
 -- a call is served
 pub whole_to_all : (call : Taken) (p : ℕ) (system : System) → call_of system.kernel.dispatcher.procs p ≡ call → IsWhole system → Lives system.kernel.dispatcher.procs p

@@ -4,8 +4,8 @@ use Rattle.std.proofs.Common.{◌≡◌, ◌∙◌, ℕ, true, false, Option, So
 use Rattle.std.proofs.lemmas.Bool.{false≢true}
 use Rattle.z80_regs.specs.Outcome.{Outcome}
 use Rattle.mpm_procs.specs.Table.{process_in}
-use Rattle.mpm_machine.specs.declared.system.System.{System}
-use Rattle.mpm_machine.specs.State.{silent}
+use Rattle.mpm_system.specs.declared.system.System.{System}
+use Rattle.mpm_system.specs.Whole.{silent}
 use Rattle.mpm_machine.specs.Step.{illegal, executed, instructed, acted, acted_by, acted_at, at_instruction, instruction_by, running_segment, gate_before, is_no_gate}
 use Rattle.mpm_machine.proofs.WholeLaws.{ran_nothing}
 

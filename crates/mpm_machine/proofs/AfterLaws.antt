@@ -1,20 +1,19 @@
 -- A machine as it begins: it is whole, and nobody is left to be handed out.
+-- the openings
 use Rattle.std.proofs.Common.{◌∙◌, ℕ, zero, suc, ◌+◌, ◌≤◌, false, List, All, length, refl, sym, ap, subst, arith, add-one}
 use Rattle.mpm_dispatcher.specs.Dispatch.{picked}
 use Rattle.mpm_script.specs.declared.event.Timed.{Timed}
 use Rattle.mpm_script.specs.Events.{IsTimed}
 use Rattle.mpm_machine_file.specs.declared.machine_file.MachineFile.{MachineFile}
 use Rattle.mpm_machine_file.specs.MachineFiles.{IsMachine}
-use Rattle.mpm_machine.specs.declared.system.System.{System}
-use Rattle.mpm_machine.specs.State.{IsWhole, NoCompletions}
-use Rattle.mpm_machine.specs.Opening.{with_terminals, begun_by_interpreter, with_interpreting, with_residents, booted, opened, opening_system}
-use Rattle.mpm_machine.proofs.SizeLaws.{memory_new}
-use Rattle.mpm_machine.proofs.PlacedLaws.{booted_is_bare, opening_is_bare}
-use Rattle.mpm_machine.proofs.OpeningLaws.{Begun, BegunSo, interpreting_begun, no_terminals, more_terminals, begun_none, begun_more, boots, whole_picked, no_completions_picked}
 use Rattle.mpm_service.specs.Disk.{DiskService}
 use Rattle.mpm_kernel.specs.Kernel.{dispatched}
-
--- the openings
+use Rattle.mpm_system.specs.declared.system.System.{System}
+use Rattle.mpm_system.specs.Whole.{IsWhole, NoCompletions}
+use Rattle.mpm_system.specs.Opening.{with_terminals, begun_by_interpreter, with_interpreting, with_residents, booted, opened, opening_system}
+use Rattle.mpm_system.proofs.SizeLaws.{memory_new}
+use Rattle.mpm_system.proofs.PlacedLaws.{booted_is_bare, opening_is_bare}
+use Rattle.mpm_system.proofs.OpeningLaws.{Begun, BegunSo, interpreting_begun, no_terminals, more_terminals, begun_none, begun_more, boots, whole_picked, no_completions_picked}
 
 -- a machine as a program begins
 pub opening_whole : (program : List ℕ) → length program ≤ 48512 → IsWhole (opening_system program)

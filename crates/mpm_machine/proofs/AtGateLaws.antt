@@ -1,5 +1,6 @@
 -- A file call that a process has made is done at once, or waits for the disk: what becomes of the system, of files, and of what is
 -- written; and where it stopped.
+-- it is done at once, or waits
 use Rattle.std.proofs.Common.{◌≡◌, ◌∙◌, ℕ, ◌+◌, ◌*◌, ◌<◌, ◌≤◌, ◌==◌, ◌&&◌, Bool, true, false, if◌then◌else◌, List, Option, Some, None, IfSome, Result, Ok, Err, OnOk, IfErr, refl, sym, ap, subst, arith}
 use Rattle.std.specs.Prelude.{is_some, is_none, option_map}
 use Rattle.std.proofs.lemmas.Bool.{false≢true, or_parts}
@@ -26,10 +27,10 @@ use Rattle.mpm_bdos.specs.Serving.{Kept, InService, Serves}
 use Rattle.mpm_directories.specs.Places.{directory_at}
 use Rattle.mpm_bdos.specs.Turns.{FitsDrives, has_work, labelled, told_images}
 use Rattle.mpm_bdos.proofs.ServedLaws.{none_before}
-use Rattle.mpm_machine.specs.declared.system.System.{System}
+use Rattle.mpm_system.specs.declared.system.System.{System}
+use Rattle.mpm_system.specs.Whole.{Change, silent}
 use Rattle.mpm_machine.specs.declared.machine.StepFault.{StepFault}
 use Rattle.mpm_machine.specs.declared.machine.StepFault.TheVariants.{DiskFault, WriteFault}
-use Rattle.mpm_machine.specs.State.{Change, silent}
 use Rattle.mpm_machine.specs.Faults.{Counts, HasFailed, HaveCause, itself, OnDiskFault, OnWriteFault}
 use Rattle.mpm_machine.specs.Files.{Files, Between, Within, one_more, StandsBetween, StandsWorkedBy, StandsWorked}
 use Rattle.mpm_machine.specs.Filed.{IsOutcome}
@@ -43,8 +44,6 @@ use Rattle.mpm_machine.proofs.TurnLaws.{worked_on}
 use Rattle.mpm_machine.proofs.ToldLaws.{something_told, waits_as_kept}
 use Rattle.mpm_machine.proofs.HoldingLaws.{not_none}
 use Rattle.mpm_machine.proofs.BegunLaws.{waiting_serves}
-
--- it is done at once, or waits
 
 once_is : (told : Directly) (p : ℕ) (system : System) → is_done_at_once p system ≡ true → file_called told p system ≡ concluded told p system
 unfolding file_called

@@ -18,15 +18,18 @@ use Rattle.mpm_residents.specs.Natives.{native_in}
 use Rattle.mpm_directories.specs.Direct.{Directly}
 use Rattle.mpm_functions.specs.Functions.{function_of}
 use Rattle.mpm_bdos.specs.Serving.{Kept}
-use Rattle.mpm_machine.specs.declared.system.System.{System}
-use Rattle.mpm_machine.specs.State.{Change, IsWhole}
+use Rattle.mpm_system.specs.declared.system.System.{System}
+use Rattle.mpm_system.specs.Whole.{Change, IsWhole}
+use Rattle.mpm_system.specs.Sending.{chains}
+use Rattle.mpm_system.specs.Taking.{keeping}
+use Rattle.mpm_system.specs.Answering.{popped}
+use Rattle.mpm_system.specs.Residents.{asked_by}
+use Rattle.mpm_system.specs.Coming.{coming, counted}
+use Rattle.mpm_system.specs.FileCalling.{made_by, call_made}
 use Rattle.mpm_machine.specs.Holding.{AreFiled, HoldsDrives}
-use Rattle.mpm_machine.specs.Sending.{chains}
-use Rattle.mpm_machine.specs.Serving.{keeping, popped}
-use Rattle.mpm_machine.specs.Residing.{asked_by}
 use Rattle.mpm_machine.specs.Finishing.{completion_dequeued, command_let_in, all_answered}
-use Rattle.mpm_machine.specs.Step.{coming, begun_by, counted}
-use Rattle.mpm_machine.specs.FileCalls.{file_caller, made_by, call_made, concluded}
+use Rattle.mpm_machine.specs.Step.{begun_by}
+use Rattle.mpm_machine.specs.FileCalls.{file_caller, concluded}
 use Rattle.mpm_machine.specs.DiskStep.{is_done_at_once, file_called}
 use Rattle.mpm_machine.specs.Stepping.{begun_alone, begun_with, begun_as}
 use Rattle.mpm_machine.proofs.WholeStepLaws.{whole_counted, coming_may, whole_after_begun}

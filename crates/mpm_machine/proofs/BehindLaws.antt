@@ -1,5 +1,6 @@
 -- For which drives the images stand behind a step whose disk's step they allow, also where its sink failed: nothing behind a turn's work
 -- changes an image.
+-- the drives that files say stand, where files do
 use Rattle.std.proofs.Common.{◌≡◌, ◌∙◌, ◌-◌, ℕ, Bool, true, false, List, Option, Some, None, is_some, option_map, inl, inr, refl, sym, ap, subst, arith}
 use Rattle.std.specs.Prelude.{◌⊎◌, slice_index_or, slice_set, unwrap_or}
 use Rattle.std.proofs.lemmas.Bool.{false≢true}
@@ -27,9 +28,9 @@ use Rattle.mpm_bdos.specs.Turns.{told_images}
 use Rattle.mpm_bdos.proofs.NextTurns.{job_drives, idle_drives}
 use Rattle.mpm_bdos.proofs.ServedLaws.{job_mounted}
 use Rattle.mpm_bdos.proofs.ServingLaws.{stand_at_last}
-use Rattle.mpm_machine.specs.declared.system.System.{System}
+use Rattle.mpm_system.specs.declared.system.System.{System}
+use Rattle.mpm_system.specs.Whole.{Change, silent}
 use Rattle.mpm_machine.specs.Files.{Files, Between, Within, AreWithin, drives_in, turns_ended, StandsServed, StandsWorked, given_back}
-use Rattle.mpm_machine.specs.State.{Change, silent}
 use Rattle.mpm_machine.specs.DiskStep.{step_passed, disk_served, files_served, all_paid, entered_by, call_entered, within_call, files_entered_by, files_entered, turns_within}
 use Rattle.mpm_machine.specs.FileCalls.{situation_of}
 use Rattle.mpm_machine.specs.Failing.{HaveImages}
@@ -40,8 +41,6 @@ use Rattle.mpm_machine.proofs.TurnLaws.{last_turn_serves, drives_left}
 use Rattle.mpm_machine.proofs.ServeLaws.{IsNotLast, over_served, over_files, over_serves, works_within, silent_served, same_served, turn_goes_on, not_between, none_behind}
 use Rattle.mpm_machine.proofs.EnterLaws.{none_served, files_kept, worked_between, entered_so, files_so, nobody_enters, files_stay}
 use Rattle.mpm_machine.proofs.StandingLaws.{within_by}
-
--- the drives that files say stand, where files do
 
 stand_in : (served : Option Served) (kept : Kept) (disks : Option Disks) (files : Files) → StandsServed served kept disks files
     → StandEach (told_images disks) kept.mounted (drives_in served files)

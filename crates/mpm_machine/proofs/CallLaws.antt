@@ -7,13 +7,17 @@ use Rattle.mpm_banks.specs.Memory.{byte_at}
 use Rattle.mpm_procs.specs.Table.{Lives, process_in, call_of}
 use Rattle.mpm_dispatcher.specs.Dispatch.{IsReady}
 use Rattle.mpm_kernel.specs.ConsoleInput.{writes}
-use Rattle.mpm_machine.specs.declared.system.System.{System}
-use Rattle.mpm_machine.specs.State.{IsWhole, HasRoom, speaking}
-use Rattle.mpm_machine.specs.Calling.{Served}
-use Rattle.mpm_machine.specs.Serving.{asked, keeping, IsTaken, served, call_text, string_of, said_by, after_echo, popped, replied, completion, recorded, with_entry, reply_at_entry, answering_call, fulfilling, completing, outcome_of, gate_step}
 use Rattle.mpm_output.specs.Outside.{Outside, Device}
 use Rattle.mpm_output.specs.Writing.{Wrote, Fails}
-use Rattle.mpm_machine.proofs.WholeLaws.{StaysServed, Keeps, keeps_call, whole_said, whole_popped}
+use Rattle.mpm_system.specs.declared.system.System.{System}
+use Rattle.mpm_system.specs.Whole.{IsWhole, HasRoom, speaking}
+use Rattle.mpm_system.specs.Calling.{Served}
+use Rattle.mpm_system.specs.Taking.{asked, keeping, IsTaken}
+use Rattle.mpm_system.specs.Saying.{call_text, string_of, said_by}
+use Rattle.mpm_system.specs.Answering.{popped, replied, completion, recorded, answering_call}
+use Rattle.mpm_system.proofs.WholeLaws.{Keeps, keeps_call}
+use Rattle.mpm_machine.specs.Serving.{served, after_echo, with_entry, reply_at_entry, fulfilling, completing, outcome_of, gate_step}
+use Rattle.mpm_machine.proofs.WholeLaws.{StaysServed, whole_said, whole_popped}
 use Rattle.mpm_machine.proofs.ActedLaws.{whole_served}
 use Rattle.mpm_machine.proofs.TallyLaws.{Tally, keeping_tally, served_tally}
 use Rattle.mpm_machine.proofs.TakenLaws.{call_is_taken}

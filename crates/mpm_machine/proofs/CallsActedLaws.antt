@@ -34,21 +34,28 @@ use Rattle.mpm_residents.specs.declared.cli.act.Act.{Act}
 use Rattle.mpm_residents.specs.declared.cli.act.Act.TheVariants.{Ask, Place, Patch, Begin, Give}
 use Rattle.mpm_residents.specs.declared.native.Native.{Native}
 use Rattle.mpm_residents.specs.Natives.{native_in, native_call, native_act}
-use Rattle.mpm_machine.specs.declared.system.System.{System}
-use Rattle.mpm_machine.specs.State.{Change, IsWhole, speaking}
-use Rattle.mpm_machine.specs.Calling.{asking}
-use Rattle.mpm_machine.specs.Sending.{chains}
-use Rattle.mpm_machine.specs.Serving.{asked, keeping, popped, returning, said_by, served_to_all}
-use Rattle.mpm_machine.specs.Loading.{is_console, begun_for, begins, handed_over}
-use Rattle.mpm_machine.specs.Residing.{asked_by, native_outcome, calling_step, tells, telling_step, handing_step, native_step, resided}
+use Rattle.mpm_system.specs.declared.system.System.{System}
+use Rattle.mpm_system.specs.Whole.{Change, IsWhole, speaking}
+use Rattle.mpm_system.specs.Calling.{asking}
+use Rattle.mpm_system.specs.Sending.{chains}
+use Rattle.mpm_system.specs.Taking.{asked, keeping}
+use Rattle.mpm_system.specs.Answering.{popped}
+use Rattle.mpm_system.specs.Saying.{said_by}
+use Rattle.mpm_system.specs.Loading.{is_console, begun_for, begins, handed_over}
+use Rattle.mpm_system.specs.Residents.{asked_by, tells, telling_step, handing_step}
+use Rattle.mpm_system.specs.Coming.{counted}
+use Rattle.mpm_system.specs.FileCalling.{made_by, call_made}
+use Rattle.mpm_system.proofs.WholeLaws.{keeps_asked}
+use Rattle.mpm_system.proofs.PlacedLaws.{given_disk}
+use Rattle.mpm_machine.specs.Serving.{returning, served_to_all}
+use Rattle.mpm_machine.specs.Residing.{native_outcome, calling_step, native_step, resided}
 use Rattle.mpm_machine.specs.Finishing.{completion_dequeued, command_let_in, finished_or_ended, answered_from, all_answered}
-use Rattle.mpm_machine.specs.Step.{illegal, instructed, executed, instruction_at, acted_at, acted_by, gate_before, running_segment, acted, begun_by, counted}
-use Rattle.mpm_machine.specs.FileCalls.{made_by, call_made}
-use Rattle.mpm_machine.proofs.WholeLaws.{whole_speaking, keeps_asked}
+use Rattle.mpm_machine.specs.Step.{illegal, instructed, executed, instruction_at, acted_at, acted_by, gate_before, running_segment, acted, begun_by}
+use Rattle.mpm_machine.proofs.WholeLaws.{whole_speaking}
 use Rattle.mpm_machine.proofs.ActedLaws.{whole_to_all}
 use Rattle.mpm_machine.proofs.SendingLaws.{lets_in}
 use Rattle.mpm_machine.proofs.WholeStepLaws.{whole_dequeued, lives_in_time}
-use Rattle.mpm_machine.proofs.KeepingLaws.{given_disk, let_in_disk}
+use Rattle.mpm_machine.proofs.KeepingLaws.{let_in_disk}
 use Rattle.mpm_machine.proofs.CallsLaws.{KeepsCalls, SystemKeepsCalls, calls_stay, calls_same, calls_then, calls_nothing, calls_changed, waits_not, at_disk_lives, calls_ended, calls_spoke, calls_dequeued, calls_finished, calls_all_finished}
 use Rattle.mpm_machine.proofs.CallsStepLaws.{IsApart, ready_apart, calls_kept, calls_keeping, calls_to_all, calls_event, calls_gate_step}
 

@@ -23,12 +23,6 @@ use Rattle.mpm_kernel.proofs.DiskStays.{disk_called, disk_handed_out, disk_disch
 use Rattle.mpm_kernel.proofs.HomeLaws.{calls_called, call_handed_out, beside_called, beside_handed_out}
 use Rattle.mpm_kernel.proofs.EndingLaws.{call_discharged, beside_discharged}
 use Rattle.mpm_kernel.proofs.Beside.{field_kept}
-use Rattle.mpm_machine.specs.declared.system.System.{System}
-use Rattle.mpm_machine.specs.State.{Change, IsWhole, speaking}
-use Rattle.mpm_machine.specs.Ending.{ended}
-use Rattle.mpm_machine.specs.Finishing.{finished, completion_dequeued, finishing, all_finished}
-use Rattle.mpm_machine.specs.Due.{is_due, ended_if_due, due_terminated, with_ends}
-use Rattle.mpm_machine.specs.Serving.{is_entry, with_entry, fulfilling, answering_call, recorded, replied}
 use Rattle.mpm_kernel.specs.Disk.{with_disk, IsOver}
 use Rattle.mpm_kernel.specs.Waiting.{completion_reply}
 use Rattle.mpm_kernel.specs.Columns.{spoke}
@@ -36,7 +30,15 @@ use Rattle.mpm_xdos.specs.Procedures.{entered, entering}
 use Rattle.mpm_output.specs.Texts.{error_text}
 use Rattle.mpm_functions.specs.declared.refusals.Extended.{Extended}
 use Rattle.mpm_directories.specs.Direct.{Directly, CallerChange, Stays, Selects, Resets}
-use Rattle.mpm_machine.specs.FileCalls.{with_caller, reply_by, file_replied, error_told, told_then, error_met, answered_by, concluded}
+use Rattle.mpm_system.specs.declared.system.System.{System}
+use Rattle.mpm_system.specs.Whole.{Change, IsWhole, speaking}
+use Rattle.mpm_system.specs.Answering.{answering_call, recorded, replied}
+use Rattle.mpm_system.specs.FileCalling.{with_caller, reply_by, file_replied, error_told}
+use Rattle.mpm_machine.specs.Ending.{ended}
+use Rattle.mpm_machine.specs.Finishing.{finished, completion_dequeued, finishing, all_finished}
+use Rattle.mpm_machine.specs.Due.{is_due, ended_if_due, due_terminated, with_ends}
+use Rattle.mpm_machine.specs.Serving.{is_entry, with_entry, fulfilling}
+use Rattle.mpm_machine.specs.FileCalls.{told_then, error_met, answered_by, concluded}
 use Rattle.mpm_machine.specs.DiskStep.{ready_again, call_over, step_passed, over_after, served_by, disk_served, entered_by, entered_unless, call_entered}
 use Rattle.mpm_machine.proofs.FileLaws.{whole_told, whole_caller}
 use Rattle.mpm_machine.proofs.DiskStepLaws.{whole_passed, whole_ready_again}

@@ -28,13 +28,19 @@ use Rattle.mpm_xdos.specs.Creating.{created, home_base}
 use Rattle.mpm_xdos.proofs.TargetLaws.{target_lives}
 use Rattle.mpm_xdos.proofs.CreatedLaws.{made_created}
 use Rattle.mpm_interrupts.specs.Interrupts.{due_taken}
-use Rattle.mpm_machine.specs.declared.system.System.{System}
-use Rattle.mpm_machine.specs.State.{IsWhole, speaking}
-use Rattle.mpm_machine.specs.Calling.{Served as Attended, with_kept}
-use Rattle.mpm_machine.specs.Sending.{sent, sending, chaining, has_interpreter, framed, renamed, chained, may_send}
-use Rattle.mpm_machine.specs.Serving.{aborted, aborting, aborting_this, asked, keeping, reserving, releasing, creating, parsing, served_to_all, served, with_regs, string_of, said_by, popped, is_entry, with_entry, fulfilling, answering_call, recorded, replied, completing, outcome_of, gate_step}
-use Rattle.mpm_machine.specs.Step.{unhalted, key_aborted, happened_to, event_come, interrupted}
-use Rattle.mpm_machine.proofs.WholeLaws.{keeps_call as keeps_asked_call}
+use Rattle.mpm_system.specs.declared.system.System.{System}
+use Rattle.mpm_system.specs.Whole.{IsWhole, speaking}
+use Rattle.mpm_system.specs.Calling.{Served as Attended, with_kept}
+use Rattle.mpm_system.specs.Sending.{sent, sending, chaining, has_interpreter, framed, renamed, chained, may_send}
+use Rattle.mpm_system.specs.Taking.{asked, keeping, with_regs}
+use Rattle.mpm_system.specs.Segments.{reserving, releasing}
+use Rattle.mpm_system.specs.Parsing.{parsing}
+use Rattle.mpm_system.specs.Saying.{string_of, said_by}
+use Rattle.mpm_system.specs.Answering.{popped, answering_call, recorded, replied}
+use Rattle.mpm_system.specs.Coming.{unhalted}
+use Rattle.mpm_system.proofs.WholeLaws.{keeps_call as keeps_asked_call}
+use Rattle.mpm_machine.specs.Serving.{aborted, aborting, aborting_this, creating, served_to_all, served, is_entry, with_entry, fulfilling, completing, outcome_of, gate_step}
+use Rattle.mpm_machine.specs.Step.{key_aborted, happened_to, event_come, interrupted}
 use Rattle.mpm_machine.proofs.ActedLaws.{whole_served}
 use Rattle.mpm_machine.proofs.WholeStepLaws.{whole_happened, whole_due, aborted_lives}
 use Rattle.mpm_machine.proofs.SendingLaws.{procs_after}

@@ -1,4 +1,5 @@
 -- The call in service as it is carried to its end: the turns that are left to it, its answer, the ends that are then due, and the records.
+-- the call in service, with the turns that are left to it
 use Rattle.std.proofs.Common.{◌≡◌, ◌∙◌, ℕ, ◌+◌, Bool, false, List, [], ◌++◌, Option, Some, None, refl, sym, ap, subst, arith}
 use Rattle.std.proofs.lemmas.Option.{same_Some}
 use Rattle.std.specs.Prelude.{Result, Ok, Err, IsOk, IfSome, option_map}
@@ -26,26 +27,25 @@ use Rattle.mpm_bdos.specs.Serving.{Kept as Filed, InService, StandEach, Serves, 
 use Rattle.mpm_bdos.specs.Turns.{has_work, told_images, without_work}
 use Rattle.mpm_bdos.proofs.Answerable.{still_entered}
 use Rattle.mpm_bdos.proofs.ServingLaws.{stand_at_last}
-use Rattle.mpm_machine.specs.declared.system.System.{System}
-use Rattle.mpm_machine.specs.State.{Change, IsWhole}
+use Rattle.mpm_system.specs.declared.system.System.{System}
+use Rattle.mpm_system.specs.Whole.{Change, IsWhole}
+use Rattle.mpm_system.specs.Written.{recorded_behind, records_out}
+use Rattle.mpm_system.proofs.WholeLaws.{whole_kernel}
+use Rattle.mpm_system.proofs.WrittenLaws.{recorded_after}
 use Rattle.mpm_machine.specs.After.{IsOfCall, IsToldIn, IsOverAsKept, EndKeeps}
 use Rattle.mpm_machine.specs.Files.{Files, Between, Within, StandsBetween, StandsServed, StandsForFiles, filing_in, all_left, given_back}
 use Rattle.mpm_machine.specs.Holding.{IsOwn}
 use Rattle.mpm_machine.specs.FileCalls.{concluded}
 use Rattle.mpm_machine.specs.Due.{with_ends}
-use Rattle.mpm_machine.specs.Step.{recorded_behind, records_out}
 use Rattle.mpm_machine.specs.DiskStep.{ready_again, call_over, told_of_call, all_paid}
 use Rattle.mpm_machine.specs.Failing.{Working, HaveImages}
 use Rattle.mpm_machine.specs.Settling.{turns_passed, over_at_end, ended_at_end, ended_with, files_at_end, carried_out, HasCarried, left_of, IsEndBy, WritesEndOf, StopsEndOf}
-use Rattle.mpm_machine.proofs.WholeLaws.{whole_kernel, whole_written}
+use Rattle.mpm_machine.proofs.WholeLaws.{whole_written}
 use Rattle.mpm_machine.proofs.WholeStepLaws.{whole_with_ends}
 use Rattle.mpm_machine.proofs.DiskStepLaws.{whole_all_paid}
-use Rattle.mpm_machine.proofs.RecordsLaws.{recorded_after}
 use Rattle.mpm_machine.proofs.KeepingLaws.{finishing_disk, concluded_serves, ends_serve}
 use Rattle.mpm_machine.proofs.TurnLaws.{stands_idle, paid_stands, drives_left}
 use Rattle.mpm_machine.proofs.FilesStepLaws.{over_as_before}
-
--- the call in service, with the turns that are left to it
 
 pub record InCall (files : Files) (served : Option Served) (p : ℕ) (kept : Filed) (disks : Option Disks) : Type 0 where
   pub call : Situation

@@ -1,5 +1,6 @@
 -- What a step leaves of memory: each byte of a segment that is written neither by the instruction of a process that lives there
 -- nor by the reply to a call of one, and each byte of common memory that no instruction and no reply writes.
+-- an end, and a call before its reply, change no byte
 use Rattle.std.proofs.Common.{◌≡◌, ◌≢◌, ◌∙◌, ℕ, ◌<◌, ◌≤◌, true, false, not, ◌&&◌, List, [], ◌∷◌, length, Option, Some, None, ◌==◌, inl, inr, refl, sym, ap, subst, ◌||◌}
 use Rattle.std.specs.List.{range_with_len}
 use Rattle.std.proofs.lemmas.Bool.{cases_eq, false_from_ne_true}
@@ -26,34 +27,39 @@ use Rattle.mpm_kernel.specs.Waiting.{completion_reply}
 use Rattle.mpm_kernel.proofs.SoundLaws.{runner_lives}
 use Rattle.mpm_xdos.specs.Ending.{is_home, vacated_if_empty, memory_without}
 use Rattle.mpm_xdos.specs.Aborting.{waits_to_end, target, memory_after_abort}
-use Rattle.mpm_machine.specs.declared.system.System.{System}
 use Rattle.mpm_gate.specs.declared.gate.Gate.{Gate}
 use Rattle.mpm_gate.specs.declared.gate.Gate.TheVariants.{End, Call, Return}
-use Rattle.mpm_machine.specs.State.{Change, IsWhole, speaking}
-use Rattle.mpm_machine.specs.Ending.{ended}
-use Rattle.mpm_machine.specs.Calling.{Served, asking}
-use Rattle.mpm_machine.specs.Sending.{chains}
-use Rattle.mpm_machine.specs.Loading.{is_console, ChangesOnly}
-use Rattle.mpm_machine.specs.Serving.{asked, keeping, served_to_all, served, reserving, releasing, creating, aborted, aborting_this, aborting, parsing, said_by, popped, replied, with_entry, reply_at_entry, fulfilling, recorded, answering_call, completing, returning, outcome_of, gate_step}
 use Rattle.mpm_residents.specs.declared.cli.act.Act.{Act}
 use Rattle.mpm_residents.specs.declared.cli.act.Act.TheVariants.{Ask, Place, Patch, Begin, Give}
 use Rattle.mpm_kernel.specs.Called.{low_parameter}
 use Rattle.mpm_residents.specs.Natives.{native_act, native_call, native_in}
 use Rattle.mpm_residents.specs.declared.native.Native.{Native}
 use Rattle.mpm_kernel.specs.Consoling.{abort_taken}
-use Rattle.mpm_machine.specs.Residing.{native_outcome, calling_step, tells, telling_step, handing_step, native_step, resided}
 use Rattle.mpm_interrupts.specs.Interrupts.{due_taken}
+use Rattle.mpm_kernel.specs.Kernel.{is_resident}
+use Rattle.mpm_system.specs.declared.system.System.{System}
+use Rattle.mpm_system.specs.Whole.{Change, IsWhole, speaking}
+use Rattle.mpm_system.specs.Calling.{Served, asking}
+use Rattle.mpm_system.specs.Sending.{chains}
+use Rattle.mpm_system.specs.Loading.{is_console, ChangesOnly}
+use Rattle.mpm_system.specs.Taking.{asked, keeping}
+use Rattle.mpm_system.specs.Segments.{reserving, releasing}
+use Rattle.mpm_system.specs.Parsing.{parsing}
+use Rattle.mpm_system.specs.Saying.{said_by}
+use Rattle.mpm_system.specs.Answering.{popped, replied, recorded, answering_call}
+use Rattle.mpm_system.specs.Residents.{tells, telling_step, handing_step}
+use Rattle.mpm_system.specs.Coming.{coming, counted}
+use Rattle.mpm_system.proofs.LoadingLaws.{changes_placing, changes_moving, changes_beginning}
+use Rattle.mpm_machine.specs.Ending.{ended}
+use Rattle.mpm_machine.specs.Serving.{served_to_all, served, creating, aborted, aborting_this, aborting, with_entry, reply_at_entry, fulfilling, completing, returning, outcome_of, gate_step}
+use Rattle.mpm_machine.specs.Residing.{native_outcome, calling_step, native_step, resided}
 use Rattle.mpm_machine.specs.Finishing.{finished, completion_dequeued, finishing, all_finished, command_let_in, finished_or_ended, answered_from, all_answered}
 use Rattle.mpm_machine.specs.Due.{is_due, ended_if_due, due_terminated, with_ends}
-use Rattle.mpm_machine.specs.Step.{instructed, illegal, executed, instruction_at, acted_at, gate_before, acted_by, acted, running_segment, coming, key_aborted, happened_to, event_come, interrupted, begun_by, counted}
+use Rattle.mpm_machine.specs.Step.{instructed, illegal, executed, instruction_at, acted_at, gate_before, acted_by, acted, running_segment, key_aborted, happened_to, event_come, interrupted, begun_by}
 use Rattle.mpm_machine.specs.Contained.{placed_reply, PlacesAt, WritesAt, IsWritten, IsIn, HandsAt, IsHanded, Answers, AnswersAmong, AnswersOne, AnswersFrom, AnswersAtEnd, AnswersAtEnds}
 use Rattle.mpm_machine.specs.Stepping.{begun_alone}
 use Rattle.mpm_machine.proofs.FinishLaws.{first_finished, left_completed, home_dequeued}
-use Rattle.mpm_machine.proofs.LoadingLaws.{changes_placing, changes_moving, changes_beginning}
 use Rattle.mpm_machine.proofs.WholeStepLaws.{whole_first, whole_first_answered, lives_dequeued, lives_in_time, whole_if_due, whole_due_end}
-use Rattle.mpm_kernel.specs.Kernel.{is_resident}
-
--- an end, and a call before its reply, change no byte
 
 vacated_alike : (memory : Memory) (procs : Table) (seg : Option ℕ) → SameBytes memory (vacated_if_empty memory procs seg)
 unfolding vacated_if_empty

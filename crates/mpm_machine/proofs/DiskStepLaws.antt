@@ -11,11 +11,12 @@ use Rattle.mpm_kernel.specs.Disk.{with_disk, waiting_for_disk, ready_again as ma
 use Rattle.mpm_kernel.proofs.DiskLaws.{sound_waiting_for_disk, sound_turned, sound_begun_call, sound_ready_again, over_turned}
 use Rattle.mpm_kernel.proofs.HomeLaws.{homes_stay}
 use Rattle.mpm_directories.specs.Direct.{Directly}
-use Rattle.mpm_machine.specs.declared.system.System.{System}
-use Rattle.mpm_machine.specs.State.{Change, IsWhole}
+use Rattle.mpm_system.specs.declared.system.System.{System}
+use Rattle.mpm_system.specs.Whole.{Change, IsWhole}
+use Rattle.mpm_system.proofs.WholeLaws.{whole_kernel}
 use Rattle.mpm_machine.specs.FileCalls.{concluded}
 use Rattle.mpm_machine.specs.DiskStep.{is_done_at_once, file_called, ready_again, call_over, step_passed, over_after, served_by, disk_served, owed_then, all_paid, entered_by, entered_unless, call_entered}
-use Rattle.mpm_machine.proofs.WholeLaws.{whole_kernel, whole_owed}
+use Rattle.mpm_machine.proofs.WholeLaws.{whole_owed}
 use Rattle.mpm_machine.proofs.WholeStepLaws.{whole_answered}
 use Rattle.mpm_machine.proofs.FileLaws.{whole_concluded}
 use Rattle.mpm_machine.proofs.FinishLaws.{no_completions_finished}

@@ -1,4 +1,5 @@
 -- The drives with which a machine begins, and what steps leave of them, one after another.
+-- nothing was done, or one thing after another
 use Rattle.std.proofs.Common.{◌≡◌, ◌≢◌, ◌∙◌, ℕ, List, [], ◌∷◌, Option, Some, None, IfSome, sym, ap, subst, arith, get_or-set_same, get_or-set_other}
 use Rattle.std.specs.Prelude.{option_map, slice_set}
 use Rattle.std.specs.List.{AllByRecursion}
@@ -19,8 +20,6 @@ use Rattle.mpm_bdos.proofs.AtOnceLaws.{still_there}
 use Rattle.mpm_machine.specs.Mounting.{HasMounted, IsInPlace, HasDrives, KeepsMounted}
 use Rattle.mpm_machine.proofs.FilingLaws.{label_none}
 use Rattle.mpm_machine.proofs.MountedLaws.{many_places, none_mounted}
-
--- nothing was done, or one thing after another
 
 pub keeps_still : (disks : Option Disks) (one other : List (Option Directory)) → other ≡ one → KeepsMounted disks disks one other
 keeps_still disks one other same = record { labels = λ number. ap (λ m. option_map labelled (directory_at m number)) same; beside = stays_same one disks }

@@ -1,4 +1,5 @@
 -- Ends that were put off: one after another, by slot, and none where nobody is aborted.
+-- nobody's end is due where nobody is aborted
 use Rattle.std.proofs.Common.{◌≡◌, ◌∙◌, ℕ, suc, ◌+◌, ◌-◌, ◌<◌, Bool, true, false, not, ◌&&◌, if◌then◌else◌, List, [], ◌∷◌, ◌++◌, Option, Some, None, Result, OnOk, length, refl, sym, ap, subst, append_assoc, arith}
 use Rattle.std.proofs.lemmas.Bool.{false≢true}
 use Rattle.std.proofs.lemmas.List.{append-nil}
@@ -7,21 +8,20 @@ use Rattle.mpm_base.proofs.Choices.{either}
 use Rattle.mpm_render.specs.Completions.{Completion}
 use Rattle.mpm_render.specs.Outputs.{Output}
 use Rattle.mpm_xdos.specs.Aborting.{waits_to_end}
-use Rattle.mpm_machine.specs.declared.system.System.{System}
-use Rattle.mpm_machine.specs.State.{Change, silent, HasRoomForAll, NobodyAborted}
-use Rattle.mpm_machine.specs.Ending.{ended}
 use Rattle.mpm_dispatcher.specs.Dispatch.{first_completed}
-use Rattle.mpm_machine.specs.Finishing.{all_finished, completion_dequeued, command_let_in, finished_or_ended, answered_from, all_answered}
-use Rattle.mpm_machine.specs.Due.{is_due, ended_if_due, due_terminated, all_due_terminated, is_any_aborted, noted, with_ends}
-use Rattle.mpm_machine.specs.Step.{recorded_behind, records_out}
-use Rattle.mpm_machine.specs.After.{followed}
 use Rattle.mpm_output.specs.Outside.{Outside, Device}
 use Rattle.mpm_output.specs.Writing.{Wrote, Fails, Emits}
 use Rattle.mpm_output.proofs.WritingLaws.{wrote_nothing, wrote_after, fails_before, fails_within, fails_same, emits_same, emits_after}
+use Rattle.mpm_system.specs.declared.system.System.{System}
+use Rattle.mpm_system.specs.Whole.{Change, silent, HasRoomForAll, NobodyAborted}
+use Rattle.mpm_system.specs.Deferring.{is_any_aborted, noted}
+use Rattle.mpm_system.specs.Written.{recorded_behind, records_out}
+use Rattle.mpm_machine.specs.Ending.{ended}
+use Rattle.mpm_machine.specs.Finishing.{all_finished, completion_dequeued, command_let_in, finished_or_ended, answered_from, all_answered}
+use Rattle.mpm_machine.specs.Due.{is_due, ended_if_due, due_terminated, all_due_terminated, with_ends}
+use Rattle.mpm_machine.specs.After.{followed}
 use Rattle.mpm_machine.proofs.RecordsLaws.{cleared, out_apart, terminated_beside, ends_beside}
 use Rattle.mpm_machine.proofs.FinishLaws.{completed_none, no_completions_finished}
-
--- nobody's end is due where nobody is aborted
 
 stands_still : (p : ℕ) (system : System) → NobodyAborted system.kernel → ended_if_due p system ≡ system
 unfolding ended_if_due

@@ -19,11 +19,12 @@ use Rattle.mpm_directories.specs.Places.{directory_at}
 use Rattle.mpm_bdos.specs.Jobs.{call_turns}
 use Rattle.mpm_bdos.specs.Turns.{has_work}
 use Rattle.mpm_functions.specs.declared.functions.FileFunction.{FileFunction}
-use Rattle.mpm_machine.specs.declared.system.System.{System}
+use Rattle.mpm_system.specs.declared.system.System.{System}
+use Rattle.mpm_system.specs.Whole.{IsWhole, NoCompletions, silent}
+use Rattle.mpm_system.specs.Written.{records_out}
+use Rattle.mpm_system.proofs.WrittenLaws.{recorded_after}
 use Rattle.mpm_machine.specs.Files.{Files, StandsServed, StandsForFiles, all_left, given_back}
-use Rattle.mpm_machine.specs.State.{IsWhole, NoCompletions, silent}
 use Rattle.mpm_machine.specs.Due.{NobodyDue, with_ends}
-use Rattle.mpm_machine.specs.Step.{records_out}
 use Rattle.mpm_machine.specs.Mounting.{HasNoDrive}
 use Rattle.mpm_machine.specs.Holding.{OwnsService, AreFiled}
 use Rattle.mpm_machine.specs.FileCalls.{situation_of}
@@ -31,7 +32,6 @@ use Rattle.mpm_machine.specs.Filed.{kept_paid, kept_behind}
 use Rattle.mpm_machine.specs.DiskStep.{step_passed, over_after, process_over, served_by, disk_served, all_paid, entered_by, entered_unless, call_entered}
 use Rattle.mpm_machine.specs.Stepping.{Telling, nothing_told, told_within, paid_after, entered_after, ended_after, rest_of, telling_then, files_then, files_rest}
 use Rattle.mpm_machine.specs.After.{EntersService, ServesEntered, LeavesServed, LeavesKept, HasServedTo, HasStoppedServing, HasServed, HasEndedStep, HasEndedTo, HasEndedToStop, EndKeeps}
-use Rattle.mpm_machine.proofs.RecordsLaws.{recorded_after}
 use Rattle.mpm_machine.proofs.WholeStepLaws.{whole_with_ends}
 use Rattle.mpm_machine.proofs.KeepingLaws.{ServesSame, ends_serve}
 use Rattle.mpm_machine.proofs.RestLaws.{whole_rest, none_entered_after, no_completions_rest, nobody_due_rest}

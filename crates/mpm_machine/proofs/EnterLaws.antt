@@ -1,5 +1,6 @@
 -- The disk's step as the code makes it, behind the turn of the call in service: those who ended give back, and the first that waits
 -- enters service, in the situation of that moment.
+-- where nobody is in service
 use Rattle.std.proofs.Common.{◌≡◌, ◌∙◌, ◌<◌, ◌==◌, ℕ, Bool, true, false, if◌then◌else◌, List, [], Option, Some, None, Result, Ok, Err, OnOk, is_some, option_map, IfSome, refl, sym, ap, subst, arith}
 use Rattle.std.specs.Prelude.{option_and_then}
 use Rattle.std.proofs.lemmas.Bool.{false≢true}
@@ -28,10 +29,10 @@ use Rattle.mpm_bdos.specs.Jobs.{call_turns}
 use Rattle.mpm_bdos.specs.Serving.{Kept, InService, StandEach, Serves, filing_of}
 use Rattle.mpm_bdos.specs.Starting.{caller_of}
 use Rattle.mpm_bdos.specs.Turns.{told_images}
-use Rattle.mpm_machine.specs.declared.system.System.{System}
+use Rattle.mpm_system.specs.declared.system.System.{System}
+use Rattle.mpm_system.specs.Whole.{Change, IsWhole, silent}
 use Rattle.mpm_machine.specs.Files.{Files, Between, Within, StandsBetween, StandsServed, StandsForFiles, StandsWorkedBy, StandsWorked, all_left, given_back}
 use Rattle.mpm_machine.specs.Holding.{IsOwn, OwnsService, AreFiled}
-use Rattle.mpm_machine.specs.State.{Change, IsWhole, silent}
 use Rattle.mpm_machine.specs.FileCalls.{looked_at, situation_of}
 use Rattle.mpm_machine.specs.Filed.{left_unless, kept_paid}
 use Rattle.mpm_machine.specs.DiskStep.{with_kernel, step_passed, served_by, disk_served, over_by, process_over, files_served_by, files_served, all_paid, entered_by, entered_unless, call_entered, within_call, entering_call, files_entered_by, files_entered_unless, files_entered, turns_within}
@@ -44,8 +45,6 @@ use Rattle.mpm_machine.proofs.FilingLaws.{named_by}
 use Rattle.mpm_machine.proofs.ServeLaws.{somebody, still_served}
 use Rattle.mpm_machine.proofs.TellingLaws.{any_turns, enters_for_any}
 use Rattle.mpm_machine.proofs.TurnLaws.{who, stands_idle, entered_first, paid_stands, entry_stands}
-
--- where nobody is in service
 
 pub nobody_served : (disk : DiskService) → disk.served ≡ None → served_process disk ≡ None
 unfolding served_process

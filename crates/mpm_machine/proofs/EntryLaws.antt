@@ -6,9 +6,10 @@ use Rattle.mpm_procs.specs.Table.{lives, Lives, call_of}
 use Rattle.mpm_procs.proofs.MapLaws.{lives_changed, call_after}
 use Rattle.mpm_kernel.specs.Kernel.{Kernel}
 use Rattle.mpm_xdos.specs.Procedures.{entered}
-use Rattle.mpm_machine.specs.declared.system.System.{System}
-use Rattle.mpm_machine.specs.State.{HasRoom}
-use Rattle.mpm_machine.specs.Serving.{is_entry, with_entry, reply_at_entry, fulfilling, answering_call}
+use Rattle.mpm_system.specs.declared.system.System.{System}
+use Rattle.mpm_system.specs.Whole.{HasRoom}
+use Rattle.mpm_system.specs.Answering.{answering_call}
+use Rattle.mpm_machine.specs.Serving.{is_entry, with_entry, reply_at_entry, fulfilling}
 
 pub lives_entered : (p q : ℕ) (kernel : Kernel) → lives (entered p kernel).dispatcher.procs q ≡ lives kernel.dispatcher.procs q
 unfolding entered

@@ -18,13 +18,16 @@ use Rattle.mpm_output.specs.Writing.{Wrote, Fails}
 use Rattle.mpm_output.specs.Texts.{error_text}
 use Rattle.mpm_functions.specs.declared.refusals.Extended.{Extended}
 use Rattle.mpm_directories.specs.Direct.{CallerChange, Stays, Selects, Resets, Directly}
-use Rattle.mpm_machine.specs.declared.system.System.{System}
-use Rattle.mpm_machine.specs.State.{Change, IsWhole, HasRoom, speaking}
-use Rattle.mpm_machine.specs.Serving.{asked, keeping, popped}
-use Rattle.mpm_machine.specs.Residing.{asked_by}
-use Rattle.mpm_machine.specs.Step.{counted}
-use Rattle.mpm_machine.specs.FileCalls.{made_by, call_made, first_dma, with_caller, reply_by, file_replied, error_told, answered_or_ended, told_then, error_met, answered_by, concluded}
-use Rattle.mpm_machine.proofs.WholeLaws.{StaysWhole, whole_speaking, whole_ended, whole_popped, whole_replied, whole_residents, keeps_call, keeps_asked, whole_changed}
+use Rattle.mpm_system.specs.declared.system.System.{System}
+use Rattle.mpm_system.specs.Whole.{Change, IsWhole, HasRoom, speaking}
+use Rattle.mpm_system.specs.Taking.{asked, keeping}
+use Rattle.mpm_system.specs.Answering.{popped}
+use Rattle.mpm_system.specs.Residents.{asked_by}
+use Rattle.mpm_system.specs.Coming.{counted}
+use Rattle.mpm_system.specs.FileCalling.{made_by, call_made, first_dma, with_caller, reply_by, file_replied, error_told}
+use Rattle.mpm_system.proofs.WholeLaws.{StaysWhole, whole_residents, keeps_call, keeps_asked, whole_changed}
+use Rattle.mpm_machine.specs.FileCalls.{answered_or_ended, told_then, error_met, answered_by, concluded}
+use Rattle.mpm_machine.proofs.WholeLaws.{whole_speaking, whole_ended, whole_popped, whole_replied}
 use Rattle.mpm_machine.proofs.WholeStepLaws.{whole_counted}
 
 -- the call is made

@@ -1,4 +1,5 @@
 -- A step by what a file call comes to, if one is made in it: when none is, and what is so behind it.
+-- none is made where no process runs, or the one that runs is at no gate
 use Rattle.std.proofs.Common.{◌≡◌, ◌∙◌, ℕ, ◌+◌, ◌≤◌, Bool, true, false, not, ◌&&◌, ◌==◌, [], Option, Some, None, is_some, if◌then◌else◌, length, refl, sym, ap, subst, arith}
 use Rattle.mpm_base.proofs.Choices.{either}
 use Rattle.mpm_base.specs.Calls.{Answer}
@@ -13,13 +14,16 @@ use Rattle.mpm_residents.specs.Natives.{native_in}
 use Rattle.mpm_functions.specs.declared.refusals.Extended.{Extended}
 use Rattle.mpm_directories.specs.Direct.{CallerChange, Stays, Selects, Resets, Directly}
 use Rattle.mpm_bdos.specs.Serving.{Kept, StandForSome}
-use Rattle.mpm_machine.specs.declared.system.System.{System}
-use Rattle.mpm_machine.specs.State.{Change, IsWhole, NoCompletions, HasRoomForAll, speaking}
+use Rattle.mpm_system.specs.declared.system.System.{System}
+use Rattle.mpm_system.specs.Whole.{Change, IsWhole, NoCompletions, HasRoomForAll, speaking}
+use Rattle.mpm_system.specs.Taking.{keeping}
+use Rattle.mpm_system.specs.Answering.{popped}
+use Rattle.mpm_system.specs.Residents.{asked_by}
+use Rattle.mpm_system.specs.Coming.{coming, counted}
+use Rattle.mpm_system.specs.FileCalling.{made_by, call_made, with_caller, reply_by, file_replied, error_told}
 use Rattle.mpm_machine.specs.Ending.{ended}
-use Rattle.mpm_machine.specs.Serving.{keeping, popped}
-use Rattle.mpm_machine.specs.Residing.{asked_by}
-use Rattle.mpm_machine.specs.Step.{gate_before, coming, counted}
-use Rattle.mpm_machine.specs.FileCalls.{at_gate, is_of_files, is_file_number, file_caller_by, file_caller, made_by, call_made, with_caller, reply_by, file_replied, error_told, told_then, error_met, answered_by, concluded}
+use Rattle.mpm_machine.specs.Step.{gate_before}
+use Rattle.mpm_machine.specs.FileCalls.{at_gate, is_of_files, is_file_number, file_caller_by, file_caller, told_then, error_met, answered_by, concluded}
 use Rattle.mpm_machine.specs.DiskStep.{is_done_at_once, file_called, ready_again, step_passed, call_over, over_after, served_by, disk_served, process_over, all_paid, entered_by, entered_unless, call_entered}
 use Rattle.mpm_machine.specs.Stepping.{Telling, begun_with, begun_as, is_instruction, paid_after, entered_after, ended_after, rest_of, step_with, nothing_told}
 use Rattle.mpm_machine.specs.After.{IsOfCall, made_in, IsStep, IsToldIn, IsAsKept, IsOverAsKept, EntersFor, IsMade, IsMadeUpon}
@@ -31,8 +35,6 @@ use Rattle.mpm_machine.proofs.FiledValue.{filed_by_value, over_by_value, enters_
 use Rattle.mpm_machine.proofs.TellingLaws.{any_turns, enters_for_any}
 use Rattle.mpm_machine.proofs.PassingLaws.{Passes, nobody_over, nobody_starts}
 use Rattle.mpm_machine.proofs.PlainLaws.{rest_keeps}
-
--- none is made where no process runs, or the one that runs is at no gate
 
 pub nobody_calls : (system : System) → system.kernel.dispatcher.running ≡ None → file_caller system ≡ None
 unfolding file_caller

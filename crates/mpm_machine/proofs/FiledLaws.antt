@@ -25,14 +25,16 @@ use Rattle.mpm_residents.specs.Natives.{native_in}
 use Rattle.mpm_output.specs.Texts.{error_text}
 use Rattle.mpm_functions.specs.declared.refusals.Extended.{Extended}
 use Rattle.mpm_directories.specs.Direct.{CallerChange, Stays, Selects, Resets, Directly}
-use Rattle.mpm_machine.specs.declared.system.System.{System}
-use Rattle.mpm_machine.specs.State.{Change, IsWhole, speaking}
+use Rattle.mpm_system.specs.declared.system.System.{System}
+use Rattle.mpm_system.specs.Whole.{Change, IsWhole, speaking}
+use Rattle.mpm_system.specs.Taking.{keeping}
+use Rattle.mpm_system.specs.Answering.{popped, answering_call, recorded, replied}
+use Rattle.mpm_system.specs.Residents.{asked_by}
+use Rattle.mpm_system.specs.Coming.{coming, counted}
+use Rattle.mpm_system.specs.FileCalling.{made_by, call_made, first_dma, with_caller, reply_by, file_replied, error_told}
 use Rattle.mpm_machine.specs.Ending.{ended}
-use Rattle.mpm_machine.specs.Serving.{keeping, popped, answering_call, recorded, replied}
-use Rattle.mpm_machine.specs.Residing.{asked_by}
-use Rattle.mpm_machine.specs.Step.{coming, counted}
 use Rattle.mpm_machine.specs.Finishing.{all_answered}
-use Rattle.mpm_machine.specs.FileCalls.{made_by, call_made, calls_files, file_caller_by, file_caller, first_dma, with_caller, reply_by, file_replied, error_told, told_then, error_met, answered_by, concluded}
+use Rattle.mpm_machine.specs.FileCalls.{calls_files, file_caller_by, file_caller, told_then, error_met, answered_by, concluded}
 use Rattle.mpm_machine.specs.DiskStep.{is_done_at_once, file_called, ready_again, step_passed, call_over, over_after, served_by, disk_served, over_by, process_over, all_paid, entered_by, entered_unless, call_entered}
 use Rattle.mpm_machine.specs.Stepping.{Telling, begun_alone, begun_with, begun_as, paid_after, entered_after, ended_after, rest_of, step_with}
 use Rattle.mpm_machine.specs.Contained.{is_answered, IsFiled, AnswersOne, IsWrittenBy, IsOverBy, IsAnsweredIn, IsContainedBy}

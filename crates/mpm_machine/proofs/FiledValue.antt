@@ -9,7 +9,7 @@ use Rattle.mpm_functions.specs.Functions.{function_of, direct_of}
 use Rattle.mpm_requests.specs.Filing.{Filing}
 use Rattle.mpm_functions.specs.declared.refusals.Extended.{Extended}
 use Rattle.mpm_directories.specs.Direct.{Directly}
-use Rattle.mpm_machine.specs.declared.system.System.{System}
+use Rattle.mpm_system.specs.declared.system.System.{System}
 use Rattle.mpm_machine.specs.FileCalls.{situation_of, MayTell, IsToldOf, outcome_by, outcome_in}
 use Rattle.mpm_machine.specs.DiskStep.{told_of_call}
 use Rattle.mpm_machine.specs.After.{IsToldIn, IsFiledByValue, IsOverByValue, EntersByValue}

@@ -22,13 +22,14 @@ use Rattle.mpm_bdos.specs.Serving.{Kept, StandForSome, Serves}
 use Rattle.mpm_directories.specs.Places.{directory_at, kind_at}
 use Rattle.mpm_bdos.specs.Turns.{TurnKeeps, has_work, labelled}
 use Rattle.mpm_bdos.proofs.NextTurns.{idle_work}
-use Rattle.mpm_machine.specs.declared.system.System.{System}
+use Rattle.mpm_system.specs.declared.system.System.{System}
+use Rattle.mpm_system.specs.Whole.{Change, IsWhole, NoCompletions, silent}
+use Rattle.mpm_system.specs.FileCalling.{call_made}
 use Rattle.mpm_machine.specs.declared.machine.StepFault.{StepFault}
 use Rattle.mpm_machine.specs.declared.machine.StepFault.TheVariants.{DiskFault, WriteFault}
 use Rattle.mpm_machine.specs.Files.{Files, StandsForFiles, drives_in}
-use Rattle.mpm_machine.specs.State.{Change, IsWhole, NoCompletions, silent}
 use Rattle.mpm_machine.specs.Faults.{OnDiskFault}
-use Rattle.mpm_machine.specs.FileCalls.{file_caller, call_made, told_of, ComesWithoutJob, EndsWithoutJob, TellsAsKept, IsToldAsKept}
+use Rattle.mpm_machine.specs.FileCalls.{file_caller, told_of, ComesWithoutJob, EndsWithoutJob, TellsAsKept, IsToldAsKept}
 use Rattle.mpm_machine.specs.DiskStep.{over_by, process_over}
 use Rattle.mpm_machine.specs.Failing.{does_work, works_at_once, works_in_turn}
 use Rattle.mpm_machine.specs.Stepping.{Telling, begun_as, is_instruction, paid_after, entered_after, ended_after, rest_of, step_with, nothing_told, told_first, files_begun, before_disk, telling_then, telling_of, files_rest, stepped}

@@ -1,4 +1,5 @@
 -- A file call in a step: what becomes of its caller, what it comes to, and what those leave who end in the step.
+-- a row of a table of numbers
 use Rattle.std.proofs.Common.{◌≡◌, ◌∙◌, ℕ, suc, ◌+◌, ◌-◌, ◌<◌, ◌==◌, ◌&&◌, Bool, true, false, List, [], ◌∷◌, Option, Some, None, IsSome, IfSome, Result, Ok, Err, IsOk, OnErr, IfOk, if◌then◌else◌, refl, ap, sym, subst, arith, eqb-true}
 use Rattle.std.proofs.lemmas.Bool.{false≢true}
 use Rattle.std.specs.Prelude.{is_none, find, option_map}
@@ -33,15 +34,14 @@ use Rattle.mpm_bdos.specs.Answering.{HasEntered}
 use Rattle.mpm_bdos.specs.Starting.{caller_of, entering as entering_here}
 use Rattle.mpm_bdos.specs.Turns.{KeepsUnsynced, labelled, told_images}
 use Rattle.mpm_base.specs.declared.kind.Kind.{Kind}
-use Rattle.mpm_machine.specs.declared.system.System.{System}
 use Rattle.mpm_mount.specs.Directories.{Directory}
+use Rattle.mpm_system.specs.declared.system.System.{System}
+use Rattle.mpm_system.specs.FileCalling.{change_of}
 use Rattle.mpm_machine.specs.Files.{StandsBetween, left_each, owes, all_left}
 use Rattle.mpm_machine.specs.Mounting.{HasNoDrive}
 use Rattle.mpm_machine.specs.After.{HasJob}
 use Rattle.mpm_machine.specs.Filed.{IsOutcome, left_if}
-use Rattle.mpm_machine.specs.FileCalls.{looked_at, entering, situation_of, outcome_by, outcome_in, change_of, told_by, told_of, ComesWithoutJob, TellsAsKept, IsToldAsKept}
-
--- a row of a table of numbers
+use Rattle.mpm_machine.specs.FileCalls.{looked_at, entering, situation_of, outcome_by, outcome_in, told_by, told_of, ComesWithoutJob, TellsAsKept, IsToldAsKept}
 
 row_by : {X : Type 0} (P : ℕ → X → Type 0) (row : ℕ × X) (rest : Option (ℕ × X)) (number : ℕ) (x : X) (b : Bool) → (row.0 == number) ≡ b → P row.0 row.1
     → (option_map (λ r. r.1) rest ≡ Some x → P number x) → option_map (λ r. r.1) (if b then Some row else rest) ≡ Some x → P number x

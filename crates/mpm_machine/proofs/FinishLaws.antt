@@ -10,11 +10,12 @@ use Rattle.mpm_kernel.specs.Completion.{completion_of}
 use Rattle.mpm_kernel.specs.Waiting.{completion_reply}
 use Rattle.mpm_kernel.specs.Events.{with_first, handed_out}
 use Rattle.mpm_kernel.proofs.HomeLaws.{lives_handed_out, call_handed_out, seg_handed_out, completed_handed_out}
-use Rattle.mpm_machine.specs.declared.system.System.{System}
-use Rattle.mpm_machine.specs.State.{most_records, HasRoom, HasRoomForAll}
+use Rattle.mpm_system.specs.declared.system.System.{System}
+use Rattle.mpm_system.specs.Whole.{most_records, HasRoom, HasRoomForAll}
+use Rattle.mpm_system.specs.Sending.{chains}
+use Rattle.mpm_system.specs.Answering.{completion, recorded, answering_call, replied}
 use Rattle.mpm_machine.specs.Ending.{ended}
-use Rattle.mpm_machine.specs.Sending.{chains}
-use Rattle.mpm_machine.specs.Serving.{completion, recorded, is_entry, with_entry, reply_at_entry, fulfilling, answering_call, replied}
+use Rattle.mpm_machine.specs.Serving.{is_entry, with_entry, reply_at_entry, fulfilling}
 use Rattle.mpm_machine.specs.Finishing.{finished, completion_dequeued, finishing, all_finished, command_let_in, finished_or_ended, answered_from, all_answered}
 use Rattle.mpm_machine.proofs.EntryLaws.{completed_entered}
 

@@ -23,6 +23,10 @@ use Rattle.mpm_kernel.specs.Kernel.{Kernel, is_aborted}
 use Rattle.mpm_procs.specs.Table.{lives, Lives, process_in}
 use Rattle.mpm_script.specs.declared.event.Event.{Event}
 use Rattle.mpm_service.specs.Places.{at_disk}
+use Rattle.mpm_system.specs.Sending.{chains, is_command}
+use Rattle.mpm_system.specs.Whole.{IsWhole}
+use Rattle.mpm_system.specs.Coming.{unhalted}
+use Rattle.mpm_system.specs.declared.system.System.{System}
 use Rattle.mpm_machine.proofs.FinishLaws.{first_finished, left_completed}
 use Rattle.mpm_machine.proofs.GoingOn.{not_chaining}
 use Rattle.mpm_machine.proofs.GoingOwn.{same_interpreter, goes_acted}
@@ -35,10 +39,7 @@ use Rattle.mpm_machine.specs.Due.{due_terminated, ended_if_due, is_due, with_end
 use Rattle.mpm_machine.specs.Ending.{ended}
 use Rattle.mpm_machine.specs.Finishing.{all_answered, all_finished, answered_from, command_let_in, completion_dequeued, finished, finished_or_ended, finishing}
 use Rattle.mpm_machine.specs.Interpreting.{Interprets, IsActing, is_reading, awaited}
-use Rattle.mpm_machine.specs.Sending.{chains, is_command}
-use Rattle.mpm_machine.specs.State.{IsWhole}
-use Rattle.mpm_machine.specs.Step.{begun_by, event_come, happened_to, interrupted, key_aborted, unhalted}
-use Rattle.mpm_machine.specs.declared.system.System.{System}
+use Rattle.mpm_machine.specs.Step.{begun_by, event_come, happened_to, interrupted, key_aborted}
 
 -- slot 0 awaits no answer, and what it does doesn't go by one that reserves
 pub record IsHandedOut (system : System) (i : Interprets system) : Type 0 where

@@ -13,6 +13,8 @@ use Rattle.mpm_service.specs.Disk.{DiskService, served_process, turned, answer_b
 use Rattle.mpm_service.specs.declared.service.Served.{Served}
 use Rattle.mpm_service.specs.declared.service.Turn.{Turn}
 use Rattle.mpm_service.specs.declared.service.Turn.TheVariants.{Idle, Passing, Work, Starts}
+use Rattle.mpm_system.specs.Whole.{IsWhole}
+use Rattle.mpm_system.specs.declared.system.System.{System}
 use Rattle.mpm_machine.proofs.DiskStepLaws.{whole_passed, whole_ready_again}
 use Rattle.mpm_machine.proofs.FileLaws.{whole_concluded}
 use Rattle.mpm_machine.proofs.GoingAnswers.{goes_all_finished}
@@ -21,9 +23,7 @@ use Rattle.mpm_machine.proofs.GoingParts.{goes_kernel, goes_same}
 use Rattle.mpm_machine.specs.DiskStep.{ready_again, call_over, step_passed, over_after, served_by, disk_served, all_paid, entered_by, entered_unless, call_entered}
 use Rattle.mpm_machine.specs.FileCalls.{concluded}
 use Rattle.mpm_machine.specs.Interpreting.{Interprets}
-use Rattle.mpm_machine.specs.State.{IsWhole}
 use Rattle.mpm_machine.specs.Stepping.{Telling, paid_after, entered_after}
-use Rattle.mpm_machine.specs.declared.system.System.{System}
 
 -- no turn ends where no call is in service
 never_by : (turn_steps q : ℕ) (served : Option Served) (first : Option ℕ) → option_map (λ call. call.p) served ≡ None → answer_by turn_steps served first ≡ Work q true → ⊥

@@ -1,5 +1,6 @@
 -- The command line interpreter makes a file call, which is done at once, or waits for the disk, is served, and is over in a later step:
 -- while it is at the disk, the interpreter's row is one that makes such a call, and behind it the interpreter awaits nothing.
+-- a row that makes a call on files neither reserves nor reads a command
 use Rattle.std.proofs.Common.{ℕ, zero, suc, ◌≡◌, ◌≢◌, ◌∙◌, ◌==◌, ◌<◌, ◌||◌, if◌then◌else◌, Bool, true, false, Option, Some, None, inl, inr, refl, sym, ap, subst, arith}
 use Rattle.std.proofs.lemmas.Bool.{false≢true, cases_lt, eq-eqb}
 use Rattle.std.specs.Option.{option_map}
@@ -27,6 +28,13 @@ use Rattle.mpm_service.proofs.PlaceLaws.{at_entered_other, at_last}
 use Rattle.mpm_service.specs.Disk.{DiskService, entered, turned, turn_answer}
 use Rattle.mpm_service.specs.Places.{at_disk}
 use Rattle.mpm_service.specs.declared.service.Turn.TheVariants.{Work}
+use Rattle.mpm_kernel.specs.Columns.{spoke}
+use Rattle.mpm_system.specs.FileCalling.{call_made, error_told, file_replied, first_dma, made_by, reply_by, with_caller}
+use Rattle.mpm_system.specs.Residents.{asked_by}
+use Rattle.mpm_system.specs.Taking.{asked, keeping}
+use Rattle.mpm_system.specs.Whole.{Change, IsWhole, speaking}
+use Rattle.mpm_system.specs.Coming.{counted}
+use Rattle.mpm_system.specs.declared.system.System.{System}
 use Rattle.mpm_machine.proofs.FileLaws.{whole_caller, whole_told}
 use Rattle.mpm_machine.proofs.GoingOn.{another, own_call, acts_with}
 use Rattle.mpm_machine.proofs.GoingOwn.{same_interpreter, mild_next, nothing_left}
@@ -34,16 +42,8 @@ use Rattle.mpm_machine.proofs.GoingParts.{same_place, still_awaits, goes_answeri
 use Rattle.mpm_machine.proofs.OwnLaws.{AwaitsNothing, awaits_less, is_reserving, interprets_taken, interprets_another}
 use Rattle.mpm_machine.proofs.WholeStepLaws.{whole_counted}
 use Rattle.mpm_machine.specs.DiskStep.{file_called, is_done_at_once, ready_again, step_passed}
-use Rattle.mpm_machine.specs.FileCalls.{answered_by, call_made, concluded, error_met, error_told, file_replied, first_dma, made_by, reply_by, told_then, with_caller, is_of_files, called_next, is_file_number, calls_files}
+use Rattle.mpm_machine.specs.FileCalls.{answered_by, concluded, error_met, told_then, is_of_files, called_next, is_file_number, calls_files}
 use Rattle.mpm_machine.specs.Interpreting.{Interprets, IsActing, is_reading, awaited}
-use Rattle.mpm_machine.specs.Residing.{asked_by}
-use Rattle.mpm_machine.specs.Serving.{asked, keeping}
-use Rattle.mpm_machine.specs.State.{Change, IsWhole, speaking}
-use Rattle.mpm_machine.specs.Step.{counted}
-use Rattle.mpm_machine.specs.declared.system.System.{System}
-use Rattle.mpm_kernel.specs.Columns.{spoke}
-
--- a row that makes a call on files neither reserves nor reads a command
 
 no_files_there : (row : Row) (cli : Interpreter) → is_of_files (call_at row cli).function ≡ true → (is_reserving row ≡ false) × (is_reading row ≡ false)
 unfolding is_of_files Rattle.mpm_functions.specs.Functions.function_of Rattle.mpm_functions.specs.Functions.direct_of

@@ -16,11 +16,11 @@ use Rattle.mpm_procs.specs.declared.process.Process.{Process}
 use Rattle.mpm_residents.specs.Natives.{native_in, native_took, answer_taken, interprets, interprets_if_there}
 use Rattle.mpm_residents.specs.declared.native.Native.{Native}
 use Rattle.mpm_residents.specs.declared.native.Native.TheVariants.{Tmp, Cli}
-use Rattle.mpm_machine.specs.Calling.{asking}
+use Rattle.mpm_system.specs.Calling.{asking}
+use Rattle.mpm_system.specs.Sending.{chains}
+use Rattle.mpm_system.specs.Whole.{IsWhole}
+use Rattle.mpm_system.specs.declared.system.System.{System}
 use Rattle.mpm_machine.specs.Interpreting.{sets_or_chains, IsActing}
-use Rattle.mpm_machine.specs.Sending.{chains}
-use Rattle.mpm_machine.specs.State.{IsWhole}
-use Rattle.mpm_machine.specs.declared.system.System.{System}
 
 -- what leaves slot 0, the consoles and the residents as they are, leaves it
 unfoldable pub acts_with : (old new : System) → new.residents ≡ old.residents → StaysBeside 0 old.kernel.dispatcher.procs new.kernel.dispatcher.procs

@@ -2,6 +2,7 @@
 use Rattle.std.proofs.Common.{ℕ, [], ◌≡◌, ◌≢◌, ◌∙◌, ◌==◌, ◌&&◌, not, Bool, true, false, List, ◌∷◌, length, Option, Some, None, refl, sym, ap, subst, arith}
 use Rattle.std.specs.Prelude.{◌<◌, if◌then◌else◌}
 use Rattle.std.proofs.lemmas.Bool.{false≢true, and_parts}
+use Rattle.std.proofs.lemmas.Bool.Decides.{nat_tests}
 use Rattle.mpm_base.proofs.Choices.{either}
 use Rattle.mpm_base.specs.Calls.{Taken, Answer, answering}
 use Rattle.mpm_base.specs.declared.call.Outcome.{Outcome as Ended_how}
@@ -29,17 +30,6 @@ use Rattle.mpm_procs.specs.declared.process.Process.{Process}
 use Rattle.mpm_residents.specs.Natives.{native_in, native_call, interprets_if_there}
 use Rattle.mpm_residents.specs.declared.native.Native.{Native}
 use Rattle.mpm_residents.specs.declared.native.Native.TheVariants.{Tmp, Cli}
-use Rattle.mpm_machine.proofs.ActedLaws.{whole_to_all}
-use Rattle.mpm_machine.proofs.WholeLaws.{keeps_asked}
-use Rattle.mpm_machine.specs.Calling.{Served, asking, calling}
-use Rattle.mpm_machine.specs.Interpreting.{sets_or_chains, is_reading, awaited, Interprets}
-use Rattle.mpm_machine.specs.Loading.{may_move, moved, is_console, may_live, begins, begun_for, handed_over}
-use Rattle.mpm_machine.specs.Residing.{taking, calling_step, handing_step, native_outcome, native_step, resided, telling_step, tells, text_told}
-use Rattle.mpm_machine.specs.Serving.{reserve_reply, releasing, reserving, said_by, served_to_all}
-use Rattle.mpm_machine.specs.State.{Change, IsWhole, speaking}
-use Rattle.mpm_machine.specs.Step.{acted, acted_by, gate_before, running_segment}
-use Rattle.mpm_machine.specs.declared.system.System.{System}
-use Rattle.std.proofs.lemmas.Bool.Decides.{nat_tests}
 use Rattle.mpm_base.specs.declared.functions.TheConstants.{PRINT_STRING, READ_QUEUE, OPEN_QUEUE, CONDITIONAL_WRITE_QUEUE, SET_GET_USER_CODE, OPEN_FILE, CLOSE_FILE, READ_SEQUENTIAL, COMPUTE_FILE_SIZE}
 use Rattle.mpm_banks.specs.Memory.{Memory, HasSegment, segment_of, with_bytes}
 use Rattle.mpm_banks.specs.Ranges.{range_of, range_bytes}
@@ -63,12 +53,26 @@ use Rattle.mpm_gate.specs.Gates.{IsHome}
 use Rattle.mpm_queues.specs.Handling.{write_outcome}
 use Rattle.mpm_queues.specs.declared.queues.QueueOutcome.{QueueOutcome}
 use Rattle.mpm_queues.specs.declared.queues.QueueOutcome.TheVariants.{Done as Passed, NotNow}
+use Rattle.mpm_system.proofs.WholeLaws.{keeps_asked}
+use Rattle.mpm_system.specs.Calling.{Served, asking, calling}
+use Rattle.mpm_system.specs.Loading.{may_move, moved, is_console, may_live, begins, begun_for, handed_over}
+use Rattle.mpm_system.specs.Residents.{taking, handing_step, telling_step, tells, text_told}
+use Rattle.mpm_system.specs.Segments.{reserve_reply, releasing, reserving}
+use Rattle.mpm_system.specs.Saying.{said_by}
+use Rattle.mpm_system.specs.Whole.{Change, IsWhole, speaking}
+use Rattle.mpm_system.specs.declared.system.System.{System}
+use Rattle.mpm_system.proofs.SizeLaws.{sizes_with_bytes}
+use Rattle.mpm_system.proofs.HomeLaws.{keeps_same, keeps_both, keeps_released, keeps_occupied}
+use Rattle.mpm_system.proofs.PlacedLaws.{given_disk}
+use Rattle.mpm_machine.proofs.ActedLaws.{whole_to_all}
+use Rattle.mpm_machine.specs.Interpreting.{sets_or_chains, is_reading, awaited, Interprets}
+use Rattle.mpm_machine.specs.Residing.{calling_step, native_outcome, native_step, resided}
+use Rattle.mpm_machine.specs.Serving.{served_to_all}
+use Rattle.mpm_machine.specs.Step.{acted, acted_by, gate_before, running_segment}
 use Rattle.mpm_machine.proofs.GoingOn.{acts_with, acts_took, another, own_call}
 use Rattle.mpm_machine.proofs.GoingParts.{same_place, goes_at_gate, goes_said, goes_spoke, goes_taking, goes_to_all, goes_ended, own_asked, others_call}
-use Rattle.mpm_machine.proofs.SizeLaws.{sizes_with_bytes}
-use Rattle.mpm_machine.proofs.HomeLaws.{keeps_same, keeps_both, keeps_released, keeps_occupied}
 use Rattle.mpm_machine.proofs.InterpretingLaws.{no_terminal, same_resident}
-use Rattle.mpm_machine.proofs.KeepingLaws.{given_disk, begun_for_disk}
+use Rattle.mpm_machine.proofs.KeepingLaws.{begun_for_disk}
 use Rattle.mpm_machine.proofs.OwnLaws.{KeepsOwn, AwaitsNothing, awaits_now, own_itself, own_same, is_reserving, interprets_with, interprets_taken, interprets_reserved, awaits_less}
 
 -- the interpreter is the one that acts in slot 0

@@ -1,6 +1,10 @@
 -- The command line interpreter goes on: through each part of what another process does it acts in slot 0 with the segment that it has
 -- reserved, and awaits what it awaited.
+-- laws of parts
 use Rattle.std.proofs.Common.{ℕ, ◌≡◌, ◌≢◌, ◌∙◌, zero, suc, ◌==◌, ◌&&◌, not, Bool, true, false, List, length, Option, Some, None, refl, sym, ap, subst, arith}
+use Rattle.std.specs.Prelude.{nat_lt}
+use Rattle.std.proofs.lemmas.Bool.{and_parts}
+use Rattle.std.proofs.lemmas.Bool.Decides.{nat_tests}
 use Rattle.mpm_base.proofs.Choices.{either}
 use Rattle.mpm_base.specs.Lists.{in_width}
 use Rattle.mpm_base.specs.Calls.{Taken, Answer}
@@ -31,20 +35,6 @@ use Rattle.mpm_xdos.specs.Procedures.{entered, entering, leaving, returned_from_
 use Rattle.z80_ext.specs.Instruction.{registers_after, actions_of}
 use Rattle.z80_regs.specs.Outcome.{Outcome}
 use Rattle.z80_regs.specs.declared.regs.Regs.{Regs}
-use Rattle.mpm_machine.proofs.ActedLaws.{whole_served}
-use Rattle.mpm_machine.proofs.WholeLaws.{aborted_by, aborted_is, ends_at_once, keeps_asked, keeps_call, whole_calling, whole_speaking}
-use Rattle.mpm_machine.specs.Calling.{Served, asking, calling, served_by}
-use Rattle.mpm_machine.specs.Ending.{ended}
-use Rattle.mpm_machine.specs.Interpreting.{sets_or_chains, Interprets}
-use Rattle.mpm_machine.specs.Residing.{taking}
-use Rattle.mpm_machine.specs.Sending.{framed, passed, passed_after, console_sent, may_pass, sent, may_send, sending, chaining, chained, has_interpreter}
-use Rattle.mpm_machine.specs.Serving.{asked, aborted, aborting, aborting_this, answering_call, completing, creating, fulfilling, gate_step, is_entry, keeping, outcome_of, parsing, popped, recorded, releasing, replied, reply_at_entry, reserving, returning, said_by, served, served_to_all, string_of, with_entry}
-use Rattle.mpm_machine.specs.State.{IsWhole, speaking}
-use Rattle.mpm_machine.specs.Step.{acted_at, executed, illegal, instructed, instruction_at}
-use Rattle.mpm_machine.specs.declared.system.System.{System}
-use Rattle.std.specs.Prelude.{nat_lt}
-use Rattle.std.proofs.lemmas.Bool.{and_parts}
-use Rattle.std.proofs.lemmas.Bool.Decides.{nat_tests}
 use Rattle.mpm_banks.proofs.ActionLaws.{same_segments_after}
 use Rattle.mpm_gate.proofs.ReplyLaws.{placed_segments}
 use Rattle.mpm_ready.specs.Order.{Member}
@@ -56,11 +46,27 @@ use Rattle.mpm_kernel.specs.Calls.{called}
 use Rattle.mpm_kernel.proofs.DiskStays.{disk_called, disk_discharged, disk_given_back}
 use Rattle.mpm_kernel.proofs.AwaitingCalls.{awaits_called}
 use Rattle.mpm_kernel.proofs.AwaitingEnds.{awaits_discharged, awaits_gave, awaits_given_back}
+use Rattle.mpm_system.proofs.WholeLaws.{keeps_asked, keeps_call, whole_calling}
+use Rattle.mpm_system.specs.Calling.{Served, asking, calling, served_by}
+use Rattle.mpm_system.specs.Residents.{taking}
+use Rattle.mpm_system.specs.Sending.{framed, passed, passed_after, console_sent, may_pass, sent, may_send, sending, chaining, chained, has_interpreter}
+use Rattle.mpm_system.specs.Taking.{asked, keeping}
+use Rattle.mpm_system.specs.Answering.{answering_call, popped, recorded, replied}
+use Rattle.mpm_system.specs.Parsing.{parsing}
+use Rattle.mpm_system.specs.Segments.{releasing, reserving}
+use Rattle.mpm_system.specs.Saying.{said_by, string_of}
+use Rattle.mpm_system.specs.Whole.{IsWhole, speaking}
+use Rattle.mpm_system.specs.declared.system.System.{System}
+use Rattle.mpm_system.proofs.PlacedLaws.{given_disk}
+use Rattle.mpm_machine.proofs.ActedLaws.{whole_served}
+use Rattle.mpm_machine.proofs.WholeLaws.{aborted_by, aborted_is, ends_at_once, whole_speaking}
+use Rattle.mpm_machine.specs.Ending.{ended}
+use Rattle.mpm_machine.specs.Interpreting.{sets_or_chains, Interprets}
+use Rattle.mpm_machine.specs.Serving.{aborted, aborting, aborting_this, completing, creating, fulfilling, gate_step, is_entry, outcome_of, reply_at_entry, returning, served, served_to_all, with_entry}
+use Rattle.mpm_machine.specs.Step.{acted_at, executed, illegal, instructed, instruction_at}
 use Rattle.mpm_machine.proofs.GoingOn.{own_call, not_resident}
-use Rattle.mpm_machine.proofs.KeepingLaws.{created_disk, given_disk}
+use Rattle.mpm_machine.proofs.KeepingLaws.{created_disk}
 use Rattle.mpm_machine.proofs.OwnLaws.{KeepsOwn, AwaitsNothing, awaits_now, own_itself, own_same, own_reserved, own_released, own_without, interprets_with, interprets_another}
-
--- laws of parts
 
 unchanged : (old new : System) → new.memory ≡ old.memory → KeepsOwn old.memory new.memory
 unchanged old new same = subst (KeepsOwn old.memory) (sym same) (own_itself old.memory)

@@ -1,4 +1,5 @@
 -- The command line interpreter goes on with the segment that it has reserved in every step, and in a run of them.
+-- what it begins with
 use Rattle.std.proofs.Common.{ℕ, zero, suc, ◌≡◌, ◌&&◌, not, Bool, true, Option, Some, None, IfSome, refl, sym, subst}
 use Rattle.std.specs.Prelude.{is_some}
 use Rattle.std.proofs.lemmas.Bool.{and_parts}
@@ -7,6 +8,11 @@ use Rattle.mpm_directories.specs.Direct.{Directly}
 use Rattle.mpm_dispatcher.specs.Dispatch.{IsReady}
 use Rattle.mpm_output.specs.Outside.{Outside}
 use Rattle.mpm_procs.specs.Table.{Lives}
+use Rattle.mpm_bdos.specs.Serving.{Kept}
+use Rattle.mpm_system.specs.FileCalling.{call_made}
+use Rattle.mpm_system.specs.Whole.{Change, IsWhole}
+use Rattle.mpm_system.specs.Coming.{coming, counted}
+use Rattle.mpm_system.specs.declared.system.System.{System}
 use Rattle.mpm_machine.proofs.FileLaws.{makes}
 use Rattle.mpm_machine.proofs.FiledLaws.{caller_lives, caller_ready, whole_begun, whole_begun_as}
 use Rattle.mpm_machine.proofs.GoingAnswers.{goes_begun, goes_all_answered, goes_with_ends}
@@ -18,15 +24,9 @@ use Rattle.mpm_machine.proofs.StepWithLaws.{whole_with}
 use Rattle.mpm_machine.proofs.WholeStepLaws.{coming_may, whole_counted}
 use Rattle.mpm_machine.specs.After.{AreSteps, HasRun, HasStepped}
 use Rattle.mpm_machine.specs.DiskStep.{all_paid}
-use Rattle.mpm_machine.specs.FileCalls.{call_made, calls_files, file_caller, file_caller_by}
+use Rattle.mpm_machine.specs.FileCalls.{calls_files, file_caller, file_caller_by}
 use Rattle.mpm_machine.specs.Interpreting.{Interprets}
-use Rattle.mpm_machine.specs.State.{Change, IsWhole}
-use Rattle.mpm_machine.specs.Step.{coming, counted}
 use Rattle.mpm_machine.specs.Stepping.{Telling, begun_as, begun_with, ended_after, entered_after, is_instruction, rest_of, step_with}
-use Rattle.mpm_bdos.specs.Serving.{Kept}
-use Rattle.mpm_machine.specs.declared.system.System.{System}
-
--- what it begins with
 
 pub goes_begun_with : (caller : Option ℕ) (told : Directly) (system : System) → IsWhole system → IfSome caller (λ p. Lives system.kernel.dispatcher.procs p)
     → IfSome caller (λ p. IsReady system.kernel.dispatcher p) → IfSome caller (λ p. calls_files p system ≡ true) → Interprets system

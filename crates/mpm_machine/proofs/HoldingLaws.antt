@@ -14,7 +14,7 @@ use Rattle.mpm_functions.specs.declared.functions.FileFunction.{FileFunction}
 use Rattle.mpm_functions.specs.Functions.{function_of}
 use Rattle.mpm_bdos.specs.Answering.{HasEntered}
 use Rattle.mpm_bdos.specs.Serving.{InService}
-use Rattle.mpm_machine.specs.declared.system.System.{System}
+use Rattle.mpm_system.specs.declared.system.System.{System}
 use Rattle.mpm_machine.specs.Holding.{IsOwn, OwnsService, AreFiled}
 use Rattle.mpm_machine.specs.DiskStep.{is_done_at_once}
 use Rattle.mpm_machine.proofs.CallsLaws.{KeepsMulti, KeepsCalls}

@@ -1,4 +1,5 @@
 -- Steps in which nothing is done, as no process runs and none is ready.
+-- nothing is done
 use Rattle.std.proofs.Common.{◌≡◌, ◌∙◌, ℕ, zero, suc, ◌+◌, ◌<◌, false, None, refl, sym, ap, subst, arith, add-one}
 use Rattle.mpm_service.specs.Disk.{DiskService}
 use Rattle.mpm_service.specs.Ahead.{passed_by}
@@ -8,21 +9,23 @@ use Rattle.mpm_kernel.proofs.DiskLaws.{sound_passed_by}
 use Rattle.mpm_kernel.proofs.HomeLaws.{homes_stay}
 use Rattle.mpm_directories.specs.Direct.{Directly}
 use Rattle.mpm_bdos.specs.Serving.{Kept, StandForSome}
-use Rattle.mpm_machine.specs.declared.system.System.{System}
-use Rattle.mpm_machine.specs.State.{State, Change, IsWhole, NoCompletions, NobodyAborted, silent}
+use Rattle.mpm_system.specs.declared.system.System.{System}
+use Rattle.mpm_system.specs.Whole.{Change, IsWhole, NoCompletions, NobodyAborted, silent}
+use Rattle.mpm_system.specs.Coming.{counted}
+use Rattle.mpm_system.specs.Idling.{IsIdle, later, CanPass}
+use Rattle.mpm_system.proofs.WholeLaws.{whole_kernel}
+use Rattle.mpm_machine.specs.State.{State}
 use Rattle.mpm_machine.specs.Files.{Files, AreWithin}
-use Rattle.mpm_machine.specs.Step.{acted_by, acted, running_segment, at_instruction, counted, dispatched}
+use Rattle.mpm_machine.specs.Step.{acted_by, acted, running_segment, at_instruction, dispatched}
 use Rattle.mpm_machine.specs.Stepping.{Telling, begun_as, step_with}
 use Rattle.mpm_machine.specs.After.{next, after, AreSteps}
-use Rattle.mpm_machine.specs.Moving.{IsIdle, later, Quiet, CanPass}
-use Rattle.mpm_machine.proofs.WholeLaws.{whole_kernel, whole_steps}
+use Rattle.mpm_machine.specs.Moving.{Quiet}
+use Rattle.mpm_machine.proofs.WholeLaws.{whole_steps}
 use Rattle.mpm_machine.proofs.FileStepLaws.{nobody_calls, is_made_still}
 use Rattle.mpm_machine.proofs.PlainLaws.{plain_next, files_still}
 use Rattle.mpm_machine.proofs.QuietLaws.{none_comes, begun_quiet, step_quiet, picked_same}
 use Rattle.mpm_machine.proofs.PassingLaws.{Passes, still_ahead, passes_on, fewer_pass, rest_still, none_before, within_on}
 use Rattle.mpm_machine.proofs.PassedLaws.{later_none}
-
--- nothing is done
 
 nothing_acted : (system : System) → system.kernel.dispatcher.running ≡ None → acted system ≡ silent system
 unfolding acted

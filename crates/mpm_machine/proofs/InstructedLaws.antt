@@ -1,4 +1,5 @@
 -- What a listed instruction changes besides memory: its process's registers, and the readiness of devices that it reads.
+-- a device is ready after an instruction only where it was before
 use Rattle.std.proofs.Common.{◌≡◌, ◌∙◌, ℕ, zero, suc, ◌-◌, Bool, true, false, ◌&&◌, nat_le, List, [], ◌∷◌, Option, Some, None, IsSome, get_or, set, refl, ap}
 use Rattle.mpm_base.proofs.Choices.{either}
 use Rattle.z80_regs.specs.Outcome.{Outcome, Action, Write, Input}
@@ -8,17 +9,16 @@ use Rattle.mpm_banks.specs.Ports.{port_read}
 use Rattle.mpm_banks.specs.Actions.{memory_after, devices_after}
 use Rattle.mpm_banks.proofs.ActionLaws.{same_segments_after, last_bytes_stay}
 use Rattle.mpm_procs.specs.Table.{process_in}
-use Rattle.mpm_machine.specs.declared.system.System.{System}
 use Rattle.mpm_gate.specs.declared.gate.Gate.{Gate}
-use Rattle.mpm_machine.specs.State.{Change, silent}
-use Rattle.mpm_machine.specs.Serving.{with_regs}
-use Rattle.mpm_machine.specs.Step.{instructed, executed, instruction_at, acted_at, acted_by, acted, running_segment, is_no_gate, instruction_by, at_instruction, counted}
+use Rattle.mpm_system.specs.declared.system.System.{System}
+use Rattle.mpm_system.specs.Whole.{Change, silent}
+use Rattle.mpm_system.specs.Taking.{with_regs}
+use Rattle.mpm_system.specs.Coming.{counted}
+use Rattle.mpm_machine.specs.Step.{instructed, executed, instruction_at, acted_at, acted_by, acted, running_segment, is_no_gate, instruction_by, at_instruction}
 use Rattle.mpm_machine.specs.FileCalls.{file_caller}
 use Rattle.mpm_machine.specs.Stepping.{Telling, rest_of, step_with}
 use Rattle.mpm_machine.specs.Contained.{Instructs, OnlyInstructed}
 use Rattle.mpm_machine.proofs.QuietLaws.{step_quiet}
-
--- a device is ready after an instruction only where it was before
 
 clears_one : (ready : List Bool) (k device : ℕ) → get_or (set ready k false) device false ≡ true → get_or ready device false ≡ true
 clears_one [] k device h = h

@@ -34,12 +34,12 @@ use Rattle.mpm_residents.specs.Natives.{native_in, native_act, native_call, inte
 use Rattle.mpm_residents.specs.declared.native.Native.{Native}
 use Rattle.mpm_residents.specs.declared.native.Native.TheVariants.{Tmp, Cli}
 use Rattle.mpm_gate.specs.Gates.{IsHome}
-use Rattle.mpm_machine.specs.declared.system.System.{System}
-use Rattle.mpm_machine.specs.State.{IsWhole, silent, speaking}
-use Rattle.mpm_machine.specs.Serving.{reserve_reply}
-use Rattle.mpm_machine.specs.Sending.{has_interpreter, passed, console_sent}
-use Rattle.mpm_machine.specs.Loading.{may_move, is_console, giving, may_live, is_slot, begins}
-use Rattle.mpm_machine.specs.Residing.{text_told}
+use Rattle.mpm_system.specs.declared.system.System.{System}
+use Rattle.mpm_system.specs.Whole.{IsWhole, silent, speaking}
+use Rattle.mpm_system.specs.Segments.{reserve_reply}
+use Rattle.mpm_system.specs.Sending.{has_interpreter, passed, console_sent}
+use Rattle.mpm_system.specs.Loading.{may_move, is_console, giving, may_live, is_slot, begins}
+use Rattle.mpm_system.specs.Residents.{text_told}
 use Rattle.mpm_machine.specs.Contained.{IsIn, HandsAt, IsHanded}
 use Rattle.mpm_machine.specs.Interpreting.{HasReserved, IsActing, Interprets, IsOwn}
 

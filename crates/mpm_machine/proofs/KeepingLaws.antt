@@ -20,12 +20,10 @@ use Rattle.mpm_gate.specs.declared.gate.Gate.{Gate}
 use Rattle.mpm_gate.specs.declared.gate.Gate.TheVariants.{End, Call, Return}
 use Rattle.mpm_dispatcher.specs.Dispatch.{IsReady, first_completed, in_slot, admitted}
 use Rattle.mpm_kernel.specs.Kernel.{Kernel, IsSound, is_resident, dispatched}
-use Rattle.mpm_kernel.specs.Consoling.{abort_taken, given, is_from, handed_over as handed_console, owner_made, unit_left}
+use Rattle.mpm_kernel.specs.Consoling.{abort_taken}
 use Rattle.mpm_kernel.specs.Ending.{discharged}
 use Rattle.mpm_kernel.specs.Columns.{spoke}
 use Rattle.mpm_kernel.specs.Calls.{called}
-use Rattle.mpm_consoles.specs.Consoles.{owner_of}
-use Rattle.mpm_consoles.specs.declared.unit.Unit.TheVariants.{Console as ConsoleUnit}
 use Rattle.mpm_kernel.proofs.DiskLaws.{ready_not_at_disk}
 use Rattle.mpm_kernel.proofs.DiskStays.{disk_called, disk_happened, disk_handed_out, disk_given_back, disk_discharged, kernel_if}
 use Rattle.mpm_xdos.specs.Aborting.{waits_to_end, target, abort_done}
@@ -39,20 +37,29 @@ use Rattle.mpm_interrupts.specs.Interrupts.{due_taken}
 use Rattle.mpm_output.specs.Texts.{illegal_text}
 use Rattle.mpm_functions.specs.declared.refusals.Extended.{Extended}
 use Rattle.mpm_directories.specs.Direct.{Directly, CallerChange, Stays, Selects, Resets}
-use Rattle.mpm_machine.specs.declared.system.System.{System}
-use Rattle.mpm_machine.specs.State.{Change, speaking}
-use Rattle.mpm_machine.specs.Ending.{ended}
-use Rattle.mpm_machine.specs.Calling.{Served as Attended, with_kept, asking}
-use Rattle.mpm_machine.specs.Sending.{chains, may_pass, passed, passed_after, sent, sending, chaining, is_command, let_in, has_interpreter, framed, renamed, console_sent, may_send, chained}
-use Rattle.mpm_machine.specs.Serving.{aborted, aborting, aborting_this, asked, keeping, reserving, releasing, creating, parsing, served_to_all, served, said_by, popped, replied, recorded, answering_call, with_entry, fulfilling, completing, outcome_of, gate_step, returning, is_entry, string_of}
-use Rattle.mpm_machine.specs.Finishing.{finished, completion_dequeued, finishing, all_finished, command_let_in, finished_or_ended, answered_from, all_answered}
-use Rattle.mpm_machine.specs.Due.{is_due, ended_if_due, due_terminated, with_ends}
-use Rattle.mpm_machine.specs.Step.{acted, acted_by, acted_at, running_segment, instructed, illegal, executed, instruction_at, key_aborted, happened_to, event_come, interrupted, unhalted, gate_before}
-use Rattle.mpm_machine.specs.FileCalls.{with_caller, reply_by, file_replied, error_told, told_then, error_met, answered_by, concluded}
 use Rattle.mpm_kernel.specs.Called.{Called, low_parameter}
 use Rattle.mpm_kernel.specs.Waiting.{completion_reply}
-use Rattle.mpm_machine.specs.Residing.{native_outcome, calling_step, tells, telling_step, handing_step, native_step, resided}
-use Rattle.mpm_machine.specs.Loading.{is_console, begun_for, begins, handed_over}
+use Rattle.mpm_system.specs.declared.system.System.{System}
+use Rattle.mpm_system.specs.Whole.{Change, speaking}
+use Rattle.mpm_system.specs.Calling.{Served as Attended, with_kept, asking}
+use Rattle.mpm_system.specs.Sending.{chains, may_pass, passed, passed_after, sent, sending, chaining, is_command, let_in, has_interpreter, framed, renamed, console_sent, may_send, chained}
+use Rattle.mpm_system.specs.Taking.{asked, keeping}
+use Rattle.mpm_system.specs.Segments.{reserving, releasing}
+use Rattle.mpm_system.specs.Parsing.{parsing}
+use Rattle.mpm_system.specs.Saying.{said_by, string_of}
+use Rattle.mpm_system.specs.Answering.{popped, replied, recorded, answering_call}
+use Rattle.mpm_system.specs.Coming.{unhalted}
+use Rattle.mpm_system.specs.FileCalling.{with_caller, reply_by, file_replied, error_told}
+use Rattle.mpm_system.specs.Residents.{tells, telling_step, handing_step}
+use Rattle.mpm_system.specs.Loading.{is_console, begun_for, begins, handed_over}
+use Rattle.mpm_system.proofs.PlacedLaws.{given_disk}
+use Rattle.mpm_machine.specs.Ending.{ended}
+use Rattle.mpm_machine.specs.Serving.{aborted, aborting, aborting_this, creating, served_to_all, served, with_entry, fulfilling, completing, outcome_of, gate_step, returning, is_entry}
+use Rattle.mpm_machine.specs.Finishing.{finished, completion_dequeued, finishing, all_finished, command_let_in, finished_or_ended, answered_from, all_answered}
+use Rattle.mpm_machine.specs.Due.{is_due, ended_if_due, due_terminated, with_ends}
+use Rattle.mpm_machine.specs.Step.{acted, acted_by, acted_at, running_segment, instructed, illegal, executed, instruction_at, key_aborted, happened_to, event_come, interrupted, gate_before}
+use Rattle.mpm_machine.specs.FileCalls.{told_then, error_met, answered_by, concluded}
+use Rattle.mpm_machine.specs.Residing.{native_outcome, calling_step, native_step, resided}
 
 -- the disk serves the same call, in turns of as many steps
 pub record KeepsService (old new : DiskService) : Type 0 where
@@ -111,18 +118,6 @@ unfolding aborted abort_done
 abort_serves p system =
     abort_same p system.kernel (is_resident system.kernel.dispatcher.procs p) (waits_to_end system.kernel p) (λ none. (or_parts _ _ none).0) _
     (same_service system.kernel.disk _ refl)
-
--- parts of the kernel that leave the disk
-handed_disk : (console : ℕ) (from to : Option ℕ) (kernel : Kernel) → (handed_console console from to kernel).disk ≡ kernel.disk
-unfolding owner_made unit_left
-handed_disk console None None kernel = refl
-handed_disk console (Some p) None kernel = refl
-handed_disk console from (Some to) kernel = refl
-
-pub given_disk : (console : ℕ) (from to : Option ℕ) (kernel : Kernel) → (given console from to kernel).disk ≡ kernel.disk
-unfolding given
-given_disk console from to kernel =
-    kernel_if kernel.disk (is_from (owner_of kernel.units (ConsoleUnit console)) from) _ _ (handed_disk console from to kernel) refl
 
 passed_disk : (p : ℕ) (kernel : Kernel) → (passed p kernel).disk ≡ kernel.disk
 passed_disk p kernel = kernel_if kernel.disk (may_pass p kernel) _ _ (given_disk (console_sent p kernel) (Some p) (Some 0) kernel) refl

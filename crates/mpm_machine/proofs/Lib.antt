@@ -1,7 +1,3 @@
-pub mod InterruptLaws
-pub mod ChangeLaws
-pub mod SayingLaws
-pub mod SizeLaws
 pub mod HomeLaws
 pub mod EntryLaws
 pub mod RecordsLaws
@@ -16,8 +12,6 @@ pub mod TakenLaws
 pub mod CallLaws
 pub mod OwnCallLaws
 pub mod ResidingLaws
-pub mod PlacedLaws
-pub mod LoadingLaws
 pub mod LoadedLaws
 pub mod LoadedRows
 pub mod LoadedParts
@@ -25,7 +19,6 @@ pub mod LoadedSteps
 pub mod SendingLaws
 pub mod ActedLaws
 pub mod WholeStepLaws
-pub mod OpeningLaws
 pub mod SlotLaws
 pub mod StepLaws
 pub mod QuietLaws

@@ -1,5 +1,6 @@
 -- A program's file comes into the segment that the interpreter reserved: each piece's code is placed, then code is moved by its marks,
 -- then the next piece is read; once the whole file came, its code stands there, moved to the segment's first page.
+-- what a piece has of a part of the file
 use Rattle.std.proofs.Common.{◌≡◌, ◌∙◌, ℕ, ◌+◌, ◌-◌, ◌*◌, ◌/◌, ◌%◌, ◌<◌, ◌≤◌, ◌==◌, Bool, true, false, if◌then◌else◌, List, length, min, take, drop, get_or, Option, Some, None, inl, inr, refl, sym, ap, subst, arith, length-take, length-drop}
 use Rattle.std.specs.Prelude.{◌⊎◌, nat_lt, is_some}
 use Rattle.std.proofs.lemmas.Bool.{cases_lt, false≢true}
@@ -31,14 +32,12 @@ use Rattle.mpm_residents.specs.declared.cli.table.Row.TheVariants.{ReadCommand, 
 use Rattle.mpm_residents.proofs.Filling.{base_page_size}
 use Rattle.mpm_residents.proofs.InterpreterLaws.{code_stands_at}
 use Rattle.mpm_residents.proofs.StandingLaws.{hands_at}
+use Rattle.mpm_system.specs.Loading.{ChangesOnly, moved, moving, placing, beginning, handed_over}
+use Rattle.mpm_system.specs.declared.system.System.{System}
+use Rattle.mpm_system.proofs.LoadingLaws.{changes_placing, changes_beginning}
 use Rattle.mpm_machine.specs.Interpreting.{HasReserved, Interprets}
 use Rattle.mpm_machine.specs.Loaded.{IsPiece, code_byte, HasCode, HasLoadedAt}
-use Rattle.mpm_machine.specs.Loading.{ChangesOnly, moved, moving, placing, beginning, handed_over}
-use Rattle.mpm_machine.specs.declared.system.System.{System}
 use Rattle.mpm_machine.proofs.InterpretingLaws.{moves_always, range_is_there}
-use Rattle.mpm_machine.proofs.LoadingLaws.{changes_placing, changes_beginning}
-
--- what a piece has of a part of the file
 
 part_at : (before low high i : ℕ) (file piece : List ℕ) → IsPiece file before piece → i < length (part before low high piece)
     → get_or (part before low high piece) i 0 ≡ get_or file (before + (low - before + i)) 0

@@ -27,22 +27,27 @@ use Rattle.mpm_script.specs.declared.event.Event.{Event}
 use Rattle.mpm_xdos.specs.Aborting.{waits_to_end, target}
 use Rattle.z80_regs.specs.Outcome.{Outcome}
 use Rattle.mpm_interrupts.specs.Interrupts.{due_taken}
+use Rattle.mpm_system.specs.Calling.{Served, asking}
+use Rattle.mpm_system.specs.Loading.{begins, giving, handed_answer, handed_over, is_console}
+use Rattle.mpm_system.specs.Residents.{taking, handing_step, telling_step, tells, text_told}
+use Rattle.mpm_system.specs.Answering.{answering_call, popped, recorded, replied}
+use Rattle.mpm_system.specs.Taking.{asked, keeping}
+use Rattle.mpm_system.specs.Parsing.{parsing}
+use Rattle.mpm_system.specs.Saying.{said_by}
+use Rattle.mpm_system.specs.Whole.{Change, IsWhole, speaking}
+use Rattle.mpm_system.specs.declared.system.System.{System}
 use Rattle.mpm_machine.proofs.Containment.{ended_alike, to_all_alike, event_alike, elsewhere_at}
 use Rattle.mpm_machine.proofs.GoingOn.{taken_first, first_stays}
 use Rattle.mpm_machine.proofs.InterpretingLaws.{no_terminal, same_resident}
 use Rattle.mpm_machine.proofs.LoadedRows.{hands, IsLoadedAs, answered_so, handed_so}
 use Rattle.mpm_machine.proofs.OwnLaws.{occupied_or_own}
 use Rattle.mpm_machine.proofs.ResidingLaws.{residents_stay}
-use Rattle.mpm_machine.specs.Calling.{Served, asking}
 use Rattle.mpm_machine.specs.Ending.{ended}
 use Rattle.mpm_machine.specs.Interpreting.{HasReserved, Interprets}
 use Rattle.mpm_machine.specs.Loaded.{IsPiece, IsLoading, IsReading}
-use Rattle.mpm_machine.specs.Loading.{begins, giving, handed_answer, handed_over, is_console}
-use Rattle.mpm_machine.specs.Residing.{taking, calling_step, handing_step, native_outcome, native_step, resided, telling_step, tells, text_told}
-use Rattle.mpm_machine.specs.Serving.{aborted, aborting, aborting_this, answering_call, asked, completing, creating, fulfilling, gate_step, keeping, outcome_of, parsing, popped, recorded, replied, returning, said_by, served, served_to_all, with_entry}
-use Rattle.mpm_machine.specs.State.{Change, IsWhole, speaking}
+use Rattle.mpm_machine.specs.Residing.{calling_step, native_outcome, native_step, resided}
+use Rattle.mpm_machine.specs.Serving.{aborted, aborting, aborting_this, completing, creating, fulfilling, gate_step, outcome_of, returning, served, served_to_all, with_entry}
 use Rattle.mpm_machine.specs.Step.{acted, acted_at, acted_by, begun_by, event_come, executed, gate_before, happened_to, illegal, instructed, instruction_at, interrupted, key_aborted, running_segment}
-use Rattle.mpm_machine.specs.declared.system.System.{System}
 
 -- the interpreter rests, and of its segment no byte changes
 pub record Rests (old new : System) : Type 0 where

@@ -16,11 +16,11 @@ use Rattle.mpm_residents.specs.declared.cli.table.Message.TheVariants.{NotFound,
 use Rattle.mpm_residents.specs.declared.cli.table.Row.{Row}
 use Rattle.mpm_residents.specs.declared.cli.table.Row.TheVariants.{ReadCommand, OpenQueue, WriteQueue, SetUser, OpenRelocatable, OpenAbsolute, ReadHeader, ComputeSize, SetUserZero, Reserve, Place, Patch, ReadOn, Free, CloseAfter, Close, Tell, Give, PlaceBasePage, Begin}
 use Rattle.z80_regs.specs.Words.{word_of}
+use Rattle.mpm_system.specs.Loading.{handed_over}
+use Rattle.mpm_system.specs.declared.system.System.{System}
 use Rattle.mpm_machine.proofs.LoadedLaws.{loaded_first, loaded_read, loaded_goes_on}
 use Rattle.mpm_machine.specs.Interpreting.{HasReserved}
 use Rattle.mpm_machine.specs.Loaded.{IsPiece, HasLoadedAt, HasCome, IsLoadedIn}
-use Rattle.mpm_machine.specs.Loading.{handed_over}
-use Rattle.mpm_machine.specs.declared.system.System.{System}
 
 -- the rows in which it hands over what comes into its segment
 abbrev pub hands : Row → Bool

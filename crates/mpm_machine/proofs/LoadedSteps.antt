@@ -1,5 +1,6 @@
 -- What of a program's file stands in the segment that the interpreter reserved, in every step and in a run of them: as a program begins,
 -- all of its code stands there.
+-- in a row that makes a call on files, or reads a command, nothing is handed over
 use Rattle.std.proofs.Common.{◌≡◌, ◌≢◌, ◌∙◌, ℕ, zero, suc, ◌+◌, ◌*◌, ◌<◌, ◌==◌, Bool, true, false, if◌then◌else◌, List, [], ◌∷◌, Option, Some, None, IfSome, refl, sym, ap, subst}
 use Rattle.std.specs.List.{range_with_len}
 use Rattle.std.proofs.lemmas.Bool.{false≢true}
@@ -29,6 +30,14 @@ use Rattle.mpm_residents.specs.declared.native.Native.TheVariants.{Cli}
 use Rattle.mpm_service.specs.Disk.{served_process, turn_answer}
 use Rattle.mpm_service.specs.declared.service.Turn.{Turn}
 use Rattle.mpm_service.specs.declared.service.Turn.TheVariants.{Idle, Passing, Work, Starts}
+use Rattle.mpm_system.specs.FileCalling.{call_made, error_told, file_replied, made_by, reply_by, with_caller}
+use Rattle.mpm_system.specs.Residents.{asked_by, taking}
+use Rattle.mpm_system.specs.Sending.{chains}
+use Rattle.mpm_system.specs.Answering.{answering_call, popped, recorded, replied}
+use Rattle.mpm_system.specs.Taking.{keeping}
+use Rattle.mpm_system.specs.Whole.{Change, IsWhole, speaking}
+use Rattle.mpm_system.specs.Coming.{coming, counted}
+use Rattle.mpm_system.specs.declared.system.System.{System}
 use Rattle.mpm_machine.proofs.Containment.{ended_alike}
 use Rattle.mpm_machine.proofs.DiskStepLaws.{whole_passed, whole_ready_again}
 use Rattle.mpm_machine.proofs.FileLaws.{makes, whole_caller, whole_concluded, whole_told}
@@ -51,19 +60,12 @@ use Rattle.mpm_machine.specs.After.{AreSteps, HasRun}
 use Rattle.mpm_machine.specs.DiskStep.{all_paid, call_entered, call_over, disk_served, entered_by, entered_unless, file_called, is_done_at_once, over_after, ready_again, served_by, step_passed}
 use Rattle.mpm_machine.specs.Due.{due_terminated, ended_if_due, is_due, with_ends}
 use Rattle.mpm_machine.specs.Ending.{ended}
-use Rattle.mpm_machine.specs.FileCalls.{answered_by, call_made, calls_files, concluded, error_met, error_told, file_caller, file_replied, is_of_files, made_by, reply_by, told_then, with_caller}
+use Rattle.mpm_machine.specs.FileCalls.{answered_by, calls_files, concluded, error_met, file_caller, is_of_files, told_then}
 use Rattle.mpm_machine.specs.Finishing.{all_answered, all_finished, answered_from, command_let_in, completion_dequeued, finished, finished_or_ended, finishing}
 use Rattle.mpm_machine.specs.Interpreting.{Interprets, awaited, is_reading}
 use Rattle.mpm_machine.specs.Loaded.{HasCome, HasLoadedAt, IsLoading, IsReadIn, IsReading, code_byte}
-use Rattle.mpm_machine.specs.Residing.{asked_by, taking}
-use Rattle.mpm_machine.specs.Sending.{chains}
-use Rattle.mpm_machine.specs.Serving.{answering_call, fulfilling, keeping, popped, recorded, replied, reply_at_entry, with_entry}
-use Rattle.mpm_machine.specs.State.{Change, IsWhole, speaking}
-use Rattle.mpm_machine.specs.Step.{coming, counted}
+use Rattle.mpm_machine.specs.Serving.{fulfilling, reply_at_entry, with_entry}
 use Rattle.mpm_machine.specs.Stepping.{Telling, begun_as, begun_with, ended_after, entered_after, is_instruction, rest_of, step_with}
-use Rattle.mpm_machine.specs.declared.system.System.{System}
-
--- in a row that makes a call on files, or reads a command, nothing is handed over
 
 files_ask : (row : Row) (cli : Interpreter) → is_of_files (call_at row cli).function ≡ true → hands row ≡ false
 unfolding is_of_files Rattle.mpm_functions.specs.Functions.function_of Rattle.mpm_functions.specs.Functions.direct_of

@@ -15,11 +15,12 @@ use Rattle.mpm_functions.specs.Functions.{function_of, direct_of}
 use Rattle.mpm_requests.specs.Filing.{Filing}
 use Rattle.mpm_bdos.specs.Outcomes.{left_by, without_search}
 use Rattle.mpm_bdos.proofs.SoundLaws.{call_keeps_sound, end_keeps_sound}
-use Rattle.mpm_machine.specs.declared.system.System.{System}
+use Rattle.mpm_system.specs.declared.system.System.{System}
+use Rattle.mpm_system.specs.FileCalling.{call_made}
 use Rattle.mpm_machine.specs.State.{State}
 use Rattle.mpm_machine.specs.Mounting.{untouched}
 use Rattle.mpm_machine.specs.Files.{Files, Between, Within, filing_in, left_each, owes, all_left, given_back}
-use Rattle.mpm_machine.specs.FileCalls.{file_caller, call_made, situation_of, outcome_by, outcome_in}
+use Rattle.mpm_machine.specs.FileCalls.{file_caller, situation_of, outcome_by, outcome_in}
 use Rattle.mpm_machine.specs.DiskStep.{is_done_at_once, disk_served, done_at_once, files_called, files_over, files_served_by, files_served, within_call, entering_call, files_entered_by, files_entered_unless, files_entered}
 use Rattle.mpm_machine.specs.Stepping.{nothing_told, files_begun_by, files_begun, before_disk, told_within, paid_after, ended_after, telling_then, files_paid, files_then, files_rest, stepped}
 use Rattle.mpm_machine.specs.After.{next, after}

@@ -1,4 +1,5 @@
 -- What is kept of files as a machine begins holds its drives.
+-- what is so of each directory by its number is so of what stands in each place
 use Rattle.std.proofs.Common.{◌≡◌, ◌≢◌, ◌∙◌, ℕ, ◌<◌, Bool, true, false, List, [], ◌∷◌, Option, Some, None, IfSome, inl, inr, ◌==◌, length, refl, sym, ap, subst, arith}
 use Rattle.std.specs.Prelude.{◌⊎◌, is_some, bytes_eq}
 use Rattle.std.specs.List.{AllByRecursion}
@@ -31,8 +32,6 @@ use Rattle.mpm_service.proofs.PlaceLaws.{at_none}
 use Rattle.mpm_kernel.specs.Kernel.{Kernel}
 use Rattle.mpm_machine.specs.Holding.{IsOwn, HoldsDrives}
 use Rattle.mpm_machine.specs.Mounting.{HasMounted, HasNoDrive}
-
--- what is so of each directory by its number is so of what stands in each place
 
 each_placed : (P : ℕ → Directory → Type 0) (ds : List Directory) → AllByRecursion (λ (d : Directory). P d.drive d) ds → (number : ℕ)
     → IfSome (directory_at (in_places ds) number) (P number)

@@ -1,4 +1,5 @@
 -- Steps that are instructions of one process.
+-- a view that a process already has, and one after another
 use Rattle.std.proofs.Common.{◌≡◌, ◌∙◌, ℕ, zero, suc, ◌+◌, ◌-◌, ◌*◌, ◌<◌, ◌≤◌, false, ◌&&◌, Option, Some, None, is_some, option_map, inl, inr, length, refl, sym, ap, subst, arith, add-one, set-set, get_or-set_same}
 use Rattle.std.proofs.lemmas.Bool.{cases_eq}
 use Rattle.z80_regs.specs.declared.regs.Regs.{Regs}
@@ -22,32 +23,35 @@ use Rattle.mpm_banks.proofs.ActionLaws.{same_segments_after}
 use Rattle.mpm_gate.specs.Gates.{gate_of}
 use Rattle.mpm_gate.proofs.GateLaws.{page_stays}
 use Rattle.mpm_processor.specs.Moving.{View, instruction_in, moved, moves, CanMove}
-use Rattle.mpm_machine.specs.declared.system.System.{System}
-use Rattle.mpm_machine.specs.declared.ahead.Ahead.{Ahead}
-use Rattle.mpm_machine.specs.Gates.{is_inside}
-use Rattle.mpm_machine.specs.State.{State, Change, IsWhole, NobodyAborted, silent, NoCompletions}
-use Rattle.mpm_machine.specs.Serving.{with_regs}
-use Rattle.mpm_machine.specs.Step.{instructed, executed, instruction_at, acted_at, gate_before, acted_by, acted, running_segment, at_instruction, coming, counted, dispatched as step_dispatched}
-use Rattle.mpm_machine.specs.FileCalls.{file_caller}
-use Rattle.mpm_machine.specs.Files.{AreWithin}
-use Rattle.mpm_machine.specs.Stepping.{Telling, begun_as, step_with}
 use Rattle.mpm_directories.specs.Direct.{Directly}
 use Rattle.mpm_bdos.specs.Serving.{Kept, StandForSome}
 use Rattle.mpm_service.specs.Disk.{DiskService}
 use Rattle.mpm_service.specs.Ahead.{passed_on, passed_by}
 use Rattle.mpm_kernel.proofs.DiskLaws.{sound_passed_by}
-use Rattle.mpm_machine.specs.After.{next, after, AreSteps}
 use Rattle.mpm_interrupts.specs.Interrupts.{due}
-use Rattle.mpm_machine.specs.Moving.{Moved, view_of, with_view, RunsOn, RunsAhead, Quiet, CanPass}
-use Rattle.mpm_machine.proofs.HomeLaws.{KeepsHomes, keeps_itself, keeps_both, keeps_acted}
+use Rattle.mpm_system.specs.declared.system.System.{System}
+use Rattle.mpm_system.specs.Procedures.{is_inside}
+use Rattle.mpm_system.specs.Whole.{Change, IsWhole, NobodyAborted, silent, NoCompletions}
+use Rattle.mpm_system.specs.Taking.{with_regs}
+use Rattle.mpm_system.specs.Coming.{coming, counted}
+use Rattle.mpm_system.specs.Idling.{CanPass}
+use Rattle.mpm_system.proofs.HomeLaws.{KeepsHomes, keeps_itself, keeps_both, keeps_acted}
+use Rattle.mpm_system.proofs.WholeLaws.{whole_kernel, whole_memory, whole_regs}
+use Rattle.mpm_system.proofs.IdlingLaws.{fewer_can}
+use Rattle.mpm_machine.specs.declared.ahead.Ahead.{Ahead}
+use Rattle.mpm_machine.specs.State.{State}
+use Rattle.mpm_machine.specs.Step.{instructed, executed, instruction_at, acted_at, gate_before, acted_by, acted, running_segment, at_instruction, dispatched as step_dispatched}
+use Rattle.mpm_machine.specs.FileCalls.{file_caller}
+use Rattle.mpm_machine.specs.Files.{AreWithin}
+use Rattle.mpm_machine.specs.Stepping.{Telling, begun_as, step_with}
+use Rattle.mpm_machine.specs.After.{next, after, AreSteps}
+use Rattle.mpm_machine.specs.Moving.{Moved, view_of, with_view, RunsOn, RunsAhead, Quiet}
 use Rattle.mpm_machine.proofs.InstructedLaws.{runs_listed}
-use Rattle.mpm_machine.proofs.WholeLaws.{same_regs, whole_kernel, whole_memory, whole_regs, whole_steps}
+use Rattle.mpm_machine.proofs.WholeLaws.{same_regs, whole_steps}
 use Rattle.mpm_machine.proofs.FileStepLaws.{gateless, is_made_still}
 use Rattle.mpm_machine.proofs.PlainLaws.{plain_next, files_still}
 use Rattle.mpm_machine.proofs.QuietLaws.{none_comes, begun_quiet, step_quiet, picked_same}
-use Rattle.mpm_machine.proofs.PassingLaws.{Passes, still_ahead, passes_on, passes_nothing, fewer_pass, fewer_can, can_pass_on, rest_still, none_before, within_on}
-
--- a view that a process already has, and one after another
+use Rattle.mpm_machine.proofs.PassingLaws.{Passes, still_ahead, passes_on, passes_nothing, fewer_pass, can_pass_on, rest_still, none_before, within_on}
 
 view_itself : (system : System) (p : ℕ) → with_view system p (view_of system p) 0 ≡ system
 unfolding with_view

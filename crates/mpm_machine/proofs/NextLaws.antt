@@ -1,21 +1,21 @@
 -- Laws of n steps of a state, and of n steps of a system whatever is on the drives.
+-- what a step that is made with files makes of the system
 use Rattle.std.proofs.Common.{◌≡◌, ◌∙◌, ℕ, zero, suc, ◌+◌, ◌-◌, ◌<◌, ◌≤◌, Bool, List, [], ◌++◌, Option, refl, ap, sym, subst, append_assoc, arith, add-one}
 use Rattle.std.proofs.lemmas.List.{append-nil}
 use Rattle.mpm_render.specs.Outputs.{rendered}
 use Rattle.mpm_output.specs.Outside.{Outside}
 use Rattle.mpm_output.proofs.WritingLaws.{wrote_nothing, wrote_after}
 use Rattle.mpm_bdos.specs.Serving.{Kept}
-use Rattle.mpm_machine.specs.declared.system.System.{System}
+use Rattle.mpm_system.specs.declared.system.System.{System}
+use Rattle.mpm_system.specs.Whole.{Change, IsWhole, NoCompletions, silent}
 use Rattle.mpm_machine.specs.declared.machine.StepFault.{StepFault}
-use Rattle.mpm_machine.specs.State.{State, Change, IsWhole, NoCompletions, silent}
+use Rattle.mpm_machine.specs.State.{State}
 use Rattle.mpm_machine.specs.Faults.{EndsBy}
 use Rattle.mpm_machine.specs.Stepping.{step_with, telling_of, stepped}
 use Rattle.mpm_machine.specs.After.{next, after, IsStep, IsMadeUpon, IsNextOf, followed, AreSteps, HasRun, HasStepped, HasStopped, HasStoppedIn, EndsInStep}
 use Rattle.mpm_machine.proofs.StepWithLaws.{whole_with, no_completions_with}
 use Rattle.mpm_machine.proofs.FileStepLaws.{steps_with, is_step}
 use Rattle.mpm_machine.proofs.TellingLaws.{first_of_call, later_of_call}
-
--- what a step that is made with files makes of the system
 
 next_is : (s : State) → (next s).system ≡ (step_with (telling_of s.system s.files) s.system).system
 unfolding next stepped

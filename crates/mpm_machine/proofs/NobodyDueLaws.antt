@@ -25,10 +25,11 @@ use Rattle.mpm_kernel.proofs.DiskStays.{disk_handed_out}
 use Rattle.mpm_kernel.proofs.DiskLaws.{served_discharged}
 use Rattle.mpm_xdos.specs.Aborting.{waits_to_end}
 use Rattle.mpm_xdos.specs.Procedures.{entering, entered}
-use Rattle.mpm_machine.specs.declared.system.System.{System}
-use Rattle.mpm_machine.specs.State.{IsWhole, NobodyAborted}
+use Rattle.mpm_system.specs.declared.system.System.{System}
+use Rattle.mpm_system.specs.Whole.{IsWhole, NobodyAborted}
+use Rattle.mpm_system.specs.Answering.{answering_call, recorded, replied}
 use Rattle.mpm_machine.specs.Ending.{ended}
-use Rattle.mpm_machine.specs.Serving.{is_entry, with_entry, reply_at_entry, fulfilling, answering_call, recorded, replied}
+use Rattle.mpm_machine.specs.Serving.{is_entry, with_entry, reply_at_entry, fulfilling}
 use Rattle.mpm_machine.specs.Finishing.{finished, completion_dequeued, finishing, all_finished}
 use Rattle.mpm_machine.specs.Due.{is_due, NobodyDue, ended_if_due, due_terminated, all_due_terminated, with_ends}
 use Rattle.mpm_machine.proofs.FinishLaws.{first_finished}

@@ -1,18 +1,13 @@
 -- The gate step of a call that concerns its caller alone: what it takes is kept, its process changes, the value is placed behind the
 -- return address, and its record joins the others.
-use Rattle.std.proofs.Common.{◌≡◌, ◌≢◌, ◌∙◌, ℕ, ◌==◌, Bool, true, false, ◌&&◌, ◌||◌, if◌then◌else◌, List, [], ◌∷◌, eqb-true, refl, sym, ap, subst}
+-- function by function
+use Rattle.std.proofs.Common.{◌≡◌, ◌≢◌, ◌∙◌, ℕ, ◌==◌, Bool, true, false, ◌&&◌, if◌then◌else◌, List, [], refl, sym, ap, subst}
 use Rattle.std.proofs.lemmas.Bool.{false≢true}
-use Rattle.mpm_base.specs.Lists.{is_among, zeros}
 use Rattle.mpm_base.specs.Calls.{Taken, answering}
-use Rattle.mpm_base.specs.declared.functions.TheConstants.{CONSOLE_OUTPUT, RAW_CONSOLE_OUTPUT, LIST_OUTPUT, DIRECT_CONSOLE_IO, PRINT_STRING, CALL_RESIDENT_SYSTEM_PROCEDURE, RETURN_VERSION_NUMBER, RETURN_CURRENT_DISK, SET_DMA_ADDRESS, SET_GET_USER_CODE, SET_MULTI_SECTOR_COUNT, SET_BDOS_ERROR_MODE, RETURN_MPM_VERSION_NUMBER}
-use Rattle.mpm_banks.specs.Memory.{Memory, byte_at}
+use Rattle.mpm_base.specs.declared.functions.TheConstants.{CONSOLE_OUTPUT, RAW_CONSOLE_OUTPUT, LIST_OUTPUT, DIRECT_CONSOLE_IO, PRINT_STRING, CALL_RESIDENT_SYSTEM_PROCEDURE}
+use Rattle.mpm_banks.specs.Memory.{byte_at}
 use Rattle.z80_regs.specs.Words.{word_of}
-use Rattle.mpm_gate.specs.Calls.{block_read, bytes_read}
-use Rattle.mpm_gate.specs.Reads.{reads_of}
-use Rattle.mpm_gate.specs.declared.reads.Reads.{Reads}
-use Rattle.mpm_gate.specs.declared.reads.Reads.TheVariants.{Registers}
-use Rattle.mpm_gate.specs.Replies.{answered, placed, returned}
-use Rattle.mpm_gate.proofs.WritingLaws.{written_none}
+use Rattle.mpm_gate.specs.Replies.{returned}
 use Rattle.mpm_functions.specs.Functions.{function_of, direct_of}
 use Rattle.mpm_procs.specs.Table.{Lives, process_in, call_of}
 use Rattle.mpm_procs.specs.Settings.{user_value, with_user, multi_value, with_multi}
@@ -27,36 +22,19 @@ use Rattle.mpm_render.specs.Outputs.{Output}
 use Rattle.mpm_xdos.specs.Procedures.{entered, entry_reply}
 use Rattle.mpm_output.specs.Writing.{spoken}
 use Rattle.mpm_output.proofs.WritingLaws.{spoken_nil}
-use Rattle.mpm_machine.specs.declared.system.System.{System}
-use Rattle.mpm_machine.specs.State.{Change, IsWhole, silent}
-use Rattle.mpm_machine.specs.Calling.{Served, served_by, calling}
+use Rattle.mpm_system.specs.declared.system.System.{System}
+use Rattle.mpm_system.specs.Whole.{Change, IsWhole, silent}
+use Rattle.mpm_system.specs.Calling.{Served, served_by, calling}
+use Rattle.mpm_system.specs.Taking.{asked, keeping}
+use Rattle.mpm_system.specs.Saying.{string_of}
+use Rattle.mpm_system.specs.Answering.{popped, answering_call}
+use Rattle.mpm_system.specs.OwnCalls.{is_own}
+use Rattle.mpm_system.proofs.SayingLaws.{says_nothing}
+use Rattle.mpm_system.proofs.WholeLaws.{keeps_call}
+use Rattle.mpm_system.proofs.OwnCallLaws.{own_each}
 use Rattle.mpm_machine.specs.FileCalls.{is_of_files}
-use Rattle.mpm_machine.specs.Serving.{asked, keeping, served, served_to_all, telling, string_of, after_echo, popped, replied, is_entry, with_entry, reply_at_entry, answering_call, fulfilling, completing, outcome_of, gate_step}
-use Rattle.mpm_machine.specs.OwnCalls.{is_own}
-use Rattle.mpm_machine.proofs.SayingLaws.{says_nothing}
-use Rattle.mpm_machine.proofs.WholeLaws.{keeps_call, same_regs}
-
--- function by function
-
-or_cases : (P : Type 0) (b c : Bool) → (b ≡ true → P) → (c ≡ true → P) → (b || c) ≡ true → P
-or_cases P true c here there is = here refl
-or_cases P false c here there is = there is
-
-among_cases : (P : ℕ → Type 0) (f m : ℕ) (ms : List ℕ) → P m → (is_among f ms ≡ true → P f) → is_among f (m ∷ ms) ≡ true → P f
-among_cases P f m ms here there is =
-    or_cases (P f) (f == m) (is_among f ms) (λ e. subst P (sym (eqb-true f m e)) here) there is
-
-own_each : (P : ℕ → Type 0) (f : ℕ) → is_own f ≡ true → P RETURN_VERSION_NUMBER → P RETURN_CURRENT_DISK → P SET_DMA_ADDRESS → P SET_GET_USER_CODE
-    → P SET_MULTI_SECTOR_COUNT → P SET_BDOS_ERROR_MODE → P RETURN_MPM_VERSION_NUMBER → P f
-own_each P f is version drive dma user multi mode version' =
-    among_cases P f RETURN_VERSION_NUMBER (RETURN_CURRENT_DISK ∷ SET_DMA_ADDRESS ∷ SET_GET_USER_CODE ∷ SET_MULTI_SECTOR_COUNT ∷ SET_BDOS_ERROR_MODE ∷ RETURN_MPM_VERSION_NUMBER ∷ []) version
-    (among_cases P f RETURN_CURRENT_DISK (SET_DMA_ADDRESS ∷ SET_GET_USER_CODE ∷ SET_MULTI_SECTOR_COUNT ∷ SET_BDOS_ERROR_MODE ∷ RETURN_MPM_VERSION_NUMBER ∷ []) drive
-    (among_cases P f SET_DMA_ADDRESS (SET_GET_USER_CODE ∷ SET_MULTI_SECTOR_COUNT ∷ SET_BDOS_ERROR_MODE ∷ RETURN_MPM_VERSION_NUMBER ∷ []) dma
-    (among_cases P f SET_GET_USER_CODE (SET_MULTI_SECTOR_COUNT ∷ SET_BDOS_ERROR_MODE ∷ RETURN_MPM_VERSION_NUMBER ∷ []) user
-    (among_cases P f SET_MULTI_SECTOR_COUNT (SET_BDOS_ERROR_MODE ∷ RETURN_MPM_VERSION_NUMBER ∷ []) multi
-    (among_cases P f SET_BDOS_ERROR_MODE (RETURN_MPM_VERSION_NUMBER ∷ []) mode
-    (among_cases P f RETURN_MPM_VERSION_NUMBER [] version'
-    (λ none. absurd (false≢true none)))))))) is
+use Rattle.mpm_machine.specs.Serving.{served, served_to_all, telling, after_echo, is_entry, with_entry, reply_at_entry, fulfilling, completing, outcome_of, gate_step}
+use Rattle.mpm_machine.proofs.WholeLaws.{same_regs}
 
 pub no_file_function : (f : ℕ) → is_own f ≡ true → is_of_files f ≡ false
 unfolding is_of_files function_of direct_of
@@ -91,15 +69,6 @@ own_row call p kernel is =
     (record { changed = with_multi (low_parameter call) process; value = multi_value (low_parameter call); is = refl; home = refl })
     (record { changed = record process { error_mode = low_parameter call }; value = 0; is = refl; home = refl })
     (record { changed = process; value = version; is = unchanged version p kernel; home = refl })
-
--- of those that are left, both answer the version
-pub version_row : (call : Taken) (p : ℕ) (process : Process) (kernel : Kernel) → is_own call.function ≡ true → call.function ≢ RETURN_CURRENT_DISK
-    → call.function ≢ SET_DMA_ADDRESS → call.function ≢ SET_GET_USER_CODE → call.function ≢ SET_MULTI_SECTOR_COUNT → call.function ≢ SET_BDOS_ERROR_MODE
-    → call_done call p process kernel ≡ valued version kernel
-unfolding call_done
-version_row call p process kernel is drive dma user multi mode =
-    own_each (λ f. f ≡ call.function → call_done (record call { function = f }) p process kernel ≡ valued version kernel) call.function is
-    (λ e. refl) (λ e. absurd (drive (sym e))) (λ e. absurd (dma (sym e))) (λ e. absurd (user (sym e))) (λ e. absurd (multi (sym e))) (λ e. absurd (mode (sym e))) (λ e. refl) refl
 
 begun_quietly : (b : Bool) (kernel : Kernel) → b ≡ false → kernel.dispatcher.completed ≡ [] → call_begun b kernel ≡ kernel
 begun_quietly b kernel off nobody =
@@ -175,34 +144,6 @@ pub asked_word : (p seg : ℕ) (system : System)
 unfolding asked Rattle.mpm_gate.specs.Calls.taken_call
 asked_word p seg system = refl
 
--- and reads no memory: what it takes stands in its process's registers, and its DMA address is noted
-abbrev pub asked_alone : ℕ → System → Taken
-asked_alone p system =
-    let process = process_in system.kernel.dispatcher.procs p in
-    record { function = process.regs.c; word = word_of process.regs.e process.regs.d; dma = process.dma; fcb = zeros 36; bytes = [] }
-
-own_reads : (f : ℕ) → is_own f ≡ true → reads_of f ≡ Registers
-unfolding reads_of
-own_reads f is = own_each (λ n. reads_of n ≡ Registers) f is refl refl refl refl refl refl refl
-
-pub asks_alone : (p seg : ℕ) (system : System) → is_own (process_in system.kernel.dispatcher.procs p).regs.c ≡ true → asked_alone p system ≡ asked p seg system
-unfolding asked Rattle.mpm_gate.specs.Calls.taken_call Rattle.mpm_gate.specs.Calls.block_read Rattle.mpm_gate.specs.Calls.bytes_read
-asks_alone p seg system is =
-    let process = process_in system.kernel.dispatcher.procs p in
-    let word = word_of process.regs.e process.regs.d in
-    let memory = byte_at system.memory seg in
-    ap (λ (reads : Reads). let call : Taken = record {
-      function = process.regs.c;
-      word = word;
-      dma = process.dma;
-      fcb = block_read reads word memory;
-      bytes = bytes_read reads word process.dma process.multi memory;
-    } in call) (sym (own_reads process.regs.c is))
-
-pub keeps_own : (p seg : ℕ) (old kept : System) → is_own (process_in old.kernel.dispatcher.procs p).regs.c ≡ true → kept ≡ keeping p (asked_alone p old) old
-    → kept ≡ keeping p (asked p seg old) old
-keeps_own p seg old kept is was = was ∙ ap (λ (call : Taken). keeping p call old) (asks_alone p seg old is)
-
 still_nobody : (p : ℕ) (call : Taken) (system : System) → system.kernel.dispatcher.completed ≡ [] → (keeping p call system).kernel.dispatcher.completed ≡ []
 unfolding keeping
 still_nobody p call system nobody = nobody
@@ -226,11 +167,6 @@ own_at_gate p seg system row w h c nobody =
     ∙ ap (after_echo call p done) (completes_own call row.value p seg done is)
     ∙ echoes_nothing_own call p done _ is
 
--- a value alone places nothing in memory
-pub placed_in_memory : (value word seg : ℕ) (memory : Memory) → memory ≡ placed (answering value) word seg memory
-unfolding placed
-placed_in_memory value word seg memory = written_none memory seg 0 [] refl
-
 -- its process lives on
 
 still_lives : (p seg : ℕ) (system : System) → Lives system.kernel.dispatcher.procs p → Lives (popped p seg system).kernel.dispatcher.procs p
@@ -242,9 +178,3 @@ still_lives p seg system h =
 pub lives_popped : (p seg : ℕ) (kept gone : System) → Lives kept.kernel.dispatcher.procs p → gone ≡ popped p seg kept → Lives gone.kernel.dispatcher.procs p
 lives_popped p seg kept gone h is =
     let P : System → Type 0 = λ system. Lives system.kernel.dispatcher.procs p in subst P (sym is) (still_lives p seg kept h)
-
-lives_on : (call : Taken) (value p seg : ℕ) (system : System) → Lives system.kernel.dispatcher.procs p → Lives (replied (answering value) call p seg system).kernel.dispatcher.procs p
-unfolding replied
-lives_on call value p seg system h =
-    let process = process_in system.kernel.dispatcher.procs p in
-    lives_changed system.kernel.dispatcher.procs p p (record process { regs = answered value process.regs }) ∙ h

@@ -1,4 +1,5 @@
 -- The step that is nothing but a call that concerns its caller alone.
+-- the disk, where no call is at it
 use Rattle.std.proofs.Common.{◌≡◌, ◌∙◌, ℕ, ◌+◌, ◌-◌, ◌*◌, ◌<◌, true, false, not, ◌&&◌, if◌then◌else◌, List, [], ◌∷◌, ◌++◌, Option, Some, None, IfSome, is_some, option_map, refl, sym, ap, subst, arith, Bool}
 use Rattle.mpm_port.specs.Disks.{Disks}
 use Rattle.mpm_port.specs.Texts.{appended}
@@ -10,13 +11,12 @@ use Rattle.mpm_interrupts.specs.Interrupts.{due}
 use Rattle.mpm_banks.specs.Memory.{Memory, byte_at}
 use Rattle.mpm_banks.specs.Gates.{last_page, call_gate}
 use Rattle.mpm_gate.proofs.GateLaws.{calls_there}
-use Rattle.mpm_machine.specs.Gates.{is_inside}
 use Rattle.mpm_gate.specs.Replies.{answered, returned}
 use Rattle.mpm_gate.specs.declared.gate.Gate.{Gate}
 use Rattle.mpm_dispatcher.specs.Dispatch.{ready, first_completed}
 use Rattle.mpm_service.specs.declared.service.Served.{Served}
 use Rattle.mpm_service.specs.Disk.{DiskService, turned, turn_answer}
-use Rattle.mpm_service.specs.Ahead.{passed_on, passed_by, quiet_by, quiet_steps}
+use Rattle.mpm_service.specs.Ahead.{passed_on, passed_by}
 use Rattle.mpm_kernel.specs.Kernel.{Kernel, with_changed}
 use Rattle.mpm_kernel.specs.Called.{Called, valued}
 use Rattle.mpm_kernel.specs.Calls.{call_done}
@@ -31,48 +31,42 @@ use Rattle.mpm_directories.specs.Direct.{Directly}
 use Rattle.mpm_bdos.specs.Serving.{Kept, StandForSome}
 use Rattle.mpm_procs.specs.declared.process.Process.{Process}
 use Rattle.mpm_procs.proofs.MapLaws.{lives_changed}
-use Rattle.mpm_machine.specs.declared.system.System.{System}
+use Rattle.mpm_system.specs.Procedures.{is_inside}
+use Rattle.mpm_system.specs.declared.system.System.{System}
+use Rattle.mpm_system.specs.Whole.{Change, IsWhole, NobodyAborted, silent}
+use Rattle.mpm_system.specs.Taking.{asked, keeping}
+use Rattle.mpm_system.specs.Answering.{popped, replied, recorded, completion, answering_call}
+use Rattle.mpm_system.specs.Coming.{coming, counted}
+use Rattle.mpm_system.specs.Written.{with_records, records_out, recorded_behind}
+use Rattle.mpm_system.specs.Idling.{CanPass}
+use Rattle.mpm_system.specs.OwnCalls.{is_own}
+use Rattle.mpm_system.proofs.WholeLaws.{keeps_call}
+use Rattle.mpm_system.proofs.IdlingLaws.{fewer_can}
+use Rattle.mpm_system.proofs.OwnCallLaws.{placed_in_memory}
 use Rattle.mpm_machine.specs.declared.ahead.Ahead.{Ahead}
-use Rattle.mpm_machine.specs.State.{Change, IsWhole, NobodyAborted, silent}
 use Rattle.mpm_machine.specs.Files.{Files, AreWithin, StandsForFiles}
 use Rattle.mpm_machine.specs.Holding.{HoldsDrives}
-use Rattle.mpm_machine.specs.Serving.{asked, keeping, popped, replied, recorded, completion, answering_call, gate_step}
+use Rattle.mpm_machine.specs.Serving.{gate_step}
 use Rattle.mpm_machine.specs.Finishing.{all_answered}
 use Rattle.mpm_machine.specs.FileCalls.{is_file_number, at_gate, called_next, calls_files, file_caller_by, file_caller}
-use Rattle.mpm_machine.specs.Step.{acted, begun_by, instruction_unless, coming, counted, then_also, with_records, records_out, recorded_behind, dispatched as step_dispatched}
+use Rattle.mpm_machine.specs.Step.{acted, begun_by, instruction_unless, then_also, dispatched as step_dispatched}
 use Rattle.mpm_machine.specs.DiskStep.{step_passed}
 use Rattle.mpm_machine.specs.Stepping.{Telling, begun_with, begun_alone, begun_as, is_instruction, rest_of, step_with, told_first, telling_of, before_disk, files_begun_by, files_begun, files_rest, stepped}
 use Rattle.mpm_machine.specs.Contained.{Calls}
-use Rattle.mpm_machine.specs.Moving.{CanPass, RunsAhead, is_still}
-use Rattle.mpm_machine.specs.OwnCalls.{is_own, MakesOwnCall, IsRecord, with_own_call}
+use Rattle.mpm_machine.specs.Moving.{RunsAhead, is_still}
+use Rattle.mpm_machine.specs.OwnCalls.{MakesOwnCall, IsRecord, with_own_call}
 use Rattle.mpm_machine.specs.After.{IsMadeUpon, HasStepped, HasSteppedTo}
-use Rattle.mpm_machine.proofs.WholeLaws.{keeps_call}
 use Rattle.mpm_machine.proofs.ActedLaws.{whole_gate_step}
 use Rattle.mpm_machine.proofs.WholeStepLaws.{whole_counted}
 use Rattle.mpm_machine.proofs.FinishLaws.{answered_nobody}
 use Rattle.mpm_machine.proofs.QuietLaws.{none_comes, picked_same}
-use Rattle.mpm_machine.proofs.PassingLaws.{Passes, still_ahead, passes_on, passes_nothing, fewer_can, rest_recorded}
+use Rattle.mpm_machine.proofs.PassingLaws.{Passes, still_ahead, passes_on, passes_nothing, rest_recorded}
 use Rattle.mpm_machine.proofs.PlainLaws.{rest_leaves}
 use Rattle.mpm_machine.proofs.ServedLaws.{calls_at_gate, no_instruction}
 use Rattle.mpm_machine.proofs.FileStepLaws.{is_made_still}
 use Rattle.mpm_machine.proofs.StandingLaws.{stands_within}
 use Rattle.mpm_machine.proofs.BegunLaws.{keeps_alone, holds_kept}
-use Rattle.mpm_machine.proofs.OwnCallLaws.{OwnRow, own_row, no_file_function, asks_own, own_changed, own_at_gate, placed_in_memory}
-
--- the disk, where no call is at it
-
-no_turn_due : (turn_steps : ℕ) (served : Option Served) (first : Option ℕ) → quiet_by turn_steps served first ≡ None → (served ≡ None) × (first ≡ None)
-no_turn_due turn_steps None None none = (refl, refl)
-no_turn_due turn_steps None (Some p) none = absurd (cc)
-no_turn_due turn_steps (Some call) first none = absurd (cc)
-
-pub nobody_served : (disk : DiskService) → quiet_steps disk ≡ None → disk.served ≡ None
-unfolding quiet_steps
-nobody_served disk none = (no_turn_due disk.turn_steps disk.served (first_of disk.waiting) none).0
-
-pub nobody_waits : (disk : DiskService) → quiet_steps disk ≡ None → first_of disk.waiting ≡ None
-unfolding quiet_steps
-nobody_waits disk none = (no_turn_due disk.turn_steps disk.served (first_of disk.waiting) none).1
+use Rattle.mpm_machine.proofs.OwnCallLaws.{OwnRow, own_row, no_file_function, asks_own, own_changed, own_at_gate}
 
 passes_so : (n : ℕ) (disk : DiskService) → disk.served ≡ None → passed_by n disk ≡ disk
 unfolding passed_by

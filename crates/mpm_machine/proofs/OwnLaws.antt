@@ -27,16 +27,16 @@ use Rattle.mpm_residents.specs.declared.cli.table.Row.TheVariants.{ReadCommand, 
 use Rattle.mpm_residents.specs.Standing.{is_loading}
 use Rattle.mpm_residents.specs.declared.cli.table.Row.{Row}
 use Rattle.mpm_residents.proofs.StandingLaws.{none_for_memory}
-use Rattle.mpm_machine.specs.declared.system.System.{System}
-use Rattle.mpm_machine.specs.State.{IsWhole}
-use Rattle.mpm_machine.specs.Serving.{reserve_reply}
-use Rattle.mpm_machine.specs.Residing.{taking}
 use Rattle.mpm_gate.specs.Gates.{IsHome}
 use Rattle.mpm_service.specs.Places.{at_disk}
 use Rattle.mpm_kernel.specs.Awaiting.{AwaitsIn}
-use Rattle.mpm_machine.specs.Interpreting.{HasReserved, awaited, Interprets}
-use Rattle.mpm_machine.proofs.HomeLaws.{freed_place, found_is_free, freed_lived}
 use Rattle.mpm_kernel.proofs.Beside.{StaysBeside, beside_same}
+use Rattle.mpm_system.specs.declared.system.System.{System}
+use Rattle.mpm_system.specs.Whole.{IsWhole}
+use Rattle.mpm_system.specs.Segments.{reserve_reply}
+use Rattle.mpm_system.specs.Residents.{taking}
+use Rattle.mpm_system.proofs.HomeLaws.{freed_place, found_is_free, freed_lived}
+use Rattle.mpm_machine.specs.Interpreting.{HasReserved, awaited, Interprets}
 use Rattle.mpm_machine.proofs.GoingOn.{acts_with, acts_took, acts_another_took}
 use Rattle.mpm_machine.proofs.InterpretingLaws.{reserves_always}
 use Rattle.mpm_machine.proofs.ServedLaws.{segment_freed}

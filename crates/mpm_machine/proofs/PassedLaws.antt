@@ -1,44 +1,27 @@
 -- So many steps of a run in which the disk's only pass: how many there may be, and what they leave of those at the disk and of calls.
-use Rattle.std.proofs.Common.{◌≡◌, ◌∙◌, ℕ, ◌+◌, ◌<◌, ◌≤◌, Option, Some, None, IfSome, option_map, is_some, unwrap_or, refl, sym, ap, subst, arith}
+use Rattle.std.proofs.Common.{◌≡◌, ◌∙◌, ℕ, ◌<◌, Option, Some, None, IfSome, option_map, is_some, refl, sym, ap, subst, arith}
 use Rattle.z80_regs.specs.declared.regs.Regs.{Regs}
 use Rattle.mpm_base.specs.Calls.{Taken}
 use Rattle.mpm_port.specs.Disks.{Disks}
-use Rattle.mpm_ready.specs.Order.{first_of}
 use Rattle.mpm_procs.specs.Table.{Table, process_in, with_process}
 use Rattle.mpm_procs.specs.declared.process.Process.{Process}
 use Rattle.mpm_procs.proofs.MapLaws.{call_after}
 use Rattle.mpm_service.specs.Disk.{DiskService, HasBegun}
-use Rattle.mpm_service.specs.Ahead.{quiet_by, quiet_steps, passed_on, passed_by}
+use Rattle.mpm_service.specs.Ahead.{passed_on, passed_by}
 use Rattle.mpm_service.specs.Places.{at_disk}
 use Rattle.mpm_service.specs.declared.service.Served.{Served}
 use Rattle.mpm_service.proofs.PlaceLaws.{at_passed}
 use Rattle.mpm_kernel.specs.Kernel.{Kernel}
 use Rattle.mpm_kernel.specs.Disk.{with_disk}
-use Rattle.mpm_machine.proofs.PassingLaws.{passes_nothing}
 use Rattle.mpm_kernel.proofs.Beside.{field_kept}
 use Rattle.mpm_bdos.specs.Answering.{HasEntered}
 use Rattle.mpm_functions.specs.Functions.{function_of}
 use Rattle.mpm_bdos.specs.Serving.{Kept, InService}
-use Rattle.mpm_machine.specs.declared.system.System.{System}
+use Rattle.mpm_system.specs.declared.system.System.{System}
+use Rattle.mpm_system.specs.Idling.{later}
+use Rattle.mpm_machine.proofs.PassingLaws.{passes_nothing}
 use Rattle.mpm_machine.specs.Holding.{IsOwn, HoldsDrives, CallsAlike}
-use Rattle.mpm_machine.specs.Moving.{CanPass, Moved, with_view, later}
-
--- the disk tells how many
-none_waits : (turn_steps n : ℕ) (served : Option Served) (first : Option ℕ) → 0 < n → n ≤ unwrap_or (quiet_by turn_steps served first) n → served ≡ None → first ≡ None
-none_waits turn_steps n None None some few none = refl
-none_waits turn_steps n None (Some p) some few none = absurd (omega (arith, some, few))
-none_waits turn_steps n (Some call) first some few none = absurd (cc)
-
-pub quiet_passes : (disk : DiskService) (result : Option ℕ) (n : ℕ) → result ≡ quiet_steps disk
-    → ((k : ℕ) → k ≤ unwrap_or result k → IfSome disk.served (λ call. call.passed + k < disk.turn_steps)) → n ≤ unwrap_or result n → CanPass n disk
-unfolding quiet_steps
-quiet_passes disk result n is turn few = record {
-  within = turn n few;
-  nobody = λ some. none_waits disk.turn_steps n disk.served (first_of disk.waiting) some (subst (λ (o : Option ℕ). n ≤ unwrap_or o n) is few);
-}
-
-pub passes_within : (n : ℕ) (disk : DiskService) → CanPass n disk → IfSome disk.served (λ call. call.passed + n < disk.turn_steps)
-passes_within n disk can = can.within
+use Rattle.mpm_machine.specs.Moving.{Moved, with_view}
 
 -- how many steps a turn has stays
 pub turn_steps_passed : (n : ℕ) (old new : DiskService) → new ≡ passed_by n old → new.turn_steps ≡ old.turn_steps

@@ -1,5 +1,5 @@
 -- Steps of the disk that only pass one of a turn, or in which it has no call: how many there are, and what a step with one of them is.
-use Rattle.std.proofs.Common.{◌≡◌, ◌∙◌, ℕ, ◌+◌, ◌-◌, ◌<◌, ◌≤◌, ◌==◌, Bool, true, false, List, [], ◌++◌, Option, Some, None, IfSome, if◌then◌else◌, option_map, refl, sym, ap, arith}
+use Rattle.std.proofs.Common.{◌≡◌, ◌∙◌, ℕ, ◌+◌, ◌-◌, ◌<◌, ◌==◌, Bool, true, false, List, [], ◌++◌, Option, Some, None, IfSome, if◌then◌else◌, option_map, refl, sym, ap, arith}
 use Rattle.std.proofs.lemmas.Bool.{false≢true}
 use Rattle.std.proofs.lemmas.Bool.Decides.{nat_tests}
 use Rattle.std.proofs.lemmas.Option.{none-some}
@@ -13,16 +13,18 @@ use Rattle.mpm_service.specs.declared.service.Turn.TheVariants.{Idle, Passing, W
 use Rattle.mpm_render.specs.Outputs.{Output}
 use Rattle.mpm_functions.specs.declared.functions.FileFunction.{FileFunction}
 use Rattle.mpm_directories.specs.Direct.{Directly}
-use Rattle.mpm_machine.specs.declared.system.System.{System}
-use Rattle.mpm_machine.specs.Owing.{nobody_owes}
-use Rattle.mpm_machine.specs.State.{Change, silent, NoCompletions, NobodyAborted}
+use Rattle.mpm_system.specs.declared.system.System.{System}
+use Rattle.mpm_system.specs.Owing.{nobody_owes}
+use Rattle.mpm_system.specs.Whole.{Change, silent, NoCompletions, NobodyAborted}
+use Rattle.mpm_system.specs.Written.{with_records, records_out}
+use Rattle.mpm_system.specs.Idling.{CanPass}
 use Rattle.mpm_machine.specs.Due.{with_ends}
 use Rattle.mpm_machine.specs.Files.{Files, Between, Within, AreWithin}
-use Rattle.mpm_machine.specs.Step.{dispatched, with_records, records_out}
+use Rattle.mpm_machine.specs.Step.{dispatched}
 use Rattle.mpm_machine.specs.DiskStep.{step_passed, disk_served, over_by, process_over, owed_then, all_paid, call_entered}
 use Rattle.mpm_machine.specs.Stepping.{Telling, paid_after, entered_after, ended_after, rest_of}
 use Rattle.mpm_machine.specs.After.{EntersService}
-use Rattle.mpm_machine.specs.Moving.{is_still, CanPass}
+use Rattle.mpm_machine.specs.Moving.{is_still}
 use Rattle.mpm_machine.proofs.DueLaws.{no_ends, nothing_out}
 use Rattle.mpm_machine.proofs.QuietLaws.{served_still, served_nobody, entered_nobody, entered_served}
 
@@ -81,13 +83,6 @@ fewer_pass n disk can = record { within = fewer disk.served disk.turn_steps n ca
     fewer : (served : Option Served) (turn_steps n : ℕ) → IfSome served (λ call. call.passed + (n + 1) < turn_steps) → IfSome served (λ call. call.passed + n < turn_steps)
     fewer None turn_steps n within = tt
     fewer (Some call) turn_steps n within = omega (arith, within)
-
-pub fewer_can : (n most : ℕ) (disk : DiskService) → n ≤ most → CanPass most disk → CanPass n disk
-fewer_can n most disk few can = record { within = fewer disk.served disk.turn_steps n most few can.within; nobody = λ some. can.nobody (omega (arith, some, few)) }
-  where
-    fewer : (served : Option Served) (turn_steps n most : ℕ) → n ≤ most → IfSome served (λ call. call.passed + most < turn_steps) → IfSome served (λ call. call.passed + n < turn_steps)
-    fewer None turn_steps n most few within = tt
-    fewer (Some call) turn_steps n most few within = omega (arith, few, within)
 
 -- the rest of a step in which the disk does nothing else, nobody's end is due, and nothing is to be given back
 

@@ -10,11 +10,13 @@ use Rattle.mpm_service.specs.declared.service.Turn.TheVariants.{Idle, Passing, W
 use Rattle.mpm_requests.specs.Filing.{Filing}
 use Rattle.mpm_bdos.specs.Outcomes.{left_by, without_search}
 use Rattle.mpm_bdos.specs.Serving.{Kept, filing_of}
-use Rattle.mpm_machine.specs.declared.system.System.{System}
-use Rattle.mpm_machine.specs.Owing.{nobody_owes}
-use Rattle.mpm_machine.specs.State.{State, Change, silent, NoCompletions, NobodyAborted}
-use Rattle.mpm_machine.specs.Step.{acted, coming, counted}
 use Rattle.mpm_directories.specs.Direct.{Directly}
+use Rattle.mpm_system.specs.declared.system.System.{System}
+use Rattle.mpm_system.specs.Owing.{nobody_owes}
+use Rattle.mpm_system.specs.Whole.{Change, silent, NoCompletions, NobodyAborted}
+use Rattle.mpm_system.specs.Coming.{coming, counted}
+use Rattle.mpm_machine.specs.State.{State}
+use Rattle.mpm_machine.specs.Step.{acted}
 use Rattle.mpm_machine.specs.Files.{Files, Between, Within, AreWithin, left_each, owes, all_left, given_back}
 use Rattle.mpm_machine.specs.FileCalls.{file_caller}
 use Rattle.mpm_machine.specs.Filed.{left_unless, kept_paid}

@@ -1,4 +1,5 @@
 -- A step in which no event comes, and in which nobody's held call is completed.
+-- no interrupt comes where none is due
 use Rattle.std.proofs.Common.{◌≡◌, ◌∙◌, ℕ, Bool, true, [], Option, Some, None, refl, ap}
 use Rattle.std.proofs.lemmas.Bool.{false≢true}
 use Rattle.mpm_service.specs.Disk.{served_process, turn_answer}
@@ -11,18 +12,17 @@ use Rattle.mpm_dispatcher.proofs.ReadyLaws.{same_runner}
 use Rattle.mpm_dispatcher.specs.Dispatch.{ready, picked, first_completed}
 use Rattle.mpm_kernel.specs.Kernel.{Kernel, dispatched as with_dispatcher}
 use Rattle.mpm_interrupts.specs.Interrupts.{due}
-use Rattle.mpm_machine.specs.declared.system.System.{System}
-use Rattle.mpm_machine.specs.State.{silent}
-use Rattle.mpm_machine.specs.Step.{acted, at_instruction, lets_in, coming, begun_by, instruction_unless, then_also, counted}
+use Rattle.mpm_system.specs.declared.system.System.{System}
+use Rattle.mpm_system.specs.Whole.{silent}
+use Rattle.mpm_system.specs.Coming.{lets_in, coming, counted}
+use Rattle.mpm_system.proofs.InterruptLaws.{none_due}
+use Rattle.mpm_machine.specs.Step.{acted, at_instruction, begun_by, instruction_unless, then_also}
 use Rattle.mpm_machine.specs.Finishing.{all_answered}
 use Rattle.mpm_machine.specs.FileCalls.{file_caller}
 use Rattle.mpm_machine.specs.DiskStep.{step_passed, over_after, served_by, disk_served, entered_by, entered_unless, call_entered}
 use Rattle.mpm_machine.specs.Moving.{is_still}
 use Rattle.mpm_machine.specs.Stepping.{Telling, begun_with, begun_as, is_instruction, rest_of, step_with}
 use Rattle.mpm_machine.proofs.FinishLaws.{answered_nobody}
-use Rattle.mpm_machine.proofs.InterruptLaws.{none_due}
-
--- no interrupt comes where none is due
 
 pub none_comes : (system : System) → due system.steps system.interrupts ≡ None → coming system ≡ None
 unfolding coming

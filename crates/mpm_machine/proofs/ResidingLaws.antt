@@ -12,16 +12,20 @@ use Rattle.mpm_kernel.specs.Columns.{column_of, expanded, tab_text}
 use Rattle.mpm_kernel.specs.Called.{low_parameter}
 use Rattle.mpm_kernel.specs.ConsoleInput.{writes}
 use Rattle.mpm_residents.specs.declared.cli.act.Act.{Act}
-use Rattle.mpm_residents.specs.Natives.{native_act, native_call, native_in, answer_taken}
+use Rattle.mpm_residents.specs.Natives.{native_act, native_call, native_in}
 use Rattle.mpm_residents.specs.declared.native.Native.{Native}
 use Rattle.mpm_render.specs.declared.unit.Unit2.TheVariants.{Printer}
 use Rattle.mpm_render.specs.Outputs.{said}
-use Rattle.mpm_machine.specs.declared.system.System.{System}
-use Rattle.mpm_machine.specs.State.{Change, IsWhole, silent, speaking}
-use Rattle.mpm_machine.specs.Calling.{Served}
-use Rattle.mpm_machine.specs.Serving.{reserving, releasing, served_to_all, call_text, printed, said_by, after_echo}
-use Rattle.mpm_machine.specs.Residing.{asked_by, native_outcome, calling_step, native_step, resided, taking}
-use Rattle.mpm_machine.proofs.WholeLaws.{StaysServed, Keeps, keeps_asked}
+use Rattle.mpm_system.specs.declared.system.System.{System}
+use Rattle.mpm_system.specs.Whole.{Change, IsWhole, silent, speaking}
+use Rattle.mpm_system.specs.Calling.{Served}
+use Rattle.mpm_system.specs.Segments.{reserving, releasing}
+use Rattle.mpm_system.specs.Saying.{call_text, printed, said_by}
+use Rattle.mpm_system.specs.Residents.{asked_by, taking}
+use Rattle.mpm_system.proofs.WholeLaws.{Keeps, keeps_asked}
+use Rattle.mpm_machine.specs.Serving.{served_to_all, after_echo}
+use Rattle.mpm_machine.specs.Residing.{native_outcome, calling_step, native_step, resided}
+use Rattle.mpm_machine.proofs.WholeLaws.{StaysServed}
 use Rattle.mpm_machine.proofs.ActedLaws.{whole_to_all}
 
 -- its process keeps what the resident fills in, and the step is what comes of that
@@ -141,14 +145,6 @@ concludes p old done outcome reply w h ready has system how what =
           ∙ ap (λ r. after_echo call p done (native_outcome result.outcome r call p done)) what
           ∙ ap (λ s. after_echo call p s (native_outcome result.outcome result.reply call p s)) system;
     }
-
--- where none acts there, nobody takes an answer
-pub nobody_takes : (reply : Answer) (p : ℕ) (natives : List Native) → is_some (native_in natives p) ≡ false
-    → natives ≡ answer_taken (native_in natives p) reply p natives
-nobody_takes reply p natives none = nobody_by (native_in natives p) none where
-  nobody_by : (o : Option Native) → is_some o ≡ false → natives ≡ answer_taken o reply p natives
-  nobody_by None none = refl
-  nobody_by (Some native) none = absurd (false≢true (sym none))
 
 -- what is said changes no resident
 pub said_has : (call : Taken) (string : List ℕ) (p : ℕ) (old said : System) → is_some (native_in old.residents p) ≡ true

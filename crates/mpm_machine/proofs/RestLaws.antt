@@ -3,9 +3,9 @@
 use Rattle.std.proofs.Common.{◌≡◌, ◌∙◌, Bool, List, [], ◌++◌, Option, Some, None, refl, ap}
 use Rattle.mpm_dispatcher.specs.declared.dispatcher.Dispatcher.{Dispatcher}
 use Rattle.mpm_service.specs.declared.service.Served.{Served}
-use Rattle.mpm_machine.specs.declared.system.System.{System}
-use Rattle.mpm_machine.specs.Owing.{nobody_owes}
-use Rattle.mpm_machine.specs.State.{Change, IsWhole, NoCompletions, silent}
+use Rattle.mpm_system.specs.declared.system.System.{System}
+use Rattle.mpm_system.specs.Owing.{nobody_owes}
+use Rattle.mpm_system.specs.Whole.{Change, IsWhole, NoCompletions, silent}
 use Rattle.mpm_machine.specs.Due.{NobodyDue, with_ends}
 use Rattle.mpm_machine.specs.DiskStep.{disk_served, owed_then, all_paid}
 use Rattle.mpm_machine.specs.Stepping.{Telling, paid_after, entered_after, ended_after, rest_of}

@@ -13,28 +13,18 @@ use Rattle.mpm_procs.specs.Table.{Table, Lives, lives, process_in, call_of}
 use Rattle.mpm_dispatcher.specs.Dispatch.{IsReady}
 use Rattle.mpm_kernel.specs.Kernel.{Kernel}
 use Rattle.mpm_kernel.specs.Called.{Called}
-use Rattle.mpm_kernel.specs.Calls.{called}
 use Rattle.mpm_kernel.specs.Completion.{completion_of}
 use Rattle.mpm_kernel.specs.Consoling.{given}
 use Rattle.mpm_kernel.specs.Waiting.{completion_reply}
 use Rattle.mpm_kernel.proofs.SoundLaws.{live_kept}
 use Rattle.mpm_kernel.proofs.HomeLaws.{homes_stay}
 use Rattle.mpm_kernel.proofs.GivingLaws.{sound_gave, procs_gave, completed_gave}
-use Rattle.mpm_machine.specs.declared.system.System.{System}
-use Rattle.mpm_machine.specs.State.{IsWhole}
-use Rattle.mpm_machine.specs.Calling.{asking, calling, served_by}
-use Rattle.mpm_machine.specs.Sending.{chained, framed, console_sent, may_pass, passed, passed_after, sent, may_send, sending, chaining, is_command, let_in}
-use Rattle.mpm_machine.proofs.WholeLaws.{StaysWhole, StaysServed, stays_as_served, Keeps, keeps_asked, whole_calling, whole_kernel}
-
--- a process keeps another call
-pub keeps_other : (p : ℕ) (call : Taken) (old now : System) → IsWhole old → Lives old.kernel.dispatcher.procs p → now ≡ asking p call old → Keeps p call old now
-keeps_other p call old now w h is = subst (λ s. Keeps p call old s) (sym is) (keeps_asked p call old w h)
-
--- it is done
-pub called_whole : (p : ℕ) (asked : System) (kernel : Kernel) → IsWhole asked → Lives asked.kernel.dispatcher.procs p → IsReady asked.kernel.dispatcher p
-    → kernel ≡ (called p asked.kernel).kernel → StaysWhole p asked (record asked { kernel = kernel })
-called_whole p asked kernel w h ready is =
-    subst (λ k. StaysWhole p asked (record asked { kernel = k })) (sym is) (whole_calling p asked w h ready)
+use Rattle.mpm_system.specs.declared.system.System.{System}
+use Rattle.mpm_system.specs.Whole.{IsWhole}
+use Rattle.mpm_system.specs.Calling.{asking, calling, served_by}
+use Rattle.mpm_system.specs.Sending.{chained, framed, console_sent, may_pass, passed, passed_after, sent, may_send, sending, chaining, is_command, let_in}
+use Rattle.mpm_system.proofs.WholeLaws.{keeps_asked, whole_calling, whole_kernel}
+use Rattle.mpm_machine.proofs.WholeLaws.{StaysServed, stays_as_served}
 
 -- a console that passes to the interpreter leaves a whole system, and every process as it is
 gave_whole : (old : System) (console p q : ℕ) → IsWhole old → console < length old.kernel.units.consoles → Lives old.kernel.dispatcher.procs q

@@ -1,4 +1,5 @@
 -- The disk's step as the code makes it: a call that is over, and a step of the turn of the one in service.
+-- a call that is over: what is told of it is what it came to
 use Rattle.std.proofs.Common.{◌≡◌, ◌∙◌, ℕ, Bool, true, false, List, [], Option, Some, None, Result, Ok, Err, IfErr, IfSome, option_map, is_some, if◌then◌else◌, ◌==◌, inl, inr, length, arith, ◌+◌, ◌-◌, refl, sym, ap, subst}
 use Rattle.std.proofs.lemmas.Option.{none-some}
 use Rattle.std.specs.Prelude.{◌⊎◌, OnOk, OnErr, option_and_then}
@@ -35,9 +36,9 @@ use Rattle.mpm_bdos.specs.Jobs.{call_turns}
 use Rattle.mpm_bdos.specs.Outcomes.{file_call}
 use Rattle.mpm_bdos.specs.Serving.{Kept, InService, Serves}
 use Rattle.mpm_bdos.specs.Turns.{told_images}
-use Rattle.mpm_machine.specs.declared.system.System.{System}
+use Rattle.mpm_system.specs.declared.system.System.{System}
+use Rattle.mpm_system.specs.Whole.{Change, HasRoomForAll, IsWhole, silent}
 use Rattle.mpm_machine.specs.Files.{Files, Between, Within, StandsBetween, StandsServed, StandsForFiles, StandsWorkedBy, StandsWorked}
-use Rattle.mpm_machine.specs.State.{Change, HasRoomForAll, IsWhole, silent}
 use Rattle.mpm_machine.specs.FileCalls.{MayTell, IsToldOf, EndsWithoutJob, told_of, concluded}
 use Rattle.mpm_machine.specs.DiskStep.{ready_again, step_passed, call_over, over_after, served_by, disk_served, over_by, process_over, files_over, files_served_by, files_served, told_of_call}
 use Rattle.mpm_machine.specs.Stepping.{nothing_told, told_by_process, told_within}
@@ -50,8 +51,6 @@ use Rattle.mpm_machine.proofs.DiskStepLaws.{whole_ready_again, whole_call_over}
 use Rattle.mpm_machine.proofs.KeepingLaws.{ServesSame, same_then, concluded_serves, finishing_serves}
 use Rattle.mpm_machine.proofs.ToldLaws.{own_told}
 use Rattle.mpm_machine.proofs.TurnLaws.{passing_stands, turn_stands, last_turn_serves, whose_turn}
-
--- a call that is over: what is told of it is what it came to
 
 abbrev told_here : ℕ → System → Answer → Option Extended → Directly
 told_here p system answer extended = told_of (call_of system.kernel.dispatcher.procs p) answer extended

@@ -1,4 +1,5 @@
 -- A call is served by what it took and by who has which segment, and never by the bytes of memory.
+-- the same segment is the lowest that is free
 use Rattle.std.proofs.Common.{◌≡◌, ◌∙◌, ℕ, zero, suc, cond, not, ◌+◌, Bool, true, false, List, [], ◌∷◌, ◌++◌, Option, Some, None, ◌&&◌, ◌==◌, nat_le, nat_lt, length, get_or, if◌then◌else◌, inl, inr, refl, sym, ap, subst, arith, ◌||◌}
 use Rattle.std.specs.List.{position_or_len}
 use Rattle.std.proofs.lemmas.Bool.{cases_eq, cases_lt}
@@ -22,22 +23,24 @@ use Rattle.mpm_xdos.specs.Copies.{segment_descriptors, with_zeros, system_page, 
 use Rattle.mpm_xdos.specs.Creating.{home_base, created, create_answer}
 use Rattle.mpm_xdos.specs.Ending.{is_home, vacated_if_empty, memory_without}
 use Rattle.mpm_xdos.specs.Aborting.{waits_to_end, target, memory_after_abort}
-use Rattle.mpm_machine.specs.declared.system.System.{System}
-use Rattle.mpm_machine.specs.Calling.{Served, served_by, calling}
-use Rattle.mpm_machine.specs.Sending.{has_interpreter, sending, chaining}
-use Rattle.mpm_machine.specs.Serving.{asked, keeping, reserve_reply, base_asked, reserving, releasing, creating, aborted, aborting_this, aborting, parsing, served_to_all, served, gate_step, telling_system, telling_descriptor}
 use Rattle.mpm_residents.specs.Natives.{native_in, interprets_if_there}
 use Rattle.mpm_residents.specs.declared.native.Native.{Native}
 use Rattle.mpm_gate.specs.declared.gate.Gate.{Gate}
-use Rattle.mpm_machine.specs.State.{Change}
-use Rattle.mpm_machine.specs.Step.{acted_at, acted_by, acted, running_segment, is_no_gate, instruction_by, at_instruction, begun_by, instruction_unless, then_also, counted}
+use Rattle.mpm_system.specs.declared.system.System.{System}
+use Rattle.mpm_system.specs.Calling.{Served, served_by, calling}
+use Rattle.mpm_system.specs.Sending.{has_interpreter, sending, chaining}
+use Rattle.mpm_system.specs.Taking.{asked, keeping}
+use Rattle.mpm_system.specs.Segments.{reserve_reply, base_asked, reserving, releasing}
+use Rattle.mpm_system.specs.Parsing.{parsing}
+use Rattle.mpm_system.specs.Whole.{Change}
+use Rattle.mpm_system.specs.Coming.{counted}
+use Rattle.mpm_system.proofs.HomeLaws.{freed_place}
+use Rattle.mpm_machine.specs.Serving.{creating, aborted, aborting_this, aborting, served_to_all, served, gate_step, telling_system, telling_descriptor}
+use Rattle.mpm_machine.specs.Step.{acted_at, acted_by, acted, running_segment, is_no_gate, instruction_by, at_instruction, begun_by, instruction_unless, then_also}
 use Rattle.mpm_machine.specs.FileCalls.{file_caller}
 use Rattle.mpm_machine.specs.Finishing.{all_answered}
 use Rattle.mpm_machine.specs.Stepping.{Telling, begun_with, begun_as, is_instruction, rest_of, step_with}
 use Rattle.mpm_machine.specs.Contained.{DiffersInBytes, ServedAlike, Calls, ServedByValue}
-use Rattle.mpm_machine.proofs.HomeLaws.{freed_place}
-
--- the same segment is the lowest that is free
 
 fits_alike : (base : Option ℕ) (pages : ℕ) (one other : Segment) → other.base ≡ one.base → other.pages ≡ one.pages
     → other.allocation ≡ one.allocation → fits base pages other ≡ fits base pages one

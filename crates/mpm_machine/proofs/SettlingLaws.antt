@@ -1,4 +1,5 @@
 -- The end of a run: what was written and what the images stand for, where it came through and where it stopped.
+-- what is told of the images where the drives were synced
 use Rattle.std.proofs.Common.{◌≡◌, ◌∙◌, ℕ, suc, ◌+◌, ◌*◌, ◌<◌, ◌≤◌, Bool, List, [], ◌∷◌, ◌++◌, Option, Some, None, IsSome, Result, Ok, Err, inl, inr, refl, sym, ap, subst, arith}
 use Rattle.std.proofs.Math.Path.{fun_ext}
 use Rattle.std.specs.Prelude.{OnOk, OnErr, IfErr, is_some, option_map, unwrap_or}
@@ -23,18 +24,17 @@ use Rattle.mpm_bdos.specs.Serving.{Kept as Filed, StandEach, Serves}
 use Rattle.mpm_directories.specs.Places.{directory_at}
 use Rattle.mpm_bdos.specs.Syncing.{mounted_count}
 use Rattle.mpm_bdos.specs.Turns.{KeepsUnsynced, StaysBeside, drive_served, labelled, told_images}
-use Rattle.mpm_machine.specs.declared.system.System.{System}
+use Rattle.mpm_system.specs.declared.system.System.{System}
+use Rattle.mpm_system.specs.Whole.{Change, silent}
 use Rattle.mpm_machine.specs.declared.machine.StepFault.{StepFault}
 use Rattle.mpm_machine.specs.declared.machine.StepFault.TheVariants.{DiskFault, WriteFault}
-use Rattle.mpm_machine.specs.State.{State, Change, silent}
+use Rattle.mpm_machine.specs.State.{State}
 use Rattle.mpm_machine.specs.Files.{Files, Between, Within, StandsServed, StandsForFiles, filing_in}
 use Rattle.mpm_machine.specs.Faults.{Counts, HaveCause, EndsBy, OnDiskFault}
 use Rattle.mpm_machine.specs.Mounting.{HasNoDrive, KeepsMounted}
 use Rattle.mpm_machine.specs.Failing.{FailsWithin, HaveImages, HaveImagesOf}
 use Rattle.mpm_machine.specs.Settling.{at_end, carried_out, carried, HasCarried, left_of, StopsCarrying, StopsAtEnd, IsEnd, WritesEndOf, WritesEnd, ClosesEnd, StopsSettling, Called, TurnsCall, SyncsTo}
 use Rattle.mpm_machine.proofs.DriveLaws.{keeps_both}
-
--- what is told of the images where the drives were synced
 
 told_synced : (disks now : Option Disks) → Told SameDisks disks now → told_images now ≡ told_images disks
 unfolding told_images

@@ -25,10 +25,7 @@ use Rattle.mpm_residents.specs.declared.native.Native.TheVariants.{Tmp, Cli}
 use Rattle.mpm_residents.specs.Interpreters.{opening as opening_interpreter}
 use Rattle.mpm_script.specs.declared.event.Timed.{Timed}
 use Rattle.mpm_machine_file.specs.declared.machine_file.MachineFile.{MachineFile}
-use Rattle.mpm_machine.specs.declared.system.System.{System}
 use Rattle.mpm_kernel.specs.Awaiting.{completions}
-use Rattle.mpm_machine.specs.State.{IsWhole, NoCompletions}
-use Rattle.mpm_machine.specs.Opening.{resident_process, with_interpreter, terminal_name, with_terminal, with_terminals, with_command_queue, begun_by_interpreter, with_interpreting, with_residents, moment_of, booted, opened}
 use Rattle.mpm_banks.specs.Memory.{Memory, HasSegment}
 use Rattle.mpm_banks.specs.Allocations.{new_segment, new_memory}
 use Rattle.mpm_base.specs.declared.segment.SegmentSpec.{SegmentSpec}
@@ -39,10 +36,13 @@ use Rattle.mpm_gate.specs.Gates.{IsHome}
 use Rattle.mpm_service.specs.Disk.{DiskService, no_service}
 use Rattle.mpm_service.specs.Places.{at_disk}
 use Rattle.mpm_service.proofs.PlaceLaws.{at_none}
+use Rattle.mpm_system.specs.declared.system.System.{System}
+use Rattle.mpm_system.specs.Whole.{IsWhole, NoCompletions}
+use Rattle.mpm_system.specs.Opening.{resident_process, with_interpreter, terminal_name, with_terminal, with_terminals, with_command_queue, begun_by_interpreter, with_interpreting, with_residents, moment_of, booted, opened}
+use Rattle.mpm_system.proofs.PlacedLaws.{home_bare}
+use Rattle.mpm_system.proofs.OpeningLaws.{Begun, interpreting_begun, terminal_begun, boots}
 use Rattle.mpm_machine.specs.Interpreting.{sets_or_chains, Interprets}
-use Rattle.mpm_machine.proofs.PlacedLaws.{home_bare}
 use Rattle.mpm_machine.specs.Slots.{HasInterpreter, HasTerminal, HasResidents}
-use Rattle.mpm_machine.proofs.OpeningLaws.{Begun, interpreting_begun, terminal_begun, boots}
 
 -- the lowest free slot, where all below it have a process
 if_in : (b : Bool) (p : ℕ) → b ≡ true → (if b then Some p else None) ≡ Some p

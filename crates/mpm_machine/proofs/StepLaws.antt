@@ -2,7 +2,6 @@
 use Rattle.std.proofs.Common.{◌≡◌, ◌∙◌, ℕ, ◌+◌, ◌≤◌, Bool, false, List, [], Option, Some, None, Result, Ok, Err, is_some, length, refl, sym, ap, subst, arith}
 use Rattle.std.proofs.lemmas.List.{append-nil}
 use Rattle.mpm_script.specs.declared.event.Event.{Event}
-use Rattle.mpm_machine.specs.declared.system.System.{System}
 use Rattle.mpm_output.specs.Outside.{Outside, Device, Faults}
 use Rattle.mpm_output.specs.Writing.{Wrote, Stopped, Emits}
 use Rattle.mpm_output.proofs.WritingLaws.{emits_after, emits_same}
@@ -10,12 +9,14 @@ use Rattle.mpm_port.specs.Disks.{Disks}
 use Rattle.mpm_render.specs.Outputs.{Output}
 use Rattle.mpm_directories.specs.Direct.{Directly}
 use Rattle.mpm_bdos.specs.Serving.{Kept}
+use Rattle.mpm_system.specs.declared.system.System.{System}
+use Rattle.mpm_system.specs.Whole.{Change, HasRoomForAll}
+use Rattle.mpm_system.specs.Coming.{coming, counted}
 use Rattle.mpm_machine.specs.declared.machine.StepFault.TheVariants.{WriteFault}
-use Rattle.mpm_machine.specs.State.{Change, HasRoomForAll}
 use Rattle.mpm_machine.specs.Faults.{Counts, HaveCause, itself}
 use Rattle.mpm_machine.specs.Files.{Files, StandsWorked}
 use Rattle.mpm_machine.specs.Finishing.{all_answered}
-use Rattle.mpm_machine.specs.Step.{acted, interrupted_by, begun_by, coming, counted, then_also}
+use Rattle.mpm_machine.specs.Step.{acted, interrupted_by, begun_by, then_also}
 use Rattle.mpm_machine.specs.FileCalls.{file_caller}
 use Rattle.mpm_machine.specs.Stepping.{begun_alone, begun_with, begun_as, is_instruction, nothing_told, files_begun_by, files_begun, before_disk}
 use Rattle.mpm_machine.specs.After.{IsOfCall, made_in, IsToldIn, IsAsKept, StopsBy, HasBegunStep, HasBegunTo, HasBegunToStop}

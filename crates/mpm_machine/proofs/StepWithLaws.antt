@@ -3,10 +3,11 @@
 use Rattle.std.proofs.Common.{◌≡◌, ◌∙◌, ℕ, Bool, false, not, ◌&&◌, Option, Some, None, if◌then◌else◌, ap}
 use Rattle.std.specs.Prelude.{is_some}
 use Rattle.mpm_procs.specs.Table.{process_in}
-use Rattle.mpm_machine.specs.declared.system.System.{System}
-use Rattle.mpm_machine.specs.State.{IsWhole, NoCompletions}
+use Rattle.mpm_system.specs.declared.system.System.{System}
+use Rattle.mpm_system.specs.Whole.{IsWhole, NoCompletions}
+use Rattle.mpm_system.specs.Coming.{coming, counted}
 use Rattle.mpm_machine.specs.Due.{NobodyDue}
-use Rattle.mpm_machine.specs.Step.{gate_before, coming, counted}
+use Rattle.mpm_machine.specs.Step.{gate_before}
 use Rattle.mpm_machine.specs.FileCalls.{at_gate, called_next, is_file_number, calls_files, file_caller_by, file_caller}
 use Rattle.mpm_machine.specs.Stepping.{Telling, begun_with, begun_as, is_instruction, step_with}
 use Rattle.mpm_machine.specs.Contained.{Instructs, OnlyInstructed, Calls, ServedByValue}

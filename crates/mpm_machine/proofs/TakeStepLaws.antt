@@ -1,5 +1,6 @@
 -- A step as the code makes it: the disk's work, what it begins with, and the rest of it. Which of them works on a drive, and for which
 -- drives the images stand where one stopped.
+-- a step that works on no drive does in no part of it
 use Rattle.std.proofs.Common.{◌≡◌, ◌∙◌, ℕ, ◌+◌, ◌*◌, ◌<◌, ◌≤◌, ◌==◌, ◌&&◌, ◌||◌, Bool, true, false, List, Option, Some, None, Result, Ok, Err, refl, sym, ap, subst, arith}
 use Rattle.std.specs.Prelude.{is_some, is_none}
 use Rattle.std.proofs.lemmas.Bool.{and_parts, false≢true, or_parts, or_left, or_right, true_from_ne_false, false_from_ne_true}
@@ -17,13 +18,14 @@ use Rattle.mpm_functions.specs.Functions.{function_of}
 use Rattle.mpm_bdos.specs.Serving.{Kept}
 use Rattle.mpm_directories.specs.Places.{directory_at}
 use Rattle.mpm_bdos.specs.Turns.{FitsDrives, has_work}
-use Rattle.mpm_machine.specs.declared.system.System.{System}
+use Rattle.mpm_system.specs.declared.system.System.{System}
+use Rattle.mpm_system.specs.Whole.{IsWhole, silent}
+use Rattle.mpm_system.specs.FileCalling.{call_made}
 use Rattle.mpm_machine.specs.declared.machine.StepFault.{StepFault}
 use Rattle.mpm_machine.specs.declared.machine.StepFault.TheVariants.{DiskFault, WriteFault}
-use Rattle.mpm_machine.specs.State.{IsWhole, silent}
 use Rattle.mpm_machine.specs.Faults.{Counts, HasFailed, HaveCause, itself, OnDiskFault, OnWriteFault}
 use Rattle.mpm_machine.specs.Files.{Files, Between, Within, StandsServed, StandsForFiles, StandsWorked, drives_in}
-use Rattle.mpm_machine.specs.FileCalls.{file_caller, call_made}
+use Rattle.mpm_machine.specs.FileCalls.{file_caller}
 use Rattle.mpm_machine.specs.Stepping.{is_instruction, nothing_told, told_first, before_disk, files_begun, telling_then, files_rest, rest_of}
 use Rattle.mpm_machine.specs.Holding.{AreFiled, OwnsService, HoldsDrives}
 use Rattle.mpm_machine.specs.Mounting.{HasNoDrive}
@@ -34,8 +36,6 @@ use Rattle.mpm_machine.proofs.WorkLaws.{its_working}
 use Rattle.mpm_machine.proofs.BehindLaws.{rest_images}
 use Rattle.mpm_machine.proofs.BegunLaws.{made_serves, begun_as_serves}
 use Rattle.mpm_machine.proofs.FilesStepLaws.{stepped_drives}
-
--- a step that works on no drive does in no part of it
 
 pub does_nothing : (system : System) → does_work system ≡ false → (works_at_once (file_caller system) system ≡ false) × (works_in_turn system ≡ false)
 unfolding does_work

@@ -7,7 +7,7 @@ use Rattle.mpm_base.specs.declared.functions.TheConstants.{CREATE_PROCESS, PARSE
 use Rattle.mpm_gate.specs.Calls.{taken_call}
 use Rattle.mpm_gate.specs.Reads.{reads_of, most_read}
 use Rattle.mpm_gate.proofs.ReadsLaws.{length_read, more_records}
-use Rattle.mpm_machine.specs.Serving.{IsTaken}
+use Rattle.mpm_system.specs.Taking.{IsTaken}
 
 pub call_is_taken : (regs : Regs) (memory : ℕ → ℕ) (dma multi : ℕ) → multi ≤ 16 → IsTaken (taken_call regs memory dma multi)
 unfolding taken_call

@@ -1,34 +1,40 @@
 -- No part of a step counts it but its beginning; what it begins with completes one call at most.
 use Rattle.std.proofs.Common.{◌≡◌, ◌∙◌, ℕ, ◌+◌, ◌≤◌, not, ◌&&◌, ◌==◌, List, [], ◌∷◌, Option, Some, None, length, refl, sym, ap, subst, arith}
+use Rattle.std.specs.List.{range_with_len}
 use Rattle.z80_regs.specs.Outcome.{Outcome}
 use Rattle.mpm_base.specs.Calls.{Taken, Answer}
 use Rattle.mpm_base.specs.declared.call.Outcome.{Outcome as CallOutcome}
 use Rattle.mpm_base.specs.declared.call.Outcome.TheVariants.{Done, Held, Retry, Ended}
 use Rattle.mpm_script.specs.declared.event.Event.{Event}
-use Rattle.std.specs.List.{range_with_len}
 use Rattle.mpm_base.proofs.Choices.{either}
 use Rattle.mpm_base.specs.declared.functions.TheConstants.{ABSOLUTE_MEMORY_REQUEST, RELOCATABLE_MEMORY_REQUEST, MEMORY_FREE, CREATE_PROCESS, CHAIN_TO_PROGRAM, SEND_CLI_COMMAND, PARSE_FILENAME, ABORT_SPECIFIED_PROCESS, SYSTEM_DATA_ADDRESS, RETURN_PROCESS_DESCRIPTOR_ADDRESS}
 use Rattle.mpm_procs.specs.Table.{process_in}
 use Rattle.mpm_xdos.specs.Aborting.{waits_to_end, target}
-use Rattle.mpm_machine.specs.declared.system.System.{System}
-use Rattle.mpm_machine.proofs.FinishLaws.{first_finished, one_record}
 use Rattle.mpm_gate.specs.declared.gate.Gate.{Gate}
 use Rattle.mpm_gate.specs.declared.gate.Gate.TheVariants.{End, Call, Return}
 use Rattle.mpm_render.specs.Completions.{Completion}
-use Rattle.mpm_machine.specs.State.{HasRoomForAll, Change, speaking}
-use Rattle.mpm_machine.specs.Ending.{ended}
 use Rattle.mpm_dispatcher.specs.Dispatch.{first_completed}
 use Rattle.mpm_kernel.specs.Called.{low_parameter}
 use Rattle.mpm_residents.specs.declared.cli.act.Act.{Act}
 use Rattle.mpm_residents.specs.declared.cli.act.Act.TheVariants.{Ask, Place, Patch, Begin, Give}
-use Rattle.mpm_machine.specs.Calling.{Served, asking}
-use Rattle.mpm_machine.specs.Sending.{chains}
-use Rattle.mpm_machine.specs.Loading.{is_console, begins, handed_over}
-use Rattle.mpm_machine.specs.Serving.{asked, keeping, reserving, releasing, creating, aborted, aborting_this, aborting, parsing, served_to_all, served, string_of, said_by, popped, replied, recorded, answering_call, with_entry, reply_at_entry, fulfilling, completing, returning, outcome_of, gate_step}
 use Rattle.mpm_residents.specs.Natives.{native_act, native_call, native_in}
 use Rattle.mpm_residents.specs.declared.native.Native.{Native}
-use Rattle.mpm_machine.specs.Residing.{native_outcome, calling_step, tells, text_told, telling_step, handing_step, native_step, resided}
 use Rattle.mpm_interrupts.specs.Interrupts.{due_taken}
+use Rattle.mpm_system.specs.declared.system.System.{System}
+use Rattle.mpm_system.specs.Whole.{HasRoomForAll, Change, speaking}
+use Rattle.mpm_system.specs.Calling.{Served, asking}
+use Rattle.mpm_system.specs.Sending.{chains}
+use Rattle.mpm_system.specs.Loading.{is_console, begins, handed_over}
+use Rattle.mpm_system.specs.Taking.{asked, keeping}
+use Rattle.mpm_system.specs.Segments.{reserving, releasing}
+use Rattle.mpm_system.specs.Parsing.{parsing}
+use Rattle.mpm_system.specs.Saying.{string_of, said_by}
+use Rattle.mpm_system.specs.Answering.{popped, replied, recorded, answering_call}
+use Rattle.mpm_system.specs.Residents.{tells, text_told, telling_step, handing_step}
+use Rattle.mpm_machine.proofs.FinishLaws.{first_finished, one_record}
+use Rattle.mpm_machine.specs.Ending.{ended}
+use Rattle.mpm_machine.specs.Serving.{creating, aborted, aborting_this, aborting, served_to_all, served, with_entry, reply_at_entry, fulfilling, completing, returning, outcome_of, gate_step}
+use Rattle.mpm_machine.specs.Residing.{native_outcome, calling_step, native_step, resided}
 use Rattle.mpm_machine.specs.Finishing.{finished, completion_dequeued, finishing, all_finished, command_let_in, finished_or_ended, answered_from, all_answered}
 use Rattle.mpm_machine.specs.Due.{is_due, ended_if_due, due_terminated, with_ends}
 use Rattle.mpm_machine.specs.Step.{instructed, illegal, executed, instruction_at, acted_at, gate_before, acted_by, acted, key_aborted, happened_to, event_come, interrupted, begun_by}

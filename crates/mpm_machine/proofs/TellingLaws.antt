@@ -1,6 +1,6 @@
 -- What a process is told of its file call is of the call that it keeps; and that a call which enters may do so for some turns.
 use Rattle.std.proofs.Common.{ℕ, [], Option, Some, None, refl}
-use Rattle.mpm_machine.specs.declared.system.System.{System}
+use Rattle.mpm_system.specs.declared.system.System.{System}
 use Rattle.mpm_machine.specs.Files.{Files, Between, Within}
 use Rattle.mpm_machine.specs.FileCalls.{file_caller}
 use Rattle.mpm_machine.specs.DiskStep.{process_over, files_entered, turns_within}

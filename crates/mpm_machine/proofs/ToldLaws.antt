@@ -19,7 +19,7 @@ use Rattle.mpm_directories.specs.Places.{kind_at}
 use Rattle.mpm_bdos.specs.Answering.{MayAnswer, HasEntered}
 use Rattle.mpm_bdos.proofs.Answerable.{something_granted}
 use Rattle.mpm_bdos.proofs.NextTurns.{served_idly}
-use Rattle.mpm_machine.specs.declared.system.System.{System}
+use Rattle.mpm_system.specs.declared.system.System.{System}
 use Rattle.mpm_machine.specs.Holding.{IsOwn}
 use Rattle.mpm_machine.specs.FileCalls.{looked_at, MayTell, IsToldOf, EndsWithoutJob, TellsAsKept, IsToldAsKept}
 use Rattle.mpm_machine.proofs.FilingLaws.{named_by}

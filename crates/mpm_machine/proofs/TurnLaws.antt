@@ -21,7 +21,7 @@ use Rattle.mpm_bdos.specs.Jobs.{call_turns}
 use Rattle.mpm_bdos.specs.Outcomes.{left_by, without_search}
 use Rattle.mpm_bdos.specs.Serving.{Kept, StandEach, Serves, filing_of}
 use Rattle.mpm_bdos.specs.Turns.{told_images}
-use Rattle.mpm_machine.specs.declared.system.System.{System}
+use Rattle.mpm_system.specs.declared.system.System.{System}
 use Rattle.mpm_machine.specs.Files.{Files, Between, Within, one_more, StandsBetween, StandsServed, StandsForFiles, StandsWorkedBy, StandsWorked, given_back, all_left, left_each, owes}
 use Rattle.mpm_machine.specs.Failing.{is_work}
 use Rattle.mpm_machine.specs.FileCalls.{situation_of}

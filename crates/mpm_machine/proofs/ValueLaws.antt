@@ -20,14 +20,15 @@ use Rattle.mpm_residents.specs.declared.cli.act.Act.{Act}
 use Rattle.mpm_residents.specs.declared.cli.act.Act.TheVariants.{Ask, Place, Patch, Begin, Give}
 use Rattle.mpm_residents.specs.Natives.{native_call, native_act}
 use Rattle.mpm_residents.specs.declared.native.Native.{Native}
-use Rattle.mpm_machine.specs.declared.system.System.{System}
-use Rattle.mpm_machine.specs.State.{Change}
-use Rattle.mpm_machine.specs.Calling.{asking}
+use Rattle.mpm_system.specs.declared.system.System.{System}
+use Rattle.mpm_system.specs.Whole.{Change}
+use Rattle.mpm_system.specs.Calling.{asking}
+use Rattle.mpm_system.specs.Loading.{moved, may_move, is_console, may_live, is_slot, begun_for, begins, beginning, handed_over, handed_value}
+use Rattle.mpm_system.specs.Coming.{counted}
 use Rattle.mpm_machine.specs.Serving.{served_to_all}
-use Rattle.mpm_machine.specs.Loading.{moved, may_move, is_console, may_live, is_slot, begun_for, begins, beginning, handed_over, handed_value}
 use Rattle.mpm_machine.specs.Residing.{native_step, resided}
 use Rattle.mpm_machine.specs.Finishing.{all_answered}
-use Rattle.mpm_machine.specs.Step.{acted_by, acted, running_segment, instruction_by, at_instruction, begun_by, instruction_unless, then_also, counted}
+use Rattle.mpm_machine.specs.Step.{acted_by, acted, running_segment, instruction_by, at_instruction, begun_by, instruction_unless, then_also}
 use Rattle.mpm_machine.specs.FileCalls.{file_caller}
 use Rattle.mpm_machine.specs.Stepping.{Telling, begun_with, begun_as, is_instruction, rest_of, step_with}
 use Rattle.mpm_machine.specs.Contained.{DiffersInBytes, ServedAlike, Resides, ResidedByValue}

@@ -1,29 +1,27 @@
 -- A whole system stays whole through what a process does: its instruction, its call, its end.
-use Rattle.std.proofs.Common.{◌≡◌, ◌≢◌, ◌∙◌, ◌<◌, ℕ, ◌&&◌, ◌||◌, Bool, true, false, not, List, [], Option, Some, None, ◌==◌, if◌then◌else◌, refl, sym, ap, subst, IsNone, length, arith}
+use Rattle.std.proofs.Common.{◌≡◌, ◌≢◌, ◌∙◌, ◌<◌, ℕ, ◌&&◌, ◌||◌, Bool, true, false, not, List, [], Option, Some, None, ◌==◌, if◌then◌else◌, refl, sym, ap, subst, IsNone}
 use Rattle.std.proofs.Math.Bool.{or-false}
 use Rattle.std.proofs.lemmas.Bool.{false≢true, or_right, eq-eqb, or_parts}
 use Rattle.std.proofs.lemmas.List.{set-get_or}
 use Rattle.mpm_base.proofs.Choices.{either}
 use Rattle.z80_regs.specs.Outcome.{Outcome}
-use Rattle.z80_regs.specs.declared.regs.Regs.{Regs}
 use Rattle.mpm_base.specs.Calls.{Taken, Answer}
 use Rattle.mpm_base.specs.declared.functions.TheConstants.{PRINT_STRING}
 use Rattle.z80_ext.specs.Instruction.{registers_after, actions_of}
-use Rattle.mpm_banks.specs.Memory.{Memory, HasSegment, segment_of, byte_at}
+use Rattle.mpm_banks.specs.Memory.{Memory, segment_of, byte_at}
 use Rattle.mpm_banks.specs.Allocations.{lowest_free}
 use Rattle.mpm_banks.specs.Actions.{memory_after, devices_after}
 use Rattle.mpm_gate.specs.Replies.{answered, returned}
-use Rattle.mpm_procs.specs.Table.{Table, lives, Lives, process_in, call_of, with_process, with_call}
+use Rattle.mpm_procs.specs.Table.{Table, lives, Lives, process_in, call_of, with_process}
 use Rattle.mpm_procs.specs.Opening.{blank}
-use Rattle.mpm_procs.specs.declared.process.Process.{Process}
-use Rattle.mpm_procs.proofs.MapLaws.{lives_below, lives_changed, process_changed, process_after, call_after, call_changed, lives_after}
+use Rattle.mpm_procs.proofs.MapLaws.{lives_below, lives_changed, call_after}
 use Rattle.mpm_dispatcher.specs.Dispatch.{IsReady, with_procs}
-use Rattle.mpm_kernel.specs.Kernel.{Kernel, IsSound, CompletedLive, is_aborted, with_changed, dispatched, is_resident}
+use Rattle.mpm_kernel.specs.Kernel.{Kernel, CompletedLive, with_changed, dispatched, is_resident}
 use Rattle.mpm_kernel.specs.Columns.{spoke}
 use Rattle.mpm_kernel.specs.Ending.{discharged}
 use Rattle.mpm_queues.specs.Queues.{waits as waits_at_queues}
-use Rattle.mpm_kernel.proofs.SoundLaws.{sound_process, sound_call, sound_devices, sound_spoke, sound_called, lives_called, live_called, live_kept}
-use Rattle.mpm_kernel.proofs.HomeLaws.{SameHomes, homes_stay, lived_in_changed, homes_changed, homes_call, homes_called, call_called, procs_spoke}
+use Rattle.mpm_kernel.proofs.SoundLaws.{sound_process, sound_devices, sound_spoke, live_kept}
+use Rattle.mpm_kernel.proofs.HomeLaws.{homes_stay, lived_in_changed, procs_spoke}
 use Rattle.mpm_kernel.proofs.EndingLaws.{ready_waits_at_none, sound_discharged, live_discharged, homes_discharged, lives_discharged, call_discharged}
 use Rattle.mpm_kernel.specs.Procedures.{given_back}
 use Rattle.mpm_kernel.proofs.ProcedureLaws.{stays_given_back, homes_given_back}
@@ -34,27 +32,22 @@ use Rattle.mpm_xdos.specs.Procedures.{entering, entered, leaving, returned_from_
 use Rattle.mpm_xdos.proofs.TargetLaws.{target_lives}
 use Rattle.mpm_xdos.proofs.Homes.{home_here}
 use Rattle.mpm_xdos.proofs.CreatedLaws.{made_created}
-use Rattle.mpm_machine.specs.declared.system.System.{System}
-use Rattle.mpm_gate.specs.Gates.{IsHome}
 use Rattle.mpm_render.specs.Completions.{Completion}
-use Rattle.mpm_machine.specs.State.{HasRoom, IsWhole, NobodyAborted, speaking}
-use Rattle.mpm_machine.specs.Owing.{owing_unless}
-use Rattle.mpm_machine.specs.Ending.{ended}
-use Rattle.mpm_machine.specs.Calling.{Served, asking, calling}
-use Rattle.mpm_machine.specs.Serving.{with_regs, keeping, creating, aborted, aborting_this, aborting, string_of, said_by, popped, replied, recorded, is_entry, with_entry, reply_at_entry, fulfilling, answering_call, completing, returning}
-use Rattle.mpm_residents.specs.declared.native.Native.{Native}
 use Rattle.mpm_output.specs.Texts.{illegal_text}
-use Rattle.mpm_machine.specs.Step.{records_out, illegal, executed, instructed}
-use Rattle.mpm_machine.proofs.HomeLaws.{KeepsHomes, keeps_placed, keeps_acted, leaves_without, free_or_lived, found_is_free}
-
--- the segment of a process is a home
-pub segment_is_home : (system : System) (p seg : ℕ) → IsWhole system → Lives system.kernel.dispatcher.procs p → (process_in system.kernel.dispatcher.procs p).seg ≡ Some seg
-    → IsHome system.memory seg
-segment_is_home system p seg w h home = w.homes p seg h home
-
-pub segment_is_there : (system : System) (p seg : ℕ) → IsWhole system → Lives system.kernel.dispatcher.procs p → (process_in system.kernel.dispatcher.procs p).seg ≡ Some seg
-    → HasSegment system.memory seg
-segment_is_there system p seg w h home = (w.homes p seg h home).exists
+use Rattle.mpm_system.specs.declared.system.System.{System}
+use Rattle.mpm_system.specs.Whole.{IsWhole, speaking}
+use Rattle.mpm_system.specs.Owing.{owing_unless}
+use Rattle.mpm_system.specs.Calling.{Served}
+use Rattle.mpm_system.specs.Taking.{with_regs}
+use Rattle.mpm_system.specs.Saying.{string_of, said_by}
+use Rattle.mpm_system.specs.Answering.{popped, replied, recorded, answering_call}
+use Rattle.mpm_system.specs.Written.{records_out}
+use Rattle.mpm_system.proofs.HomeLaws.{KeepsHomes, keeps_placed, keeps_acted, free_or_lived, found_is_free}
+use Rattle.mpm_system.proofs.WholeLaws.{whole_kernel, whole_memory, StaysWhole, whole_changed, whole_regs}
+use Rattle.mpm_machine.specs.Ending.{ended}
+use Rattle.mpm_machine.specs.Serving.{creating, aborted, aborting_this, aborting, is_entry, with_entry, reply_at_entry, fulfilling, completing, returning}
+use Rattle.mpm_machine.specs.Step.{illegal, executed, instructed}
+use Rattle.mpm_machine.proofs.HomeLaws.{leaves_without}
 
 pub slot_is_there : (system : System) (p : ℕ) → IsWhole system → Lives system.kernel.dispatcher.procs p → p < 32
 slot_is_there system p w h = lives_below system.kernel.dispatcher.procs p w.sound.slots h
@@ -65,41 +58,6 @@ pub free_is_empty : (system : System) (base : Option ℕ) (pages p seg : ℕ) �
 free_is_empty system base pages p seg w found h = λ home.
     free_or_lived (segment_of system.memory seg).allocation
     (found_is_free system.memory base pages seg found) (w.lived p seg h home)
-
--- nobody is aborted where nobody was, and nobody more is now
-
-not_now : (b was : Bool) → (b ≡ true → was ≡ true) → was ≡ false → b ≡ false
-not_now true was so none = absurd (false≢true (sym none ∙ so refl))
-not_now false was so none = refl
-
-pub nobody_more : (old new : Kernel) → ((p : ℕ) → is_aborted new.dispatcher.procs p ≡ true → is_aborted old.dispatcher.procs p ≡ true) → NobodyAborted old → NobodyAborted new
-nobody_more old new so none = λ p. not_now (is_aborted new.dispatcher.procs p) (is_aborted old.dispatcher.procs p) (so p) (none p)
-
--- another kernel, whose processes live where some lived before
-pub whole_kernel : (system : System) (kernel : Kernel) → IsWhole system → IsSound kernel → CompletedLive kernel → SameHomes system.kernel kernel
-    → IsWhole (record system { kernel = kernel })
-whole_kernel system kernel w s live homes = record {
-  sound = s;
-  live = live;
-  script = w.script;
-  settled = λ off. nobody_more system.kernel kernel homes.aborts (w.settled off);
-  memory = w.memory;
-  homes = λ p seg h home. let there = homes.all p seg h home in w.homes there.who seg there.lives there.home;
-  lived = λ p seg h home. let there = homes.all p seg h home in w.lived there.who seg there.lives there.home;
-}
-
--- another memory, in which each home is one
-pub whole_memory : (system : System) (memory : Memory) → IsWhole system → KeepsHomes system.memory memory
-    → IsWhole (record system { memory = memory })
-whole_memory system memory w keeps = record {
-  sound = w.sound;
-  live = w.live;
-  script = w.script;
-  settled = w.settled;
-  memory = keeps.memory w.memory;
-  homes = λ p seg h home. keeps.all seg (w.homes p seg h home);
-  lived = λ p seg h home. keeps.lived seg (w.homes p seg h home) (w.lived p seg h home);
-}
 
 -- more steps are counted
 pub whole_steps : (system : System) (steps : ℕ) → IsWhole system → IsWhole (record system { steps = steps })
@@ -114,12 +72,6 @@ whole_owed system owed w = record { sound = w.sound; live = w.live; homes = w.ho
 
 pub whole_written : (answered written : System) → IsWhole answered → written ≡ (records_out answered).system → IsWhole written
 whole_written answered written w is = subst IsWhole (sym is) (whole_records answered [] w)
-
--- a system is whole after a part of the step of a process, which lives and keeps its call
-pub record StaysWhole (p : ℕ) (old new : System) : Type 0 where
-  pub whole : IsWhole new
-  pub lives : Lives new.kernel.dispatcher.procs p
-  pub call : call_of new.kernel.dispatcher.procs p ≡ call_of old.kernel.dispatcher.procs p
 
 -- so it is after a call is served, whose bytes may be those of a message by then: the process keeps its function and its parameter,
 -- and a text
@@ -139,27 +91,6 @@ stays_as_served p old new stays = record {
   word = ap (λ (c : Taken). c.word) stays.call;
   text = λ _. ap (λ (c : Taken). c.bytes) stays.call;
 }
-
--- a process changes: its console, its printer, its multiple sector count, its procedure, its segment and whether its end is due stay
-pub whole_changed : (p : ℕ) (process : Process) (system : System) → IsWhole system → Lives system.kernel.dispatcher.procs p
-    → process.console ≡ (process_in system.kernel.dispatcher.procs p).console → process.printer ≡ (process_in system.kernel.dispatcher.procs p).printer
-    → process.multi ≡ (process_in system.kernel.dispatcher.procs p).multi → process.procedure ≡ (process_in system.kernel.dispatcher.procs p).procedure
-    → process.seg ≡ (process_in system.kernel.dispatcher.procs p).seg → process.abort_due ≡ (process_in system.kernel.dispatcher.procs p).abort_due
-    → StaysWhole p system (record system { kernel = with_changed system.kernel p process })
-whole_changed p process system w h console printer multi procedure seg due = record {
-  whole = whole_kernel system _ w
-      (sound_process system.kernel p process w.sound h console printer multi procedure)
-      (live_kept system.kernel (with_changed system.kernel p process) refl (λ q living. lives_changed system.kernel.dispatcher.procs p q process ∙ living) w.live)
-      (homes_changed system.kernel p process w.sound.slots h seg due);
-  lives = lives_changed system.kernel.dispatcher.procs p p process ∙ h;
-  call = call_after system.kernel.dispatcher.procs p p process;
-}
-
--- the registers of a process change
-pub whole_regs : (p : ℕ) (regs : Regs) (system : System) → IsWhole system → Lives system.kernel.dispatcher.procs p
-    → StaysWhole p system (record system { kernel = with_regs system.kernel p regs })
-whole_regs p regs system w h =
-    whole_changed p (record (process_in system.kernel.dispatcher.procs p) { regs = regs }) system w h refl refl refl refl refl refl
 
 -- bytes come to a console
 live_spoke : (kernel : Kernel) (console : ℕ) (bytes : List ℕ) → CompletedLive kernel → CompletedLive (spoke kernel console bytes)
@@ -262,24 +193,6 @@ whole_replied reply call p seg system w h =
       lives = changed.lives;
       call = changed.call;
     }
-
-pub lives_replied : (reply : Answer) (call : Taken) (p seg : ℕ) (old afterwards : System) → Lives old.kernel.dispatcher.procs p → afterwards ≡ replied reply call p seg old
-    → Lives afterwards.kernel.dispatcher.procs p
-unfolding replied
-lives_replied reply call p seg old afterwards h is =
-    ap (λ (s : System). lives s.kernel.dispatcher.procs p) is ∙ lives_changed old.kernel.dispatcher.procs p p _ ∙ h
-
--- the record that follows is that of the call
-pub answers_recorded : (reply : Answer) (p seg : ℕ) (old afterwards : System) → afterwards ≡ replied reply (call_of old.kernel.dispatcher.procs p) p seg old
-    → recorded (call_of afterwards.kernel.dispatcher.procs p) p afterwards ≡ answering_call reply (call_of old.kernel.dispatcher.procs p) p seg old
-unfolding answering_call replied
-answers_recorded reply p seg old afterwards is =
-    ap (λ (s : System). recorded (call_of s.kernel.dispatcher.procs p) p s) is
-    ∙ ap (λ call. recorded call p (replied reply (call_of old.kernel.dispatcher.procs p) p seg old)) (call_after old.kernel.dispatcher.procs p p _)
-
-pub room_replied : (reply : Answer) (call : Taken) (p seg : ℕ) (old afterwards : System) → HasRoom old → afterwards ≡ replied reply call p seg old → HasRoom afterwards
-unfolding replied
-room_replied reply call p seg old afterwards room is = omega (arith, room, ap (λ (s : System). length s.records) is)
 
 -- a process enters a resident procedure
 
@@ -433,59 +346,3 @@ unfolding aborting
 whole_aborting p system w h is_ready =
     whole_aborting_this (target system.kernel.dispatcher.procs p) p system w h (λ q named. target_lives system.kernel.dispatcher.procs p q named)
     (ready_waits_at_none system.kernel p w.sound is_ready)
-
-pub whole_calling : (p : ℕ) (system : System) → IsWhole system → Lives system.kernel.dispatcher.procs p → IsReady system.kernel.dispatcher p
-    → StaysWhole p system (calling p system).system
-whole_calling p system w h ready = record {
-  whole = whole_kernel system _ w (sound_called p system.kernel w.sound h ready) (live_called p system.kernel w.sound h ready)
-      (homes_called p system.kernel w.sound h);
-  lives = lives_called p system.kernel w.sound h ready;
-  call = call_called p system.kernel w.sound h ready;
-}
-
--- a call is taken: the process keeps it, is ready as before, and has its segment
-pub record Keeps (p : ℕ) (taken : Taken) (old new : System) : Type 0 where
-  pub whole : IsWhole new
-  pub lives : Lives new.kernel.dispatcher.procs p
-  pub ready : IsReady old.kernel.dispatcher p → IsReady new.kernel.dispatcher p
-  pub call : call_of new.kernel.dispatcher.procs p ≡ taken
-  pub home : (process_in new.kernel.dispatcher.procs p).seg ≡ (process_in old.kernel.dispatcher.procs p).seg
-
-pub keeps_call : (p : ℕ) (call : Taken) (system : System) → IsWhole system → Lives system.kernel.dispatcher.procs p → Keeps p call system (keeping p call system)
-unfolding keeping
-keeps_call p call system w h =
-    let process = process_in system.kernel.dispatcher.procs p in
-    let quiet = record process { regs = record process.regs { shadow = false } } in
-    let taken = whole_regs p quiet.regs system w h in
-    let kernel = with_changed system.kernel p quiet in
-    let slots = taken.whole.sound.slots in
-    let below = lives_below system.kernel.dispatcher.procs p w.sound.slots h in
-    record {
-      whole = whole_kernel _ _ taken.whole (sound_call kernel p call taken.whole.sound)
-          (live_kept kernel (dispatched (with_procs (with_call kernel.dispatcher.procs p call)) kernel) refl (λ q living. lives_after kernel.dispatcher.procs p q call ∙ living) taken.whole.live)
-          (homes_call kernel p call);
-      lives = lives_after kernel.dispatcher.procs p p call ∙ taken.lives;
-      ready = λ ready. ready;
-      call = call_changed kernel.dispatcher.procs p call (omega (arith, slots.calls, below));
-      home = ap (λ x. x.seg) (process_after kernel.dispatcher.procs p p call ∙ process_changed system.kernel.dispatcher.procs p quiet (omega (arith, w.sound.slots.processes, below)));
-    }
-
--- a process keeps a call
-
-pub keeps_asked : (p : ℕ) (call : Taken) (system : System) → IsWhole system → Lives system.kernel.dispatcher.procs p → Keeps p call system (asking p call system)
-keeps_asked p call system w h =
-    let kernel = system.kernel in
-    let slots = w.sound.slots in
-    let below = lives_below kernel.dispatcher.procs p slots h in
-    record {
-      whole = whole_kernel system _ w (sound_call kernel p call w.sound)
-          (live_kept kernel (dispatched (with_procs (with_call kernel.dispatcher.procs p call)) kernel) refl (λ q living. lives_after kernel.dispatcher.procs p q call ∙ living) w.live)
-          (homes_call kernel p call);
-      lives = lives_after kernel.dispatcher.procs p p call ∙ h;
-      ready = λ ready. ready;
-      call = call_changed kernel.dispatcher.procs p call (omega (arith, slots.calls, below));
-      home = ap (λ x. x.seg) (process_after kernel.dispatcher.procs p p call);
-    }
-
-pub whole_residents : (system : System) (residents : List Native) → IsWhole system → IsWhole (record system { residents = residents })
-whole_residents system residents w = record { sound = w.sound; live = w.live; homes = w.homes; lived = w.lived; memory = w.memory; script = w.script; settled = w.settled }

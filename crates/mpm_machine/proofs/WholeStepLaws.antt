@@ -1,4 +1,5 @@
 -- A whole system stays whole through each part of a step: the event, the answers, the ends that are due, and the step.
+-- an event comes
 use Rattle.std.proofs.Common.{◌≡◌, ◌∙◌, ℕ, ◌+◌, Bool, true, false, List, [], ◌∷◌, Option, Some, None, inl, inr, refl, sym, ap, subst, IfSome, All, arith}
 use Rattle.std.proofs.lemmas.Bool.{and_parts, and_cases}
 use Rattle.std.proofs.lemmas.Bool.Decides.{nat_tests}
@@ -18,25 +19,26 @@ use Rattle.mpm_kernel.specs.Events.{MayCome, happened}
 use Rattle.mpm_kernel.proofs.SoundLaws.{sound_picked, sound_happened, live_happened, sound_completed, live_handed_out, completed_lives, runner_lives}
 use Rattle.mpm_kernel.proofs.HomeLaws.{homes_stay, homes_happened, homes_handed_out, lives_handed_out}
 use Rattle.mpm_xdos.specs.Aborting.{waits_to_end}
-use Rattle.mpm_machine.specs.declared.system.System.{System}
-use Rattle.mpm_machine.specs.State.{IsWhole, NobodyAborted}
-use Rattle.mpm_machine.specs.Ending.{ended}
 use Rattle.mpm_kernel.specs.Consoling.{abort_taken}
 use Rattle.mpm_kernel.proofs.AbortLaws.{abort_lives, sound_abort_taken}
 use Rattle.mpm_interrupts.specs.Interrupts.{due, due_taken}
 use Rattle.mpm_interrupts.specs.declared.interrupts.Interrupts.{Interrupts}
-use Rattle.mpm_machine.specs.Finishing.{finished, completion_dequeued, finishing, all_finished, command_let_in, finished_or_ended, answered_from, all_answered}
-use Rattle.mpm_machine.specs.Sending.{chains}
-use Rattle.mpm_machine.specs.Due.{is_due, ended_if_due, due_terminated, is_any_aborted, noted, with_ends}
-use Rattle.mpm_machine.specs.Step.{counted, lets_in, coming, unhalted, key_aborted, happened_to, event_come, interrupted, begun_by}
-use Rattle.mpm_machine.proofs.InterruptLaws.{due_may}
 use Rattle.mpm_interrupts.proofs.InterruptLaws.{script_after_due}
+use Rattle.mpm_system.specs.declared.system.System.{System}
+use Rattle.mpm_system.specs.Whole.{IsWhole, NobodyAborted}
+use Rattle.mpm_system.specs.Sending.{chains}
+use Rattle.mpm_system.specs.Deferring.{is_any_aborted, noted}
+use Rattle.mpm_system.specs.Coming.{counted, lets_in, coming, unhalted}
+use Rattle.mpm_system.proofs.InterruptLaws.{due_may}
+use Rattle.mpm_system.proofs.WholeLaws.{whole_kernel, whole_regs, whole_residents}
+use Rattle.mpm_machine.specs.Ending.{ended}
+use Rattle.mpm_machine.specs.Finishing.{finished, completion_dequeued, finishing, all_finished, command_let_in, finished_or_ended, answered_from, all_answered}
+use Rattle.mpm_machine.specs.Due.{is_due, ended_if_due, due_terminated, with_ends}
+use Rattle.mpm_machine.specs.Step.{key_aborted, happened_to, event_come, interrupted, begun_by}
 use Rattle.mpm_machine.proofs.FinishLaws.{first_finished, left_completed}
-use Rattle.mpm_machine.proofs.WholeLaws.{whole_kernel, whole_steps, whole_regs, whole_ended, aborted_by, aborted_is, ends_at_once, abort_deferred_is, whole_abort_deferred, whole_resident, whole_residents, whole_fulfilling}
+use Rattle.mpm_machine.proofs.WholeLaws.{whole_steps, whole_ended, aborted_by, aborted_is, ends_at_once, abort_deferred_is, whole_abort_deferred, whole_resident, whole_fulfilling}
 use Rattle.mpm_machine.proofs.SendingLaws.{LetsIn, lets_in as lets_command_in, lives_let_in}
 use Rattle.mpm_machine.proofs.ActedLaws.{whole_acted}
-
--- an event comes
 
 pub whole_unhalted : (running : Option ℕ) (system : System) → IsWhole system → system.kernel.dispatcher.running ≡ running
     → IsWhole (record system { kernel = unhalted running system.kernel })

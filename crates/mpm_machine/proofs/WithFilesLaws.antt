@@ -1,5 +1,6 @@
 -- What a step begins with in which a process makes a file call: the call is made, it is done at once or waits, and the held calls that
 -- this completed are answered.
+-- who makes it lives, and is ready
 use Rattle.std.proofs.Common.{◌≡◌, ◌∙◌, ℕ, ◌+◌, ◌*◌, ◌≤◌, ◌&&◌, true, false, List, [], Option, Some, None, refl, sym, ap, subst, arith}
 use Rattle.std.specs.Prelude.{is_some, ⊤}
 use Rattle.std.proofs.lemmas.Option.{MatchOption-at_some}
@@ -16,18 +17,21 @@ use Rattle.mpm_directories.specs.Direct.{Directly}
 use Rattle.mpm_requests.specs.Filing.{Filing, Situation}
 use Rattle.mpm_functions.specs.Functions.{function_of}
 use Rattle.mpm_bdos.specs.Serving.{Kept}
-use Rattle.mpm_machine.specs.declared.system.System.{System}
+use Rattle.mpm_system.specs.declared.system.System.{System}
+use Rattle.mpm_system.specs.Whole.{Change, IsWhole}
+use Rattle.mpm_system.specs.Taking.{keeping}
+use Rattle.mpm_system.specs.Answering.{popped}
+use Rattle.mpm_system.specs.Residents.{asked_by}
+use Rattle.mpm_system.specs.Coming.{counted}
+use Rattle.mpm_system.specs.FileCalling.{made_by, call_made}
 use Rattle.mpm_machine.specs.declared.machine.StepFault.{StepFault}
 use Rattle.mpm_machine.specs.declared.machine.StepFault.TheVariants.{DiskFault, WriteFault}
-use Rattle.mpm_machine.specs.State.{Change, IsWhole}
 use Rattle.mpm_machine.specs.Faults.{OnDiskFault, OnWriteFault}
 use Rattle.mpm_machine.specs.Files.{Files, Between, Within, StandsWorkedBy, StandsWorked}
 use Rattle.mpm_machine.specs.Holding.{AreFiled}
-use Rattle.mpm_machine.specs.Serving.{keeping, popped}
-use Rattle.mpm_machine.specs.Residing.{asked_by}
 use Rattle.mpm_machine.specs.Finishing.{all_answered}
-use Rattle.mpm_machine.specs.Step.{then_also, counted}
-use Rattle.mpm_machine.specs.FileCalls.{file_caller, made_by, call_made}
+use Rattle.mpm_machine.specs.Step.{then_also}
+use Rattle.mpm_machine.specs.FileCalls.{file_caller}
 use Rattle.mpm_machine.specs.DiskStep.{is_done_at_once, file_called, files_called, told_at_gate}
 use Rattle.mpm_machine.specs.Stepping.{begun_with, begun_as, is_instruction, told_first_by, told_first, files_begun_by, files_begun, before_disk}
 use Rattle.mpm_machine.specs.Failing.{HaveImagesOf, FailsWithin, working_if, working_by, working_in, turns_done, works_at_once}
@@ -39,8 +43,6 @@ use Rattle.mpm_machine.proofs.KeepingLaws.{ServesSame, same_then}
 use Rattle.mpm_machine.proofs.TurnLaws.{worked_on}
 use Rattle.mpm_machine.proofs.AtGateLaws.{no_disk_fault}
 use Rattle.mpm_machine.proofs.BegunLaws.{made_serves, called_serves, filed_called, keeps_answered}
-
--- who makes it lives, and is ready
 
 pub lives_to_call : (p : ℕ) (system : System) → IsWhole system → file_caller system ≡ Some p → Lives system.kernel.dispatcher.procs p
 lives_to_call p system w is = MatchOption-at_some ⊤ (λ q. Lives system.kernel.dispatcher.procs q) p is (caller_lives system w)

@@ -1,4 +1,5 @@
 -- What the disk's work is in a step, where it failed, and what those who ended give back.
+-- whether a call is in service, as it is asked
 use Rattle.std.proofs.Common.{◌≡◌, ◌∙◌, ℕ, ◌<◌, Bool, true, false, not, ◌&&◌, ◌==◌, if◌then◌else◌, List, Option, Some, None, is_some, option_map, IfSome, refl, sym, ap, subst, arith}
 use Rattle.std.proofs.lemmas.Bool.{false≢true}
 use Rattle.std.proofs.lemmas.Bool.Decides.{nat_tests}
@@ -19,16 +20,14 @@ use Rattle.mpm_kernel.specs.Kernel.{Kernel}
 use Rattle.mpm_bdos.specs.Turns.{FitsDrives, KeepsImages, StopsWithin, TurnKeeps, IsIdle, drive_served, has_work, labelled, told_images, without_work}
 use Rattle.mpm_bdos.proofs.Answerable.{still_entered}
 use Rattle.mpm_bdos.proofs.ServedLaws.{none_before}
-use Rattle.mpm_machine.specs.declared.system.System.{System}
+use Rattle.mpm_system.specs.declared.system.System.{System}
+use Rattle.mpm_system.specs.Owing.{nobody_owes}
 use Rattle.mpm_machine.specs.Files.{Files, Between, Within, turns_ended, StandsServed, StandsForFiles}
 use Rattle.mpm_machine.specs.Holding.{IsOwn, HoldsDrives}
 use Rattle.mpm_machine.specs.DiskStep.{owed_then, all_paid}
-use Rattle.mpm_machine.specs.Owing.{nobody_owes}
 use Rattle.mpm_machine.specs.Failing.{Working, is_work, working_turn, working_turn_of, works_in_turn, HaveImagesOf, FailsWithin}
 use Rattle.mpm_machine.proofs.FailingLaws.{turn_fails}
 use Rattle.mpm_machine.proofs.TurnLaws.{none_works}
-
--- whether a call is in service, as it is asked
 
 nobody_by : (served : Option Served) (result : Bool) → is_some (option_map (λ (call : Served). call.p) served) ≡ not result → result ≡ true → served ≡ None
 nobody_by None result e is = refl

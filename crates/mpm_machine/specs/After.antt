@@ -15,16 +15,18 @@ use Rattle.mpm_bdos.specs.Serving.{Kept as Filed, StandEach, StandForSome, Serve
 use Rattle.mpm_bdos.specs.AtOnce.{IsJobless}
 use Rattle.mpm_bdos.specs.Turns.{TurnKeeps, has_work}
 use Rattle.mpm_residents.specs.declared.native.Native.{Native}
-use Rattle.mpm_machine.specs.declared.system.System.{System}
-use Rattle.mpm_machine.specs.declared.machine.StepFault.{StepFault}
-use Rattle.mpm_machine.specs.declared.machine.StepFault.TheVariants.{DiskFault, WriteFault}
-use Rattle.mpm_machine.specs.Files.{Files, Between, StandsWorked, StandsForFiles}
-use Rattle.mpm_machine.specs.State.{State, Change, silent}
-use Rattle.mpm_machine.specs.Faults.{EndsBy}
 use Rattle.mpm_functions.specs.declared.functions.FileFunction.{FileFunction}
 use Rattle.mpm_functions.specs.Functions.{function_of}
 use Rattle.mpm_requests.specs.Filing.{Filing, Situation}
-use Rattle.mpm_machine.specs.FileCalls.{file_caller, call_made, situation_of, outcome_in, IsToldOf, IsToldAsKept, EndsWithoutJob, change_of}
+use Rattle.mpm_system.specs.declared.system.System.{System}
+use Rattle.mpm_system.specs.Whole.{Change, silent}
+use Rattle.mpm_system.specs.FileCalling.{call_made, change_of}
+use Rattle.mpm_machine.specs.declared.machine.StepFault.{StepFault}
+use Rattle.mpm_machine.specs.declared.machine.StepFault.TheVariants.{DiskFault, WriteFault}
+use Rattle.mpm_machine.specs.Files.{Files, Between, StandsWorked, StandsForFiles}
+use Rattle.mpm_machine.specs.State.{State}
+use Rattle.mpm_machine.specs.Faults.{EndsBy}
+use Rattle.mpm_machine.specs.FileCalls.{file_caller, situation_of, outcome_in, IsToldOf, IsToldAsKept, EndsWithoutJob}
 use Rattle.mpm_machine.specs.DiskStep.{process_over, file_called, call_over, call_entered, disk_served, files_entered, told_of_call, turns_within}
 use Rattle.mpm_machine.specs.Stepping.{Telling, begun_as, is_instruction, rest_of, step_with, nothing_told, before_disk, files_begun, told_within, paid_after, entered_after, files_then, telling_then, files_rest, Stepped, stepped}
 use Rattle.mpm_machine.specs.Filed.{kept_served, kept_behind}

@@ -2,7 +2,7 @@
 use Rattle.std.specs.Prelude.{◌≡◌, ℕ, ◌+◌, ◌<◌, List}
 use Rattle.mpm_render.specs.Outputs.{Output}
 use Rattle.mpm_bdos.specs.Serving.{Kept as Filed}
-use Rattle.mpm_machine.specs.declared.system.System.{System}
+use Rattle.mpm_system.specs.declared.system.System.{System}
 use Rattle.mpm_machine.specs.After.{IsMadeUpon}
 
 -- n steps lead from one to the other, and from what was kept of file calls to what is kept then: the system behind k + 1 of them is made

@@ -12,27 +12,32 @@ use Rattle.mpm_banks.specs.Actions.{writes_to}
 use Rattle.mpm_gate.specs.Replies.{IsPlacedAt}
 use Rattle.mpm_procs.specs.Table.{Lives, process_in, call_of}
 use Rattle.mpm_kernel.specs.Waiting.{completion_reply}
-use Rattle.mpm_machine.specs.declared.system.System.{System}
 use Rattle.mpm_gate.specs.declared.gate.Gate.{Gate}
 use Rattle.mpm_gate.specs.declared.gate.Gate.TheVariants.{End, Call, Return}
-use Rattle.mpm_machine.specs.Calling.{Served, asking}
-use Rattle.mpm_machine.specs.Serving.{with_regs, asked, keeping, served, served_to_all, string_of, said_by, popped, reply_at_entry, after_echo, outcome_of}
-use Rattle.mpm_machine.specs.Loading.{handed_over, handed_value}
-use Rattle.mpm_machine.specs.Residing.{native_step}
-use Rattle.mpm_machine.specs.Ending.{ended}
-use Rattle.mpm_machine.specs.Finishing.{finished, completion_dequeued, command_let_in, finished_or_ended, all_answered}
-use Rattle.mpm_machine.specs.Sending.{chains}
 use Rattle.mpm_dispatcher.specs.Dispatch.{first_completed}
 use Rattle.mpm_residents.specs.declared.cli.act.Act.{Act}
 use Rattle.mpm_residents.specs.declared.cli.act.Act.TheVariants.{Ask, Place, Patch, Begin, Give}
 use Rattle.mpm_residents.specs.Natives.{native_act, native_call, native_in}
 use Rattle.mpm_residents.specs.declared.native.Native.{Native}
-use Rattle.mpm_machine.specs.Due.{is_due, ended_if_due}
-use Rattle.mpm_machine.specs.State.{silent}
-use Rattle.mpm_machine.specs.Step.{instruction_at, gate_before, coming, counted, then_also}
 use Rattle.mpm_functions.specs.declared.refusals.Extended.{Extended}
 use Rattle.mpm_directories.specs.Direct.{Directly}
-use Rattle.mpm_machine.specs.FileCalls.{file_caller, call_made, concluded}
+use Rattle.mpm_system.specs.declared.system.System.{System}
+use Rattle.mpm_system.specs.Calling.{Served, asking}
+use Rattle.mpm_system.specs.Taking.{with_regs, asked, keeping}
+use Rattle.mpm_system.specs.Saying.{string_of, said_by}
+use Rattle.mpm_system.specs.Answering.{popped}
+use Rattle.mpm_system.specs.Loading.{handed_over, handed_value}
+use Rattle.mpm_system.specs.Sending.{chains}
+use Rattle.mpm_system.specs.Whole.{silent}
+use Rattle.mpm_system.specs.Coming.{coming, counted}
+use Rattle.mpm_system.specs.FileCalling.{call_made}
+use Rattle.mpm_machine.specs.Serving.{served, served_to_all, reply_at_entry, after_echo, outcome_of}
+use Rattle.mpm_machine.specs.Residing.{native_step}
+use Rattle.mpm_machine.specs.Ending.{ended}
+use Rattle.mpm_machine.specs.Finishing.{finished, completion_dequeued, command_let_in, finished_or_ended, all_answered}
+use Rattle.mpm_machine.specs.Due.{is_due, ended_if_due}
+use Rattle.mpm_machine.specs.Step.{instruction_at, gate_before, then_also}
+use Rattle.mpm_machine.specs.FileCalls.{file_caller, concluded}
 use Rattle.mpm_machine.specs.DiskStep.{is_done_at_once, process_over, ready_again, step_passed}
 use Rattle.mpm_machine.specs.Stepping.{Telling, begun_with, begun_as, entered_after, rest_of}
 

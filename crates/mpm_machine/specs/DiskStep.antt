@@ -15,9 +15,9 @@ use Rattle.mpm_requests.specs.Filing.{Filing, Situation}
 use Rattle.mpm_functions.specs.Functions.{function_of}
 use Rattle.mpm_bdos.specs.Jobs.{call_turns}
 use Rattle.mpm_bdos.specs.Outcomes.{file_call}
-use Rattle.mpm_machine.specs.declared.system.System.{System}
-use Rattle.mpm_machine.specs.Owing.{nobody_owes}
-use Rattle.mpm_machine.specs.State.{Change, silent}
+use Rattle.mpm_system.specs.declared.system.System.{System}
+use Rattle.mpm_system.specs.Owing.{nobody_owes}
+use Rattle.mpm_system.specs.Whole.{Change, silent}
 use Rattle.mpm_machine.specs.Files.{Files, Between, Within, filing_in}
 use Rattle.mpm_machine.specs.Finishing.{all_finished}
 use Rattle.mpm_machine.specs.Step.{then_also}

@@ -1,12 +1,11 @@
 -- Ends by an abort that were put off: a process that was aborted while it held the message of a mutual exclusion queue, or while
 -- its call was in service, ends in the first step after which neither is so. (MP/M II Programmer's Guide, "Function 157: Abort Specified Process".)
-use Rattle.std.specs.Prelude.{◌≡◌, ℕ, Bool, false, not, ◌&&◌, if◌then◌else◌, List, [], ◌∷◌, is_some}
+use Rattle.std.specs.Prelude.{◌≡◌, ℕ, Bool, false, not, ◌&&◌, if◌then◌else◌, List, [], ◌∷◌}
 use Rattle.std.specs.List.{range_with_len}
-use Rattle.mpm_procs.specs.Table.{Table}
-use Rattle.mpm_queues.specs.Queues.{lowest}
 use Rattle.mpm_kernel.specs.Kernel.{Kernel, is_aborted}
 use Rattle.mpm_xdos.specs.Aborting.{waits_to_end}
-use Rattle.mpm_machine.specs.declared.system.System.{System}
+use Rattle.mpm_system.specs.declared.system.System.{System}
+use Rattle.mpm_system.specs.Deferring.{noted}
 use Rattle.mpm_machine.specs.Ending.{ended}
 use Rattle.mpm_machine.specs.Finishing.{all_finished}
 
@@ -30,14 +29,6 @@ due_terminated (p ∷ ps) system = due_terminated ps (ended_if_due p system)
 -- those of all slots, in rising order
 abbrev pub all_due_terminated : System → System
 all_due_terminated system = due_terminated (range_with_len 0 32) system
-
--- an end by an abort is still put off
-abbrev pub is_any_aborted : Table → Bool
-is_any_aborted procs = is_some (lowest (is_aborted procs))
-
--- what is known of ends that are put off
-abbrev pub noted : System → System
-noted system = record system { abort_deferred = system.abort_deferred && is_any_aborted system.kernel.dispatcher.procs }
 
 -- the ends that are due come
 unfoldable pub with_ends : System → System

@@ -17,18 +17,19 @@ use Rattle.mpm_bdos.specs.Jobs.{call_turns, job_of}
 use Rattle.mpm_bdos.specs.Serving.{StandEach}
 use Rattle.mpm_directories.specs.Places.{directory_at}
 use Rattle.mpm_bdos.specs.Turns.{labelled, told_images}
-use Rattle.mpm_machine.specs.declared.system.System.{System}
-use Rattle.mpm_machine.specs.declared.machine.StepFault.{StepFault}
-use Rattle.mpm_machine.specs.declared.machine.StepFault.TheVariants.{DiskFault, WriteFault}
-use Rattle.mpm_machine.specs.State.{State}
-use Rattle.mpm_machine.specs.Files.{Files, Between, Within, turns_ended, drives_in}
-use Rattle.mpm_machine.specs.FileCalls.{file_caller, call_made, situation_of}
-use Rattle.mpm_machine.specs.DiskStep.{is_done_at_once}
-use Rattle.mpm_machine.specs.Stepping.{stepped}
 use Rattle.mpm_service.specs.Disk.{turn_answer}
 use Rattle.mpm_service.specs.declared.service.Served.{Served}
 use Rattle.mpm_service.specs.declared.service.Turn.{Turn}
 use Rattle.mpm_service.specs.declared.service.Turn.TheVariants.{Idle, Passing, Work, Starts}
+use Rattle.mpm_system.specs.declared.system.System.{System}
+use Rattle.mpm_system.specs.FileCalling.{call_made}
+use Rattle.mpm_machine.specs.declared.machine.StepFault.{StepFault}
+use Rattle.mpm_machine.specs.declared.machine.StepFault.TheVariants.{DiskFault, WriteFault}
+use Rattle.mpm_machine.specs.State.{State}
+use Rattle.mpm_machine.specs.Files.{Files, Between, Within, turns_ended, drives_in}
+use Rattle.mpm_machine.specs.FileCalls.{file_caller, situation_of}
+use Rattle.mpm_machine.specs.DiskStep.{is_done_at_once}
+use Rattle.mpm_machine.specs.Stepping.{stepped}
 
 -- the call on whose drive a step works: how many of its turns ended before, and how many end in the step
 pub record Working : Type 0 where

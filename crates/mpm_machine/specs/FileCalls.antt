@@ -1,30 +1,24 @@
 -- File calls: which process makes one in a step, what it comes to, and how it is answered. (MP/M II Programmer's Guide, "BDOS
 -- Function Calls", "BDOS Error Handling"; functions 13, "Reset Disk System", and 14, "Select Disk".)
-use Rattle.std.specs.Prelude.{◌≡◌, ℕ, ◌%◌, Bool, true, false, not, List, Option, Some, None, ⊤, is_some, is_none, option_map, ◌==◌, ◌&&◌, ◌||◌, if◌then◌else◌}
-use Rattle.z80_regs.specs.Words.{word_of}
+use Rattle.std.specs.Prelude.{◌≡◌, ℕ, ◌%◌, Bool, true, false, not, List, Option, Some, None, ⊤, is_some, option_map, ◌==◌, ◌&&◌, ◌||◌, if◌then◌else◌}
 use Rattle.mpm_base.specs.Calls.{Taken, Answer, answering}
-use Rattle.mpm_base.specs.declared.functions.TheConstants.{RESET_DISK_SYSTEM, SELECT_DISK}
-use Rattle.mpm_banks.specs.Memory.{Memory, segment_of}
 use Rattle.mpm_procs.specs.Table.{process_in, call_of}
 use Rattle.mpm_mount.specs.Drives.{Drive}
 use Rattle.mpm_procs.specs.declared.process.Process.{Process}
 use Rattle.mpm_clock.specs.declared.moment.Moment.{Moment}
 use Rattle.mpm_clock.specs.Times.{moment_of}
 use Rattle.mpm_clock.specs.PackedDecimal.{stamp}
-use Rattle.mpm_kernel.specs.Kernel.{with_changed}
-use Rattle.mpm_kernel.specs.Called.{low_parameter}
 use Rattle.mpm_gate.specs.declared.gate.Gate.{Gate}
 use Rattle.mpm_gate.specs.declared.gate.Gate.TheVariants.{End, Call, Return}
 use Rattle.mpm_residents.specs.declared.native.Native.{Native}
 use Rattle.mpm_residents.specs.Natives.{native_call, native_in}
-use Rattle.mpm_output.specs.Texts.{error_text}
 use Rattle.mpm_functions.specs.declared.functions.FileFunction.{FileFunction}
 use Rattle.mpm_functions.specs.declared.functions.DirectFunction.{DirectFunction}
 use Rattle.mpm_functions.specs.declared.refusals.Extended.{Extended}
 use Rattle.mpm_functions.specs.Functions.{function_of, direct_of}
 use Rattle.mpm_requests.specs.Filing.{Filing, Situation}
 use Rattle.mpm_bdos.specs.Starting.{caller_of}
-use Rattle.mpm_directories.specs.Direct.{CallerChange, Stays, Selects, Resets, Directly, IsToldDirectly, ComesDirectly, is_protected}
+use Rattle.mpm_directories.specs.Direct.{Stays, Directly, IsToldDirectly, ComesDirectly, is_protected}
 use Rattle.mpm_bdos.specs.Outcomes.{Outcome, file_call}
 use Rattle.mpm_bdos.specs.Finishing.{ComesTo}
 use Rattle.mpm_bdos.specs.Jobs.{job_of}
@@ -33,12 +27,12 @@ use Rattle.mpm_directories.specs.Places.{kind_at}
 use Rattle.mpm_bdos.specs.AtOnce.{IsJobless}
 use Rattle.mpm_bdos.specs.Direct.{direct}
 use Rattle.mpm_bdos.specs.Answering.{MayAnswer}
-use Rattle.mpm_machine.specs.declared.system.System.{System}
-use Rattle.mpm_machine.specs.State.{Change, silent, speaking}
+use Rattle.mpm_system.specs.declared.system.System.{System}
+use Rattle.mpm_system.specs.Whole.{Change, silent}
+use Rattle.mpm_system.specs.Coming.{coming, counted}
+use Rattle.mpm_system.specs.FileCalling.{with_caller, change_of, file_replied, error_told}
 use Rattle.mpm_machine.specs.Ending.{ended}
-use Rattle.mpm_machine.specs.Serving.{asked, keeping, popped, answering_call}
-use Rattle.mpm_machine.specs.Residing.{asked_by, taking}
-use Rattle.mpm_machine.specs.Step.{gate_before, coming, then_also, counted}
+use Rattle.mpm_machine.specs.Step.{gate_before, then_also}
 
 -- a number is that of a call on files and drives
 unfoldable pub is_of_files : ℕ → Bool
@@ -70,14 +64,6 @@ file_caller_by comes (Some p) system = if calls_files p system && not comes then
 
 unfoldable pub file_caller : System → Option ℕ
 file_caller system = file_caller_by (is_some (coming (counted system))) system.kernel.dispatcher.running system
-
--- the call is made, and kept: what it reads is taken, and the return address from the stack
-abbrev pub made_by : Option ℕ → ℕ → System → System
-made_by (Some seg) p system = popped p seg (keeping p (asked p seg system) system)
-made_by None p system = asked_by (native_in system.residents p) p system
-
-unfoldable pub call_made : ℕ → System → System
-call_made p system = made_by (process_in system.kernel.dispatcher.procs p).seg p (counted system)
 
 -- a process as a file call looks at it: its user is one of sixteen
 abbrev pub looked_at : Process → Process
@@ -112,26 +98,6 @@ outcome_in filing p system =
 -- what of it the caller sees
 abbrev pub told_by : Outcome → Directly
 told_by outcome = record { caller = outcome.caller; answer = outcome.answer; extended = outcome.extended }
-
--- the DMA address with which a process begins
-abbrev pub first_dma : Memory → Option ℕ → ℕ
-first_dma memory None = 0
-first_dma memory (Some seg) = word_of 128 (segment_of memory seg).base
-
--- its caller has another drive, or the first one and its first DMA address
-unfoldable pub with_caller : CallerChange → ℕ → System → System
-with_caller Stays p system = system
-with_caller (Selects drive) p system =
-    record system { kernel = with_changed system.kernel p (record (process_in system.kernel.dispatcher.procs p) { drive = drive }) }
-with_caller Resets p system =
-    let process = process_in system.kernel.dispatcher.procs p in
-    record system { kernel = with_changed system.kernel p (record process { drive = 0; dma = first_dma system.memory process.seg }) }
-
--- that is so of the call alone: 13 resets its caller in any case, and 14 selects a drive unless it is refused
-unfoldable pub change_of : Taken → Option Extended → CallerChange
-change_of call error =
-    if call.function == RESET_DISK_SYSTEM then Resets
-    else (if call.function == SELECT_DISK && is_none error then Selects (low_parameter call) else Stays)
 
 abbrev pub told_of : Taken → Answer → Option Extended → Directly
 told_of call reply error = record { caller = change_of call error; answer = reply; extended = error }
@@ -173,18 +139,6 @@ unfoldable pub IsToldAsKept : Kept → Kept → ℕ → System → Answer → Op
 IsToldAsKept kept left p system answer extended =
     let number = (call_of system.kernel.dispatcher.procs p).function in
     TellsAsKept (function_of number) (direct_of number) kept left p system answer extended
-
--- the call is answered: its reply is placed, and its record joins the others; a resident takes the answer
-abbrev pub reply_by : Option ℕ → Answer → ℕ → System → System
-reply_by (Some seg) reply p system = answering_call reply (call_of system.kernel.dispatcher.procs p) p seg system
-reply_by None reply p system = taking reply p system
-
-unfoldable pub file_replied : Answer → ℕ → System → System
-file_replied reply p system = reply_by (process_in system.kernel.dispatcher.procs p).seg reply p system
-
--- the text of an extended error comes to its caller's console
-unfoldable pub error_told : Extended → ℕ → System → Change
-error_told error p system = speaking (process_in system.kernel.dispatcher.procs p).console (error_text error.code error.drive) system
 
 -- by its process's error mode an extended error is answered, or told and answered, or told, and ends the process
 abbrev pub answered_or_ended : Bool → Answer → ℕ → System → System

@@ -7,7 +7,7 @@ use Rattle.mpm_requests.specs.Filing.{Filing}
 use Rattle.mpm_bdos.specs.Outcomes.{Outcome, left_by, without_search}
 use Rattle.mpm_bdos.specs.Serving.{Kept, InService, filing_of}
 use Rattle.mpm_service.specs.declared.service.Served.{Served}
-use Rattle.mpm_machine.specs.declared.system.System.{System}
+use Rattle.mpm_system.specs.declared.system.System.{System}
 use Rattle.mpm_machine.specs.Files.{StandsBetween, all_left}
 use Rattle.mpm_machine.specs.DiskStep.{disk_served}
 use Rattle.mpm_machine.specs.Stepping.{Telling, ended_after}

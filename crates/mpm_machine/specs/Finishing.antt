@@ -6,11 +6,11 @@ use Rattle.mpm_procs.specs.Table.{process_in, call_of}
 use Rattle.mpm_dispatcher.specs.Dispatch.{first_completed}
 use Rattle.mpm_kernel.specs.Events.{handed_out}
 use Rattle.mpm_kernel.specs.Waiting.{completion_reply}
-use Rattle.mpm_machine.specs.declared.system.System.{System}
+use Rattle.mpm_system.specs.declared.system.System.{System}
+use Rattle.mpm_system.specs.Sending.{chains, let_in}
+use Rattle.mpm_system.specs.Residents.{taking}
 use Rattle.mpm_machine.specs.Ending.{ended}
-use Rattle.mpm_machine.specs.Sending.{chains, let_in}
 use Rattle.mpm_machine.specs.Serving.{fulfilling}
-use Rattle.mpm_machine.specs.Residing.{taking}
 
 -- the held call of a process is completed: it is fulfilled in its segment, and a resident, which has none, takes the answer
 abbrev pub finished : Option ℕ → ℕ → System → System

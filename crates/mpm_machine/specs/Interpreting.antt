@@ -16,7 +16,7 @@ use Rattle.mpm_residents.specs.declared.cli.table.Row.TheVariants.{ReadCommand}
 use Rattle.mpm_residents.specs.Standing.{is_loading, Stands}
 use Rattle.mpm_residents.specs.Natives.{native_in, interprets_if_there}
 use Rattle.mpm_residents.specs.declared.native.Native.TheVariants.{Cli}
-use Rattle.mpm_machine.specs.declared.system.System.{System}
+use Rattle.mpm_system.specs.declared.system.System.{System}
 use Rattle.mpm_machine.specs.FileCalls.{is_of_files}
 
 -- the segment that an interpreter names is there, slot 0 has reserved it, and it lies where the interpreter has it

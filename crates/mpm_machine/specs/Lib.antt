@@ -1,15 +1,9 @@
-pub mod Gates
-pub mod Owing
 pub mod Files
 pub mod State
 pub mod Faults
 pub mod Mounting
-pub mod Opening
 pub mod Ending
-pub mod Calling
-pub mod Sending
 pub mod Serving
-pub mod Loading
 pub mod Loaded
 pub mod Residing
 pub mod Slots

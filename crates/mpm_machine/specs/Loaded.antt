@@ -13,9 +13,9 @@ use Rattle.mpm_residents.specs.Standing.{is_loading}
 use Rattle.mpm_residents.specs.Natives.{native_in}
 use Rattle.mpm_residents.specs.declared.native.Native.TheVariants.{Cli}
 use Rattle.mpm_bdos.specs.Serving.{Kept}
+use Rattle.mpm_system.specs.Whole.{Change}
+use Rattle.mpm_system.specs.declared.system.System.{System}
 use Rattle.mpm_machine.specs.After.{AreSteps}
-use Rattle.mpm_machine.specs.State.{Change}
-use Rattle.mpm_machine.specs.declared.system.System.{System}
 
 -- a piece of a file, before which so many bytes of it stand
 abbrev pub IsPiece : List ℕ → ℕ → List ℕ → Type 0

@@ -7,16 +7,15 @@ use Rattle.mpm_procs.specs.Table.{process_in}
 use Rattle.mpm_dispatcher.specs.Dispatch.{ready}
 use Rattle.mpm_service.specs.declared.service.Turn.{Turn}
 use Rattle.mpm_service.specs.declared.service.Turn.TheVariants.{Idle, Passing, Work, Starts}
-use Rattle.mpm_service.specs.Disk.{DiskService}
 use Rattle.mpm_service.specs.Ahead.{passed_by}
-use Rattle.mpm_kernel.specs.Disk.{with_disk}
 use Rattle.mpm_processor.specs.Moving.{View, Moves}
-use Rattle.mpm_machine.specs.declared.system.System.{System}
-use Rattle.mpm_machine.specs.declared.ahead.Ahead.{Ahead}
-use Rattle.mpm_machine.specs.State.{NoCompletions, NobodyAborted}
-use Rattle.mpm_machine.specs.Gates.{is_inside}
 use Rattle.mpm_interrupts.specs.Interrupts.{due}
-use Rattle.mpm_machine.specs.Serving.{with_regs}
+use Rattle.mpm_system.specs.declared.system.System.{System}
+use Rattle.mpm_system.specs.Whole.{NoCompletions, NobodyAborted}
+use Rattle.mpm_system.specs.Procedures.{is_inside}
+use Rattle.mpm_system.specs.Taking.{with_regs}
+use Rattle.mpm_system.specs.Idling.{CanPass}
+use Rattle.mpm_machine.specs.declared.ahead.Ahead.{Ahead}
 
 -- what a process of a system sees
 abbrev pub view_of : System → ℕ → View
@@ -41,11 +40,6 @@ is_still Idle = true
 is_still Passing = true
 is_still (Work p last) = false
 is_still (Starts p) = false
-
--- and so many of the disk's are such, one after another
-pub record CanPass (n : ℕ) (disk : DiskService) : Type 0 where
-  pub within : IfSome disk.served (λ call. call.passed + n < disk.turn_steps)
-  pub nobody : 0 < n → disk.served ≡ None → first_of disk.waiting ≡ None
 
 -- the running process, of that segment, is the first of the ready list, so that it runs on after each instruction, no completion is
 -- left, and no end by an abort is put off
@@ -75,12 +69,3 @@ pub record Moved (n p seg : ℕ) (old new : System) : Type 0 where
   pub view : View
   pub moves : Moves (is_inside old.kernel.dispatcher.procs p) n seg (view_of old p) view
   pub is : new ≡ with_view old p view n
-
--- no process runs, and none is ready
-pub record IsIdle (system : System) : Type 0 where
-  pub running : system.kernel.dispatcher.running ≡ None
-  pub nobody : first_of (list_at system.kernel.dispatcher.lists ready) ≡ None
-
--- the system so many steps later, in which nothing else changed
-abbrev pub later : System → ℕ → System
-later system n = record system { steps = system.steps + n; kernel = with_disk (passed_by n) system.kernel }

@@ -1,27 +1,21 @@
 -- A step that is nothing but a call that concerns its caller alone, which the running process makes: no event comes in it, no call is at
 -- the disk, no end by an abort is put off, and the process runs on. (MP/M II Programmer's Guide, functions 12 and 163, return version
 -- number; 25, return current disk; 26, set DMA address; 32, set or get user code; 44, set multi-sector count; 45, set BDOS error mode.)
-use Rattle.std.specs.Prelude.{◌≡◌, ℕ, ◌+◌, Bool, true, List, [], ◌∷◌, Some, None}
-use Rattle.mpm_base.specs.Lists.{is_among}
-use Rattle.mpm_base.specs.declared.functions.TheConstants.{RETURN_VERSION_NUMBER, RETURN_CURRENT_DISK, SET_DMA_ADDRESS, SET_GET_USER_CODE, SET_MULTI_SECTOR_COUNT, SET_BDOS_ERROR_MODE, RETURN_MPM_VERSION_NUMBER}
+use Rattle.std.specs.Prelude.{◌≡◌, ℕ, ◌+◌, true, List, [], ◌∷◌, Some, None}
 use Rattle.mpm_ready.specs.Order.{first_of}
 use Rattle.mpm_procs.specs.Table.{process_in}
 use Rattle.mpm_interrupts.specs.Interrupts.{due}
 use Rattle.mpm_render.specs.Completions.{Completion}
 use Rattle.mpm_render.specs.Outputs.{Output, Completed}
 use Rattle.mpm_gate.specs.declared.gate.Gate.TheVariants.{Call}
-use Rattle.mpm_machine.specs.declared.system.System.{System}
-use Rattle.mpm_machine.specs.State.{Change}
+use Rattle.mpm_system.specs.declared.system.System.{System}
+use Rattle.mpm_system.specs.Whole.{Change}
+use Rattle.mpm_system.specs.Coming.{counted}
+use Rattle.mpm_system.specs.Written.{with_records}
+use Rattle.mpm_system.specs.OwnCalls.{is_own}
 use Rattle.mpm_machine.specs.Serving.{gate_step}
-use Rattle.mpm_machine.specs.Step.{gate_before, counted, with_records}
+use Rattle.mpm_machine.specs.Step.{gate_before}
 use Rattle.mpm_machine.specs.Moving.{RunsOn}
-
--- the functions that read and change nothing but their caller, and answer at once
-abbrev pub is_own : ℕ → Bool
-is_own function =
-    is_among function
-    (RETURN_VERSION_NUMBER ∷ RETURN_CURRENT_DISK ∷ SET_DMA_ADDRESS ∷ SET_GET_USER_CODE ∷ SET_MULTI_SECTOR_COUNT ∷ SET_BDOS_ERROR_MODE
-    ∷ RETURN_MPM_VERSION_NUMBER ∷ [])
 
 pub record MakesOwnCall (p seg : ℕ) (system : System) : Type 0 where
   pub on : RunsOn system p seg

@@ -4,9 +4,10 @@ use Rattle.mpm_port.specs.Disks.{Disks}
 use Rattle.mpm_service.specs.Ahead.{passed_by}
 use Rattle.mpm_bdos.specs.Serving.{Kept, StandForSome}
 use Rattle.mpm_output.specs.Outside.{Outside}
+use Rattle.mpm_system.specs.declared.system.System.{System}
+use Rattle.mpm_system.specs.Whole.{IsWhole, NoCompletions, silent}
 use Rattle.mpm_machine.specs.declared.machine.Machine.{Machine}
-use Rattle.mpm_machine.specs.declared.system.System.{System}
-use Rattle.mpm_machine.specs.State.{State, IsWhole, NoCompletions, StandsWithDrives, silent}
+use Rattle.mpm_machine.specs.State.{State, StandsWithDrives}
 use Rattle.mpm_machine.specs.Due.{NobodyDue}
 use Rattle.mpm_machine.specs.Files.{AreWithin}
 use Rattle.mpm_machine.specs.Holding.{HoldsDrives, CallsAlike}

@@ -19,13 +19,14 @@ use Rattle.mpm_bdos.specs.Syncing.{AreSynced, StopsAtDrive, mounted_count}
 use Rattle.mpm_bdos.specs.Turns.{KeepsUnsynced, drive_served}
 use Rattle.mpm_output.specs.Outside.{Outside}
 use Rattle.mpm_output.specs.Writing.{Wrote, Stopped}
-use Rattle.mpm_machine.specs.declared.system.System.{System}
+use Rattle.mpm_system.specs.declared.system.System.{System}
+use Rattle.mpm_system.specs.Whole.{Change, silent}
+use Rattle.mpm_system.specs.Written.{with_records}
 use Rattle.mpm_machine.specs.declared.machine.StepFault.{StepFault}
 use Rattle.mpm_machine.specs.declared.machine.StepFault.TheVariants.{DiskFault, WriteFault}
-use Rattle.mpm_machine.specs.State.{State, Change, silent}
+use Rattle.mpm_machine.specs.State.{State}
 use Rattle.mpm_machine.specs.Files.{Files, Between, Within, StandsForFiles, filing_in, given_back, turns_ended}
 use Rattle.mpm_machine.specs.Due.{with_ends}
-use Rattle.mpm_machine.specs.Step.{with_records}
 use Rattle.mpm_machine.specs.DiskStep.{with_kernel, call_over, told_of_call, all_paid}
 use Rattle.mpm_machine.specs.Stepping.{Stepped}
 use Rattle.mpm_machine.specs.Failing.{Working, FailsWithin, HaveImages, HaveImagesOf}

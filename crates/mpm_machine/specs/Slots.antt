@@ -6,9 +6,9 @@ use Rattle.mpm_procs.specs.Table.{Lives, process_in, call_of}
 use Rattle.mpm_residents.specs.Terminals.{opening}
 use Rattle.mpm_residents.specs.declared.native.Native.TheVariants.{Tmp, Cli}
 use Rattle.mpm_residents.specs.Interpreters.{opening as opening_interpreter}
-use Rattle.mpm_machine.specs.declared.system.System.{System}
-use Rattle.mpm_machine.specs.Opening.{terminal_name}
 use Rattle.mpm_residents.specs.Natives.{native_in}
+use Rattle.mpm_system.specs.declared.system.System.{System}
+use Rattle.mpm_system.specs.Opening.{terminal_name}
 
 -- slot 0 has the process of the command line interpreter, which is at its opening and ready; it lives in no segment, takes extended
 -- errors as answers, no end of it is put off, and it has called nothing yet

@@ -1,5 +1,5 @@
 -- What a step begins with in which no file call is made, and its parts.
-use Rattle.std.specs.Prelude.{ℕ, ◌+◌, Bool, true, false, not, ◌&&◌, ◌||◌, if◌then◌else◌, List, [], ◌∷◌, ◌++◌, Option, Some, None, is_none}
+use Rattle.std.specs.Prelude.{ℕ, Bool, true, false, List, [], ◌++◌, Option, Some, None}
 use Rattle.z80_regs.specs.Outcome.{Outcome}
 use Rattle.z80_ext.specs.Instruction.{instruction, registers_after, actions_of}
 use Rattle.mpm_banks.specs.Memory.{byte_at}
@@ -12,21 +12,22 @@ use Rattle.mpm_kernel.specs.Kernel.{Kernel, dispatched as with_dispatcher}
 use Rattle.mpm_dispatcher.specs.Dispatch.{picked}
 use Rattle.mpm_kernel.specs.Events.{happened}
 use Rattle.mpm_kernel.specs.Consoling.{abort_taken}
-use Rattle.mpm_render.specs.Completions.{Completion}
-use Rattle.mpm_render.specs.Outputs.{Output, Completed}
+use Rattle.mpm_render.specs.Outputs.{Output}
 use Rattle.mpm_gate.specs.Gates.{gate_of}
 use Rattle.mpm_gate.specs.declared.gate.Gate.{Gate}
 use Rattle.mpm_gate.specs.declared.gate.Gate.TheVariants.{End, Call, Return}
-use Rattle.mpm_machine.specs.Gates.{is_inside}
-use Rattle.mpm_machine.specs.declared.system.System.{System}
 use Rattle.mpm_output.specs.Writing.{spoken}
 use Rattle.mpm_output.specs.Texts.{illegal_text}
-use Rattle.mpm_machine.specs.State.{Change, silent, speaking}
-use Rattle.mpm_machine.specs.Ending.{ended}
-use Rattle.mpm_machine.specs.Serving.{with_regs, aborted, gate_step, returning}
 use Rattle.mpm_residents.specs.Natives.{native_in}
+use Rattle.mpm_interrupts.specs.Interrupts.{due_taken}
+use Rattle.mpm_system.specs.Procedures.{is_inside}
+use Rattle.mpm_system.specs.declared.system.System.{System}
+use Rattle.mpm_system.specs.Whole.{Change, silent, speaking}
+use Rattle.mpm_system.specs.Taking.{with_regs}
+use Rattle.mpm_system.specs.Coming.{unhalted}
+use Rattle.mpm_machine.specs.Ending.{ended}
+use Rattle.mpm_machine.specs.Serving.{aborted, gate_step, returning}
 use Rattle.mpm_machine.specs.Residing.{resided}
-use Rattle.mpm_interrupts.specs.Interrupts.{due, due_taken}
 
 -- a process comes to an unlisted opcode: a text on its console, and its end
 unfoldable pub illegal : ℕ → System → Change
@@ -94,24 +95,6 @@ instruction_by (Some p) (Some seg) system = is_no_gate (gate_before p seg system
 unfoldable pub at_instruction : System → Bool
 at_instruction system = instruction_by system.kernel.dispatcher.running (running_segment system.kernel.dispatcher.running system) system
 
--- an interrupt may come: no process runs, or a resident does, which has no segment, or the process that runs has interrupts on
--- and no EI that has not taken effect yet
-abbrev pub lets_in : Option ℕ → Kernel → Bool
-lets_in None kernel = true
-lets_in (Some p) kernel =
-    let process = process_in kernel.dispatcher.procs p in
-    is_none process.seg || (process.regs.iff1 && not process.regs.shadow)
-
--- the event that comes in a step
-unfoldable pub coming : System → Option Event
-coming system =
-    if lets_in system.kernel.dispatcher.running system.kernel then due system.steps system.interrupts else None
-
--- the process that runs waits for an interrupt no more
-abbrev pub unhalted : Option ℕ → Kernel → Kernel
-unhalted None kernel = kernel
-unhalted (Some p) kernel = with_regs kernel p (record (process_in kernel.dispatcher.procs p).regs { halted = false })
-
 -- the process that a key aborts, if any: it ends, or its end is put off
 abbrev pub key_aborted : Option ℕ → System → System
 key_aborted None system = system
@@ -162,25 +145,6 @@ abbrev pub then_so : Change → (System → Change) → Change
 then_so first next =
     let afterwards = next first.system in
     record { system = afterwards.system; emitted = afterwards.emitted ++ first.emitted }
-
--- the records of completed calls come out, in order, behind all else that the step says
-unfoldable pub recorded_behind : List Completion → List Output → List Output
-recorded_behind [] outputs = outputs
-recorded_behind (call ∷ calls) outputs = recorded_behind calls (Completed call ∷ outputs)
-
-abbrev pub with_records : Change → Change
-with_records change = record {
-  system = record change.system { records = [] };
-  emitted = recorded_behind change.system.records change.emitted;
-}
-
--- so they come out where nothing else is said
-abbrev pub records_out : System → Change
-records_out system = with_records (silent system)
-
--- one more step counted
-abbrev pub counted : System → System
-counted system = record system { steps = system.steps + 1 }
 
 -- and it is picked who runs
 abbrev pub dispatched : Bool → Change → Change

@@ -5,13 +5,16 @@ use Rattle.std.specs.Prelude.{ℕ, Bool, false, Option, Some, None}
 use Rattle.mpm_base.specs.Calls.{answering}
 use Rattle.mpm_procs.specs.Table.{call_of}
 use Rattle.mpm_directories.specs.Direct.{Directly, Stays}
-use Rattle.mpm_machine.specs.declared.system.System.{System}
-use Rattle.mpm_machine.specs.State.{Change}
+use Rattle.mpm_system.specs.declared.system.System.{System}
+use Rattle.mpm_system.specs.Whole.{Change}
+use Rattle.mpm_system.specs.Coming.{coming, counted}
+use Rattle.mpm_system.specs.Written.{with_records}
+use Rattle.mpm_system.specs.FileCalling.{call_made}
 use Rattle.mpm_machine.specs.Files.{Files, Between, Within, given_back}
 use Rattle.mpm_machine.specs.Finishing.{all_answered}
 use Rattle.mpm_machine.specs.Due.{with_ends}
-use Rattle.mpm_machine.specs.Step.{coming, begun_by, instruction_unless, counted, then_also, then_so, with_records, dispatched}
-use Rattle.mpm_machine.specs.FileCalls.{file_caller, call_made, told_of}
+use Rattle.mpm_machine.specs.Step.{begun_by, instruction_unless, then_also, then_so, dispatched}
+use Rattle.mpm_machine.specs.FileCalls.{file_caller, told_of}
 use Rattle.mpm_machine.specs.DiskStep.{file_called, files_called, told_at_gate, told_of_call, process_over, disk_served, files_served, all_paid, call_entered, files_entered, turns_within}
 
 -- what file calls come to in a step: the one that is done in its gate step, and the one that is over, if there are such; and how many

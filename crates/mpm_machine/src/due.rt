@@ -1,147 +1,102 @@
 ghost use Rattle.std.specs.Prelude.{◌≡◌, [], OnOk};
 ghost use Rattle.mpm_output.specs.Writing.{Writes};
+ghost use Rattle.mpm_kernel.specs.Kernel.{is_aborted};
+ghost use Rattle.mpm_system.specs.Whole.{IsWhole};
+ghost use Rattle.mpm_system.specs.Written.{records_out};
+ghost use Rattle.mpm_machine.specs.Due.{is_due as due_to_end, ended_if_due, all_due_terminated, with_ends};
 
-use crate::system::System;
+use crate::call::end;
+use crate::finish::finish_all;
 use mpm_base::{Pid, Reply};
 use mpm_port::{Failed, Sink};
 use mpm_render::Render;
+use mpm_system::System;
 
-impl System {
-    ghost use Rattle.mpm_kernel.specs.Kernel.{is_aborted};
-    ghost use Rattle.mpm_machine.specs.State.{IsWhole};
-    ghost use Rattle.mpm_machine.specs.Step.{records_out};
-    ghost use Rattle.mpm_machine.specs.Due.{is_due, is_any_aborted, noted, ended_if_due, all_due_terminated, with_ends};
+/// The ends by an abort that were put off and are due come, and the records of the step's calls come out. Nothing else is said from
+/// here on, so that those of each part come out as it is over.
+#[inline(always)]
+pub(crate) fn end_all<S: Sink>(
+    system: &mut System,
+    reply: &mut Reply,
+    render: &mut Render,
+    sink: &mut S,
+) -> Result<(), Failed>
+    requires whole { IsWhole system.old }
+    ensures system { OnOk result (system.new ≡ (records_out (with_ends system.old)).system) }
+    ensures wrote { Writes S.written S.faults render.old sink.old render.new sink.new (records_out (with_ends system.old)).emitted result }
+{
+    system.write_records(render, sink)?;
+    end_due(system, reply, render, sink)
+}
 
-    /// The ends by an abort that were put off and are due come, and the records of the step's calls come out. Nothing else is said from
-    /// here on, so that those of each part come out as it is over.
-    #[inline(always)]
-    pub fn end_all<S: Sink>(
-        &mut self,
-        reply: &mut Reply,
-        render: &mut Render,
-        sink: &mut S,
-    ) -> Result<(), Failed>
-        requires whole { IsWhole self.old }
-        ensures system { OnOk result (self.new ≡ (records_out (with_ends self.old)).system) }
-        ensures wrote { Writes S.written S.faults render.old sink.old render.new sink.new (records_out (with_ends self.old)).emitted result }
-    {
-        self.write_records(render, sink)?;
-        self.end_due(reply, render, sink)
+/// The ends by an abort that were put off and are due come, by slot.
+#[inline(always)]
+#[tactic(auto, unfolding(crate::specs::Due::with_ends))]
+fn end_due<S: Sink>(
+    system: &mut System,
+    reply: &mut Reply,
+    render: &mut Render,
+    sink: &mut S,
+) -> Result<(), Failed>
+    requires whole { IsWhole system.old }
+    requires none { system.old.records ≡ [] }
+    ensures system { OnOk result (system.new ≡ (records_out (with_ends system.old)).system) }
+    ensures wrote { Writes S.written S.faults render.old sink.old render.new sink.new (records_out (with_ends system.old)).emitted result }
+{
+    if system.abort_deferred {
+        end_each_due(system, reply, render, sink)?;
+        system.note();
     }
+    Ok(())
+}
 
-    /// The ends by an abort that were put off and are due come, by slot.
-    #[inline(always)]
-    #[tactic(auto, unfolding(crate::specs::Due::with_ends))]
-    fn end_due<S: Sink>(
-        &mut self,
-        reply: &mut Reply,
-        render: &mut Render,
-        sink: &mut S,
-    ) -> Result<(), Failed>
-        requires whole { IsWhole self.old }
-        requires none { self.old.records ≡ [] }
-        ensures system { OnOk result (self.new ≡ (records_out (with_ends self.old)).system) }
-        ensures wrote { Writes S.written S.faults render.old sink.old render.new sink.new (records_out (with_ends self.old)).emitted result }
-    {
-        if self.abort_deferred {
-            self.end_each_due(reply, render, sink)?;
-            self.note();
+/// The processes whose end is due end, by slot. The held calls that an end completes are answered before the next.
+#[cold]
+#[inline(never)]
+fn end_each_due<S: Sink>(
+    system: &mut System,
+    reply: &mut Reply,
+    render: &mut Render,
+    sink: &mut S,
+) -> Result<(), Failed>
+    requires whole { IsWhole system.old }
+    requires none { system.old.records ≡ [] }
+    ensures system { OnOk result (system.new ≡ (records_out (all_due_terminated system.old)).system) }
+    ensures wrote { Writes S.written S.faults render.old sink.old render.new sink.new (records_out (all_due_terminated system.old)).emitted result }
+{
+    for number in 0..32 {
+        if let Err(Failed) = end_if_due(system, Pid(number), reply, render, sink) {
+            return Err(Failed);
         }
-        Ok(())
     }
+    Ok(())
+}
 
-    /// The processes whose end is due end, by slot. The held calls that an end completes are answered before the next.
-    #[cold]
-    #[inline(never)]
-    fn end_each_due<S: Sink>(
-        &mut self,
-        reply: &mut Reply,
-        render: &mut Render,
-        sink: &mut S,
-    ) -> Result<(), Failed>
-        requires whole { IsWhole self.old }
-        requires none { self.old.records ≡ [] }
-        ensures system { OnOk result (self.new ≡ (records_out (all_due_terminated self.old)).system) }
-        ensures wrote { Writes S.written S.faults render.old sink.old render.new sink.new (records_out (all_due_terminated self.old)).emitted result }
-    {
-        for number in 0..32 {
-            if let Err(Failed) = self.end_if_due(Pid(number), reply, render, sink) {
-                return Err(Failed);
-            }
-        }
-        Ok(())
+/// A process ends, where that is due, and the held calls that its end completes are answered.
+#[tactic(auto, using(crate::proofs::WholeStepLaws::whole_due_end), unfolding(crate::specs::Due::ended_if_due))]
+fn end_if_due<S: Sink>(
+    system: &mut System,
+    p: Pid,
+    reply: &mut Reply,
+    render: &mut Render,
+    sink: &mut S,
+) -> Result<(), Failed>
+    requires whole { IsWhole system.old }
+    requires none { system.old.records ≡ [] }
+    ensures system { OnOk result (system.new ≡ (records_out (ended_if_due p system.old)).system) }
+    ensures wrote { Writes S.written S.faults render.old sink.old render.new sink.new (records_out (ended_if_due p system.old)).emitted result }
+{
+    if is_due(system, p) {
+        end(system, p);
+        finish_all(system, reply);
+        return system.write_records(render, sink);
     }
+    Ok(())
+}
 
-    /// A process ends, where that is due, and the held calls that its end completes are answered.
-    #[tactic(auto, using(crate::proofs::WholeStepLaws::whole_due_end), unfolding(crate::specs::Due::ended_if_due))]
-    fn end_if_due<S: Sink>(
-        &mut self,
-        p: Pid,
-        reply: &mut Reply,
-        render: &mut Render,
-        sink: &mut S,
-    ) -> Result<(), Failed>
-        requires whole { IsWhole self.old }
-        requires none { self.old.records ≡ [] }
-        ensures system { OnOk result (self.new ≡ (records_out (ended_if_due p self.old)).system) }
-        ensures wrote { Writes S.written S.faults render.old sink.old render.new sink.new (records_out (ended_if_due p self.old)).emitted result }
-    {
-        if self.is_due(p) {
-            self.end(p);
-            self.finish_all(reply);
-            return self.write_records(render, sink);
-        }
-        Ok(())
-    }
-
-    /// The records of completed calls come out, in order: mostly there are none.
-    #[inline(always)]
-    pub fn write_records<S: Sink>(
-        &mut self,
-        render: &mut Render,
-        sink: &mut S,
-    ) -> Result<(), Failed>
-        ensures system { OnOk result (self.new ≡ (records_out self.old).system) }
-        ensures wrote { Writes S.written S.faults render.old sink.old render.new sink.new (records_out self.old).emitted result }
-    {
-        self.records.write(render, sink)?;
-        self.records.clear();
-        Ok(())
-    }
-
-    /// Whether the end of a process is due: it was aborted, and needn't wait.
-    fn is_due(&self, p: Pid) -> bool
-        ensures { result ≡ is_due self.now.kernel p }
-    {
-        self.is_aborted(p) && !mpm_xdos::waits_to_end(&self.kernel, p)
-    }
-
-    /// Whether a process lives, and its end by an abort is put off.
-    fn is_aborted(&self, p: Pid) -> bool
-        ensures { result ≡ is_aborted self.now.kernel.dispatcher.procs p }
-    {
-        self.kernel.lives(p) && self.kernel.living(p).abort_due
-    }
-
-    /// It is noted where no end by an abort is put off any more.
-    #[cold]
-    #[inline(never)]
-    fn note(&mut self)
-        ensures { self.new ≡ noted self.old }
-    {
-        self.abort_deferred = self.abort_deferred && self.is_any_aborted();
-    }
-
-    /// Whether an end by an abort is put off.
-    #[tactic(auto, using(mpm_queues::proofs::Finding::failed_none, mpm_queues::proofs::Finding::failed_more, mpm_queues::proofs::Finding::found_lowest, mpm_queues::proofs::Finding::found_none))]
-    fn is_any_aborted(&self) -> bool
-        ensures { result ≡ is_any_aborted self.now.kernel.dispatcher.procs }
-    {
-        for number in 0..32 {
-            if self.is_aborted(Pid(number)) {
-                return true;
-            }
-        }
-        false
-    }
+/// Whether the end of a process is due: it was aborted, and needn't wait.
+fn is_due(system: &System, p: Pid) -> bool
+    ensures { result ≡ due_to_end system.now.kernel p }
+{
+    system.is_aborted(p) && !mpm_xdos::waits_to_end(&system.kernel, p)
 }

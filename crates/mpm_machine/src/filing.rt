@@ -7,11 +7,12 @@ ghost use Rattle.mpm_functions.specs.declared.functions.FileFunction.{FileFuncti
 ghost use Rattle.mpm_functions.specs.Functions.{function_of};
 ghost use Rattle.mpm_requests.specs.Filing.{Filing, Situation};
 ghost use Rattle.mpm_bdos.specs.Jobs.{call_turns};
-ghost use Rattle.mpm_bdos.specs.Serving.{IsCaller, StandEach, Serves, filing_of};
+ghost use Rattle.mpm_bdos.specs.Serving.{IsCaller, StandEach, Serves, filing_of, nothing_kept};
+ghost use Rattle.mpm_directories.specs.Places.{in_places as in_their_places};
 ghost use Rattle.mpm_bdos.specs.Starting.{caller_of};
 ghost use Rattle.mpm_bdos.specs.Answering.{HasEntered};
 ghost use Rattle.mpm_bdos.specs.Turns.{FitsDrives, TurnKeeps, has_work};
-ghost use Rattle.mpm_machine.specs.State.{IsWhole};
+ghost use Rattle.mpm_system.specs.Whole.{IsWhole};
 ghost use Rattle.mpm_machine.specs.Files.{Files, StandsBetween, StandsForFiles, StandsWorked, all_left};
 ghost use Rattle.mpm_machine.specs.Holding.{HoldsDrives};
 ghost use Rattle.mpm_machine.specs.FileCalls.{IsToldOf, IsToldAsKept, outcome_in, situation_of, looked_at as as_looked_at};
@@ -20,13 +21,14 @@ ghost use Rattle.mpm_machine.specs.Failing.{HaveImagesOf, FailsWithin, working_i
 ghost use Rattle.mpm_machine.specs.Filed.{IsOutcome, left_if};
 ghost use Rattle.mpm_machine.specs.After.{HasJob};
 
-use crate::owed::Owed;
-use crate::system::System;
 use mpm_base::{Pid, Reply, Steps};
-use mpm_bdos::{Bdos, Extended, FileFunction};
+use mpm_bdos::{Bdos, Extended, FileFunction, in_places};
+use mpm_mount::Mounted;
 use mpm_port::{Drives, Failed};
 use mpm_procs::Process;
 use mpm_service::Turn;
+use mpm_system::{Owed, System};
+use std::alloc::{AllocError, Global};
 use std::sync::ledger::Ledger;
 
 /// Gives back what those had open and marked who ended and owe it, slot by slot.
@@ -222,4 +224,18 @@ pub(crate) fn work<D: Drives, L: Ledger>(
         }
     }
     Ok(())
+}
+
+/// What is kept of files and drives as a machine begins, with these directories of its drives.
+pub(crate) fn bdos_of(alloc: Global, mounted: Vec<Mounted>) -> Result<Bdos, AllocError>
+    ensures { IfOk result (λ bdos. bdos ≡ nothing_kept (in_their_places mounted.items)) }
+{
+    let places = match in_places(alloc, mounted) {
+        Ok(places) => places,
+        Err(_) => return Err(AllocError),
+    };
+    match Bdos::new(alloc, places) {
+        Ok(bdos) => Ok(bdos),
+        Err(_) => Err(AllocError),
+    }
 }

@@ -2,6 +2,7 @@
 #![tactic(auto)]
 
 mod abort;
+mod acting;
 mod ahead;
 mod call;
 mod disk;
@@ -10,19 +11,11 @@ mod file_calls;
 mod filing;
 mod finish;
 mod interrupts;
-mod loading;
 mod machine;
-mod opening;
-mod owed;
-mod own_calls;
-mod parsing;
 mod procedures;
-mod records;
 mod residing;
-mod sending;
 mod settling;
 mod stepping;
-mod system;
 
 pub use machine::{Machine, RunFault, StepFault};
 pub use mpm_drives::BootError;

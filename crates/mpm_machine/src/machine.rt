@@ -1,9 +1,7 @@
 ghost use Rattle.std.specs.Prelude.{◌≡◌, ◌≢◌, ℕ, ◌+◌, ◌-◌, ◌*◌, ◌<◌, ◌≤◌, true, false, List, [], All, Option, Some, None, IfOk, OnOk, IfErr, OnErr, MatchOption, length, option_map};
 ghost use Rattle.mpm_script.specs.declared.line.TheConstants.{GREATEST_STEP};
 
-use crate::filing::work;
-use crate::opening::{bdos_of, program_file};
-use crate::system::System;
+use crate::filing::{bdos_of, work};
 use mpm_base::{Name8, Pid, Reply, Seg, Steps};
 use mpm_bdos::Bdos;
 use mpm_drives::{BootError, MountedDrives};
@@ -12,6 +10,7 @@ use mpm_mount::Mounted;
 use mpm_port::{Drives, Failed, Sink};
 use mpm_render::Render;
 use mpm_script::Script;
+use mpm_system::{System, program_file};
 use std::alloc::{AllocError, Global};
 use std::sync::ledger::Ledger;
 use z80_regs::Regs;
@@ -58,7 +57,8 @@ impl Machine {
     ghost use Rattle.mpm_bdos.specs.Serving.{nothing_kept};
     ghost use Rattle.mpm_bdos.specs.Syncing.{AreSynced};
     ghost use Rattle.mpm_output.specs.Outside.{seen};
-    ghost use Rattle.mpm_machine.specs.State.{State, StandsWithDrives, IsWhole, NoCompletions};
+    ghost use Rattle.mpm_system.specs.Whole.{IsWhole, NoCompletions};
+    ghost use Rattle.mpm_machine.specs.State.{State, StandsWithDrives};
     ghost use Rattle.mpm_machine.specs.Files.{Files, Between, StandsForFiles};
     ghost use Rattle.mpm_machine.specs.Holding.{HoldsDrives};
     ghost use Rattle.mpm_machine.specs.Stepping.{stepped};
@@ -67,7 +67,7 @@ impl Machine {
     ghost use Rattle.mpm_machine.specs.Due.{NobodyDue};
     ghost use Rattle.mpm_machine.specs.Slots.{HasResidents};
     ghost use Rattle.mpm_machine.specs.Interpreting.{Interprets};
-    ghost use Rattle.mpm_machine.specs.Opening.{booted, opened, IsBare, MayPlace, with_placed, opening_system, command_queue, with_residents};
+    ghost use Rattle.mpm_system.specs.Opening.{booted, opened, IsBare, MayPlace, with_placed, opening_system, command_queue, with_residents};
     ghost use Rattle.mpm_kernel.specs.Queueing.{OnlySystems};
     ghost use Rattle.mpm_queues.specs.Queues.{make_error};
     ghost use Rattle.mpm_machine.specs.After.{next, after, IsNextOf, HasRun, HasStepped, HasSteppedTo, HasStopped, HasStoppedIn, StopsBy, ShowsBefore, EndsInStep};
@@ -208,7 +208,7 @@ impl Machine {
     ///
     /// # Errors
     /// `BootError::OutOfMemory` alone.
-    #[tactic(auto, unfolding(crate::specs::Opening::opening_system))]
+    #[tactic(auto, unfolding(mpm_system::specs::Opening::opening_system))]
     pub fn boot_program(alloc: Global, program: &[u8]) -> Result<Machine, BootError>
         requires { length program.now ≤ 48512 }
         ensures opening { IfOk result (λ machine. machine.system ≡ opening_system program.now) }

@@ -2,6 +2,7 @@
 ghost use Rattle.std.specs.Prelude.{◌≡◌, ℕ, ◌+◌, ◌*◌, ◌<◌, ◌≤◌, List, [], Option, Some, None, OnOk, OnErr, IfErr, IsSome};
 ghost use Rattle.mpm_port.specs.Texts.{appended};
 
+use crate::due::end_all;
 use crate::machine::{Machine, StepFault};
 use mpm_base::{Pid, Steps};
 use mpm_port::{Drives, Failed, Sink};
@@ -24,8 +25,9 @@ impl Machine {
     ghost use Rattle.mpm_bdos.specs.Serving.{Serves, StandForSome};
     ghost use Rattle.mpm_bdos.specs.Syncing.{mounted_count};
     ghost use Rattle.mpm_bdos.specs.Turns.{FitsDrives, told_images};
-    ghost use Rattle.mpm_machine.specs.declared.system.System.{System};
-    ghost use Rattle.mpm_machine.specs.State.{State, StandsWithDrives, IsWhole, NoCompletions};
+    ghost use Rattle.mpm_system.specs.declared.system.System.{System};
+    ghost use Rattle.mpm_system.specs.Whole.{IsWhole, NoCompletions};
+    ghost use Rattle.mpm_machine.specs.State.{State, StandsWithDrives};
     ghost use Rattle.mpm_machine.specs.Files.{Files, Within, StandsForFiles, filing_in};
     ghost use Rattle.mpm_machine.specs.Holding.{IsOwn, HoldsDrives};
     ghost use Rattle.mpm_machine.specs.Faults.{counts, HaveCause, itself, EndsBy, OnDiskFault};
@@ -218,7 +220,7 @@ impl Machine {
             return Err(Failed);
         }
         self.pay();
-        if let Err(Failed) = self.system.end_all(&mut self.reply, render, sink) {
+        if let Err(Failed) = end_all(&mut self.system, &mut self.reply, render, sink) {
             return Err(Failed);
         }
         self.pay();

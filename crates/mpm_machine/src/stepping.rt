@@ -1,7 +1,12 @@
-ghost use Rattle.std.specs.Prelude.{◌≡◌, ℕ, ◌+◌, ◌-◌, ◌*◌, ◌<◌, ◌≤◌, ◌&&◌, true, false, List, [], Option, Some, None, IfOk, OnOk, IfErr, OnErr, IsSome, length, is_some};
+ghost use Rattle.std.specs.Prelude.{◌≡◌, ℕ, ◌+◌, ◌*◌, ◌<◌, ◌≤◌, ◌&&◌, true, false, List, [], Option, Some, None, IfOk, OnOk, IfErr, OnErr, IsSome, length, is_some};
 ghost use Rattle.mpm_script.specs.declared.line.TheConstants.{GREATEST_STEP};
 
+use crate::acting::begin_alone;
+use crate::disk::{end_file_call, is_done_at_once};
+use crate::due::end_all;
+use crate::file_calls::{conclude_file_call, file_caller};
 use crate::filing::{call_files, give_back, start_call};
+use crate::finish::answer_all;
 use crate::machine::{Machine, StepFault};
 use mpm_base::{Pid, Steps};
 use mpm_bdos::Extended;
@@ -15,7 +20,7 @@ impl Machine {
     ghost use Rattle.mpm_bdos.specs.Serving.{Serves, filing_of};
     ghost use Rattle.mpm_output.specs.Outside.{seen};
     ghost use Rattle.mpm_output.specs.Writing.{Wrote, Stopped};
-    ghost use Rattle.mpm_machine.specs.State.{silent, IsWhole, NoCompletions, HasRoom, HasRoomForAll};
+    ghost use Rattle.mpm_system.specs.Whole.{silent, IsWhole, NoCompletions, HasRoom, HasRoomForAll};
     ghost use Rattle.mpm_machine.specs.Files.{Files, Between, StandsBetween, StandsWorked, StandsForFiles, drives_in, all_left};
     ghost use Rattle.mpm_machine.specs.Holding.{IsOwn, OwnsService, AreFiled, HoldsDrives};
     ghost use Rattle.mpm_machine.specs.DiskStep.{is_done_at_once, file_called, files_called, told_at_gate, told_of_call, process_over, call_over, disk_served, files_served, all_paid, call_entered, files_entered, turns_within};
@@ -85,12 +90,12 @@ impl Machine {
         ensures trace { render.new.trace ≡ render.old.trace }
         ensures cause { HaveCause itself (counts S.faults D.faults sink.old drives.old) (counts S.faults D.faults sink.new drives.new) result }
     {
-        match self.system.file_caller() {
+        match file_caller(&self.system) {
             Some(p) => match self.begin_with_files(p, drives, render, sink, steps) {
                 Ok(()) => Ok(false),
                 Err(fault) => Err(fault),
             },
-            None => match self.system.begin_alone(&mut self.reply, render, sink) {
+            None => match begin_alone(&mut self.system, &mut self.reply, render, sink) {
                 Ok(instruction) => Ok(instruction),
                 Err(Failed) => Err(StepFault::WriteFault),
             },
@@ -149,7 +154,7 @@ impl Machine {
         self.system.make_file_call(p);
         match self.call_or_wait(p, drives, render, sink, steps) {
             Ok(()) => {
-                self.system.answer_all(&mut self.reply);
+                answer_all(&mut self.system, &mut self.reply);
                 Ok(())
             }
             Err(fault) => Err(fault),
@@ -200,7 +205,7 @@ impl Machine {
         ensures trace { render.new.trace ≡ render.old.trace }
         ensures cause { HaveCause itself (counts S.faults D.faults sink.old drives.old) (counts S.faults D.faults sink.new drives.new) result }
     {
-        if !self.system.is_done_at_once(p) {
+        if !is_done_at_once(&self.system, p) {
             self.system.kernel.wait_for_disk(p);
             return Ok(());
         }
@@ -234,10 +239,7 @@ impl Machine {
             (concluded (told_of (call_of self.old.system.kernel.dispatcher.procs p) self.old.reply extended) p self.old.system).emitted) }
         ensures bdos { self.new.bdos ≡ self.old.bdos }
     {
-        match self
-            .system
-            .conclude_file_call(p, extended, &self.reply, render, sink)
-        {
+        match conclude_file_call(&mut self.system, p, extended, &self.reply, render, sink) {
             Ok(()) => Ok(()),
             Err(Failed) => Err(StepFault::WriteFault),
         }
@@ -282,7 +284,7 @@ impl Machine {
         if let Err(Failed) = self.serve_disk(render, sink) {
             return Err(Failed);
         }
-        if let Err(Failed) = self.system.end_all(&mut self.reply, render, sink) {
+        if let Err(Failed) = end_all(&mut self.system, &mut self.reply, render, sink) {
             return Err(Failed);
         }
         self.pay();
@@ -390,8 +392,7 @@ impl Machine {
         ensures cause { HasCause (S.faults sink.old) (S.faults sink.new) result }
     {
         let extended = self.bdos.reply(&mut self.reply);
-        self.system
-            .end_file_call(p, extended, &mut self.reply, render, sink)
+        end_file_call(&mut self.system, p, extended, &mut self.reply, render, sink)
     }
 
     /// Where no call is in service, those who ended give back what they had open and marked: mostly nobody did.

@@ -3,9 +3,9 @@ ghost use Rattle.std.specs.Prelude.{ℕ, ◌≡◌, ◌<◌, ◌≤◌, ◌+◌,
 ghost use Rattle.std.specs.Bool.{OnTrue};
 ghost use Rattle.mpm_machine_file.specs.MachineFiles.{IsMachine};
 ghost use Rattle.mpm_port.specs.MemoryDisks.{size_of, disks_of};
-ghost use Rattle.mpm_machine.specs.State.{IsWhole, NoCompletions};
+ghost use Rattle.mpm_system.specs.Whole.{IsWhole, NoCompletions};
 ghost use Rattle.mpm_machine.specs.Holding.{HoldsDrives};
-ghost use Rattle.mpm_machine.specs.Opening.{IsBare, MayPlace};
+ghost use Rattle.mpm_system.specs.Opening.{IsBare, MayPlace};
 
 use mpm_base::{Kind, Name8, Pid, Seg, Steps};
 use mpm_images::{Entry, UNUSED, entry_in, image, read_record, record_at};

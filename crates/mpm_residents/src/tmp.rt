@@ -60,7 +60,7 @@ impl Model for Tmp {
 }
 
 impl Tmp {
-    ghost use Rattle.std.specs.Prelude.{◌≡◌, ◌≤◌};
+    ghost use Rattle.std.specs.Prelude.{◌≡◌};
     ghost use Rattle.mpm_base.specs.declared.functions.TheConstants.{PRINT_STRING, SEND_CLI_COMMAND};
     ghost use Rattle.mpm_residents.specs.Lines.{form_of};
     ghost use Rattle.mpm_base.specs.Calls.{asking};

@@ -5,10 +5,10 @@ use Rattle.std.specs.Prelude.{MatchResult, IfErr}
 use Rattle.mpm_script.specs.declared.event.Timed.{Timed}
 use Rattle.mpm_machine_file.specs.declared.machine_file.MachineFile.{MachineFile}
 use Rattle.mpm_machine_file.specs.MachineFiles.{machine_of_text}
-use Rattle.mpm_machine.specs.declared.system.System.{System}
+use Rattle.mpm_system.specs.declared.system.System.{System}
 use Rattle.mpm_port.specs.Disks.{Disks}
 use Rattle.mpm_machine.specs.declared.machine.Machine.{Machine}
-use Rattle.mpm_machine.specs.Opening.{opened, opening_system}
+use Rattle.mpm_system.specs.Opening.{opened, opening_system}
 use Rattle.mpm_top.specs.declared.words.Form.{Form}
 use Rattle.mpm_top.specs.declared.words.Form.TheVariants.{Program, Run}
 use Rattle.mpm_top.specs.declared.status.Status.{Status}

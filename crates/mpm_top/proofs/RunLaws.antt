@@ -12,12 +12,13 @@ use Rattle.mpm_render.specs.Outputs.{Output, rendered, closed}
 use Rattle.mpm_drives.specs.Images.{Images}
 use Rattle.mpm_drives.specs.Mounted.{NumberedDrive, AreTold, placed}
 use Rattle.mpm_bdos.specs.Serving.{Kept as Filed}
-use Rattle.mpm_machine.specs.declared.system.System.{System}
+use Rattle.mpm_system.specs.declared.system.System.{System}
 use Rattle.mpm_machine.specs.declared.machine.Machine.{Machine}
 use Rattle.mpm_machine.specs.declared.machine.StepFault.{StepFault}
 use Rattle.mpm_machine.specs.declared.machine.StepFault.TheVariants.{WriteFault as SinkFailed, DiskFault as SyncFailed}
 use Rattle.mpm_machine.specs.Faults.{Counts, HasFailed}
-use Rattle.mpm_machine.specs.State.{State, Change, StandsWithDrives}
+use Rattle.mpm_system.specs.Whole.{Change}
+use Rattle.mpm_machine.specs.State.{State, StandsWithDrives}
 use Rattle.mpm_machine.specs.Files.{Between, StandsForFiles}
 use Rattle.mpm_machine.specs.Mounting.{untouched}
 use Rattle.mpm_machine.specs.Failing.{HaveImages, StopsOn}

@@ -20,13 +20,14 @@ use Rattle.mpm_drives.specs.declared.error.BootError.TheVariants.{Image, DiskFau
 use Rattle.mpm_drives.specs.Images.{ToldImage, Untold, Missing, Bytes, Images, image_named}
 use Rattle.mpm_drives.specs.Mounted.{NumberedDrive, AreDrivesOf, AreTold, number_of, placed}
 use Rattle.mpm_drives.specs.Stopping.{Failures, Stops}
-use Rattle.mpm_machine.specs.declared.system.System.{System}
+use Rattle.mpm_system.specs.declared.system.System.{System}
 use Rattle.mpm_bdos.specs.Serving.{Kept as Filed}
 use Rattle.mpm_directories.specs.Places.{directory_at}
-use Rattle.mpm_machine.specs.State.{State, Change}
+use Rattle.mpm_system.specs.Whole.{Change}
+use Rattle.mpm_machine.specs.State.{State}
 use Rattle.mpm_machine.specs.Files.{Between, StandsForFiles, drives_in, filing_in}
 use Rattle.mpm_machine.specs.Mounting.{HasDrives, HasMounted, HasNoDrive, untouched}
-use Rattle.mpm_machine.specs.Opening.{opening_system, opened}
+use Rattle.mpm_system.specs.Opening.{opening_system, opened}
 use Rattle.mpm_machine.specs.After.{after, AreSteps, IsMadeInPart, WorksOnDrive, EndsInStep}
 use Rattle.mpm_machine.specs.Failing.{FailsWithin, StopsOn}
 use Rattle.mpm_machine.specs.Settling.{IsEnd, carried, left_of}

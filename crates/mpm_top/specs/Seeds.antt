@@ -13,7 +13,7 @@ use Rattle.mpm_mount.specs.Images.{files_of}
 use Rattle.mpm_drives.specs.Mounted.{NumberedDrive}
 use Rattle.mpm_render.specs.Outputs.{closed}
 use Rattle.mpm_machine.specs.State.{State}
-use Rattle.mpm_machine.specs.Opening.{opened}
+use Rattle.mpm_system.specs.Opening.{opened}
 use Rattle.mpm_machine.specs.After.{after}
 use Rattle.mpm_machine.specs.Settling.{carried}
 use Rattle.mpm_top.specs.Runs.{begun, drives_left}

@@ -8,7 +8,7 @@ ghost use Rattle.mpm_generator.specs.Machines.{machine as machine_said, script a
 ghost use Rattle.mpm_drives.specs.Mounted.{NumberedDrive, placed};
 ghost use Rattle.mpm_directories.specs.Places.{directory_at};
 ghost use Rattle.mpm_bdos.specs.Turns.{labelled};
-ghost use Rattle.mpm_machine.specs.State.{IsWhole, NoCompletions};
+ghost use Rattle.mpm_system.specs.Whole.{IsWhole, NoCompletions};
 ghost use Rattle.mpm_machine.specs.Files.{Between, StandsForFiles};
 ghost use Rattle.mpm_machine.specs.Holding.{HoldsDrives};
 ghost use Rattle.mpm_machine.specs.Mounting.{untouched};

@@ -1,7 +1,7 @@
 use Rattle.std.proofs.Common.{◌-◌, length, sym, subst, arith}
-use Rattle.mpm_machine.specs.declared.system.System.{System}
-use Rattle.mpm_machine.specs.Opening.{MayPlace}
-use Rattle.mpm_machine.proofs.PlacedLaws.{may_place_again}
+use Rattle.mpm_system.specs.declared.system.System.{System}
+use Rattle.mpm_system.specs.Opening.{MayPlace}
+use Rattle.mpm_system.proofs.PlacedLaws.{may_place_again}
 use Rattle.mpm_machine_scenes.proofs.scene.place_both.Goals as goal
 
 pub place-p-requires : goal.place-p-requires

@@ -8,7 +8,7 @@ use Rattle.mpm_output.specs.Outside.{seen}
 use Rattle.mpm_machine.specs.Faults.{Counts, counts}
 use Rattle.mpm_machine.specs.After.{after}
 use Rattle.mpm_machine.specs.Settling.{carried}
-use Rattle.mpm_machine.specs.declared.system.System.{System}
+use Rattle.mpm_system.specs.declared.system.System.{System}
 use Rattle.mpm_machine.proofs.SettlingLaws.{settled_stand}
 use Rattle.mpm_drives.specs.Images.{image_named}
 use Rattle.mpm_drives.proofs.Telling.{images_same}

@@ -1,6 +1,6 @@
 use Rattle.std.proofs.Common.{◌∙◌, ℕ, refl, sym, ap, subst, arith}
 use Rattle.mpm_bdos.specs.Serving.{Kept}
-use Rattle.mpm_machine.specs.declared.system.System.{System}
+use Rattle.mpm_system.specs.declared.system.System.{System}
 use Rattle.mpm_machine.specs.State.{State, StandsWithDrives}
 use Rattle.mpm_machine.specs.After.{after, ShowsBefore}
 use Rattle.mpm_machine.specs.Mounting.{HasNoDrive, KeepsMounted}

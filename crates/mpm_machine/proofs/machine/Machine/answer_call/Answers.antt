@@ -9,7 +9,7 @@ use Rattle.mpm_machine.proofs.machine.Machine.answer_call.Goals as goal
 
 pub returns-clause-ok : goal.returns-clause-ok
 returns-clause-ok g c disks s serves whose =
-    answered_ok c.end_file_call.result c.args.p c.args.self.now.system c.end_file_call.new.self _ _ s c.reply-extended.new.self disks c.reply-extended.new.reply c.reply-extended.result
+    answered_ok c.end_file_call.result c.args.p c.args.self.now.system c.end_file_call.new.system _ _ s c.reply-extended.new.self disks c.reply-extended.new.reply c.reply-extended.result
     (c.reply-extended.ensures.comes (told_images disks) s serves) (ap (λ (k : Kept). k.service) c.reply-extended.ensures.kept) c.end_file_call.ensures.system c.end_file_call.ensures.wrote.ok
 
 pub returns-clause-err : goal.returns-clause-err
@@ -19,7 +19,7 @@ returns-clause-err g c disks s serves whose =
 
 pub returns-clause-told : goal.returns-clause-told
 returns-clause-told g c =
-    answered_told c.end_file_call.result c.args.p c.args.self.now.system c.end_file_call.new.self _ _ c.args.self.now.bdos c.reply-extended.new.self c.reply-extended.new.reply c.reply-extended.result
+    answered_told c.end_file_call.result c.args.p c.args.self.now.system c.end_file_call.new.system _ _ c.args.self.now.bdos c.reply-extended.new.self c.reply-extended.new.reply c.reply-extended.result
     c.requires.own c.reply-extended.ensures.may
     (ends_as_kept c.args.self.now.bdos c.reply-extended.new.self c.reply-extended.new.reply c.reply-extended.result c.reply-extended.ensures.comes)
     c.end_file_call.ensures.system c.end_file_call.ensures.wrote.ok
@@ -33,12 +33,12 @@ returns-clause-stops g c =
 pub returns-clause-whole : goal.returns-clause-whole
 returns-clause-whole g c =
     answered_whole c.end_file_call.result (told_of (call_of c.args.self.now.system.kernel.dispatcher.procs c.args.p) c.reply-extended.new.reply c.reply-extended.result) c.args.p c.args.self.now.system
-    c.end_file_call.new.self c.requires.whole c.requires.over c.end_file_call.ensures.system
+    c.end_file_call.new.system c.requires.whole c.requires.over c.end_file_call.ensures.system
 
 pub returns-clause-completed : goal.returns-clause-completed
 returns-clause-completed g c =
     answered_nobody c.end_file_call.result (told_of (call_of c.args.self.now.system.kernel.dispatcher.procs c.args.p) c.reply-extended.new.reply c.reply-extended.result) c.args.p c.args.self.now.system
-    c.end_file_call.new.self c.end_file_call.ensures.system
+    c.end_file_call.new.system c.end_file_call.ensures.system
 
 pub returns-clause-cause : goal.returns-clause-cause
 returns-clause-cause g c = emits_cause c.end_file_call.result _ _ _ c.end_file_call.ensures.wrote

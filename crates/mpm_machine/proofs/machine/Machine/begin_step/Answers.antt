@@ -1,8 +1,8 @@
 use Rattle.std.proofs.Common.{◌∙◌, refl, sym, ap, arith}
 use Rattle.mpm_output.specs.Outside.{seen}
-use Rattle.mpm_machine.specs.declared.system.System.{System}
+use Rattle.mpm_system.specs.declared.system.System.{System}
+use Rattle.mpm_system.specs.Coming.{counted}
 use Rattle.mpm_machine.specs.Stepping.{begun_alone}
-use Rattle.mpm_machine.specs.Step.{counted}
 use Rattle.mpm_machine.proofs.WholeStepLaws.{whole_counted, whole_after_begun, whole_all_answered}
 use Rattle.mpm_machine.proofs.DueLaws.{no_completions_answered}
 use Rattle.mpm_machine.proofs.DriveLaws.{keeps_still}
@@ -80,7 +80,7 @@ returns-in-Err g c = record {
 pub returns-in-Ok-begin_alone : goal.returns-in-Ok-begin_alone
 returns-in-Ok-begin_alone g c =
     let old = c.args.self.now.system in
-    let new = c.begin_alone.new.self in
+    let new = c.begin_alone.new.system in
     let nobody = sym c.file_caller.ensures.caller ∙ c.in-None.is in
     let kept = keeps_alone old new c.requires.whole c.requires.holds.filed c.in-Ok-begin_alone.ensures.system in
     record {

@@ -1,6 +1,6 @@
 use Rattle.std.proofs.Common.{◌∙◌, Some, ap, arith}
 use Rattle.mpm_output.specs.Outside.{seen}
-use Rattle.mpm_machine.specs.declared.system.System.{System}
+use Rattle.mpm_system.specs.declared.system.System.{System}
 use Rattle.mpm_machine.specs.DiskStep.{file_called}
 use Rattle.mpm_machine.proofs.WholeStepLaws.{whole_all_answered}
 use Rattle.mpm_machine.proofs.DueLaws.{no_completions_answered}
@@ -50,14 +50,14 @@ returns-in-Ok-clause-ok g c files stands =
     let kept = c.args.self.now.bdos in
     let disks = g.D.Drives.disks c.args.drives.now in
     gate_begun_to c.args.p files (seen g.S.Sink.written g.S.Sink.faults c.args.render.now c.args.sink.now)
-    (seen g.S.Sink.written g.S.Sink.faults c.call_or_wait.new.render c.call_or_wait.new.sink) old made c.call_or_wait.new.self.system c.answer_all.new.self c.call_or_wait.new.self.bdos
+    (seen g.S.Sink.written g.S.Sink.faults c.call_or_wait.new.render c.call_or_wait.new.sink) old made c.call_or_wait.new.self.system c.answer_all.new.system c.call_or_wait.new.self.bdos
     (g.D.Drives.disks c.call_or_wait.new.drives) c.requires.caller is (made_so c.args.p old made c.requires.whole c.requires.caller is) is_ready
     (holds_kept g.D.Drives.attached g.D.Drives.disks old made kept c.args.drives.now (keeps_made c.args.p old made c.requires.whole.sound is_ready is) c.requires.holds).filed
     c.in-Ok.ensures.called c.answer_all.ensures.system (c.in-Ok.ensures.ok files (gate_stands c.args.p old made kept disks files is stands))
 
 pub returns-in-Ok-clause-step : goal.returns-in-Ok-clause-step
 returns-in-Ok-clause-step g c =
-    gate_begun c.args.p _ _ c.args.self.now.system c.make_file_call.new.self c.call_or_wait.new.self.system c.answer_all.new.self c.requires.caller c.make_file_call.ensures
+    gate_begun c.args.p _ _ c.args.self.now.system c.make_file_call.new.self c.call_or_wait.new.self.system c.answer_all.new.system c.requires.caller c.make_file_call.ensures
     c.in-Ok.ensures.called c.answer_all.ensures.system
 
 pub returns-in-Ok-clause-served : goal.returns-in-Ok-clause-served
@@ -66,7 +66,7 @@ returns-in-Ok-clause-served g c =
     let made = c.make_file_call.new.self in
     let is = c.make_file_call.ensures in
     let is_ready = ready_to_call c.args.p old c.requires.whole c.requires.caller in
-    (gate_serves c.args.p _ _ old made c.call_or_wait.new.self.system c.answer_all.new.self is (made_so c.args.p old made c.requires.whole c.requires.caller is) is_ready
+    (gate_serves c.args.p _ _ old made c.call_or_wait.new.self.system c.answer_all.new.system is (made_so c.args.p old made c.requires.whole c.requires.caller is) is_ready
     (holds_kept g.D.Drives.attached g.D.Drives.disks old made c.args.self.now.bdos c.args.drives.now (keeps_made c.args.p old made c.requires.whole.sound is_ready is) c.requires.holds).filed
     c.in-Ok.ensures.called c.answer_all.ensures.system).served
 
@@ -76,7 +76,7 @@ returns-in-Ok-clause-turn_steps g c =
     let made = c.make_file_call.new.self in
     let is = c.make_file_call.ensures in
     let is_ready = ready_to_call c.args.p old c.requires.whole c.requires.caller in
-    (gate_serves c.args.p _ _ old made c.call_or_wait.new.self.system c.answer_all.new.self is (made_so c.args.p old made c.requires.whole c.requires.caller is) is_ready
+    (gate_serves c.args.p _ _ old made c.call_or_wait.new.self.system c.answer_all.new.system is (made_so c.args.p old made c.requires.whole c.requires.caller is) is_ready
     (holds_kept g.D.Drives.attached g.D.Drives.disks old made c.args.self.now.bdos c.args.drives.now (keeps_made c.args.p old made c.requires.whole.sound is_ready is) c.requires.holds).filed
     c.in-Ok.ensures.called c.answer_all.ensures.system).steps
 
@@ -84,7 +84,7 @@ pub returns-in-Ok-clause-whole : goal.returns-in-Ok-clause-whole
 returns-in-Ok-clause-whole g c =
     let old = c.args.self.now.system in
     let made = c.make_file_call.new.self in
-    whole_all_answered c.call_or_wait.new.self.system c.answer_all.new.self
+    whole_all_answered c.call_or_wait.new.self.system c.answer_all.new.system
     (gate_whole c.args.p _ _ old made c.call_or_wait.new.self.system (made_so c.args.p old made c.requires.whole c.requires.caller c.make_file_call.ensures)
     (ready_to_call c.args.p old c.requires.whole c.requires.caller) c.in-Ok.ensures.called) c.answer_all.ensures.system
 
@@ -107,7 +107,7 @@ returns-in-Ok-clause-holds g c =
     let made = c.make_file_call.new.self in
     let m = made_so c.args.p old made c.requires.whole c.requires.caller c.make_file_call.ensures in
     let is_ready = ready_to_call c.args.p old c.requires.whole c.requires.caller in
-    holds_answered g.D.Drives.attached g.D.Drives.disks c.in-Ok.ensures.called.told c.args.p made c.call_or_wait.new.self.system c.answer_all.new.self c.call_or_wait.new.self.bdos
+    holds_answered g.D.Drives.attached g.D.Drives.disks c.in-Ok.ensures.called.told c.args.p made c.call_or_wait.new.self.system c.answer_all.new.system c.call_or_wait.new.self.bdos
     c.call_or_wait.new.drives m.whole m.lives (m.ready is_ready)
     (gate_whole c.args.p _ _ old made c.call_or_wait.new.self.system m is_ready c.in-Ok.ensures.called) c.in-Ok.ensures.called.called.system c.answer_all.ensures.system
     c.call_or_wait.ensures.holds

@@ -1,10 +1,10 @@
 use Rattle.std.proofs.Common.{◌∙◌, sym, subst}
 use Rattle.mpm_bdos.specs.Serving.{Kept}
 use Rattle.mpm_bdos.specs.Syncing.{AreSynced}
+use Rattle.mpm_system.proofs.OpeningLaws.{boots, opened_here}
 use Rattle.mpm_machine.specs.Holding.{HoldsDrives}
 use Rattle.mpm_machine.proofs.MountedLaws.{holds_again}
 use Rattle.mpm_machine.proofs.FirstFiles.{opens_again}
-use Rattle.mpm_machine.proofs.OpeningLaws.{boots, opened_here}
 use Rattle.mpm_machine.proofs.SlotLaws.{has_residents, interprets_opened}
 use Rattle.mpm_machine.proofs.machine.Machine.boot.Goals as goal
 

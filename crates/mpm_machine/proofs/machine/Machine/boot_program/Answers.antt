@@ -1,11 +1,11 @@
 use Rattle.std.proofs.Common.{◌∙◌, ap, sym, subst, length}
 use Rattle.mpm_service.specs.Disk.{no_service}
 use Rattle.mpm_machine_file.specs.declared.machine_file.MachineFile.{MachineFile}
-use Rattle.mpm_machine.specs.declared.system.System.{System}
 use Rattle.mpm_bdos.specs.Serving.{nothing_kept}
 use Rattle.mpm_directories.specs.Places.{in_places}
-use Rattle.mpm_machine.specs.Opening.{MayPlace}
-use Rattle.mpm_machine.proofs.PlacedLaws.{booted_program, may_place_program, opening_is}
+use Rattle.mpm_system.specs.declared.system.System.{System}
+use Rattle.mpm_system.specs.Opening.{MayPlace}
+use Rattle.mpm_system.proofs.PlacedLaws.{booted_program, may_place_program, opening_is}
 use Rattle.mpm_machine.proofs.SettlingLaws.{nobody_yet}
 use Rattle.mpm_machine.proofs.FirstFiles.{opens_on_none}
 use Rattle.mpm_machine.proofs.machine.Machine.boot_program.Goals as goal

@@ -1,7 +1,7 @@
 use Rattle.std.proofs.Common.{◌∙◌, ap, sym, subst, length, arith}
 use Rattle.mpm_output.specs.Outside.{seen}
 use Rattle.mpm_bdos.specs.Serving.{Kept}
-use Rattle.mpm_machine.specs.State.{IsWhole}
+use Rattle.mpm_system.specs.Whole.{IsWhole}
 use Rattle.mpm_machine.specs.Settling.{ended_with}
 use Rattle.mpm_machine.proofs.DiskStepLaws.{whole_all_paid}
 use Rattle.mpm_machine.proofs.CarryingLaws.{Pays, carried_stopped_first, carried_stopped_last, carried_all, whole_at_end, told_stopped, told_stopped_last, told_wrote, told_system, ends_told, keeps_paid, stopped_behind}
@@ -68,14 +68,14 @@ returns-clause-ok g c disks s before serves whose is =
     let over = c.in_default.ensures.ok disks s serves whose in
     let m = seen g.S.Sink.written g.S.Sink.faults c.answer_call.new.render c.answer_call.new.sink in
     let first : Pays c.answer_call.new.self.system c.answer_call.new.self.bdos c.pay.new.self.bdos = record { rest = c.pay.ensures.rest; filing = c.pay.ensures.filing } in
-    let last : Pays c.end_all.new.self c.pay.new.self.bdos c.pay-2.new.self.bdos = record { rest = c.pay-2.ensures.rest; filing = c.pay-2.ensures.filing } in
+    let last : Pays c.end_all.new.system c.pay.new.self.bdos c.pay-2.new.self.bdos = record { rest = c.pay-2.ensures.rest; filing = c.pay-2.ensures.filing } in
     carried_all _ m _ disks c.answer_call.new.self.bdos c.pay.new.self.bdos c.pay-2.new.self.bdos s c.args.p c.args.self.now.system before c.answer_call.new.self.system c.pay.new.self.system
-    c.end_all.new.self c.pay-2.new.self.system whose is over.0 c.pay.ensures.system c.in_default-end_all.ensures.system c.pay-2.ensures.system over.1 c.in_default-end_all.ensures.wrote.ok over.2
+    c.end_all.new.system c.pay-2.new.self.system whose is over.0 c.pay.ensures.system c.in_default-end_all.ensures.system c.pay-2.ensures.system over.1 c.in_default-end_all.ensures.wrote.ok over.2
     first last
 
 pub returns-clause-whole : goal.returns-clause-whole
 returns-clause-whole g c =
-    whole_at_end c.answer_call.new.self.system c.pay.new.self.system c.end_all.new.self c.pay-2.new.self.system c.in_default.ensures.whole c.pay.ensures.system
+    whole_at_end c.answer_call.new.self.system c.pay.new.self.system c.end_all.new.system c.pay-2.new.self.system c.in_default.ensures.whole c.pay.ensures.system
     c.in_default-end_all.ensures.system c.pay-2.ensures.system
 
 pub returns-clause-end : goal.returns-clause-end
@@ -85,7 +85,7 @@ returns-clause-end g c before is =
     record {
       change = ended_with told.told c.args.p before;
       is = ends_told c.args.self.now.bdos c.answer_call.new.self.bdos c.args.p c.args.self.now.system before told.told is told.of_call told.tells told.as_kept;
-      system = told_system c.args.p c.args.self.now.system before c.answer_call.new.self.system c.pay.new.self.system c.end_all.new.self c.pay-2.new.self.system told.told is told.system
+      system = told_system c.args.p c.args.self.now.system before c.answer_call.new.self.system c.pay.new.self.system c.end_all.new.system c.pay-2.new.self.system told.told is told.system
           c.pay.ensures.system c.in_default-end_all.ensures.system c.pay-2.ensures.system;
       wrote = told_wrote _ m _ c.args.p c.args.self.now.system before c.answer_call.new.self.system c.pay.new.self.system told.told is told.system c.pay.ensures.system told.wrote
           c.in_default-end_all.ensures.wrote.ok;

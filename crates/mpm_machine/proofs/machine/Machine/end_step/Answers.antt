@@ -1,15 +1,14 @@
+-- the sink failed in the disk's step
 use Rattle.std.proofs.Common.{◌≡◌, ◌∙◌, true, is_some, ap, arith}
 use Rattle.mpm_kernel.specs.Kernel.{Kernel}
 use Rattle.mpm_output.specs.Outside.{Faults, seen}
+use Rattle.mpm_system.specs.declared.system.System.{System}
 use Rattle.mpm_machine.specs.declared.machine.Machine.{Machine}
-use Rattle.mpm_machine.specs.declared.system.System.{System}
 use Rattle.mpm_machine.proofs.EndStepLaws.{ended_sound, ended_still, has_ended, has_ended_to, serving_stopped, serving_stops, ending_stopped, ended_stops, ends_served, ended_begun, ended_filed, ended_own, ended_turn_steps, ended_whole, ended_nobody_due, ended_no_completions, ended_steps, workless_paid}
 use Rattle.mpm_machine.proofs.BehindLaws.{rest_images}
 use Rattle.mpm_machine.proofs.EnterLaws.{paid_is}
 use Rattle.mpm_machine.proofs.CarryingLaws.{keeps_paid, stopped_behind}
 use Rattle.mpm_machine.proofs.machine.Machine.end_step.Goals as goal
-
--- the sink failed in the disk's step
 
 pub returns-in-Err-clause-err : goal.returns-in-Err-clause-err
 returns-in-Err-clause-err g c disks files stands = serving_stopped c.args.instruction files _ _ c.args.self.now.system (c.in-Err.ensures.err disks files stands)
@@ -50,14 +49,14 @@ returns-in-Err-end_all-clause-cause g c =
 
 pub pick-requires : goal.pick-requires
 pick-requires g c =
-    ended_sound c.serve_disk.new.self.system c.end_all.new.self c.pay.new.self.system c.in_default.ensures.whole c.in_default-end_all.ensures.system c.pay.ensures.system
+    ended_sound c.serve_disk.new.self.system c.end_all.new.system c.pay.new.self.system c.in_default.ensures.whole c.in_default-end_all.ensures.system c.pay.ensures.system
 
 pub returns : goal.returns
 returns g c =
     let instruction = c.args.instruction in
     let old = c.args.self.now in
     let served = c.serve_disk.new.self in
-    let ended = c.end_all.new.self in
+    let ended = c.end_all.new.system in
     let paid = c.pay.new.self in
     let o = seen g.S.Sink.written g.S.Sink.faults c.args.render.now c.args.sink.now in
     let m = seen g.S.Sink.written g.S.Sink.faults c.serve_disk.new.render c.serve_disk.new.sink in

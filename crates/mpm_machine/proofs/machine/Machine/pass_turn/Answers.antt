@@ -1,3 +1,4 @@
+-- nobody is served
 use Rattle.std.proofs.Common.{◌≡◌, ◌∙◌, ◌<◌, OnOk, OnErr, refl, sym, ap, subst, arith}
 use Rattle.mpm_service.specs.Disk.{served_process}
 use Rattle.mpm_service.specs.declared.service.Served.{Served}
@@ -6,9 +7,9 @@ use Rattle.mpm_output.specs.Outside.{seen}
 use Rattle.mpm_output.specs.Writing.{Wrote, Stopped}
 use Rattle.mpm_bdos.specs.Outcomes.{file_call}
 use Rattle.mpm_bdos.specs.Turns.{has_work}
-use Rattle.mpm_machine.specs.declared.system.System.{System}
+use Rattle.mpm_system.specs.declared.system.System.{System}
+use Rattle.mpm_system.specs.Whole.{IsWhole}
 use Rattle.mpm_machine.specs.Files.{StandsBetween}
-use Rattle.mpm_machine.specs.State.{IsWhole}
 use Rattle.mpm_machine.specs.Holding.{IsOwn}
 use Rattle.mpm_machine.specs.DiskStep.{told_of_call, call_over}
 use Rattle.mpm_machine.specs.After.{HasAnswered, HasStoppedAnswering}
@@ -17,8 +18,6 @@ use Rattle.mpm_machine.proofs.EnterLaws.{nothing_passes, has_passed_none, passed
 use Rattle.mpm_machine.proofs.ServeLaws.{last_is_over, passed_is, works_last, works_on, never_on, own_last, none_behind, pass_over, pass_stops, has_passed_over, has_stopped_over, nobody_behind, none_holds, passes_so, has_passed_so, begun_so, own_so}
 use Rattle.mpm_machine.proofs.WorkLaws.{nobody_served, somebody_served}
 use Rattle.mpm_machine.proofs.machine.Machine.pass_turn.Goals as goal
-
--- nobody is served
 
 pub returns-then-is_none-clause-ok : goal.returns-then-is_none-clause-ok
 returns-then-is_none-clause-ok g c disks files stands =

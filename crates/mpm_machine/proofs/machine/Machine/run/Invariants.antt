@@ -1,6 +1,7 @@
 use Rattle.std.proofs.Common.{◌≡◌, ◌≤◌, ◌<◌, ◌+◌, ◌*◌, ℕ, true, List, Option}
 use Rattle.mpm_output.specs.Outside.{seen}
-use Rattle.mpm_machine.specs.State.{State, IsWhole, NoCompletions, StandsWithDrives}
+use Rattle.mpm_system.specs.Whole.{IsWhole, NoCompletions}
+use Rattle.mpm_machine.specs.State.{State, StandsWithDrives}
 use Rattle.mpm_machine.specs.Holding.{HoldsDrives}
 use Rattle.mpm_machine.specs.Due.{NobodyDue}
 use Rattle.mpm_machine.specs.Mounting.{HasNoDrive, KeepsMounted}

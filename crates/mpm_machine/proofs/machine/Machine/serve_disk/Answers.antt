@@ -1,8 +1,8 @@
 use Rattle.std.proofs.Common.{◌≡◌, ◌∙◌, true, is_some, sym, ap, subst}
 use Rattle.mpm_bdos.specs.Serving.{Kept}
+use Rattle.mpm_system.specs.declared.system.System.{System}
 use Rattle.mpm_machine.specs.declared.machine.Machine.{Machine}
 use Rattle.mpm_machine.specs.DiskStep.{call_entered, files_served}
-use Rattle.mpm_machine.specs.declared.system.System.{System}
 use Rattle.mpm_machine.specs.After.{ServesEntered, EntersFor}
 use Rattle.mpm_machine.proofs.ServeLaws.{still_served}
 use Rattle.mpm_machine.proofs.EnterLaws.{paid_whole, paid_begun, paid_filed, paid_own, paid_is, entered_behind, has_served_to, has_served, leaves_served, served_filed}

@@ -1,3 +1,4 @@
+-- the call in service was carried to its end, and lines are closed
 use Rattle.std.proofs.Common.{◌≡◌, ◌∙◌, Bool, inl, subst, arith}
 use Rattle.std.specs.Prelude.{OnOk}
 use Rattle.mpm_port.specs.Texts.{appended}
@@ -9,8 +10,6 @@ use Rattle.mpm_machine.specs.Faults.{itself}
 use Rattle.mpm_machine.specs.Settling.{carried, called}
 use Rattle.mpm_machine.proofs.SettlingLaws.{carried_shows, carried_system, carried_files, carried_images, stops_carrying, err_seen, err_stops, ok_closes, err_closes, keeps_synced, same_still, same_count, none_counted, sink_alone, cause_behind, ok_so}
 use Rattle.mpm_machine.proofs.machine.Machine.settle.Goals as goal
-
--- the call in service was carried to its end, and lines are closed
 
 pub returns-in-Ok-clause-ok : goal.returns-in-Ok-clause-ok
 returns-in-Ok-clause-ok g c s first stands =

@@ -1,8 +1,8 @@
 use Rattle.std.proofs.Common.{◌∙◌, Ok, sym, ap, subst, arith}
-use Rattle.mpm_mount.specs.Directories.{Directory}
 use Rattle.std.specs.Prelude.{List, Option, is_some}
-use Rattle.mpm_service.specs.declared.service.Served.{Served}
 use Rattle.std.proofs.lemmas.Bool.{false≢true, true_from_ne_false}
+use Rattle.mpm_mount.specs.Directories.{Directory}
+use Rattle.mpm_service.specs.declared.service.Served.{Served}
 use Rattle.mpm_output.specs.Outside.{seen}
 use Rattle.mpm_bdos.specs.Serving.{Kept}
 use Rattle.mpm_bdos.specs.Turns.{has_work}

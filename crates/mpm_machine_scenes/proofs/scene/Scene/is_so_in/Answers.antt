@@ -3,11 +3,11 @@ use Rattle.mpm_script.specs.declared.event.Timed.{Timed}
 use Rattle.mpm_machine_file.specs.declared.machine_file.MachineFile.{MachineFile}
 use Rattle.mpm_machine_file.specs.MachineFiles.{IsMachine}
 use Rattle.mpm_port.specs.MemoryDisks.{size_of, disks_of}
-use Rattle.mpm_machine.specs.declared.system.System.{System}
+use Rattle.mpm_system.specs.declared.system.System.{System}
 use Rattle.mpm_machine.specs.Holding.{HoldsDrives}
 use Rattle.mpm_machine.proofs.MountedLaws.{holds_again}
-use Rattle.mpm_machine.specs.Opening.{booted, IsBare, MayPlace}
-use Rattle.mpm_machine.proofs.PlacedLaws.{may_place_booted}
+use Rattle.mpm_system.specs.Opening.{booted, IsBare, MayPlace}
+use Rattle.mpm_system.proofs.PlacedLaws.{may_place_booted}
 use Rattle.mpm_machine_scenes.proofs.scene.Scene.is_so_in.Goals as goal
 
 -- a program can be placed into each segment that has room for it

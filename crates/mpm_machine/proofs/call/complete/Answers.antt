@@ -1,0 +1,30 @@
+use Rattle.mpm_output.specs.Outside.{TheSink}
+use Rattle.mpm_output.proofs.WritingLaws.{passes_on}
+use Rattle.mpm_machine.proofs.CallLaws.{lives_said, room_popped, popped_after, completed_system, wrote_text, text_fails}
+use Rattle.mpm_machine.proofs.call.complete.Goals as goal
+
+pub returns-in_err-speak-clause-wrote : goal.returns-in_err-speak-clause-wrote
+returns-in_err-speak-clause-wrote g c =
+    passes_on _ _ _ _ c.from_residual.ensures.0
+    (text_fails TheSink _ _ c.args.reply.now c.args.p c.args.seg c.args.system.now c.in_err-speak.ensures.wrote.err)
+
+pub pop-requires : goal.pop-requires
+pop-requires g c =
+    record { lives = lives_said c.args.p c.args.seg c.args.system.now c.speak.new.self c.requires.whole c.requires.lives c.in_ok-speak.ensures.system }
+
+pub fulfil-requires : goal.fulfil-requires
+fulfil-requires g c =
+    let so = popped_after c.args.p c.args.seg c.args.system.now c.speak.new.self c.pop.new.self c.requires.whole c.requires.lives c.in_ok-speak.ensures.system c.pop.ensures in
+    record {
+      whole = so.whole;
+      lives = so.lives;
+      room = room_popped c.args.p c.args.seg c.args.system.now c.speak.new.self c.pop.new.self c.requires.room c.in_ok-speak.ensures.system c.pop.ensures;
+    }
+
+pub returns : goal.returns
+returns g c =
+    let so = popped_after c.args.p c.args.seg c.args.system.now c.speak.new.self c.pop.new.self c.requires.whole c.requires.lives c.in_ok-speak.ensures.system c.pop.ensures in
+    record {
+      system = completed_system c.args.reply.now c.args.p c.args.seg c.args.system.now c.pop.new.self c.fulfil.new.system so c.fulfil.ensures;
+      wrote = record { ok = wrote_text _ _ c.args.reply.now c.args.p c.args.seg c.args.system.now c.in_ok-speak.ensures.wrote.ok; err = tt };
+    }

@@ -1,0 +1,18 @@
+use Rattle.mpm_procs.specs.Table.{call_of}
+use Rattle.mpm_machine.specs.FileCalls.{told_of}
+use Rattle.mpm_machine.proofs.ServeLaws.{again_whole, concluded_whole, concluded_room}
+use Rattle.mpm_machine.proofs.disk.end_file_call.Goals as goal
+
+pub conclude_file_call-requires-clause-whole : goal.conclude_file_call-requires-clause-whole
+conclude_file_call-requires-clause-whole g c =
+    again_whole c.args.p c.args.system.now c.end_disk_call.new.self c.requires.whole c.requires.over c.end_disk_call.ensures.kernel
+
+pub finish_all-requires-clause-whole : goal.finish_all-requires-clause-whole
+finish_all-requires-clause-whole g c =
+    concluded_whole (told_of (call_of c.end_disk_call.new.self.dispatcher.procs c.args.p) c.args.reply.now c.args.error) c.args.p c.args.system.now c.conclude_file_call.new.system
+    c.end_disk_call.new.self c.requires.whole c.requires.over c.end_disk_call.ensures.kernel c.in_ok-conclude_file_call.ensures.system
+
+pub finish_all-requires-clause-room : goal.finish_all-requires-clause-room
+finish_all-requires-clause-room g c =
+    concluded_room (told_of (call_of c.end_disk_call.new.self.dispatcher.procs c.args.p) c.args.reply.now c.args.error) c.args.p c.args.system.now c.conclude_file_call.new.system
+    c.end_disk_call.new.self c.requires.room c.in_ok-conclude_file_call.ensures.system

@@ -1,5 +1,0 @@
-use Rattle.mpm_machine.proofs.WholeLaws.{segment_is_home}
-use Rattle.mpm_machine.proofs.system.System.act_at.Goals as goal
-
-pub gate-requires-clause-home : goal.gate-requires-clause-home
-gate-requires-clause-home g c = segment_is_home c.args.self.now c.args.p c.args.seg c.requires.whole c.requires.lives c.requires.home

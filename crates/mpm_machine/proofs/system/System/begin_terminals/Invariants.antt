@@ -1,5 +1,0 @@
-use Rattle.mpm_machine.proofs.OpeningLaws.{BegunSo}
-use Rattle.mpm_machine.proofs.system.System.begin_terminals.Given as goal
-
-abbrev pub invariant-loop-console : goal.invariant-loop-console
-invariant-loop-console l = BegunSo l.initial.self l.self l.console

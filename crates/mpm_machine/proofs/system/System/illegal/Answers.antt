@@ -1,5 +1,0 @@
-use Rattle.mpm_machine.proofs.WholeLaws.{whole_after_text}
-use Rattle.mpm_machine.proofs.system.System.illegal.Goals as goal
-
-pub end-requires-clause-whole : goal.end-requires-clause-whole
-end-requires-clause-whole g c = whole_after_text c.args.self.now _ _ _ c.requires.whole c.write_bytes.ensures.kernel

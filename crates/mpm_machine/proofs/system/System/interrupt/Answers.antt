@@ -1,5 +1,0 @@
-use Rattle.mpm_machine.proofs.WholeStepLaws.{whole_due}
-use Rattle.mpm_machine.proofs.system.System.interrupt.Goals as goal
-
-pub come-requires-clause-whole : goal.come-requires-clause-whole
-come-requires-clause-whole g c = whole_due c.args.self.now c.take_due.new.self c.requires.whole c.take_due.ensures.rest

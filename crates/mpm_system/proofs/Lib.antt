@@ -1,0 +1,16 @@
+pub mod ChangeLaws
+pub mod SayingLaws
+pub mod InterruptLaws
+pub mod TextLaws
+pub mod StringLaws
+pub mod SizeLaws
+pub mod HomeLaws
+pub mod WholeLaws
+pub mod WrittenLaws
+pub mod OwnCallLaws
+pub mod IdlingLaws
+pub mod ResidentLaws
+pub mod SendingLaws
+pub mod LoadingLaws
+pub mod PlacedLaws
+pub mod OpeningLaws

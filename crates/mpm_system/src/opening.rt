@@ -1,0 +1,292 @@
+ghost use Rattle.std.specs.Prelude.{◌≡◌, ◌+◌, ◌<◌, IfOk, false, None, ◌-◌, ◌≤◌, length, Some, IsSome, []};
+ghost use Rattle.mpm_banks.specs.Memory.{HasSegment, segment_of};
+ghost use Rattle.mpm_procs.specs.Table.{lowest_free};
+ghost use Rattle.mpm_kernel.specs.Kernel.{IsSound, dispatched};
+ghost use Rattle.mpm_dispatcher.specs.Dispatch.{admitted, picked};
+ghost use Rattle.mpm_kernel.specs.Consoling.{given};
+ghost use Rattle.mpm_service.specs.Disk.{no_service};
+ghost use Rattle.mpm_machine_file.specs.MachineFiles.{IsMachine};
+ghost use Rattle.mpm_kernel.specs.Queueing.{OnlySystems};
+ghost use Rattle.mpm_queues.specs.Queues.{make_error};
+ghost use Rattle.mpm_system.specs.Opening.{terminal_name as name_of_terminal, resident_process as process_of_resident, moment_of as moment_said, program_file as program_said, laid_out, placed_process as process_placed, booted, IsBare, MayPlace, with_placed, command_queue, with_residents, begun_by_interpreter, with_interpreting, with_terminals, with_terminal};
+ghost use Rattle.mpm_system.specs.Whole.{IsWhole, NoCompletions};
+
+use crate::owed::Owed;
+use crate::records::Records;
+use crate::system::System;
+use mpm_banks::{Banks, last_page};
+use mpm_base::{Name8, Pid, Seg, SegmentSpec};
+use mpm_clock::Moment;
+use mpm_command::base_page;
+use mpm_gate::put_bytes;
+use mpm_interrupts::Schedule;
+use mpm_kernel::Kernel;
+use mpm_machine_file::{DriveSpecs, MachineFile, Segments};
+use mpm_procs::{NewProcess, NoSlot};
+use mpm_residents::Residents;
+use mpm_script::Script;
+use std::alloc::{AllocError, Global};
+
+/// The queue of the command line interpreter, the length of its messages and how many it has room for.
+const COMMAND_QUEUE: Name8 = Name8(*b"CliQ    ");
+
+const COMMAND_LENGTH: u16 = 130;
+
+const COMMANDS: u16 = 15;
+
+/// The priorities of the command line interpreter and of the terminal message processors.
+const INTERPRETER_PRIORITY: u8 = 190;
+
+const TERMINAL_PRIORITY: u8 = 198;
+
+/// The error mode of a process that takes extended errors as answers.
+const ANSWERS_ERRORS: u8 = 0xFF;
+
+impl System {
+    /// What the machine of a machine file, and of its script's events, keeps from step to step, without processes.
+    ///
+    /// # Errors
+    /// Where no memory is found.
+    #[tactic(auto, unfolding(crate::specs::Opening::booted))]
+    pub fn bare(alloc: Global, file: &MachineFile, script: Script) -> Result<System, AllocError>
+        requires { IsMachine file.now }
+        ensures booted { IfOk result (λ system. system ≡ booted file.now script) }
+        ensures bare { IfOk result (λ system. IsBare system) }
+        ensures disk { IfOk result (λ system. system.kernel.disk ≡ no_service file.now.disk_turn) }
+    {
+        let memory = Banks::new(alloc, file.segments.as_slice())?;
+        let mut kernel = Kernel::new(alloc, file.consoles, file.printers, moment_of(file))?;
+        kernel.set_disk_turn(file.disk_turn);
+        Ok(System {
+            steps: 0,
+            interrupts: Schedule::new(file.tick_every, script),
+            kernel,
+            memory,
+            abort_deferred: false,
+            residents: Residents::none(),
+            records: Records::new(),
+            owed: Owed::new(),
+        })
+    }
+
+    /// Puts a program into a segment and adds its process.
+    #[tactic(auto, using(crate::proofs::PlacedLaws::laid_out_is_there), unfolding(crate::specs::Opening::with_placed))]
+    pub fn place(&mut self, seg: Seg, name: Name8, priority: u8, console: u8, program: &[u8]) -> Pid
+        requires { MayPlace self.old seg console (length program.now) }
+        ensures slot { lowest_free self.old.kernel.dispatcher.procs ≡ Some result }
+        ensures system { self.new ≡ with_placed self.old result seg name priority console program.now }
+        ensures bare { IsBare self.new }
+        ensures disk { self.new.kernel.disk ≡ self.old.kernel.disk }
+    {
+        let spec = self.memory.spec(seg);
+        lay_out(&mut self.memory, seg, program);
+        self.memory.occupy(seg);
+        let new = placed_process(spec, seg, name, priority, console);
+        begin(&mut self.kernel, new)
+    }
+
+    /// What a machine has as it is run, beside what its file says: the command queue, the process of the command line
+    /// interpreter, and a terminal message processor for each console. The first of the ready list runs.
+    pub fn begin_residents(&mut self, consoles: u8)
+        requires whole { IsWhole self.old }
+        requires no_completions { NoCompletions self.old }
+        requires consoles { consoles ≡ length self.old.kernel.units.consoles }
+        requires queues { OnlySystems self.old.kernel }
+        requires room { make_error self.old.kernel.queues command_queue 130 15 ≡ None }
+        requires nobody { self.old.residents ≡ [] }
+        ensures system { self.new ≡ with_residents consoles self.old }
+        ensures whole { IsWhole self.new }
+        ensures no_completions { NoCompletions self.new }
+        ensures disk { self.new.kernel.disk ≡ self.old.kernel.disk }
+        ensures steps { self.new.steps ≡ self.old.steps }
+    {
+        self.begin_interpreting(consoles);
+        self.begin_terminals(consoles);
+        self.kernel.pick(false);
+    }
+
+    /// The command line interpreter begins, for so many consoles: its process, and what acts in it.
+    fn begin_interpreting(&mut self, consoles: u8)
+        requires whole { IsWhole self.old }
+        requires queues { OnlySystems self.old.kernel }
+        requires room { make_error self.old.kernel.queues command_queue 130 15 ≡ None }
+        requires some { 0 < consoles }
+        requires nobody { self.old.residents ≡ [] }
+        ensures { self.new ≡ with_interpreting consoles (begun_by_interpreter self.old) }
+    {
+        self.begin_interpreter();
+        self.residents.add_interpreter(consoles);
+    }
+
+    /// The command queue is made, and the process of the command line interpreter begins.
+    fn begin_interpreter(&mut self)
+        requires whole { IsWhole self.old }
+        requires queues { OnlySystems self.old.kernel }
+        requires room { make_error self.old.kernel.queues command_queue 130 15 ≡ None }
+        ensures { self.new ≡ begun_by_interpreter self.old }
+    {
+        self.kernel
+            .system_queue(COMMAND_QUEUE, COMMAND_LENGTH, COMMANDS);
+        let new = resident_process(Name8(*b"cli     "), INTERPRETER_PRIORITY, 0);
+        if let Ok(p) = self.kernel.admit(new) {
+            let process = self.kernel.process_mut(p);
+            process.error_mode = ANSWERS_ERRORS;
+            process.multi = 16;
+        }
+    }
+
+    /// The terminal message processors of the consoles begin.
+    fn begin_terminals(&mut self, consoles: u8)
+        requires whole { IsWhole self.old }
+        requires consoles { consoles ≡ length self.old.kernel.units.consoles }
+        requires first { length self.old.residents ≤ 1 }
+        ensures system { self.new ≡ with_terminals consoles self.old }
+        ensures whole { IsWhole self.new }
+        ensures completed { self.new.kernel.dispatcher.completed ≡ self.old.kernel.dispatcher.completed }
+        ensures records { self.new.records ≡ self.old.records }
+        ensures disk { self.new.kernel.disk ≡ self.old.kernel.disk }
+        ensures owed { self.new.owed ≡ self.old.owed }
+        ensures steps { self.new.steps ≡ self.old.steps }
+    {
+        for console in 0..consoles {
+            self.begin_terminal(console);
+        }
+    }
+
+    /// The terminal message processor of a console begins.
+    fn begin_terminal(&mut self, console: u8)
+        requires whole { IsWhole self.old }
+        requires console { console < length self.old.kernel.units.consoles }
+        requires room { length self.old.residents < 9 }
+        ensures { self.new ≡ with_terminal (lowest_free self.old.kernel.dispatcher.procs) console self.old }
+    {
+        let new = resident_process(terminal_name(console), TERMINAL_PRIORITY, console);
+        if let Ok(p) = self.kernel.admit(new) {
+            self.kernel.process_mut(p).error_mode = ANSWERS_ERRORS;
+            self.residents.add_terminal(console);
+        }
+    }
+}
+
+/// The name of the terminal message processor of a console.
+fn terminal_name(console: u8) -> Name8
+    requires { console < 8 }
+    ensures { result ≡ name_of_terminal console }
+{
+    Name8([b'T', b'm', b'p', b'0' + console, b' ', b' ', b' ', b' '])
+}
+
+/// The process of a resident: it has no memory segment.
+#[tactic(auto, unfolding(crate::specs::Opening::resident_process))]
+fn resident_process(name: Name8, priority: u8, console: u8) -> NewProcess
+    ensures process { result ≡ process_of_resident name priority console }
+    ensures console { result.console ≡ console }
+{
+    NewProcess {
+        name,
+        priority,
+        console,
+        ..NewProcess::default()
+    }
+}
+
+/// The moment at which the machine of a machine file begins.
+fn moment_of(file: &MachineFile) -> Moment
+    ensures { result ≡ moment_said file.now }
+{
+    Moment {
+        date: file.date,
+        hour: file.hour,
+        minute: file.minute,
+        second: file.second,
+    }
+}
+
+/// The machine file of a program's machine.
+///
+/// # Errors
+/// Where no memory is found.
+pub fn program_file(alloc: Global) -> Result<MachineFile, AllocError>
+    ensures { IfOk result (λ file. file ≡ program_said) }
+{
+    let mut segments = Vec::new(alloc);
+    segments.push(SegmentSpec {
+        base: 0,
+        pages: 192,
+    })?;
+    Ok(MachineFile {
+        consoles: 1,
+        printers: 0,
+        tick_every: 0,
+        disk_turn: 0,
+        date: 1,
+        hour: 0,
+        minute: 0,
+        second: 0,
+        segments: Segments::of(segments),
+        drives: DriveSpecs::of(Vec::new(alloc)),
+        script: None,
+        spool: false,
+        sched: false,
+    })
+}
+
+/// Lays out a program in its segment: the base page, the program behind it, and the word on which the stack begins.
+#[tactic(auto, unfolding(crate::specs::Opening::laid_out))]
+fn lay_out(banks: &mut Banks, seg: Seg, program: &[u8])
+    requires exists { HasSegment banks.old seg }
+    requires pages { 2 ≤ (segment_of banks.old seg).pages }
+    requires end { (segment_of banks.old seg).base + (segment_of banks.old seg).pages ≤ 192 }
+    requires few { length program.now ≤ 65535 }
+    ensures { banks.new ≡ laid_out banks.old seg program.now }
+{
+    let spec = banks.spec(seg);
+    let page = last_page(spec);
+    let first = u16::from_le_bytes([0, spec.base]);
+    put_bytes(&base_page(page, b""), banks, seg, first);
+    put_bytes(program, banks, seg, first + 0x0100);
+    let stack = u16::from_le_bytes([0, page]) - 2;
+    put_bytes(&[0, spec.base], banks, seg, stack);
+}
+
+/// The process of a program that is laid out in a segment.
+#[tactic(auto, unfolding(crate::specs::Opening::placed_process))]
+fn placed_process(spec: SegmentSpec, seg: Seg, name: Name8, priority: u8, console: u8) -> NewProcess
+    requires pages { 2 ≤ spec.pages }
+    requires end { spec.base + spec.pages ≤ 192 }
+    ensures process { result ≡ process_placed spec seg name priority console }
+    ensures console { result.console ≡ console }
+{
+    let page = last_page(spec);
+    NewProcess {
+        name,
+        priority,
+        console,
+        seg: Some(seg),
+        pc: u16::from_le_bytes([0, spec.base]) + 0x0100,
+        sp: u16::from_le_bytes([0, page]) - 2,
+        dma: u16::from_le_bytes([0, spec.base]) + 0x0080,
+        user: 0,
+        drive: 0,
+    }
+}
+
+/// A process begins, for which there is a slot: it owns its console where nobody does, and the first of the ready list runs.
+#[tactic(auto, using(mpm_kernel::proofs::SoundLaws::sound_in_slot))]
+fn begin(kernel: &mut Kernel, new: NewProcess) -> Pid
+    requires sound { IsSound kernel.old }
+    requires slot { IsSome (lowest_free kernel.old.dispatcher.procs) }
+    requires console { new.console < length kernel.old.units.consoles }
+    ensures slot { lowest_free kernel.old.dispatcher.procs ≡ Some result }
+    ensures kernel { kernel.new ≡ dispatched (picked false) (given new.console None (Some result) (dispatched (admitted result new) kernel.old)) }
+{
+    let console = new.console;
+    match kernel.admit(new) {
+        Ok(p) => {
+            kernel.give(console, None, Some(p));
+            kernel.pick(false);
+            p
+        }
+        Err(NoSlot) => unreachable!(),
+    }
+}
