@@ -1,5 +1,4 @@
--- Each process's segment stays a home: whatever becomes of memory, a segment keeps its place and its size, and one in which
--- processes live goes into no other hands.
+-- What an end leaves of memory: each process's segment stays a home, and one in which processes still live goes into no other hands.
 use Rattle.std.proofs.Common.{◌≡◌, ◌∙◌, ℕ, true, Option, Some, None, sym, ap}
 use Rattle.std.proofs.lemmas.Bool.{false≢true}
 use Rattle.mpm_base.proofs.Choices.{either}

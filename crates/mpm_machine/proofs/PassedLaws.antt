@@ -1,4 +1,4 @@
--- So many steps of a run in which the disk's only pass: how many there may be, and what they leave of those at the disk and of calls.
+-- So many steps of a run in which the disk's only pass: what they leave of those at the disk and of calls.
 use Rattle.std.proofs.Common.{◌≡◌, ◌∙◌, ℕ, ◌<◌, Option, Some, None, IfSome, option_map, is_some, refl, sym, ap, subst, arith}
 use Rattle.z80_regs.specs.declared.regs.Regs.{Regs}
 use Rattle.mpm_base.specs.Calls.{Taken}

@@ -1,4 +1,4 @@
--- Steps that are instructions of the running process, and steps in which nothing is done.
+-- Steps that are instructions of the running process, and what lies ahead of them.
 use Rattle.std.specs.Prelude.{◌≡◌, ℕ, ◌+◌, ◌-◌, ◌*◌, ◌<◌, ◌≤◌, Bool, true, false, Option, Some, None, IfSome}
 use Rattle.mpm_ready.specs.Order.{first_of}
 use Rattle.mpm_ready.specs.Tables.{list_at}

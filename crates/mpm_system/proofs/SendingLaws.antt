@@ -1,4 +1,4 @@
--- A command that is sent leaves a whole system.
+-- A command as it is sent: its process keeps another call, which the kernel does, and the system stays whole.
 use Rattle.std.proofs.Common.{◌≡◌, ℕ, sym, subst}
 use Rattle.mpm_base.specs.Calls.{Taken}
 use Rattle.mpm_procs.specs.Table.{Lives}
