@@ -1,0 +1,38 @@
+/* ERAQ afn: asks of each file that fits whether it is to be erased. */
+
+#include "kernel.h"
+#include "console.h"
+#include "directory.h"
+#include "files.h"
+#include "words.h"
+
+static struct file pattern;
+
+static void erase_if_wanted(const char *name)
+{
+    put_drive(&pattern);
+    put_name(name);
+    if (ask(""))
+        erase_or_report(&pattern, name);
+}
+
+static void ask_all(void)
+{
+    unsigned int answer, place;
+    unsigned int count = find_names(&pattern, &answer);
+    if (!count)
+        report_error(&pattern, answer);
+    for (place = 0; place < count; place++)
+        erase_if_wanted(found_names[place]);
+}
+
+int main(void)
+{
+    const char *rest = read_name(take_tail(), &pattern);
+    begin();
+    if (rest && has_name(&pattern) && is_end(rest))
+        ask_all();
+    else
+        report_usage("ERAQ d:name.typ");
+    return 0;
+}
