@@ -1,59 +1,25 @@
 /* STOCK lists the items of STOCK.DAT, a small database: a record of 128 bytes for each, with a name of 16 bytes and a count.
    STOCK N + puts one more of item N into it, and STOCK N - takes one out, with the item's record locked from before it is read
    until it was written, so that nobody else's change is lost. The file is open in unlocked mode: several may work on it at once.
-   README.md has the commands that make STOCK.COM. */
+   `commands/make` makes STOCK.PRL, with its library. */
 
 #include "kernel.h"
-
-#define PRINT_CHARACTER 2
-#define OPEN_FILE 15
-#define READ_RANDOM 33
-#define WRITE_RANDOM 34
-#define SET_DMA 26
-#define LOCK_RECORD 42
-#define UNLOCK_RECORD 43
-#define DELAY 141
+#include "console.h"
+#include "words.h"
 
 #define RECORD_IS_LOCKED 8
 
-static char *const tail = (char *) 0x0081;     /* the words behind the command, in upper case */
 static unsigned char record[128];
 static unsigned char id[2];
 static unsigned char fcb[36] = {
     0, 'S', 'T', 'O', 'C', 'K' | 0x80, ' ', ' ', ' ', 'D', 'A', 'T'
 };
 
-static void put(char character)
-{
-    call(PRINT_CHARACTER, character);
-}
-
-static void put_text(const char *text)
-{
-    while (*text)
-        put(*text++);
-}
-
-static void end_line(void)
-{
-    put('\r');
-    put('\n');
-}
-
-static void put_number(unsigned char number)
-{
-    if (number > 9)
-        put_number(number / 10);
-    put('0' + number % 10);
-}
-
 static void show(unsigned char item)
 {
-    unsigned char place;
     put_number(item);
     put(' ');
-    for (place = 0; place < 16; place++)
-        put(record[place]);
+    put_characters((const char *) record, 16);
     put_number(record[16]);
     end_line();
 }
@@ -65,11 +31,11 @@ static void point_at(unsigned char item)
     fcb[35] = 0;
 }
 
-static unsigned char read(unsigned char item)
+static unsigned int read(unsigned char item)
 {
     point_at(item);
-    call(SET_DMA, (unsigned int) record);
-    return call(READ_RANDOM, (unsigned int) fcb);
+    call(SET_DMA, ADDRESS(record));
+    return call(READ_RANDOM, ADDRESS(fcb));
 }
 
 static void list(void)
@@ -79,43 +45,44 @@ static void list(void)
         show(item);
 }
 
-static unsigned char lock(unsigned char item)
+static unsigned int lock(unsigned char item)
 {
-    unsigned char answer;
+    unsigned int answer;
     point_at(item);
-    call(SET_DMA, (unsigned int) id);
-    while ((answer = call(LOCK_RECORD, (unsigned int) fcb)) == RECORD_IS_LOCKED)
+    call(SET_DMA, ADDRESS(id));
+    while ((answer = call(LOCK_RECORD, ADDRESS(fcb))) == RECORD_IS_LOCKED)
         call(DELAY, 1);
     return answer;
 }
 
-static void change(unsigned char item, char by)
+static void change(unsigned char item, signed char by)
 {
     if (lock(item) || read(item)) {
-        put_text("no such item");
-        end_line();
+        put_line("no such item");
         return;
     }
     record[16] += by;
-    call(WRITE_RANDOM, (unsigned int) fcb);
-    call(SET_DMA, (unsigned int) id);
-    call(UNLOCK_RECORD, (unsigned int) fcb);
+    call(WRITE_RANDOM, ADDRESS(fcb));
+    call(SET_DMA, ADDRESS(id));
+    call(UNLOCK_RECORD, ADDRESS(fcb));
     show(item);
 }
 
 int main(void)
 {
-    if (call(OPEN_FILE, (unsigned int) fcb)) {
-        put_text("no STOCK.DAT");
-        end_line();
+    unsigned int item = 0;
+    const char *behind = read_number(take_tail(), &item);
+    if (call(OPEN_FILE, ADDRESS(fcb))) {
+        put_line("no STOCK.DAT");
         return 0;
     }
     id[0] = fcb[33];
     id[1] = fcb[34];
-    if (tail[0] == ' ' && tail[2] == ' ' && tail[3] == '+')
-        change(tail[1] - '0', 1);
-    else if (tail[0] == ' ' && tail[2] == ' ' && tail[3] == '-')
-        change(tail[1] - '0', -1);
+    behind = behind ? skip_blanks(behind) : "";
+    if (*behind == '+')
+        change((unsigned char) item, 1);
+    else if (*behind == '-')
+        change((unsigned char) item, -1);
     else
         list();
     return 0;
