@@ -1,0 +1,60 @@
+-- A list of faults as it is read: of each line the slot alone counts.
+use Rattle.std.specs.Prelude.{ℕ, ◌+◌, ◌==◌, ◌&&◌, ◌||◌, Bool, false, List, [], ◌∷◌, ◌++◌, Option, Some, None, Result, Ok, Err, is_some, nat_le, bytes_eq, codes, length, map, slice_index_or, if◌then◌else◌}
+use Rattle.std.specs.List.{list_any, filter, range_with_len, slice_split}
+use Rattle.mpm_script.specs.Numbers.{number_of}
+use Rattle.mpm_script.specs.Events.{word, behind}
+
+-- an entry's cause is 2 to 8
+abbrev pub is_cause : Option ℕ → Bool
+is_cause None = false
+is_cause (Some cause) = nat_le 2 cause
+
+-- a slot up to the last one, or `-`
+abbrev pub is_other : ℕ → List ℕ → Bool
+is_other last text = bytes_eq text (codes "-") || is_some (number_of last text)
+
+-- what follows the slot of a line: a cause, one space, and the slot of another entry or `-`
+unfoldable pub is_reason : ℕ → List ℕ → Bool
+is_reason last text = is_cause (number_of 8 (word text)) && is_other last (behind text)
+
+-- the slot of a line `fault SLOT CAUSE OTHER`, without its LF; None where it isn't one
+unfoldable pub slot_of_line : ℕ → List ℕ → Option ℕ
+slot_of_line last line =
+    if bytes_eq (word line) (codes "fault") && is_reason last (behind (behind line)) then number_of last (word (behind line)) else None
+
+-- what follows a line with a slot; a line without one is bad
+abbrev pub unless_bad : ℕ → (ℕ → Result (List ℕ) ℕ) → Option ℕ → Result (List ℕ) ℕ
+unless_bad number more None = Err number
+unless_bad number more (Some slot) = more slot
+
+-- the slots of the earlier lines and of those from a line with a number on, or the number of the first bad one. After the
+-- last LF nothing may stand
+unfoldable pub slots_from : ℕ → ℕ → List ℕ → List (List ℕ) → Result (List ℕ) ℕ
+slots_from last number earlier [] = Ok earlier
+slots_from last number earlier (rest ∷ []) = if length rest == 0 then Ok earlier else Err number
+slots_from last number earlier (line ∷ next ∷ lines) =
+    unless_bad number (λ slot. slots_from last (number + 1) (earlier ++ (slot ∷ [])) (next ∷ lines)) (slot_of_line last line)
+
+-- the slots that a text lists, line by line, or the number of its first bad line, counted from 1
+unfoldable pub slots_of : ℕ → List ℕ → Result (List ℕ) ℕ
+slots_of last text = slots_from last 1 [] (slice_split (λ byte. byte == 10) text)
+
+-- a list has a slot
+abbrev pub has_slot : List ℕ → ℕ → Bool
+has_slot slots slot = list_any (λ other. other == slot) slots
+
+-- which of the first 512 slots a list has
+unfoldable pub marked : List ℕ → List Bool
+marked slots = map (has_slot slots) (range_with_len 0 512)
+
+-- the different slots below a bound that a list has, rising
+unfoldable pub different : ℕ → List ℕ → List ℕ
+different count slots = filter (has_slot slots) (range_with_len 0 count)
+
+-- a slot, if it is marked
+abbrev pub listed_at : List Bool → ℕ → List ℕ
+listed_at marks slot = if slice_index_or marks slot false then slot ∷ [] else []
+
+-- the slots below a bound that are marked, rising
+unfoldable pub listed : List Bool → ℕ → List ℕ
+listed marks count = filter (λ slot. slice_index_or marks slot false) (range_with_len 0 count)

@@ -1,0 +1,9 @@
+mod Examples
+mod Freed
+mod FreedSectors
+mod Judged
+mod Listed
+pub mod FreedImages
+pub mod ListedSlots
+pub mod Shared
+pub mod Staying
