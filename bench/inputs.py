@@ -1,32 +1,25 @@
-"""Random and malformed inputs: words, machine files, scripts, images and programs, each of a generator of a seed; and the readers of
-words, machine files and scripts that tell which of them are refused. They stand on docs/PROFILE.md alone, and share no code with
-the program."""
+"""Random and malformed inputs: words, machine files, scripts, images and programs, each of a generator of a seed; and the reader of
+words that tells which of them are refused, beside those of machine files and scripts in tools/. They stand on docs/PROFILE.md alone,
+and share no code with the program."""
 
 import os
-import re
-import tomllib
+import sys
 from importlib.machinery import SourceFileLoader
 from importlib.util import module_from_spec, spec_from_loader
 
 import images
 
 HERE = os.path.dirname(os.path.abspath(__file__))
+sys.path.append(os.path.join(os.path.dirname(HERE), "tools"))
+import machine_files
+from scripts import STEPS_LIMIT, first_bad_line, is_number
+
 LOADER = SourceFileLoader("faults", os.path.join(HERE, "faults"))
 faults = module_from_spec(spec_from_loader("faults", LOADER))
 LOADER.exec_module(faults)
 
-STEPS_LIMIT = 4_000_000_000
-
-
-class Refused(Exception):
-    """A text is off its form."""
-
 
 # Words.
-
-
-def is_number(word, most):
-    return re.fullmatch(rb"0|[1-9][0-9]*", word) is not None and int(word) <= most
 
 
 def are_words(words):
@@ -99,56 +92,6 @@ def mangled(rng, text, pieces):
 # Scripts.
 
 
-def parsed_step(word):
-    if not is_number(word, STEPS_LIMIT):
-        raise Refused
-    return int(word)
-
-
-def parsed_keys(text):
-    """The number of keys that a text types."""
-    keys = re.findall(rb"[\x20-\x5b\x5d-\x7e]|\\[rnt\\]|\\x[0-9A-Fa-f]{2}", text)
-    if sum(map(len, keys)) != len(text) or not 1 <= len(keys) <= 128:
-        raise Refused
-    return len(keys)
-
-
-def parsed_event(line):
-    """The step of a line of a script."""
-    step, _, rest = line.partition(b" ")
-    sort, _, rest = rest.partition(b" ")
-    step = parsed_step(step)
-    console, _, keys = rest.partition(b" ")
-    if sort == b"tick" and line.endswith(b"tick"):
-        return step
-    if sort == b"key" and is_number(console, 7) and parsed_keys(keys):
-        return step
-    if sort == b"ready" and is_number(console, 15) and re.fullmatch(rb"[0-9A-Fa-f]{2}", keys):
-        return step
-    if sort == b"int" and is_number(rest, 31) and int(rest) >= 4:
-        return step
-    raise Refused
-
-
-def first_bad_line(script):
-    """The first line of a script that is off the form, counted from 1; None where none is."""
-    last = 0
-    lines = script.split(b"\n")
-    for number, line in enumerate(lines, 1):
-        ended = number < len(lines)
-        line = line[:-1] if ended and line.endswith(b"\r") else line
-        if line == b"" or line.startswith(b"#"):
-            continue
-        try:
-            step = parsed_event(line)
-        except Refused:
-            return number
-        if step < last:
-            return number
-        last = step
-    return None
-
-
 def random_keys(rng):
     words = [b"user 3", b"b:", b"a:", b"hi", b"x" * 128, b"\\x03", b"\\x04", b"\\x13", b"\\x08\\x08", b"\\r\\n", b"\\t", b"\\\\", b"x" * 129]
     return b"".join(rng.choice(words) for _ in range(rng.choice([1, 1, 2, 3]))) + rng.choice([b"\\r", b"\\r", b""])
@@ -180,62 +123,6 @@ def random_script(rng):
 
 # Machine files.
 
-RANGES = {
-    "version": (1, 2), "consoles": (1, 8), "printers": (0, 4), "disk_turn": (0, 1_000), "date": (0, 65_535),
-    "hour": (0, 23), "minute": (0, 59), "second": (0, 59),
-}  # fmt: skip
-
-
-def is_in(value, least, most):
-    return type(value) is int and least <= value <= most
-
-
-def is_name(value):
-    return isinstance(value, str) and value != ""
-
-
-def need(is_so):
-    if not is_so:
-        raise Refused
-
-
-def check_segments(rows, most):
-    need(isinstance(rows, list) and 1 <= len(rows) <= most)
-    for row in rows:
-        need(isinstance(row, dict) and row.keys() == {"base", "pages"})
-        need(is_in(row["base"], 0, 188) and is_in(row["pages"], 4, 192) and row["base"] + row["pages"] <= 192)
-
-
-def check_drives(rows):
-    need(isinstance(rows, list) and len(rows) <= 16)
-    for row in rows:
-        need(isinstance(row, dict) and row.keys() == {"letter", "kind", "image"})
-        need(isinstance(row["letter"], str) and re.fullmatch("[A-P]", row["letter"]))
-        need(row["kind"] in ("ibm3740", "hd4", "hd8") and is_name(row["image"]))
-    for key in ("letter", "image"):
-        need(len({row[key] for row in rows}) == len(rows))
-
-
-def read_machine(text):
-    """The tables of a machine file; Refused where it is none that is built."""
-    try:
-        machine = tomllib.loads(text.decode())
-    except (UnicodeDecodeError, tomllib.TOMLDecodeError, ValueError, RecursionError) as error:
-        raise Refused from error
-    others = {"tick_every", "script", "segment", "drive", "residents"}
-    need(machine.keys() <= RANGES.keys() | others and {"version", "consoles", "segment"} <= machine.keys())
-    for key, (least, most) in RANGES.items():
-        need(key not in machine or is_in(machine[key], least, most))
-    ticks = machine.get("tick_every", 0)
-    need(is_in(ticks, 100, 1_000_000) or is_in(ticks, 0, 0))
-    need("script" not in machine or is_name(machine["script"]))
-    check_segments(machine["segment"], 8 * machine["version"])
-    check_drives(machine.get("drive", []))
-    if "residents" in machine:
-        need(machine["version"] == 2 and machine["residents"] == [])
-    return machine
-
-
 def random_value(rng):
     return rng.choice([
         "0", "1", "2", "4", "8", "60", "100", "192", "65_535", "65536", "-1", "+1", "0x8", "0b1", "1.0", "1e0", "true", "'A'", '"B"', "''",
@@ -244,7 +131,7 @@ def random_value(rng):
 
 
 def random_key(rng):
-    keys = [*RANGES, "tick_every", "script", "segment", "drive", "residents", "colour", "'version'", "hour.x", "Version", ""]
+    keys = [*machine_files.KEYS, "colour", "'version'", "hour.x", "Version", ""]
     return rng.choice(keys)
 
 

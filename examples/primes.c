@@ -1,16 +1,8 @@
-/* primes.bin: writes the prime numbers below 100 by function 2, and ends. examples/README.md has the commands that make it. */
+/* primes.bin: writes the prime numbers below 100, and ends. `commands/make` makes it, with its library. */
+
+#include "console.h"
 
 static unsigned char limit = 100;
-
-static void write_byte(char byte) __naked
-{
-    (void) byte; /* sdcc hands it over in A */
-    __asm
-        ld   e, a
-        ld   c, #2
-        jp   0x0005
-    __endasm;
-}
 
 static unsigned char is_prime(unsigned char number)
 {
@@ -26,12 +18,9 @@ int main(void)
     unsigned char number;
     for (number = 2; number < limit; number++)
         if (is_prime(number)) {
-            if (number > 9)
-                write_byte('0' + number / 10);
-            write_byte('0' + number % 10);
-            write_byte(' ');
+            put_number(number);
+            put(' ');
         }
-    write_byte('\r');
-    write_byte('\n');
+    end_line();
     return 0;
 }

@@ -4,33 +4,25 @@
 
 #include "kernel.h"
 
-#define OPEN_FILE 15
-#define SET_DMA 26
-#define READ_RANDOM 33
-#define WRITE_RANDOM 34
-#define LOCK_RECORD 42
-#define UNLOCK_RECORD 43
-#define DISPATCH 142
-
-static char *const word = (char *) 0x0082;     /* the word behind the command, in upper case */
 static unsigned long record[32];
 static unsigned char id[2];
 static unsigned char fcb[36] = {
     0, 'S', 'H', 'A', 'R', 'E' | 0x80, 'D', ' ', ' ', 'D', 'A', 'T'
 };
 
-static unsigned char call_with(unsigned char function, void *dma)
+static unsigned int call_with(unsigned char function, void *dma)
 {
-    call(SET_DMA, (unsigned int) dma);
-    return call(function, (unsigned int) fcb);
+    call(SET_DMA, ADDRESS(dma));
+    return call(function, ADDRESS(fcb));
 }
 
 int main(void)
 {
+    const char *word = (const char *) base_page + TAIL + 1; /* behind the command and a space, in upper case */
     unsigned char own = 1 + (*word - 'A') % 2;
     unsigned char locks = *word < 'C';
     unsigned char number = 0;
-    if (call(OPEN_FILE, (unsigned int) fcb))
+    if (call(OPEN_FILE, ADDRESS(fcb)))
         return 0;
     id[0] = fcb[33];
     id[1] = fcb[34];

@@ -2,32 +2,11 @@
    the new file grows from its end. It tells how many records there were. */
 
 #include "kernel.h"
-
-#define PRINT_CHARACTER 2
-#define OPEN_FILE 15
-#define CLOSE_FILE 16
-#define MAKE_FILE 22
-#define SET_DMA 26
-#define READ_RANDOM 33
-#define WRITE_RANDOM 34
-#define FILE_SIZE 35
+#include "console.h"
 
 /* The interpreter has put the names of both words into the base page; opening the first uses the second one's place. */
-static unsigned char *const first = (unsigned char *) 0x005C;
+static const unsigned char *const first = base_page + 0x5C;
 static unsigned char old[36], new[36], record[128];
-
-static void put_text(const char *text)
-{
-    while (*text)
-        call(PRINT_CHARACTER, *text++);
-}
-
-static void put_number(unsigned int number)
-{
-    if (number > 9)
-        put_number(number / 10);
-    call(PRINT_CHARACTER, '0' + number % 10);
-}
 
 static void point_at(unsigned char *fcb, unsigned int record_number)
 {
@@ -36,11 +15,11 @@ static void point_at(unsigned char *fcb, unsigned int record_number)
     fcb[35] = 0;
 }
 
-static unsigned char copy(unsigned int from, unsigned int to)
+static char copy(unsigned int from, unsigned int to)
 {
     point_at(old, from);
     point_at(new, to);
-    return call(READ_RANDOM, (unsigned int) old) || call(WRITE_RANDOM, (unsigned int) new);
+    return call(READ_RANDOM, ADDRESS(old)) || call(WRITE_RANDOM, ADDRESS(new));
 }
 
 int main(void)
@@ -50,18 +29,18 @@ int main(void)
         old[number] = first[number];
         new[number] = first[16 + number];
     }
-    call(SET_DMA, (unsigned int) record);
-    if (call(OPEN_FILE, (unsigned int) old) || call(MAKE_FILE, (unsigned int) new)) {
-        put_text("can't\r\n");
+    call(SET_DMA, ADDRESS(record));
+    if (call(OPEN_FILE, ADDRESS(old)) || call(MAKE_FILE, ADDRESS(new))) {
+        put_line("can't");
         return 0;
     }
-    call(FILE_SIZE, (unsigned int) old);
+    call(FILE_SIZE, ADDRESS(old));
     count = old[33] + 256 * old[34];
     for (number = count; number-- > 0;)
         if (copy(count - 1 - number, number))
-            put_text("failed\r\n");
-    call(CLOSE_FILE, (unsigned int) new);
+            put_line("failed");
+    call(CLOSE_FILE, ADDRESS(new));
     put_number(count);
-    put_text(" records\r\n");
+    put_line(" records");
     return 0;
 }

@@ -1,3 +1,1 @@
-pub mod Attached
 pub mod Endings
-pub mod Known

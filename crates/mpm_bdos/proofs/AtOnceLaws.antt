@@ -3,12 +3,12 @@ use Rattle.std.proofs.Common.{◌≡◌, ◌≤◌, ◌+◌, ℕ, suc, Bool, Lis
 use Rattle.std.specs.Prelude.{is_some, is_err, option_map}
 use Rattle.std.proofs.lemmas.Bool.{true≢false}
 use Rattle.mpm_port.specs.Causes.{Rose, HasCause}
-use Rattle.mpm_port.specs.Disks.{Disks}
+use Rattle.mpm_port.specs.Disks.{Disks, ToldImage}
 use Rattle.mpm_mount.specs.Drives.{Drive}
 use Rattle.mpm_mount.specs.Directories.{Directory}
 use Rattle.mpm_jobs.specs.declared.jobs.Job.{Job}
 use Rattle.mpm_files.specs.declared.work.Work.{Work}
-use Rattle.mpm_bdos.proofs.Fitting.{there_label, stays_same, stays_again, unsynced_same}
+use Rattle.mpm_bdos.proofs.Fitting.{there_label, stays_same, stays_again, told_same, told_again, unsynced_same}
 use Rattle.mpm_base.specs.Calls.{Taken}
 use Rattle.mpm_requests.specs.declared.caller.Caller.{Caller}
 use Rattle.mpm_functions.specs.declared.functions.FileFunction.{FileFunction}
@@ -46,7 +46,7 @@ kept_again old mid new first next = record {
   labels = λ number. next.labels number ∙ first.labels number;
 }
 
-images_again : (old mid : Kept) (disks later now : Option Disks) → TurnKeeps old mid → KeepsImages (drive_served old.service) old.mounted disks later → KeepsImages (drive_served mid.service) mid.mounted later now
+images_again : (old mid : Kept) (disks later now : Disks) → TurnKeeps old mid → KeepsImages (drive_served old.service) old.mounted disks later → KeepsImages (drive_served mid.service) mid.mounted later now
     → KeepsImages (drive_served old.service) old.mounted disks now
 images_again old mid disks later now kept first next = λ number apart there.
     next number (λ same. apart (sym (same_drive old.service mid.service kept.service) ∙ same))
@@ -65,28 +65,29 @@ unsynced_again old mid before later now kept first next = record {
 pub one_more : (ended turn : ℕ) → suc (ended + turn) ≡ ended + (turn + 1)
 one_more ended turn = omega arith
 
-pub no_turns : {D : Type 0} (attached : D → ℕ → Option ℕ) (disks : D → Option Disks) (failed : D → List (List ℕ)) (unsynced : D → ℕ → Bool) (kept : Kept) (drives : D) → FitsDrives attached disks kept.mounted kept.cached drives
-    → TurnsLeave attached disks failed unsynced kept kept drives drives
-no_turns attached disks failed unsynced kept drives fits = record {
+pub no_turns : {D : Type 0} (disks : D → Disks) (told : D → List ℕ → ToldImage) (failed : D → List (List ℕ)) (unsynced : D → ℕ → Bool) (kept : Kept) (drives : D) → FitsDrives disks kept.mounted kept.cached drives
+    → TurnsLeave disks told failed unsynced kept kept drives drives
+no_turns disks told failed unsynced kept drives fits = record {
   kept = record { rest = refl; service = refl; places = λ number apart. refl; labels = λ number. refl };
   fits = fits;
   images = λ number apart there. refl;
   beside = stays_same kept.mounted (disks drives);
+  told_are = told_same kept.mounted (disks drives) (told drives);
   names = refl;
-  attached_are = λ number. refl;
   kept_unsynced = unsynced_same (drive_served kept.service) (unsynced drives);
 }
 
-pub one_more_turn : {D : Type 0} (attached : D → ℕ → Option ℕ) (disks : D → Option Disks) (failed : D → List (List ℕ)) (unsynced : D → ℕ → Bool) (old mid new : Kept) (drives later now : D)
-    → TurnsLeave attached disks failed unsynced old mid drives later → TurnsLeave attached disks failed unsynced mid new later now → TurnsLeave attached disks failed unsynced old new drives now
-one_more_turn attached disks failed unsynced old mid new drives later now first next = record {
+pub one_more_turn : {D : Type 0} (disks : D → Disks) (told : D → List ℕ → ToldImage) (failed : D → List (List ℕ)) (unsynced : D → ℕ → Bool) (old mid new : Kept) (drives later now : D)
+    → TurnsLeave disks told failed unsynced old mid drives later → TurnsLeave disks told failed unsynced mid new later now → TurnsLeave disks told failed unsynced old new drives now
+one_more_turn disks told failed unsynced old mid new drives later now first next = record {
   kept = kept_again old mid new first.kept next.kept;
   fits = next.fits;
   images = images_again old mid (disks drives) (disks later) (disks now) first.kept first.images next.images;
   beside = stays_again old.mounted mid.mounted (disks drives) (disks later) (disks now)
       (λ number. still_there (directory_at old.mounted number) (directory_at mid.mounted number) (first.kept.labels number)) first.beside next.beside;
+  told_are = told_again old.mounted mid.mounted (disks drives) (disks later) (told drives) (told later) (told now)
+      (λ number. still_there (directory_at old.mounted number) (directory_at mid.mounted number) (first.kept.labels number)) first.beside first.told_are next.told_are;
   names = next.names ∙ first.names;
-  attached_are = λ number. next.attached_are number ∙ first.attached_are number;
   kept_unsynced = unsynced_again old mid (unsynced drives) (unsynced later) (unsynced now) first.kept first.kept_unsynced next.kept_unsynced;
 }
 
@@ -145,14 +146,14 @@ is_jobless s none = ap (unless_refused (refusal_of s)) (by_function s.function n
     by_function ReadXfcb is = refl
 
 -- the drive of a call in service is the one that its turns change
-pub changes_alone : {D : Type 0} (attached : D → ℕ → Option ℕ) (disks : D → Option Disks) (failed : D → List (List ℕ)) (unsynced : D → ℕ → Bool) (old new : Kept) (drives now : D) (drive : ℕ)
-    → drive_served old.service ≡ Some drive → TurnsLeave attached disks failed unsynced old new drives now → ChangesAlone drive old.mounted new.mounted (disks drives) (disks now)
-changes_alone attached disks failed unsynced old new drives now drive served left = record {
+pub changes_alone : {D : Type 0} (disks : D → Disks) (told : D → List ℕ → ToldImage) (failed : D → List (List ℕ)) (unsynced : D → ℕ → Bool) (old new : Kept) (drives now : D) (drive : ℕ)
+    → drive_served old.service ≡ Some drive → TurnsLeave disks told failed unsynced old new drives now → ChangesAlone drive old.mounted new.mounted (disks drives) (disks now)
+changes_alone disks told failed unsynced old new drives now drive served left = record {
   places = λ number apart. left.kept.places number (λ same. apart (sym served ∙ same));
   images = λ number apart there. left.images number (λ same. apart (sym served ∙ same)) there;
 }
 
-pub alone_still : (drive : ℕ) (first one other last : List (Option Directory)) (disks now : Option Disks) → one ≡ first → last ≡ other → ChangesAlone drive one other disks now → ChangesAlone drive first last disks now
+pub alone_still : (drive : ℕ) (first one other last : List (Option Directory)) (disks now : Disks) → one ≡ first → last ≡ other → ChangesAlone drive one other disks now → ChangesAlone drive first last disks now
 alone_still drive first one other last disks now same still alone =
     subst (λ mounted. ChangesAlone drive mounted last disks now) same (subst (λ mounted. ChangesAlone drive one mounted disks now) (sym still) alone)
 

@@ -2,14 +2,12 @@
 use Rattle.std.proofs.Common.{◌≡◌, ℕ, Bool, List, Option, Some, None, IfSome, refl, ap, sym, subst, ◌∙◌}
 use Rattle.std.specs.Prelude.{option_map, slice_index_or}
 use Rattle.std.proofs.Math.Path.{fun_ext}
-use Rattle.mpm_base.specs.Calls.{Taken, Answer}
-use Rattle.mpm_base.specs.declared.kind.Kind.{Kind}
+use Rattle.mpm_base.specs.Calls.{Taken}
 use Rattle.mpm_mount.specs.Drives.{Drive}
 use Rattle.mpm_mount.specs.Directories.{Directory}
 use Rattle.mpm_mount.specs.Images.{drive_of}
 use Rattle.mpm_functions.specs.declared.functions.DirectFunction.{DirectFunction}
-use Rattle.mpm_functions.specs.declared.refusals.Extended.{Extended}
-use Rattle.mpm_directories.specs.Direct.{Directly, ComesDirectly, IsToldDirectly, is_protected, direct_by}
+use Rattle.mpm_directories.specs.Direct.{Directly, is_protected, direct_by}
 use Rattle.mpm_bdos.specs.Direct.{direct}
 use Rattle.mpm_bdos.specs.Serving.{Kept, StandEach, filing_of}
 use Rattle.mpm_directories.specs.Places.{kind_at}
@@ -47,19 +45,3 @@ part_told part kept now drive call function found value same is told images driv
     subst (λ one. IfSome one (λ f. value ≡ part (direct (filing_of now drives) drive call f))) (sym is)
     (told ∙ ap (λ (one : Kept). part (direct_by (kind_at one.mounted) (is_protected one.protected) drive call function)) same
     ∙ sym (ap part (direct_told images now drives drive call function stand)))
-
--- all of it, whatever is on the drives
-pub comes_directly : (kept now : Kept) (drive : ℕ) (call : Taken) (function : DirectFunction) (found : Option DirectFunction) (answer : Answer) (extended : Option Extended)
-    → kept ≡ now → found ≡ Some function → answer ≡ (direct_by (kind_at kept.mounted) (is_protected kept.protected) drive call function).answer
-    → extended ≡ (direct_by (kind_at kept.mounted) (is_protected kept.protected) drive call function).extended
-    → IfSome found (λ one. ComesDirectly (kind_at now.mounted) (is_protected now.protected) drive one call answer extended)
-comes_directly kept now drive call function found answer extended same is a e =
-    subst (λ one. IfSome one (λ f. ComesDirectly (kind_at now.mounted) (is_protected now.protected) drive f call answer extended)) (sym is)
-    (subst (λ (one : Kept). ComesDirectly (kind_at one.mounted) (is_protected one.protected) drive function call answer extended) same (record { answer_is = a; extended_is = e }))
-
-pub told_directly : (drive : ℕ) (call : Taken) (function : DirectFunction) (found : Option DirectFunction) (kinds : ℕ → Option Kind) (protected : ℕ → Bool) (answer : Answer) (extended : Option Extended)
-    → found ≡ Some function → answer ≡ (direct_by kinds protected drive call function).answer → extended ≡ (direct_by kinds protected drive call function).extended
-    → IfSome found (λ one. IsToldDirectly drive one call answer extended)
-told_directly drive call function found kinds protected answer extended is a e =
-    subst (λ one. IfSome one (λ f. IsToldDirectly drive f call answer extended)) (sym is)
-    (record { kinds = kinds; protected = protected; answer_is = a; extended_is = e })

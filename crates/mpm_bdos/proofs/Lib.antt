@@ -11,7 +11,6 @@ pub mod ServedLaws
 pub mod ReadBytes
 pub mod LockEnds
 pub mod LockedOff
-pub mod SomeImages
 pub mod LockedCalls
 pub mod Locking
 pub mod Counting
@@ -33,7 +32,6 @@ pub mod ToldLaws
 pub mod LastLaws
 pub mod UserLaws
 pub mod FinishLaws
-pub mod Answerable
 pub mod SoundLaws
 pub mod AtOnceLaws
 pub mod SyncLaws

@@ -10,7 +10,6 @@ use Rattle.mpm_base.specs.declared.kind.Kind.{Kind}
 use Rattle.mpm_base.specs.declared.kind.Kind.TheVariants.{Ibm3740, Hd4, Hd8}
 use Rattle.mpm_port.specs.Disks.{Disks}
 use Rattle.mpm_blocks.specs.Geometries.{geometry_of}
-use Rattle.mpm_blocks.specs.Sectors.{told_image}
 use Rattle.mpm_mount.specs.Drives.{Drive}
 use Rattle.mpm_mount.specs.Directories.{Directory}
 use Rattle.mpm_jobs.specs.declared.jobs.Job.{Job}
@@ -29,9 +28,9 @@ use Rattle.mpm_bdos.specs.Outcomes.{drives_after}
 use Rattle.mpm_bdos.specs.Serving.{InService, Kept, StandEach, WorksOn, IsCallOf, Serves, filing_of}
 use Rattle.mpm_directories.specs.Places.{directory_at}
 use Rattle.mpm_requests.specs.Asking.{StandsWhere}
-use Rattle.mpm_bdos.specs.Turns.{IsWorkingOn, IsServing, IsContainedAt, IsServiceContained, TurnKeeps, KeepsImages, StopsWithin, IsIdle, told_images, progress_after, drive_served, has_work, has_directory, without_work}
+use Rattle.mpm_bdos.specs.Turns.{IsWorkingOn, IsServing, IsContainedAt, IsServiceContained, TurnKeeps, KeepsImages, StopsWithin, IsIdle, images_of, progress_after, drive_served, has_work, has_directory, without_work}
 
--- an image upon which a directory stands is told
+-- a drive upon whose image a directory stands has that image
 some_bytes : (kind : Kind) → 0 < (geometry_of kind).bytes
 some_bytes Ibm3740 = omega arith
 some_bytes Hd4 = omega arith
@@ -41,31 +40,31 @@ bytes_of_some : (image : Option (List ℕ)) (bytes : ℕ) → length (unwrap_or 
 bytes_of_some None bytes size some = absurd (omega (arith, size, some))
 bytes_of_some (Some image) bytes size some = refl
 
-pub image_told : (disks : Option Disks) (number : ℕ) (kind : Kind) → length (told_images disks number) ≡ (geometry_of kind).bytes → told_image disks number ≡ Some (told_images disks number)
-unfolding told_images
-image_told disks number kind size = bytes_of_some (told_image disks number) (geometry_of kind).bytes size (some_bytes kind)
+pub image_told : (disks : Disks) (number : ℕ) (kind : Kind) → length (images_of disks number) ≡ (geometry_of kind).bytes → disks.image number ≡ Some (images_of disks number)
+unfolding images_of
+image_told disks number kind size = bytes_of_some (disks.image number) (geometry_of kind).bytes size (some_bytes kind)
 
-pub told_is : (disks : Option Disks) (number : ℕ) (image : List ℕ) → told_image disks number ≡ Some image → image ≡ told_images disks number
-unfolding told_images
+pub told_is : (disks : Disks) (number : ℕ) (image : List ℕ) → disks.image number ≡ Some image → image ≡ images_of disks number
+unfolding images_of
 told_is disks number image told = sym (ap (λ found. unwrap_or found []) told)
 
--- the work of a job, by the images as they are told, and on the image of its drive
-pub works_told : (disks : Option Disks) (number : ℕ) (directory : Option Directory) (before : Drive) (job : Job) (j : ℕ) (work : Option Work) → IfSome directory (λ d. d.drive ≡ number)
-    → WorksOn (told_images disks number) directory before (Some job) j work → IsWorkingOn disks directory before job j work
+-- the work of a job by the images, and on the image that its drive has
+pub works_told : (disks : Disks) (number : ℕ) (directory : Option Directory) (before : Drive) (job : Job) (j : ℕ) (work : Option Work) → IfSome directory (λ d. d.drive ≡ number)
+    → WorksOn (images_of disks number) directory before (Some job) j work → IsWorkingOn disks directory before job j work
 works_told disks number directory before job j None its works = absurd works
 works_told disks number None before job j (Some work) its works = absurd works
 works_told disks number (Some d) before job j (Some work) its works = record {
-  image = told_images disks number;
-  told = ap (told_image disks) its ∙ image_told disks number d.kind works.stands.size;
+  image = images_of disks number;
+  told = ap (disks.image) its ∙ image_told disks number d.kind works.stands.size;
   service = works;
 }
 
-told_works : (disks : Option Disks) (number : ℕ) (directory : Option Directory) (before : Drive) (job : Job) (j : ℕ) (work : Option Work) → IfSome directory (λ d. d.drive ≡ number)
-    → IsWorkingOn disks directory before job j work → WorksOn (told_images disks number) directory before (Some job) j work
+told_works : (disks : Disks) (number : ℕ) (directory : Option Directory) (before : Drive) (job : Job) (j : ℕ) (work : Option Work) → IfSome directory (λ d. d.drive ≡ number)
+    → IsWorkingOn disks directory before job j work → WorksOn (images_of disks number) directory before (Some job) j work
 told_works disks number directory before job j None its works = absurd works
 told_works disks number None before job j (Some work) its works = absurd works
 told_works disks number (Some d) before job j (Some work) its works =
-    subst (λ image. IsInService image d before job j work) (told_is disks number works.image (sym (ap (told_image disks) its) ∙ works.told)) works.service
+    subst (λ image. IsInService image d before job j work) (told_is disks number works.image (sym (ap (disks.image) its) ∙ works.told)) works.service
 
 -- no work, no job
 no_work : (image : List ℕ) (directory : Option Directory) (before : Drive) (j : ℕ) (work : Option Work) → WorksOn image directory before None j work → is_some work ≡ false
@@ -112,7 +111,7 @@ drive_there number image None drive there stands = absurd (true≢false (sym the
 drive_there number image (Some d) None there stands = absurd stands
 drive_there number image (Some d) (Some drive) there stands = refl
 
-working_there : (disks : Option Disks) (directory : Option Directory) (before : Drive) (job : Job) (j : ℕ) (work : Option Work) → IsWorkingOn disks directory before job j work → is_some directory ≡ true
+working_there : (disks : Disks) (directory : Option Directory) (before : Drive) (job : Job) (j : ℕ) (work : Option Work) → IsWorkingOn disks directory before job j work → is_some directory ≡ true
 working_there disks directory before job j None works = absurd works
 working_there disks None before job j (Some work) works = absurd works
 working_there disks (Some d) before job j (Some work) works = refl
@@ -137,15 +136,15 @@ its_number number image (Some d) None stands = absurd stands
 its_number number image (Some d) (Some drive) stands = stands.number_is
 
 -- the work of the job of a call in service
-its_work : (disks : Option Disks) (kept : Kept) (s : Situation) (j : ℕ) (job : Job) → job_of s ≡ Some job → (serves : Serves (told_images disks) kept s j)
+its_work : (disks : Disks) (kept : Kept) (s : Situation) (j : ℕ) (job : Job) → job_of s ≡ Some job → (serves : Serves (images_of disks) kept s j)
     → IsWorkingOn disks (directory_at kept.mounted (drive_number s)) (drive_at s) job j serves.service.work
 its_work disks kept s j job is serves =
     let number : ℕ = drive_number s in
     works_told disks number (directory_at kept.mounted number) (drive_at s) job j serves.service.work
-    (its_number number (told_images disks number) (directory_at kept.mounted number) (slice_index_or (drives_after s j) number None) (serves.stand.each number))
-    (subst (λ found. WorksOn (told_images disks number) (directory_at kept.mounted number) (drive_at s) found j serves.service.work) is serves.works)
+    (its_number number (images_of disks number) (directory_at kept.mounted number) (slice_index_or (drives_after s j) number None) (serves.stand.each number))
+    (subst (λ found. WorksOn (images_of disks number) (directory_at kept.mounted number) (drive_at s) found j serves.service.work) is serves.works)
 
-serving_told : (disks : Option Disks) (kept : Kept) (s : Situation) (j : ℕ) (job : Job) → job_of s ≡ Some job → Serves (told_images disks) kept s j
+serving_told : (disks : Disks) (kept : Kept) (s : Situation) (j : ℕ) (job : Job) → job_of s ≡ Some job → Serves (images_of disks) kept s j
     → IsServing disks kept.mounted (drive_at s) job j kept.service
 serving_told disks kept s j job is serves =
     subst (IsServing disks kept.mounted (drive_at s) job j) (sym serves.there)
@@ -167,12 +166,12 @@ kept_call service other s same is = record {
 }
 
 -- it is there, by its work
-record Found (service : Option InService) (disks : Option Disks) (mounted : List (Option Directory)) (before : Drive) (job : Job) (j : ℕ) : Type 0 where
+record Found (service : Option InService) (disks : Disks) (mounted : List (Option Directory)) (before : Drive) (job : Job) (j : ℕ) : Type 0 where
   pub one : InService
   pub there : service ≡ Some one
   pub works : IsWorkingOn disks (directory_at mounted one.drive) before job j one.work
 
-found_by : (service : Option InService) (disks : Option Disks) (mounted : List (Option Directory)) (before : Drive) (job : Job) (j : ℕ) → IsServing disks mounted before job j service
+found_by : (service : Option InService) (disks : Disks) (mounted : List (Option Directory)) (before : Drive) (job : Job) (j : ℕ) → IsServing disks mounted before job j service
     → Found service disks mounted before job j
 found_by None disks mounted before job j serving = absurd serving
 found_by (Some one) disks mounted before job j serving = record { one = one; there = refl; works = serving }
@@ -214,13 +213,13 @@ served_elsewhere : (images : ℕ → List ℕ) (kept : Kept) (s : Situation) (j 
 served_elsewhere images kept s j number serves apart = λ same.
     apart (sym (same_Some (drive_number s) number (sym (ap drive_served serves.there ∙ ap (λ n. Some n) serves.is.drive) ∙ same)))
 
-pub same_images : (disks now : Option Disks) (number : ℕ) → told_image now number ≡ told_image disks number → told_images now number ≡ told_images disks number
-unfolding told_images
+pub same_images : (disks now : Disks) (number : ℕ) → now.image number ≡ disks.image number → images_of now number ≡ images_of disks number
+unfolding images_of
 same_images disks now number same = ap (λ image. unwrap_or image []) same
 
 -- a turn of a job has ended
-serves_more : (disks now : Option Disks) (old new : Kept) (s : Situation) (j : ℕ) (job : Job) → job_of s ≡ Some job → TurnKeeps old new → KeepsImages (drive_served old.service) old.mounted disks now
-    → Serves (told_images disks) old s j → IsServing now new.mounted (drive_at s) job (suc j) new.service → Serves (told_images now) new s (suc j)
+serves_more : (disks now : Disks) (old new : Kept) (s : Situation) (j : ℕ) (job : Job) → job_of s ≡ Some job → TurnKeeps old new → KeepsImages (drive_served old.service) old.mounted disks now
+    → Serves (images_of disks) old s j → IsServing now new.mounted (drive_at s) job (suc j) new.service → Serves (images_of now) new s (suc j)
 serves_more disks now old new s j job is kept images serves serving =
     let number : ℕ = drive_number s in
     let call = found_by new.service now new.mounted (drive_at s) job (suc j) serving in
@@ -229,8 +228,8 @@ serves_more disks now old new s j job is kept images serves serving =
     let served = kept_call serves.service call.one s same serves.is in
     let its : IfSome (directory_at new.mounted number) (λ d. d.drive ≡ number) =
     by_label (λ label. label.0 ≡ number) (directory_at old.mounted number) (directory_at new.mounted number) (kept.labels number)
-    (its_number number (told_images disks number) (directory_at old.mounted number) (slice_index_or (drives_after s j) number None) (serves.stand.each number)) in
-    let works : WorksOn (told_images now number) (directory_at new.mounted number) (drive_at s) (Some job) (suc j) call.one.work =
+    (its_number number (images_of disks number) (directory_at old.mounted number) (slice_index_or (drives_after s j) number None) (serves.stand.each number)) in
+    let works : WorksOn (images_of now number) (directory_at new.mounted number) (drive_at s) (Some job) (suc j) call.one.work =
     told_works now number (directory_at new.mounted number) (drive_at s) job (suc j) call.one.work its
     (subst (λ drive. IsWorkingOn now (directory_at new.mounted drive) (drive_at s) job (suc j) call.one.work) served.drive call.works) in
     let there : has_directory old.mounted number ≡ true = working_there disks (directory_at old.mounted number) (drive_at s) job j serves.service.work (its_work disks old s j job is serves) in
@@ -240,7 +239,7 @@ serves_more disks now old new s j job is kept images serves serving =
       is = served;
       sound = serves.sound;
       suits = serves.suits;
-      works = subst (λ found. WorksOn (told_images now number) (directory_at new.mounted number) (drive_at s) found (suc j) call.one.work) (sym is) works;
+      works = subst (λ found. WorksOn (images_of now number) (directory_at new.mounted number) (drive_at s) found (suc j) call.one.work) (sym is) works;
       same = ap (λ one. filing_of one s.filing.drives) kept.rest ∙ serves.same;
       stand = record {
         each = λ other. stands_each other (cases_eq other number) call works its there;
@@ -248,16 +247,16 @@ serves_more disks now old new s j job is kept images serves serving =
     }
   where
     stands_each : (other : ℕ) → (other ≡ drive_number s) ⊎ (other ≢ drive_number s) → (call : Found new.service now new.mounted (drive_at s) job (suc j))
-        → WorksOn (told_images now (drive_number s)) (directory_at new.mounted (drive_number s)) (drive_at s) (Some job) (suc j) call.one.work
+        → WorksOn (images_of now (drive_number s)) (directory_at new.mounted (drive_number s)) (drive_at s) (Some job) (suc j) call.one.work
         → IfSome (directory_at new.mounted (drive_number s)) (λ d. d.drive ≡ drive_number s) → has_directory old.mounted (drive_number s) ≡ true
-        → StandsWhere other (told_images now other) (directory_at new.mounted other) (slice_index_or (drives_after s (suc j)) other None)
+        → StandsWhere other (images_of now other) (directory_at new.mounted other) (slice_index_or (drives_after s (suc j)) other None)
     stands_each other (inl here) call works its there =
-        subst (λ n. StandsWhere n (told_images now n) (directory_at new.mounted n) (slice_index_or (drives_after s (suc j)) n None)) (sym here)
-        (stands_next (told_images disks) (told_images now) old.mounted (directory_at new.mounted (drive_number s)) s j job call.one.work is its there serves.stand works)
+        subst (λ n. StandsWhere n (images_of now n) (directory_at new.mounted n) (slice_index_or (drives_after s (suc j)) n None)) (sym here)
+        (stands_next (images_of disks) (images_of now) old.mounted (directory_at new.mounted (drive_number s)) s j job call.one.work is its there serves.stand works)
     stands_each other (inr apart) call works its there =
-        stands_beside (told_images disks) (told_images now) old.mounted new.mounted s j job other is apart
-        (kept.places other (served_elsewhere (told_images disks) old s j other serves apart))
-        (λ mounted. same_images disks now other (images other (served_elsewhere (told_images disks) old s j other serves apart) mounted)) serves.stand
+        stands_beside (images_of disks) (images_of now) old.mounted new.mounted s j job other is apart
+        (kept.places other (served_elsewhere (images_of disks) old s j other serves apart))
+        (λ mounted. same_images disks now other (images other (served_elsewhere (images_of disks) old s j other serves apart) mounted)) serves.stand
 
 -- a call without a job: nothing is done in its turn
 serves_idly : (images : ℕ → List ℕ) (old new : Kept) (s : Situation) (j : ℕ) → job_of s ≡ None → TurnKeeps old new → new.service ≡ old.service → new.mounted ≡ old.mounted
@@ -292,51 +291,51 @@ idle_work images kept s j is serves =
     (subst (λ found. WorksOn (images (drive_number s)) (directory_at kept.mounted (drive_number s)) (drive_at s) found j serves.service.work) is serves.works)
 
 -- the turn of a call in service, by whether it has a job
-pub next_served : {D E : Type 0} (disks : D → Option Disks) (old new : Kept) (drives now : D) (s : Situation) (j steps later : ℕ) (result : Result Progress E)
+pub next_served : {D E : Type 0} (disks : D → Disks) (old new : Kept) (drives now : D) (s : Situation) (j steps later : ℕ) (result : Result Progress E)
     → ((before : Drive) (job : Job) (k : ℕ) → Suits before job → IsServing (disks drives) old.mounted before job k old.service → k < turns_of before job
     → OnOk result (IsServing (disks now) new.mounted before job (suc k) new.service))
     → (has_work old.service ≡ false → IsIdle old.service new.service old.mounted new.mounted old.cached new.cached drives now steps later)
     → TurnKeeps old new → KeepsImages (drive_served old.service) old.mounted (disks drives) (disks now)
-    → Serves (told_images (disks drives)) old s j → j < call_turns s → OnOk result (Serves (told_images (disks now)) new s (suc j))
+    → Serves (images_of (disks drives)) old s j → j < call_turns s → OnOk result (Serves (images_of (disks now)) new s (suc j))
 next_served {D} {E} disks old new drives now s j steps later result ok idle kept images serves turn = by_job (job_of s) refl
   where
-    by_job : (job : Option Job) → job_of s ≡ job → OnOk result (Serves (told_images (disks now)) new s (suc j))
+    by_job : (job : Option Job) → job_of s ≡ job → OnOk result (Serves (images_of (disks now)) new s (suc j))
     by_job None is =
-        let still = idle (idle_work (told_images (disks drives)) old s j is serves) in
-        on_ok result (subst (λ device. Serves (told_images (disks device)) new s (suc j)) (sym still.drives)
-        (serves_idly (told_images (disks drives)) old new s j is kept still.call still.directories serves))
+        let still = idle (idle_work (images_of (disks drives)) old s j is serves) in
+        on_ok result (subst (λ device. Serves (images_of (disks device)) new s (suc j)) (sym still.drives)
+        (serves_idly (images_of (disks drives)) old new s j is kept still.call still.directories serves))
     by_job (Some job) is = on_ok_weaker result (serves_more (disks drives) (disks now) old new s j job is kept images serves)
-        (ok (drive_at s) job j (its_suits (told_images (disks drives)) old s j job is serves) (serving_told (disks drives) old s j job is serves)
+        (ok (drive_at s) job j (its_suits (images_of (disks drives)) old s j job is serves) (serving_told (disks drives) old s j job is serves)
         (subst (λ turns. j < turns) (job_turns s job is) turn))
 
 -- where its drive failed, that is the job's
-contained_at : (disks : Option Disks) (number : ℕ) (directory : Option Directory) (before : Drive) (job : Job) (j : ℕ) → IfSome directory (λ d. d.drive ≡ number)
+contained_at : (disks : Disks) (number : ℕ) (directory : Option Directory) (before : Drive) (job : Job) (j : ℕ) → IfSome directory (λ d. d.drive ≡ number)
     → IsContainedAt disks directory before job j → Contained disks number before job j
 contained_at disks number None before job j its contained = absurd contained
 contained_at disks number (Some d) before job j its contained = subst (λ drive. Contained disks drive before job j) its contained
 
-stopped_within : (disks now : Option Disks) (kept : Kept) (s : Situation) (j : ℕ) (job : Job) → job_of s ≡ Some job → Serves (told_images disks) kept s j
+stopped_within : (disks now : Disks) (kept : Kept) (s : Situation) (j : ℕ) (job : Job) → job_of s ≡ Some job → Serves (images_of disks) kept s j
     → IsServiceContained now kept.mounted (drive_at s) job j kept.service → StopsWithin now s j
 stopped_within disks now kept s j job is serves contained = record {
   job = job;
   its = is;
   contained = contained_at now (drive_number s) (directory_at kept.mounted (drive_number s)) (drive_at s) job j
-      (its_number (drive_number s) (told_images disks (drive_number s)) (directory_at kept.mounted (drive_number s)) (slice_index_or (drives_after s j) (drive_number s) None) (serves.stand.each (drive_number s)))
+      (its_number (drive_number s) (images_of disks (drive_number s)) (directory_at kept.mounted (drive_number s)) (slice_index_or (drives_after s j) (drive_number s) None) (serves.stand.each (drive_number s)))
       (subst (λ drive. IsContainedAt now (directory_at kept.mounted drive) (drive_at s) job j) serves.is.drive
       (subst (IsServiceContained now kept.mounted (drive_at s) job j) serves.there contained));
 }
 
-pub next_stopped : {E : Type 0} (disks now : Option Disks) (kept : Kept) (s : Situation) (j : ℕ) (result : Result Progress E)
+pub next_stopped : {E : Type 0} (disks now : Disks) (kept : Kept) (s : Situation) (j : ℕ) (result : Result Progress E)
     → ((before : Drive) (job : Job) (k : ℕ) → Suits before job → IsServing disks kept.mounted before job k kept.service → k < turns_of before job
     → OnErr result (IsServiceContained now kept.mounted before job k kept.service))
     → (has_work kept.service ≡ false → result ≡ Ok Done)
-    → Serves (told_images disks) kept s j → j < call_turns s → OnErr result (StopsWithin now s j)
+    → Serves (images_of disks) kept s j → j < call_turns s → OnErr result (StopsWithin now s j)
 next_stopped {E} disks now kept s j result err idle serves turn = by_job (job_of s) refl
   where
     by_job : (job : Option Job) → job_of s ≡ job → OnErr result (StopsWithin now s j)
-    by_job None is = subst (λ told. OnErr told (StopsWithin now s j)) (sym (idle (idle_work (told_images disks) kept s j is serves))) tt
+    by_job None is = subst (λ told. OnErr told (StopsWithin now s j)) (sym (idle (idle_work (images_of disks) kept s j is serves))) tt
     by_job (Some job) is = on_err_weaker result (stopped_within disks now kept s j job is serves)
-        (err (drive_at s) job j (its_suits (told_images disks) kept s j job is serves) (serving_told disks kept s j job is serves)
+        (err (drive_at s) job j (its_suits (images_of disks) kept s j job is serves) (serving_told disks kept s j job is serves)
         (subst (λ turns. j < turns) (job_turns s job is) turn))
 
 -- whether turns are left
@@ -346,15 +345,15 @@ told_by test = if test then Again else Done
 one_turn : (j : ℕ) → nat_lt (suc j) 1 ≡ false
 one_turn j = grind (arith, nat_tests)
 
-pub next_progress : {E : Type 0} (disks : Option Disks) (kept : Kept) (s : Situation) (j : ℕ) (result : Result Progress E)
+pub next_progress : {E : Type 0} (disks : Disks) (kept : Kept) (s : Situation) (j : ℕ) (result : Result Progress E)
     → ((before : Drive) (job : Job) (k : ℕ) → IsServing disks kept.mounted before job k kept.service → IfOk result (λ told. told ≡ progress_after (suc k) (turns_of before job)))
     → (has_work kept.service ≡ false → result ≡ Ok Done)
-    → Serves (told_images disks) kept s j → IfOk result (λ told. told ≡ progress_after (suc j) (call_turns s))
+    → Serves (images_of disks) kept s j → IfOk result (λ told. told ≡ progress_after (suc j) (call_turns s))
 next_progress {E} disks kept s j result progress idle serves = by_job (job_of s) refl
   where
     by_job : (job : Option Job) → job_of s ≡ job → IfOk result (λ told. told ≡ progress_after (suc j) (call_turns s))
     by_job None is =
-        subst (λ answer. IfOk answer (λ told. told ≡ progress_after (suc j) (call_turns s))) (sym (idle (idle_work (told_images disks) kept s j is serves)))
+        subst (λ answer. IfOk answer (λ told. told ≡ progress_after (suc j) (call_turns s))) (sym (idle (idle_work (images_of disks) kept s j is serves)))
         (subst (λ turns. Done ≡ progress_after (suc j) turns) (sym (idle_turns s is)) (sym (ap told_by (one_turn j))))
     by_job (Some job) is =
         subst (λ turns. IfOk result (λ told. told ≡ progress_after (suc j) turns)) (sym (job_turns s job is))

@@ -1,38 +1,38 @@
 -- A file call that is done at once, its turns one after another.
-use Rattle.std.specs.Prelude.{◌≡◌, ◌≢◌, ℕ, ◌<◌, ◌≤◌, Bool, true, false, List, Option, Some, None}
-use Rattle.mpm_port.specs.Disks.{Disks, Told}
+use Rattle.std.specs.Prelude.{◌≡◌, ◌≢◌, ℕ, ◌<◌, ◌≤◌, Bool, true, false, List, Option, Some}
+use Rattle.mpm_port.specs.Disks.{Disks, ToldImage}
 use Rattle.mpm_mount.specs.Directories.{Directory}
 use Rattle.mpm_functions.specs.declared.functions.FileFunction.{FileFunction}
 use Rattle.mpm_functions.specs.declared.functions.FileFunction.TheVariants.{OpenFile, DeleteFile, ReadSequential, WriteSequential, MakeFile, RenameFile, SetAttributes, ReadRandom, WriteRandom, TestAndWrite, SetLabel, WriteXfcb}
 use Rattle.mpm_requests.specs.Filing.{Situation}
-use Rattle.mpm_bdos.specs.Jobs.{job_of, call_turns}
-use Rattle.mpm_bdos.specs.Serving.{Kept, StandEach}
+use Rattle.mpm_bdos.specs.Jobs.{call_turns}
+use Rattle.mpm_bdos.specs.Serving.{Kept}
 use Rattle.mpm_directories.specs.Places.{directory_at}
-use Rattle.mpm_bdos.specs.Turns.{FitsDrives, KeepsImages, KeepsUnsynced, StaysBeside, TurnKeeps, StopsWithin, drive_served}
+use Rattle.mpm_bdos.specs.Turns.{FitsDrives, KeepsImages, KeepsToldOf, KeepsUnsynced, StaysBeside, TurnKeeps, StopsWithin, drive_served}
 
 -- what some turns of the call in service leave of what is kept, of the drives and of their images
-pub record TurnsLeave {D : Type 0} (attached : D → ℕ → Option ℕ) (disks : D → Option Disks) (failed : D → List (List ℕ)) (unsynced : D → ℕ → Bool) (old new : Kept) (drives now : D) : Type 0 where
+pub record TurnsLeave {D : Type 0} (disks : D → Disks) (told : D → List ℕ → ToldImage) (failed : D → List (List ℕ)) (unsynced : D → ℕ → Bool) (old new : Kept) (drives now : D) : Type 0 where
   pub kept : TurnKeeps old new
-  pub fits : FitsDrives attached disks new.mounted new.cached now
+  pub fits : FitsDrives disks new.mounted new.cached now
   pub images : KeepsImages (drive_served old.service) old.mounted (disks drives) (disks now)
-  pub beside : Told (StaysBeside old.mounted) (disks drives) (disks now)
+  pub beside : StaysBeside old.mounted (disks drives) (disks now)
+  pub told_are : KeepsToldOf old.mounted (disks drives) (told drives) (told now)
   pub names : failed now ≡ failed drives
-  pub attached_are : (number : ℕ) → attached now number ≡ attached drives number
   pub kept_unsynced : KeepsUnsynced (drive_served old.service) (unsynced drives) (unsynced now)
 
 -- where a device failed in a turn of a call of which so many had ended before, the image of the job's drive stands within that turn
-pub record FailsSince (disks : Option Disks) (s : Situation) (ended : ℕ) : Type 0 where
+pub record FailsSince (disks : Disks) (s : Situation) (ended : ℕ) : Type 0 where
   pub turn : ℕ
   pub since : ended ≤ turn
   pub its : turn < call_turns s
   pub stops : StopsWithin disks s turn
 
 -- likewise in one of all its turns
-abbrev pub FailsIn : Option Disks → Situation → Type 0
+abbrev pub FailsIn : Disks → Situation → Type 0
 FailsIn disks s = FailsSince disks s 0
 
 -- of the drives that are mounted a call changes the directory and the image of one alone
-pub record ChangesAlone (drive : ℕ) (old new : List (Option Directory)) (disks now : Option Disks) : Type 0 where
+pub record ChangesAlone (drive : ℕ) (old new : List (Option Directory)) (disks now : Disks) : Type 0 where
   pub places : (number : ℕ) → Some drive ≢ Some number → directory_at new number ≡ directory_at old number
   pub images : KeepsImages (Some drive) old disks now
 
@@ -41,11 +41,6 @@ pub record IsAtRest {D : Type 0} (old new : Kept) (drives now : D) (steps steps'
   pub kept : new ≡ old
   pub device : now ≡ drives
   pub calls : steps' ≡ steps
-
--- a call without a job, on drives for which some images stand, whether or not these are told
-pub record IsJobless (images : ℕ → List ℕ) (mounted : List (Option Directory)) (s : Situation) : Type 0 where
-  pub stand : StandEach images mounted s.filing.drives
-  pub none : job_of s ≡ None
 
 -- the functions whose calls have a job, where they aren't refused
 abbrev pub has_job : FileFunction → Bool

@@ -5,7 +5,6 @@ pub mod Replies
 pub mod Outcomes
 pub mod Direct
 pub mod Serving
-pub mod Answering
 pub mod Turns
 pub mod Ending
 pub mod Planning

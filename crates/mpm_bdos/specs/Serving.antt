@@ -72,12 +72,6 @@ filing_of kept drives =
 pub record StandEach (images : ℕ → List ℕ) (mounted : List (Option Directory)) (drives : List (Option Drive)) : Type 0 where
   pub each : (number : ℕ) → StandsWhere number (images number) (directory_at mounted number) (slice_index_or drives number None)
 
--- so whatever is told of images, there are some, and drives, for which the directories stand
-pub record StandForSome (mounted : List (Option Directory)) : Type 0 where
-  pub images : ℕ → List ℕ
-  pub drives : List (Option Drive)
-  pub stand : StandEach images mounted drives
-
 -- the work of a job on a drive that is mounted, with so many turns ended; and no work where there is no job
 abbrev pub WorksAt : List ℕ → Option Directory → Drive → Job → ℕ → Work → Type 0
 WorksAt image None before job turns work = ⊥

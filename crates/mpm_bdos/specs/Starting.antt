@@ -1,5 +1,5 @@
 -- A file call that enters service.
-use Rattle.std.specs.Prelude.{ℕ, ◌&&◌, List, Option, Some, None, IfSome, is_some, min, option_and_then, unwrap_or}
+use Rattle.std.specs.Prelude.{◌≡◌, ℕ, ◌&&◌, List, Option, Some, None, IfSome, is_some, min, option_and_then, unwrap_or}
 use Rattle.mpm_base.specs.Calls.{Taken}
 use Rattle.mpm_dirent.specs.Names.{plain}
 use Rattle.mpm_procs.specs.declared.process.Process.{Process}
@@ -57,3 +57,13 @@ pub record EntersAmong (images : ℕ → List ℕ) (mounted : List (Option Direc
 abbrev pub turns_where : Option Work → ℕ
 turns_where None = 1
 turns_where (Some work) = turns_in work
+
+-- a caller's call of a function is in service
+pub record IsEntered (caller : Caller) (function : FileFunction) (call : Taken) (service : InService) : Type 0 where
+  pub caller_is : service.caller ≡ caller
+  pub function_is : service.function ≡ function
+  pub call_is : service.call ≡ call
+
+abbrev pub HasEntered : Caller → FileFunction → Taken → Option InService → Type 0
+HasEntered caller function call None = ⊥
+HasEntered caller function call (Some service) = IsEntered caller function call service

@@ -1,11 +1,12 @@
 -- What was written to the mounted drives is brought to where it stays, on one after another.
 use Rattle.std.specs.Prelude.{◌≡◌, ℕ, ◌+◌, ◌<◌, ◌≤◌, Bool, true, false, List, Option, IsSome, IfSome, is_some, count_by, take}
+use Rattle.mpm_port.specs.Disks.{Disks, size_of}
 use Rattle.mpm_mount.specs.Directories.{Directory}
 use Rattle.mpm_directories.specs.Places.{directory_at}
 
 -- each of them is attached
-abbrev pub AreAttached : (ℕ → Option ℕ) → List (Option Directory) → Type 0
-AreAttached attached mounted = (number : ℕ) → IfSome (directory_at mounted number) (λ directory. IsSome (attached number))
+abbrev pub AreAttached : Disks → List (Option Directory) → Type 0
+AreAttached disks mounted = (number : ℕ) → IfSome (directory_at mounted number) (λ directory. IsSome (size_of disks number))
 
 -- each of them is synced: no write to it was asked for since
 abbrev pub AreSynced : (ℕ → Bool) → List (Option Directory) → Type 0

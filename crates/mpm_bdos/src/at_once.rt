@@ -17,9 +17,8 @@ fn is_file_call(call: &Call) -> bool
 }
 
 impl Bdos {
-    ghost use Rattle.std.specs.Prelude.{◌≡◌, ◌≤◌, ◌+◌, ◌*◌, ℕ, List, Option, Some, None, is_some, true, Ok, IfOk, IsOk, OnOk, OnErr, option_map, false};
+    ghost use Rattle.std.specs.Prelude.{◌≡◌, ◌≤◌, ◌+◌, ◌*◌, ℕ, List, Option, Some, None, is_some, Ok, IfOk, IsOk, OnOk, OnErr, option_map, false};
     ghost use Rattle.mpm_port.specs.Causes.{HasCause};
-    ghost use Rattle.mpm_port.specs.Disks.{Told};
     ghost use Rattle.mpm_clock.specs.Times.{IsTime};
     ghost use Rattle.mpm_clock.specs.PackedDecimal.{stamp as stamp_of};
     ghost use Rattle.mpm_mount.specs.Drives.{Drive};
@@ -27,14 +26,13 @@ impl Bdos {
     ghost use Rattle.mpm_requests.specs.Filing.{Situation};
     ghost use Rattle.mpm_functions.specs.Functions.{function_of};
     ghost use Rattle.mpm_requests.specs.Subjects.{drive_number};
-    ghost use Rattle.mpm_bdos.specs.Jobs.{call_turns};
-    ghost use Rattle.mpm_bdos.specs.Serving.{IsCaller, StandEach, StandForSome, Serves};
+    ghost use Rattle.mpm_bdos.specs.Jobs.{call_turns, job_of};
+    ghost use Rattle.mpm_bdos.specs.Serving.{IsCaller, StandEach, Serves};
     ghost use Rattle.mpm_directories.specs.Places.{directory_at};
-    ghost use Rattle.mpm_bdos.specs.Turns.{FitsDrives, KeepsUnsynced, StaysBeside, has_work, labelled, told_images};
+    ghost use Rattle.mpm_bdos.specs.Turns.{FitsDrives, KeepsToldOf, KeepsUnsynced, StaysBeside, has_work, labelled, images_of};
     ghost use Rattle.mpm_bdos.specs.Starting.{caller_of, entering};
     ghost use Rattle.mpm_bdos.specs.Finishing.{ComesTo};
-    ghost use Rattle.mpm_bdos.specs.Answering.{IsOfDrive, MayAnswer};
-    ghost use Rattle.mpm_bdos.specs.AtOnce.{TurnsLeave, FailsSince, FailsIn, ChangesAlone, IsAtRest, IsJobless, IsUntouched};
+    ghost use Rattle.mpm_bdos.specs.AtOnce.{TurnsLeave, FailsSince, FailsIn, ChangesAlone, IsAtRest, IsUntouched};
 
     /// Does so many turns of the call in service, one after another, up to the first in which its drive fails. Each takes 20 calls of
     /// the drives at most.
@@ -47,12 +45,12 @@ impl Bdos {
         drives: &mut D,
         steps: &mut Steps<L>,
     ) -> Result<(), Failed>
-        requires fits { FitsDrives D.attached D.disks self.old.mounted self.old.cached drives.old }
-        ensures ok { (s : Situation) (ended : ℕ) → Serves (told_images (D.disks drives.old)) self.old s ended → ended + turns ≤ call_turns s
-            → OnOk result (Serves (told_images (D.disks drives.new)) self.new s (ended + turns)) }
-        ensures err { (s : Situation) (ended : ℕ) → Serves (told_images (D.disks drives.old)) self.old s ended → ended + turns ≤ call_turns s
+        requires fits { FitsDrives D.disks self.old.mounted self.old.cached drives.old }
+        ensures ok { (s : Situation) (ended : ℕ) → Serves (images_of (D.disks drives.old)) self.old s ended → ended + turns ≤ call_turns s
+            → OnOk result (Serves (images_of (D.disks drives.new)) self.new s (ended + turns)) }
+        ensures err { (s : Situation) (ended : ℕ) → Serves (images_of (D.disks drives.old)) self.old s ended → ended + turns ≤ call_turns s
             → OnErr result (FailsSince (D.disks drives.new) s ended) }
-        ensures left { TurnsLeave D.attached D.disks D.failed_names D.unsynced self.old self.new drives.old drives.new }
+        ensures left { TurnsLeave D.disks D.told D.failed_names D.unsynced self.old self.new drives.old drives.new }
         ensures calls { steps.new ≤ steps.old + 20 * turns }
         ensures idle { has_work self.old.service ≡ false → IsAtRest self.old self.new drives.old drives.new steps.old steps.new }
         ensures unfailing { has_work self.old.service ≡ false → IsOk result }
@@ -75,8 +73,8 @@ impl Bdos {
 
     /// Does a process's call on files and drives at once: it enters service, its turns follow one another, and it is answered,
     /// with its extended error, if it has one. A call of another function does nothing. Each turn takes 20 calls of the drives at
-    /// most; where no drive is mounted, or it has no job, as one that is refused, none: then it comes to its outcome whether or not
-    /// the images are told. Behind it no call is in service. (MP/M II Programmer's Guide, "BDOS Function Calls", "BDOS Error Handling".)
+    /// most; where no drive is mounted, or it has no job, as one that is refused, none. After it no call is in service. (MP/M II
+    /// Programmer's Guide, "BDOS Function Calls", "BDOS Error Handling".)
     ///
     /// # Errors
     /// Where the drive of the call failed: then it isn't answered, and its directory is no more that of its image.
@@ -92,31 +90,24 @@ impl Bdos {
     ) -> Result<Option<Extended>, Failed>
         requires caller { IsCaller (caller_of p process.now) }
         requires time { IsTime now }
-        requires fits { FitsDrives D.attached D.disks self.old.mounted self.old.cached drives.old }
+        requires fits { FitsDrives D.disks self.old.mounted self.old.cached drives.old }
         ensures ok { (before : List (Option Drive)) (function : functions.FileFunction) → function_of call.now.function ≡ Some function
-            → StandEach (told_images (D.disks drives.old)) self.old.mounted before
-            → IfOk result (ComesTo (told_images (D.disks drives.new)) (entering self.old before (caller_of p process.now) function call.now (stamp_of now)) self.new reply.new) }
+            → StandEach (images_of (D.disks drives.old)) self.old.mounted before
+            → IfOk result (ComesTo (images_of (D.disks drives.new)) (entering self.old before (caller_of p process.now) function call.now (stamp_of now)) self.new reply.new) }
         ensures err { (before : List (Option Drive)) (function : functions.FileFunction) → function_of call.now.function ≡ Some function
-            → StandEach (told_images (D.disks drives.old)) self.old.mounted before
+            → StandEach (images_of (D.disks drives.old)) self.old.mounted before
             → OnErr result (FailsIn (D.disks drives.new) (entering self.old before (caller_of p process.now) function call.now (stamp_of now))) }
-        ensures jobless { (images : ℕ → List ℕ) (before : List (Option Drive)) (function : functions.FileFunction) → function_of call.now.function ≡ Some function
-            → IsJobless images self.old.mounted (entering self.old before (caller_of p process.now) function call.now (stamp_of now))
-            → IfOk result (ComesTo images (entering self.old before (caller_of p process.now) function call.now (stamp_of now)) self.new reply.new) }
-        ensures idle { (images : ℕ → List ℕ) (before : List (Option Drive)) (function : functions.FileFunction) → function_of call.now.function ≡ Some function
-            → IsJobless images self.old.mounted (entering self.old before (caller_of p process.now) function call.now (stamp_of now))
+        ensures idle { (before : List (Option Drive)) (function : functions.FileFunction) → function_of call.now.function ≡ Some function
+            → StandEach (images_of (D.disks drives.old)) self.old.mounted before
+            → job_of (entering self.old before (caller_of p process.now) function call.now (stamp_of now)) ≡ None
             → (drives.new ≡ drives.old) × (steps.new ≡ steps.old) × IsOk result }
         ensures alone { (before : List (Option Drive)) (function : functions.FileFunction) → function_of call.now.function ≡ Some function
             → ChangesAlone (drive_number (entering self.old before (caller_of p process.now) function call.now (stamp_of now))) self.old.mounted self.new.mounted (D.disks drives.old) (D.disks drives.new) }
         ensures unsynced { (before : List (Option Drive)) (function : functions.FileFunction) → function_of call.now.function ≡ Some function
             → KeepsUnsynced (Some (drive_number (entering self.old before (caller_of p process.now) function call.now (stamp_of now)))) (D.unsynced drives.old) (D.unsynced drives.new) }
-        ensures calls { (images : ℕ → List ℕ) (before : List (Option Drive)) (function : functions.FileFunction) → function_of call.now.function ≡ Some function
-            → StandEach images self.old.mounted before
+        ensures calls { (before : List (Option Drive)) (function : functions.FileFunction) → function_of call.now.function ≡ Some function
+            → StandEach (images_of (D.disks drives.old)) self.old.mounted before
             → steps.new ≤ steps.old + 20 * call_turns (entering self.old before (caller_of p process.now) function call.now (stamp_of now)) }
-        ensures may { (function : functions.FileFunction) → function_of call.now.function ≡ Some function
-            → IfOk result (MayAnswer process.now.multi function call.now reply.new) }
-        ensures drive { (before : List (Option Drive)) (function : functions.FileFunction) → function_of call.now.function ≡ Some function
-            → IfOk result (IsOfDrive (drive_number (entering self.old before (caller_of p process.now) function call.now (stamp_of now)))) }
-        ensures stand { is_some (function_of call.now.function) ≡ true → StandForSome self.old.mounted }
         ensures none { ((number : ℕ) → directory_at self.old.mounted number ≡ None) → drives.new ≡ drives.old }
         ensures unfailing { ((number : ℕ) → directory_at self.old.mounted number ≡ None) → IsOk result }
         ensures service { (function : functions.FileFunction) → function_of call.now.function ≡ Some function → self.new.service ≡ None }
@@ -125,10 +116,10 @@ impl Bdos {
         ensures stopped { OnErr result (self.new ≡ record self.old { mounted = self.new.mounted; cached = self.new.cached; service = None }) }
         ensures no_reply { OnErr result (reply.new ≡ reply.old) }
         ensures labels { (number : ℕ) → option_map labelled (directory_at self.new.mounted number) ≡ option_map labelled (directory_at self.old.mounted number) }
-        ensures fits { FitsDrives D.attached D.disks self.new.mounted self.new.cached drives.new }
-        ensures beside { Told (StaysBeside self.old.mounted) (D.disks drives.old) (D.disks drives.new) }
+        ensures fits { FitsDrives D.disks self.new.mounted self.new.cached drives.new }
+        ensures beside { StaysBeside self.old.mounted (D.disks drives.old) (D.disks drives.new) }
+        ensures told_are { KeepsToldOf self.old.mounted (D.disks drives.old) (D.told drives.old) (D.told drives.new) }
         ensures names { D.failed_names drives.new ≡ D.failed_names drives.old }
-        ensures attached { (number : ℕ) → D.attached drives.new number ≡ D.attached drives.old number }
         ensures cause { HasCause (D.faults drives.old) (D.faults drives.new) result }
     {
         if !is_file_call(call) {

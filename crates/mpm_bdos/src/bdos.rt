@@ -1,17 +1,15 @@
 ghost use Rattle.std.specs.Prelude.{◌≡◌, ◌≤◌, ◌<◌, ◌+◌, ℕ, suc, false, List, Option, None, Ok, IfOk, IfSome, OnOk, OnErr};
 ghost use Rattle.mpm_port.specs.Causes.{HasCause};
-ghost use Rattle.mpm_port.specs.Disks.{Disks, Told};
+ghost use Rattle.mpm_port.specs.Disks.{Disks};
 ghost use Rattle.mpm_cache.specs.Coherent.{IsCoherent, HasNoAlias};
 ghost use Rattle.mpm_files.specs.declared.turning.Progress.TheVariants as progress;
-ghost use Rattle.mpm_files.specs.Serving.{turns_in};
 ghost use Rattle.mpm_mount.specs.Drives.{Drive};
-ghost use Rattle.mpm_directories.specs.Direct.{ComesDirectly, IsToldDirectly, is_protected};
 ghost use Rattle.mpm_bdos.specs.Direct.{direct};
 ghost use Rattle.mpm_functions.specs.Functions.{direct_of};
 ghost use Rattle.mpm_requests.specs.Filing.{Situation};
 ghost use Rattle.mpm_bdos.specs.Outcomes.{left_by, without_search};
 ghost use Rattle.mpm_bdos.specs.Jobs.{call_turns};
-ghost use Rattle.mpm_bdos.specs.Turns.{FitsDrives, KeepsImages, KeepsUnsynced, StaysBeside, TurnKeeps, StopsWithin, ServesReading, ServesCached, HasCountedIn, OfWork, IsIdle, told_images, progress_after, drive_served, has_work};
+ghost use Rattle.mpm_bdos.specs.Turns.{FitsDrives, KeepsImages, KeepsToldOf, KeepsUnsynced, StaysBeside, TurnKeeps, StopsWithin, ServesReading, ServesCached, IsIdle, images_of, progress_after, drive_served, has_work};
 
 use crate::directories::Directories;
 use crate::service::Service;
@@ -65,8 +63,8 @@ impl Model for Bdos {
 
 impl Bdos {
     ghost use Rattle.mpm_opens.specs.Opens.{AreOpen};
-    ghost use Rattle.mpm_directories.specs.Places.{AreInPlace, directory_at, kind_at};
-    ghost use Rattle.mpm_bdos.specs.Serving.{StandEach, StandForSome, Serves, filing_of, nothing_kept};
+    ghost use Rattle.mpm_directories.specs.Places.{AreInPlace, directory_at};
+    ghost use Rattle.mpm_bdos.specs.Serving.{StandEach, Serves, filing_of, nothing_kept};
     ghost use Rattle.std.specs.Option.{option_copied};
 
     /// Nothing is open, marked, sought or protected, nothing is cached, and no call is in service. Of the sixteen drives those
@@ -78,8 +76,8 @@ impl Bdos {
     pub fn new(alloc: Global, mounted: Vec<Option<Mounted>>) -> Result<Bdos, OutOfMemory>
         requires { AreInPlace mounted.items }
         ensures kept { IfOk result (λ bdos. bdos ≡ nothing_kept mounted.items) }
-        ensures coherent { IfOk result (λ bdos. (disks : Option Disks) → IsCoherent bdos.cached disks) }
-        ensures apart { IfOk result (λ bdos. (disks : Option Disks) (number : ℕ) → HasNoAlias bdos.cached disks number) }
+        ensures coherent { IfOk result (λ bdos. (disks : Disks) → IsCoherent bdos.cached disks) }
+        ensures apart { IfOk result (λ bdos. (disks : Disks) (number : ℕ) → HasNoAlias bdos.cached disks number) }
     {
         let cache = Cache::new(alloc)?;
         Ok(Bdos {
@@ -112,8 +110,6 @@ impl Bdos {
             → IfSome (direct_of call.now.function) (λ function. reply.new ≡ (direct s.filing process.now.drive call.now function).answer) }
         ensures served_extended { (images : ℕ → List ℕ) (s : Situation) (j : ℕ) → Serves images self.now s j
             → IfSome (direct_of call.now.function) (λ function. result ≡ (direct s.filing process.now.drive call.now function).extended) }
-        ensures exact { IfSome (direct_of call.now.function) (λ function. ComesDirectly (kind_at self.now.mounted) (is_protected self.now.protected) process.now.drive function call.now reply.new result) }
-        ensures told { IfSome (direct_of call.now.function) (λ function. IsToldDirectly process.now.drive function call.now reply.new result) }
         ensures other { direct_of call.now.function ≡ None → reply.new ≡ reply.old }
         ensures unanswered { direct_of call.now.function ≡ None → result ≡ None }
     {
@@ -130,14 +126,11 @@ impl Bdos {
         }
     }
 
-    /// Says what is so at any time of open files and locks, no two of which are of one record, and of the directories in memory, which
-    /// stand for the drives of some images.
+    /// Says what is so at any time of open files and locks, no two of which are of one record.
     pub fn tell_sound(&self)
-        ensures locks { AreOpen self.now.opens }
-        ensures stand { StandForSome self.now.mounted }
+        ensures { AreOpen self.now.opens }
     {
         self.opens.tell_sound();
-        self.mounted.tell_sound();
     }
 
     /// Gives back all that a process that ended has open, its locks and its marks, and forgets what it searched for last.
@@ -162,25 +155,23 @@ impl Bdos {
         drives: &mut D,
         steps: &mut Steps<L>,
     ) -> Result<Progress, Failed>
-        requires { FitsDrives D.attached D.disks self.old.mounted self.old.cached drives.old }
-        ensures ok { (s : Situation) (j : ℕ) → Serves (told_images (D.disks drives.old)) self.old s j → j < call_turns s
-            → OnOk result (Serves (told_images (D.disks drives.new)) self.new s (suc j)) }
-        ensures err { (s : Situation) (j : ℕ) → Serves (told_images (D.disks drives.old)) self.old s j → j < call_turns s
+        requires { FitsDrives D.disks self.old.mounted self.old.cached drives.old }
+        ensures ok { (s : Situation) (j : ℕ) → Serves (images_of (D.disks drives.old)) self.old s j → j < call_turns s
+            → OnOk result (Serves (images_of (D.disks drives.new)) self.new s (suc j)) }
+        ensures err { (s : Situation) (j : ℕ) → Serves (images_of (D.disks drives.old)) self.old s j → j < call_turns s
             → OnErr result (StopsWithin (D.disks drives.new) s j) }
-        ensures progress { (s : Situation) (j : ℕ) → Serves (told_images (D.disks drives.old)) self.old s j
+        ensures progress { (s : Situation) (j : ℕ) → Serves (images_of (D.disks drives.old)) self.old s j
             → IfOk result (λ told. told ≡ progress_after (suc j) (call_turns s)) }
-        ensures told { OfWork self.old.mounted self.old.service (λ work. IfOk result (λ told. told ≡ progress_after (suc work.ended) (turns_in work))) }
-        ensures counted { OfWork self.old.mounted self.old.service (λ work. work.ended < turns_in work → OnOk result (HasCountedIn work self.new.service)) }
         ensures idle { has_work self.old.service ≡ false → IsIdle self.old.service self.new.service self.old.mounted self.new.mounted self.old.cached self.new.cached drives.old drives.new steps.old steps.new }
         ensures done { has_work self.old.service ≡ false → result ≡ Ok progress.Done }
         ensures still { has_work self.new.service ≡ has_work self.old.service }
         ensures kept { TurnKeeps self.old self.new }
-        ensures fits { FitsDrives D.attached D.disks self.new.mounted self.new.cached drives.new }
+        ensures fits { FitsDrives D.disks self.new.mounted self.new.cached drives.new }
         ensures images { KeepsImages (drive_served self.old.service) self.old.mounted (D.disks drives.old) (D.disks drives.new) }
-        ensures beside { Told (StaysBeside self.old.mounted) (D.disks drives.old) (D.disks drives.new) }
+        ensures beside { StaysBeside self.old.mounted (D.disks drives.old) (D.disks drives.new) }
+        ensures told_are { KeepsToldOf self.old.mounted (D.disks drives.old) (D.told drives.old) (D.told drives.new) }
         ensures names { D.failed_names drives.new ≡ D.failed_names drives.old }
         ensures unsynced { KeepsUnsynced (drive_served self.old.service) (D.unsynced drives.old) (D.unsynced drives.new) }
-        ensures attached { (other : ℕ) → D.attached drives.new other ≡ D.attached drives.old other }
         ensures calls { steps.new ≤ steps.old + 20 }
         ensures reads { ServesReading self.old.service → steps.new ≤ steps.old + 1 }
         ensures reads_only { ServesReading self.old.service → (other : ℕ) → D.unsynced drives.new other ≡ D.unsynced drives.old other }

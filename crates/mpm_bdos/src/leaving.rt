@@ -209,8 +209,6 @@ pub(crate) fn grant(
     ensures granted { (image : List ℕ) (drive : Drive) → Stands image mounted.now drive → spec.IsInFile asked.now
         → result ≡ spec.granted_by drive opens.old asked.now work.now }
     ensures number { IfSome result.opened (λ made. made.number ≤ 63) }
-    ensures block { result.block ≡ asked.now.block }
-    ensures function { result.function ≡ asked.now.function }
     ensures users { HaveUsers opens.old → asked.now.owner < 16 → HaveUsers opens.new }
 {
     let ended = end_records(opens, mounted, asked, work);

@@ -2,8 +2,6 @@ ghost use Rattle.std.specs.Prelude.{◌≡◌, ◌≤◌, ◌<◌, ℕ, List, Op
 ghost use Rattle.mpm_mount.specs.Drives.{Drive, FileName};
 ghost use Rattle.mpm_mount.specs.Directories.{Stands};
 ghost use Rattle.mpm_opens.specs.Opens.{AreOpen};
-ghost use Rattle.mpm_fcb.specs.Blocks.{block_of};
-ghost use Rattle.mpm_bdos.specs.Answering.{MayGrant};
 ghost use Rattle.mpm_requests.specs.Asking.{called, found_as};
 ghost use Rattle.mpm_bdos.specs.Leaving as spec;
 ghost use Rattle.mpm_requests.specs.Asking as asking;
@@ -38,7 +36,6 @@ pub(crate) fn answer_mounted(
     requires own { IfSome asked.now.item (λ item. asking.IsOwn opens.old asked.now.caller.process item) }
     requires some { 1 ≤ asked.now.caller.multi }
     requires few { asked.now.caller.multi ≤ 16 }
-    requires block { asked.now.block ≡ block_of fcb.now }
     ensures sound { AreOpen opens.old }
     ensures users { HaveUsers opens.old → asked.now.owner < 16 → HaveUsers opens.new }
     ensures opens { (image : List ℕ) (drive : Drive) → Stands image mounted.now drive → spec.IsInFile asked.now
@@ -46,7 +43,6 @@ pub(crate) fn answer_mounted(
     ensures reply { (image : List ℕ) (drive : Drive) (records : List (List ℕ)) (entry : Option (FileName × ℕ)) → Stands image mounted.now drive
         → (granted : spec.IsGranted drive opens.old asked.now work.now deleted.now records) → option_map (found_as mounted.now.kind) found.now ≡ entry
         → reply.new ≡ replies.answer_by drive (spec.granted_by drive (spec.left_first opens.old asked.now work.now deleted.now) asked.now work.now) records entry fcb.now dma }
-    ensures may { MayGrant asked.now.caller.multi asked.now.function fcb.now dma reply.new }
 {
     // Who has a lock tells that all open files are sound.
     let _ = opens.owner(subject_key(asked), 0);
@@ -73,7 +69,6 @@ pub(crate) fn reply_mounted(
 )
     requires some { 1 ≤ caller.now.multi }
     requires few { caller.now.multi ≤ 16 }
-    ensures may { MayGrant caller.now.multi function call.now.fcb call.now.dma reply.new }
     ensures users { HaveUsers opens.old → caller.now.user < 16 → HaveUsers opens.new }
     ensures replied { (image : List ℕ) (drives : List (Option Drive)) (marks moment : List ℕ)
         → IsAnswering (called drives protected.now opens.old marks searches.old caller.now function call.now moment) image mounted.now work.now deleted.now

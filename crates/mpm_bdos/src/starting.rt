@@ -10,12 +10,10 @@ ghost use Rattle.mpm_files.specs.Turning.{Suits};
 ghost use Rattle.mpm_requests.specs.Filing.{Situation, block as block_in, HaveUsers};
 ghost use Rattle.mpm_requests.specs.Subjects as subjects;
 ghost use Rattle.mpm_requests.specs.Refusals as refusals;
-ghost use Rattle.mpm_requests.specs.Subjects.{IsNamed};
-ghost use Rattle.mpm_bdos.specs.Answering.{IsEntered};
 ghost use Rattle.mpm_requests.specs.Asking.{called, StandsFor};
 ghost use Rattle.mpm_bdos.specs.Changes as changes;
 ghost use Rattle.mpm_functions.specs.Functions.{function_of};
-ghost use Rattle.mpm_bdos.specs.Serving.{IsCaller, StandEach, StandForSome, WorksOn};
+ghost use Rattle.mpm_bdos.specs.Serving.{IsCaller, StandEach, WorksOn};
 ghost use Rattle.mpm_bdos.specs.Starting as spec;
 
 use crate::bdos::Bdos;
@@ -274,7 +272,7 @@ fn entered(
 ) -> Service
     requires caller { IsCaller caller.now }
     requires users { HaveUsers opens.now }
-    ensures entered { IsNamed function call.now drive → IsEntered caller.now function call.now result }
+    ensures entered { spec.IsEntered caller.now function call.now result }
     ensures drive { result.drive ≡ drive }
     ensures all { (image : List ℕ) (drives : List (Option Drive))
         → StandsFor image (option_copied mounted.entry) (called drives protected.now opens.now marks.now searches.now caller.now function call.now moment)
@@ -315,10 +313,9 @@ fn entered_among(
 ) -> Service
     requires caller { IsCaller caller.now }
     requires users { HaveUsers opens.now }
-    ensures entered { IsEntered caller.now function call.now result }
+    ensures entered { spec.IsEntered caller.now function call.now result }
     ensures drive { (drives : List (Option Drive))
         → result.drive ≡ subjects.drive_number (called drives protected.now opens.now marks.now searches.now caller.now function call.now moment) }
-    ensures stand { StandForSome mounted.now }
     ensures all { (images : ℕ → List ℕ) (drives : List (Option Drive)) → StandEach images mounted.now drives
         → spec.EntersAmong images mounted.now (called drives protected.now opens.now marks.now searches.now caller.now function call.now moment) result }
 {
@@ -368,12 +365,11 @@ impl Bdos {
     ghost use Rattle.mpm_functions.specs.declared.functions.FileFunction as functions;
     ghost use Rattle.mpm_functions.specs.Functions.{function_of};
     ghost use Rattle.mpm_bdos.specs.Jobs.{call_turns};
-    ghost use Rattle.mpm_bdos.specs.Serving.{IsCaller, StandEach, StandForSome, Serves};
+    ghost use Rattle.mpm_bdos.specs.Serving.{IsCaller, StandEach, Serves};
     ghost use Rattle.mpm_directories.specs.Places.{directory_at};
     ghost use Rattle.mpm_requests.specs.Subjects.{drive_number};
     ghost use Rattle.mpm_bdos.specs.Turns.{drive_served, has_work};
-    ghost use Rattle.mpm_bdos.specs.Answering.{HasEntered};
-    ghost use Rattle.mpm_bdos.specs.Starting.{caller_of, entering, turns_where};
+    ghost use Rattle.mpm_bdos.specs.Starting.{HasEntered, caller_of, entering, turns_where};
 
     /// A process's call on files and drives enters service: how many turns it takes. A call of another function doesn't, and takes
     /// none. No device is asked. (MP/M II Programmer's Guide, "BDOS Function Calls".)
@@ -388,9 +384,7 @@ impl Bdos {
             → HasEntered (caller_of p process.now) function call.now self.new.service }
         ensures drive { (drives : List (Option Drive)) (function : functions.FileFunction) → function_of call.now.function ≡ Some function
             → drive_served self.new.service ≡ Some (drive_number (entering self.old drives (caller_of p process.now) function call.now (stamp_of now))) }
-        ensures own { is_some (function_of call.now.function) ≡ true → IfSome self.new.service (λ service. result ≡ turns_where service.work) }
         ensures some { is_some (function_of call.now.function) ≡ true → 0 < result }
-        ensures stand { is_some (function_of call.now.function) ≡ true → StandForSome self.old.mounted }
         ensures workless { is_some (function_of call.now.function) ≡ true → ((number : ℕ) → directory_at self.old.mounted number ≡ None) → has_work self.new.service ≡ false }
         ensures kept { self.new ≡ record self.old { service = self.new.service } }
         ensures other { function_of call.now.function ≡ None → self.new ≡ self.old }

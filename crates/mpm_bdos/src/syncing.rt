@@ -1,4 +1,5 @@
 ghost use Rattle.std.specs.Prelude.{◌≡◌, ◌≢◌, ℕ, ◌≤◌, ◌<◌, ◌+◌, true, false, None, IsSome, IfSome, OnOk, OnErr, is_some, if◌then◌else◌};
+ghost use Rattle.mpm_port.specs.Disks.{size_of};
 ghost use Rattle.mpm_port.specs.Causes.{HasCause};
 ghost use Rattle.mpm_mount.specs.Mounting.{SameDrives};
 ghost use Rattle.mpm_directories.specs.Places.{directory_at};
@@ -17,9 +18,9 @@ fn sync_place<D: Drives, L: Ledger>(
     drives: &mut D,
     steps: &mut Steps<L>,
 ) -> Result<(), Failed>
-    requires { IfSome place.now (λ directory. IsSome (D.attached drives.old directory.drive)) }
+    requires { IfSome place.now (λ directory. IsSome (size_of (D.disks drives.old) directory.drive)) }
     ensures cause { HasCause (D.faults drives.old) (D.faults drives.new) result }
-    ensures same { SameDrives D.attached D.disks D.failed_names drives.old drives.new }
+    ensures same { SameDrives D.disks D.told D.failed_names drives.old drives.new }
     ensures calls { steps.new ≡ steps.old + (if is_some place.now then 1 else 0) }
     ensures some { OnErr result (is_some place.now ≡ true) }
     ensures none { place.now ≡ None → drives.new ≡ drives.old }
@@ -40,9 +41,9 @@ fn sync_place<D: Drives, L: Ledger>(
 impl Directories {
     /// Brings what was written to the mounted drives to where it stays, one after another up to the first that fails.
     fn sync<D: Drives, L: Ledger>(&self, drives: &mut D, steps: &mut Steps<L>) -> Result<(), Failed>
-        requires { AreAttached (D.attached drives.old) self.now }
+        requires { AreAttached (D.disks drives.old) self.now }
         ensures cause { HasCause (D.faults drives.old) (D.faults drives.new) result }
-        ensures same { SameDrives D.attached D.disks D.failed_names drives.old drives.new }
+        ensures same { SameDrives D.disks D.told D.failed_names drives.old drives.new }
         ensures calls { steps.new ≤ steps.old + mounted_count self.now }
         ensures all { OnOk result (steps.new ≡ steps.old + mounted_count self.now) }
         ensures some { OnErr result (0 < mounted_count self.now) }
@@ -77,9 +78,9 @@ impl Bdos {
         drives: &mut D,
         steps: &mut Steps<L>,
     ) -> Result<(), Failed>
-        requires { FitsDrives D.attached D.disks self.now.mounted self.now.cached drives.old }
+        requires { FitsDrives D.disks self.now.mounted self.now.cached drives.old }
         ensures cause { HasCause (D.faults drives.old) (D.faults drives.new) result }
-        ensures same { SameDrives D.attached D.disks D.failed_names drives.old drives.new }
+        ensures same { SameDrives D.disks D.told D.failed_names drives.old drives.new }
         ensures calls { steps.new ≤ steps.old + mounted_count self.now.mounted }
         ensures all { OnOk result (steps.new ≡ steps.old + mounted_count self.now.mounted) }
         ensures some { OnErr result (0 < mounted_count self.now.mounted) }

@@ -1,6 +1,6 @@
 ghost use Rattle.std.specs.Prelude.{◌≡◌, ◌≢◌, ℕ, suc, ◌+◌, ◌<◌, ◌≤◌, Option, Some, Ok, IfOk, IfSome, OnOk, OnErr, option_map, is_some, false};
 ghost use Rattle.mpm_port.specs.Causes.{HasCause};
-ghost use Rattle.mpm_port.specs.Disks.{Told};
+ghost use Rattle.mpm_port.specs.Disks.{size_of};
 ghost use Rattle.mpm_blocks.specs.Geometries.{geometry_of};
 ghost use Rattle.mpm_cache.specs.Coherent.{IsCoherent, HasNoAlias};
 ghost use Rattle.mpm_mount.specs.Directories.{IsDirectory};
@@ -9,10 +9,9 @@ ghost use Rattle.mpm_jobs.specs.declared.jobs.Job.{Job};
 ghost use Rattle.mpm_jobs.specs.declared.jobs.JobKind.TheVariants as kinds;
 ghost use Rattle.mpm_files.specs.declared.turning.Progress.TheVariants as progress;
 ghost use Rattle.mpm_files.specs.Plans.{turns_of};
-ghost use Rattle.mpm_files.specs.Serving.{turns_in};
 ghost use Rattle.mpm_files.specs.Turning.{Suits, IsNextCached};
 ghost use Rattle.mpm_directories.specs.Places.{directory_at};
-ghost use Rattle.mpm_bdos.specs.Turns.{FitsDrives, KeepsImages, KeepsUnsynced, StaysBeside, progress_after, labelled, HasLeft, IsWorking, IsWorkingOn, IsContainedAt, IsServing, IsServiceContained, IsReading, IsReadingCached, ServesReading, ServesCached, IsCounted, HasCounted, HasCountedIn, WhereMounted, OfWork, IsIdle, has_work, drive_served, without_work};
+ghost use Rattle.mpm_bdos.specs.Turns.{FitsDrives, KeepsImages, KeepsToldOf, KeepsUnsynced, StaysBeside, progress_after, labelled, HasLeft, IsWorking, IsWorkingOn, IsContainedAt, IsServing, IsServiceContained, IsReading, IsReadingCached, ServesReading, ServesCached, IsIdle, has_work, drive_served, without_work};
 
 use crate::directories::Directories;
 use crate::service::Service;
@@ -32,7 +31,7 @@ pub(crate) fn turn_at<D: Drives, L: Ledger>(
     drives: &mut D,
     steps: &mut Steps<L>,
 ) -> Result<Progress, Failed>
-    requires size { IfSome place.old (λ d. D.attached drives.old d.drive ≡ Some (geometry_of d.kind).bytes) }
+    requires size { IfSome place.old (λ d. size_of (D.disks drives.old) d.drive ≡ Some (geometry_of d.kind).bytes) }
     requires coherent { IsCoherent cache.old (D.disks drives.old) }
     requires apart { IfSome place.old (λ d. HasNoAlias cache.old (D.disks drives.old) d.drive) }
     ensures ok { (before : Drive) (job : Job) (j : ℕ) → Suits before job → IsWorking (D.disks drives.old) place.old before job j work.old → j < turns_of before job
@@ -41,15 +40,13 @@ pub(crate) fn turn_at<D: Drives, L: Ledger>(
         → OnErr result (IsContainedAt (D.disks drives.new) place.old before job j) }
     ensures progress { (before : Drive) (job : Job) (j : ℕ) → IsWorking (D.disks drives.old) place.old before job j work.old
         → IfOk result (λ told. told ≡ progress_after (suc j) (turns_of before job)) }
-    ensures told { IfSome place.old (λ _. IfOk result (λ told. told ≡ progress_after (suc work.old.ended) (turns_in work.old))) }
-    ensures counted { IfSome place.old (λ _. work.old.ended < turns_in work.old → OnOk result (IsCounted work.old work.new)) }
     ensures same { option_map labelled place.new ≡ option_map labelled place.old }
     ensures calls { steps.new ≤ steps.old + 20 }
     ensures reads { work.old.job.kind ≡ kinds.Read → steps.new ≤ steps.old + 1 }
     ensures reads_only { work.old.job.kind ≡ kinds.Read → (other : ℕ) → D.unsynced drives.new other ≡ D.unsynced drives.old other }
     ensures cached { work.old.job.kind ≡ kinds.Read → IfSome place.old (λ d. IsNextCached cache.old d work.old) → steps.new ≡ steps.old }
     ensures directory { IfSome place.new (λ d. IsDirectory d.kind d.entries) }
-    ensures leaves { HasLeft D.attached D.disks D.failed_names D.unsynced place.old cache.old cache.new drives.old drives.new }
+    ensures leaves { HasLeft D.disks D.told D.failed_names D.unsynced place.old cache.old cache.new drives.old drives.new }
     ensures cause { HasCause (D.faults drives.old) (D.faults drives.new) result }
 {
     match place {
@@ -65,7 +62,7 @@ pub(crate) fn turn_at<D: Drives, L: Ledger>(
 
 impl Directories {
     /// Does the next unit of a job on the drive of a number, where it is mounted.
-    #[tactic(auto, using(crate::proofs::Fitting::labels_stay, crate::proofs::Fitting::in_place_after, crate::proofs::Fitting::images_after, crate::proofs::Fitting::stays_after, crate::proofs::Fitting::stays_same, crate::proofs::Fitting::unsynced_after, crate::proofs::Fitting::unsynced_same))]
+    #[tactic(auto, using(crate::proofs::Fitting::labels_stay, crate::proofs::Fitting::in_place_after, crate::proofs::Fitting::images_after, crate::proofs::Fitting::stays_after, crate::proofs::Fitting::stays_same, crate::proofs::Fitting::told_after, crate::proofs::Fitting::told_same, crate::proofs::Fitting::unsynced_after, crate::proofs::Fitting::unsynced_same))]
     pub(crate) fn turn<D: Drives, L: Ledger>(
         &mut self,
         number: u8,
@@ -74,23 +71,21 @@ impl Directories {
         drives: &mut D,
         steps: &mut Steps<L>,
     ) -> Result<Progress, Failed>
-        requires { FitsDrives D.attached D.disks self.old cache.old drives.old }
+        requires { FitsDrives D.disks self.old cache.old drives.old }
         ensures ok { (before : Drive) (job : Job) (j : ℕ) → Suits before job → IsWorking (D.disks drives.old) (directory_at self.old number) before job j work.old → j < turns_of before job
             → OnOk result (IsWorking (D.disks drives.new) (directory_at self.new number) before job (suc j) work.new) }
         ensures err { (before : Drive) (job : Job) (j : ℕ) → Suits before job → IsWorking (D.disks drives.old) (directory_at self.old number) before job j work.old → j < turns_of before job
             → OnErr result (IsContainedAt (D.disks drives.new) (directory_at self.old number) before job j) }
         ensures progress { (before : Drive) (job : Job) (j : ℕ) → IsWorking (D.disks drives.old) (directory_at self.old number) before job j work.old
             → IfOk result (λ told. told ≡ progress_after (suc j) (turns_of before job)) }
-        ensures told { IfSome (directory_at self.old number) (λ _. IfOk result (λ told. told ≡ progress_after (suc work.old.ended) (turns_in work.old))) }
-        ensures counted { IfSome (directory_at self.old number) (λ _. work.old.ended < turns_in work.old → OnOk result (IsCounted work.old work.new)) }
         ensures places { (other : ℕ) → Some number ≢ Some other → directory_at self.new other ≡ directory_at self.old other }
         ensures labels { (other : ℕ) → option_map labelled (directory_at self.new other) ≡ option_map labelled (directory_at self.old other) }
-        ensures fits { FitsDrives D.attached D.disks self.new cache.new drives.new }
+        ensures fits { FitsDrives D.disks self.new cache.new drives.new }
         ensures images { KeepsImages (Some number) self.old (D.disks drives.old) (D.disks drives.new) }
-        ensures beside { Told (StaysBeside self.old) (D.disks drives.old) (D.disks drives.new) }
+        ensures beside { StaysBeside self.old (D.disks drives.old) (D.disks drives.new) }
+        ensures told_are { KeepsToldOf self.old (D.disks drives.old) (D.told drives.old) (D.told drives.new) }
         ensures names { D.failed_names drives.new ≡ D.failed_names drives.old }
         ensures unsynced { KeepsUnsynced (Some number) (D.unsynced drives.old) (D.unsynced drives.new) }
-        ensures attached { (other : ℕ) → D.attached drives.new other ≡ D.attached drives.old other }
         ensures calls { steps.new ≤ steps.old + 20 }
         ensures reads { work.old.job.kind ≡ kinds.Read → steps.new ≤ steps.old + 1 }
         ensures reads_only { work.old.job.kind ≡ kinds.Read → (other : ℕ) → D.unsynced drives.new other ≡ D.unsynced drives.old other }
@@ -108,7 +103,7 @@ impl Directories {
 
 impl Service {
     /// Does the next unit of the job, where the call has one.
-    #[tactic(auto, using(crate::proofs::Fitting::stays_same, crate::proofs::Fitting::unsynced_same))]
+    #[tactic(auto, using(crate::proofs::Fitting::stays_same, crate::proofs::Fitting::told_same, crate::proofs::Fitting::unsynced_same))]
     pub(crate) fn turn<D: Drives, L: Ledger>(
         &mut self,
         mounted: &mut Directories,
@@ -116,27 +111,25 @@ impl Service {
         drives: &mut D,
         steps: &mut Steps<L>,
     ) -> Result<Progress, Failed>
-        requires { FitsDrives D.attached D.disks mounted.old cache.old drives.old }
+        requires { FitsDrives D.disks mounted.old cache.old drives.old }
         ensures ok { (before : Drive) (job : Job) (j : ℕ) → Suits before job → IsWorkingOn (D.disks drives.old) (directory_at mounted.old self.old.drive) before job j self.old.work → j < turns_of before job
             → OnOk result (IsWorkingOn (D.disks drives.new) (directory_at mounted.new self.new.drive) before job (suc j) self.new.work) }
         ensures err { (before : Drive) (job : Job) (j : ℕ) → Suits before job → IsWorkingOn (D.disks drives.old) (directory_at mounted.old self.old.drive) before job j self.old.work → j < turns_of before job
             → OnErr result (IsContainedAt (D.disks drives.new) (directory_at mounted.old self.old.drive) before job j) }
         ensures progress { (before : Drive) (job : Job) (j : ℕ) → IsWorkingOn (D.disks drives.old) (directory_at mounted.old self.old.drive) before job j self.old.work
             → IfOk result (λ told. told ≡ progress_after (suc j) (turns_of before job)) }
-        ensures told { WhereMounted (directory_at mounted.old self.old.drive) self.old.work (λ work. IfOk result (λ told. told ≡ progress_after (suc work.ended) (turns_in work))) }
-        ensures counted { WhereMounted (directory_at mounted.old self.old.drive) self.old.work (λ work. work.ended < turns_in work → OnOk result (HasCounted work self.new.work)) }
         ensures idle { is_some self.old.work ≡ false → IsIdle self.old self.new mounted.old mounted.new cache.old cache.new drives.old drives.new steps.old steps.new }
         ensures done { is_some self.old.work ≡ false → result ≡ Ok progress.Done }
         ensures still { is_some self.new.work ≡ is_some self.old.work }
         ensures kept { without_work self.new ≡ without_work self.old }
         ensures places { (other : ℕ) → Some self.old.drive ≢ Some other → directory_at mounted.new other ≡ directory_at mounted.old other }
         ensures labels { (other : ℕ) → option_map labelled (directory_at mounted.new other) ≡ option_map labelled (directory_at mounted.old other) }
-        ensures fits { FitsDrives D.attached D.disks mounted.new cache.new drives.new }
+        ensures fits { FitsDrives D.disks mounted.new cache.new drives.new }
         ensures images { KeepsImages (Some self.old.drive) mounted.old (D.disks drives.old) (D.disks drives.new) }
-        ensures beside { Told (StaysBeside mounted.old) (D.disks drives.old) (D.disks drives.new) }
+        ensures beside { StaysBeside mounted.old (D.disks drives.old) (D.disks drives.new) }
+        ensures told_are { KeepsToldOf mounted.old (D.disks drives.old) (D.told drives.old) (D.told drives.new) }
         ensures names { D.failed_names drives.new ≡ D.failed_names drives.old }
         ensures unsynced { KeepsUnsynced (Some self.old.drive) (D.unsynced drives.old) (D.unsynced drives.new) }
-        ensures attached { (other : ℕ) → D.attached drives.new other ≡ D.attached drives.old other }
         ensures calls { steps.new ≤ steps.old + 20 }
         ensures reads { IsReading self.old.work → steps.new ≤ steps.old + 1 }
         ensures reads_only { IsReading self.old.work → (other : ℕ) → D.unsynced drives.new other ≡ D.unsynced drives.old other }
@@ -152,7 +145,7 @@ impl Service {
 }
 
 /// Does the next unit of the job of the call in service, where one is and has one.
-#[tactic(auto, using(crate::proofs::Fitting::stays_same, crate::proofs::Fitting::unsynced_same))]
+#[tactic(auto, using(crate::proofs::Fitting::stays_same, crate::proofs::Fitting::told_same, crate::proofs::Fitting::unsynced_same))]
 pub(crate) fn turn_service<D: Drives, L: Ledger>(
     service: &mut Option<Service>,
     mounted: &mut Directories,
@@ -160,27 +153,25 @@ pub(crate) fn turn_service<D: Drives, L: Ledger>(
     drives: &mut D,
     steps: &mut Steps<L>,
 ) -> Result<Progress, Failed>
-    requires { FitsDrives D.attached D.disks mounted.old cache.old drives.old }
+    requires { FitsDrives D.disks mounted.old cache.old drives.old }
     ensures ok { (before : Drive) (job : Job) (j : ℕ) → Suits before job → IsServing (D.disks drives.old) mounted.old before job j service.old → j < turns_of before job
         → OnOk result (IsServing (D.disks drives.new) mounted.new before job (suc j) service.new) }
     ensures err { (before : Drive) (job : Job) (j : ℕ) → Suits before job → IsServing (D.disks drives.old) mounted.old before job j service.old → j < turns_of before job
         → OnErr result (IsServiceContained (D.disks drives.new) mounted.old before job j service.old) }
     ensures progress { (before : Drive) (job : Job) (j : ℕ) → IsServing (D.disks drives.old) mounted.old before job j service.old
         → IfOk result (λ told. told ≡ progress_after (suc j) (turns_of before job)) }
-    ensures told { OfWork mounted.old service.old (λ work. IfOk result (λ told. told ≡ progress_after (suc work.ended) (turns_in work))) }
-    ensures counted { OfWork mounted.old service.old (λ work. work.ended < turns_in work → OnOk result (HasCountedIn work service.new)) }
     ensures idle { has_work service.old ≡ false → IsIdle service.old service.new mounted.old mounted.new cache.old cache.new drives.old drives.new steps.old steps.new }
     ensures done { has_work service.old ≡ false → result ≡ Ok progress.Done }
     ensures still { has_work service.new ≡ has_work service.old }
     ensures kept { option_map without_work service.new ≡ option_map without_work service.old }
     ensures places { (other : ℕ) → drive_served service.old ≢ Some other → directory_at mounted.new other ≡ directory_at mounted.old other }
     ensures labels { (other : ℕ) → option_map labelled (directory_at mounted.new other) ≡ option_map labelled (directory_at mounted.old other) }
-    ensures fits { FitsDrives D.attached D.disks mounted.new cache.new drives.new }
+    ensures fits { FitsDrives D.disks mounted.new cache.new drives.new }
     ensures images { KeepsImages (drive_served service.old) mounted.old (D.disks drives.old) (D.disks drives.new) }
-    ensures beside { Told (StaysBeside mounted.old) (D.disks drives.old) (D.disks drives.new) }
+    ensures beside { StaysBeside mounted.old (D.disks drives.old) (D.disks drives.new) }
+    ensures told_are { KeepsToldOf mounted.old (D.disks drives.old) (D.told drives.old) (D.told drives.new) }
     ensures names { D.failed_names drives.new ≡ D.failed_names drives.old }
     ensures unsynced { KeepsUnsynced (drive_served service.old) (D.unsynced drives.old) (D.unsynced drives.new) }
-    ensures attached { (other : ℕ) → D.attached drives.new other ≡ D.attached drives.old other }
     ensures calls { steps.new ≤ steps.old + 20 }
     ensures reads { ServesReading service.old → steps.new ≤ steps.old + 1 }
     ensures reads_only { ServesReading service.old → (other : ℕ) → D.unsynced drives.new other ≡ D.unsynced drives.old other }

@@ -4,5 +4,4 @@ pub mod Sizes
 pub mod UsedTo
 pub mod Laws
 pub mod Written
-pub mod ToldImages
 pub mod Examples

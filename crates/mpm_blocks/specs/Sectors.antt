@@ -1,7 +1,7 @@
--- The sectors of an image behind the system's tracks, and the image of an attached drive as its device tells it.
-use Rattle.std.specs.Prelude.{◌≡◌, ◌≢◌, ℕ, ◌+◌, ◌*◌, List, ◌++◌, take, drop, Option, Some, None}
+-- The sectors of an image behind the system's tracks.
+use Rattle.std.specs.Prelude.{◌≡◌, ◌≢◌, ℕ, ◌+◌, ◌*◌, List, ◌++◌, take, drop}
 use Rattle.mpm_base.specs.declared.kind.Kind.{Kind}
-use Rattle.mpm_port.specs.Disks.{Disks, image_of, sector_of}
+use Rattle.mpm_port.specs.Disks.{sector_of}
 use Rattle.mpm_blocks.specs.Geometries.{place_of}
 
 -- some bytes for each number of a sector
@@ -20,8 +20,3 @@ pub record SectorWritten (s : ℕ) (bytes : List ℕ) (old new : Sectors) : Type
 -- a sector of the directory with other bytes in one of its four entries
 abbrev pub with_slot : List ℕ → ℕ → List ℕ → List ℕ
 with_slot sector place bytes = take (32 * place) sector ++ (bytes ++ drop (32 * place + 32) sector)
-
--- the image of a drive, where it is told
-unfoldable pub told_image : Option Disks → ℕ → Option (List ℕ)
-told_image None drive = None
-told_image (Some disks) drive = image_of disks drive

@@ -1,9 +1,9 @@
 -- A drive has no alias in the cache, and keeps having none.
-use Rattle.std.proofs.Common.{◌≡◌, ◌≢◌, ◌⊎◌, ℕ, Bool, true, false, List, [], Option, Some, None, IfSome, IsSome, refl, sym, subst, ◌∙◌, inl, inr}
+use Rattle.std.proofs.Common.{◌≡◌, ◌≢◌, ◌⊎◌, ℕ, Bool, true, false, List, [], Option, Some, None, IsSome, refl, sym, subst, ◌∙◌, inl, inr}
 use Rattle.std.specs.Prelude.{⊤}
 use Rattle.std.proofs.lemmas.Bool.{false≢true}
 use Rattle.std.proofs.lemmas.Option.{same_Some, MatchOption-at_some}
-use Rattle.mpm_port.specs.Disks.{Disks, SameDisks, Writes, Told}
+use Rattle.mpm_port.specs.Disks.{Disks, Writes}
 use Rattle.mpm_cache.specs.declared.cache.Place.{Place}
 use Rattle.mpm_cache.specs.Cached.{is_at, cached_at, SameCached, Keeps, Forgets}
 use Rattle.mpm_cache.specs.Coherent.{HaveOwnImages, HasNoAlias, StayApart, AreApart}
@@ -14,35 +14,14 @@ use Rattle.mpm_cache.proofs.CoherentLaws.{keeps_none}
 abbrev pub SameNames : Disks → Disks → Type 0
 SameNames old new = (drive : ℕ) → new.name_of drive ≡ old.name_of drive
 
-names_told : (R : Disks → Disks → Type 0) (disks now : Option Disks) → Told R disks now → ((old told : Disks) → R old told → SameNames old told) → Told SameNames disks now
-names_told R None now told each = told
-names_told R (Some old) None told each = absurd told
-names_told R (Some old) (Some told) is each = each old told is
-
-pub same_names : (disks now : Option Disks) → Told SameDisks disks now → Told SameNames disks now
-same_names disks now told = names_told SameDisks disks now told (λ old new same. same.names)
-
-pub names_written : (drive sector : ℕ) (bytes : List ℕ) (disks now : Option Disks) → Told (Writes drive sector bytes) disks now → Told SameNames disks now
-names_written drive sector bytes disks now told = names_told (Writes drive sector bytes) disks now told (λ old new writes. writes.names)
-
 -- drives that have images of their own keep them
-pub own_images_kept : (disks now : Option Disks) (drive other : ℕ) → Told SameNames disks now → HaveOwnImages disks drive other → HaveOwnImages now drive other
-unfolding HaveOwnImages
-own_images_kept None now drive other told own = subst (λ (d : Option Disks). IfSome d (λ new. drive ≢ other → new.name_of drive ≢ new.name_of other)) (sym told) tt
-own_images_kept (Some old) None drive other told own = absurd told
-own_images_kept (Some old) (Some new) drive other told own = λ ne same. own ne (sym (told drive) ∙ same ∙ told other)
-
--- a drive has an image of its own beside itself
-pub own_image : (disks : Option Disks) (drive : ℕ) → HaveOwnImages disks drive drive
-unfolding HaveOwnImages
-own_image None drive = tt
-own_image (Some told) drive = λ ne. absurd (ne refl)
+own_images_kept : (disks now : Disks) (drive other : ℕ) → SameNames disks now → HaveOwnImages disks drive other → HaveOwnImages now drive other
+own_images_kept disks now drive other names own ne same = own ne (sym (names drive) ∙ same ∙ names other)
 
 -- drives that are attached by two names
-pub own_images_named : (told : Disks) (drive other : ℕ) (name name_too : List ℕ) → told.name_of drive ≡ Some name → told.name_of other ≡ Some name_too → name ≢ name_too
-    → HaveOwnImages (Some told) drive other
-unfolding HaveOwnImages
-own_images_named told drive other name name_too h k apart = λ ne same. apart (same_Some name name_too (sym h ∙ same ∙ k))
+pub own_images_named : (disks : Disks) (drive other : ℕ) (name name_too : List ℕ) → disks.name_of drive ≡ Some name → disks.name_of other ≡ Some name_too → name ≢ name_too
+    → HaveOwnImages disks drive other
+own_images_named disks drive other name name_too h k apart ne same = apart (same_Some name name_too (sym h ∙ same ∙ k))
 
 -- of no drive but one a sector is cached now of which none was
 abbrev AddsAtMost : ℕ → List (Place × List ℕ) → List (Place × List ℕ) → Type 0
@@ -66,7 +45,7 @@ adds_kept drive sector bytes cached new keeps other place some = by_place (is_at
 adds_same : (drive : ℕ) (cached new : List (Place × List ℕ)) → SameCached cached new → AddsAtMost drive cached new
 adds_same drive cached new same other sector some = inr (subst (λ (o : Option (List ℕ)). IsSome o) (same other sector) some)
 
-no_alias : (drive other : ℕ) (cached new : List (Place × List ℕ)) (disks now : Option Disks) → AddsAtMost drive cached new → Told SameNames disks now → HaveOwnImages disks other drive
+no_alias : (drive other : ℕ) (cached new : List (Place × List ℕ)) (disks now : Disks) → AddsAtMost drive cached new → SameNames disks now → HaveOwnImages disks other drive
     → HasNoAlias cached disks other → HasNoAlias new now other
 unfolding HasNoAlias
 no_alias drive other cached new disks now adds told own alone third sector some = elim (adds third sector some) [
@@ -74,39 +53,37 @@ no_alias drive other cached new disks now adds told own alone third sector some 
   | inr before ↦ own_images_kept disks now other third told (alone third sector before)
 ]
 
-pub no_alias_none : (disks : Option Disks) (drive : ℕ) → HasNoAlias [] disks drive
+pub no_alias_none : (disks : Disks) (drive : ℕ) → HasNoAlias [] disks drive
 unfolding HasNoAlias cached_at
 no_alias_none disks drive other sector some = absurd (false≢true some)
 
-apart_by : (drive : ℕ) (cached new : List (Place × List ℕ)) (disks now : Option Disks) → AddsAtMost drive cached new → Told SameNames disks now → StayApart drive cached new disks now
+apart_by : (drive : ℕ) (cached new : List (Place × List ℕ)) (disks now : Disks) → AddsAtMost drive cached new → SameNames disks now → StayApart drive cached new disks now
 apart_by drive cached new disks now adds told = record {
   own = λ one other own. own_images_kept disks now one other told own;
   alone = λ other own alone. no_alias drive other cached new disks now adds told own alone;
 }
 
-pub apart_same : (drive : ℕ) (cached new : List (Place × List ℕ)) (disks now : Option Disks) → SameCached cached new → Told SameDisks disks now → StayApart drive cached new disks now
-apart_same drive cached new disks now same told = apart_by drive cached new disks now (adds_same drive cached new same) (same_names disks now told)
+pub apart_same : (drive : ℕ) (cached new : List (Place × List ℕ)) (disks : Disks) → SameCached cached new → StayApart drive cached new disks disks
+apart_same drive cached new disks same = apart_by drive cached new disks disks (adds_same drive cached new same) (λ other. refl)
 
-pub apart_read : (drive sector : ℕ) (bytes : List ℕ) (cached new : List (Place × List ℕ)) (disks now : Option Disks) → Keeps drive sector bytes cached new → Told SameDisks disks now
-    → StayApart drive cached new disks now
-apart_read drive sector bytes cached new disks now keeps told = apart_by drive cached new disks now (adds_kept drive sector bytes cached new keeps) (same_names disks now told)
+pub apart_read : (drive sector : ℕ) (bytes : List ℕ) (cached new : List (Place × List ℕ)) (disks : Disks) → Keeps drive sector bytes cached new → StayApart drive cached new disks disks
+apart_read drive sector bytes cached new disks keeps = apart_by drive cached new disks disks (adds_kept drive sector bytes cached new keeps) (λ other. refl)
 
-pub apart_written : (drive sector : ℕ) (bytes : List ℕ) (cached new : List (Place × List ℕ)) (disks now : Option Disks) → Keeps drive sector bytes cached new
-    → Told (Writes drive sector bytes) disks now → StayApart drive cached new disks now
-apart_written drive sector bytes cached new disks now keeps told =
-    apart_by drive cached new disks now (adds_kept drive sector bytes cached new keeps) (names_written drive sector bytes disks now told)
+pub apart_written : (drive sector : ℕ) (bytes : List ℕ) (cached new : List (Place × List ℕ)) (disks now : Disks) → Keeps drive sector bytes cached new
+    → Writes drive sector bytes disks now → StayApart drive cached new disks now
+apart_written drive sector bytes cached new disks now keeps writes = apart_by drive cached new disks now (adds_kept drive sector bytes cached new keeps) writes.names
 
-pub apart_failed : (drive sector : ℕ) (bytes : List ℕ) (cached new : List (Place × List ℕ)) (disks now : Option Disks) → Forgets drive sector cached new
-    → (Told SameDisks disks now) ⊎ (Told (Writes drive sector bytes) disks now) → StayApart drive cached new disks now
+pub apart_failed : (drive sector : ℕ) (bytes : List ℕ) (cached new : List (Place × List ℕ)) (disks now : Disks) → Forgets drive sector cached new
+    → (now ≡ disks) ⊎ Writes drive sector bytes disks now → StayApart drive cached new disks now
 apart_failed drive sector bytes cached new disks now forgets told =
     let keeps = keeps_none drive sector bytes cached new forgets in
     elim told [
-      | inl same ↦ apart_read drive sector bytes cached new disks now keeps same
+      | inl same ↦ subst (λ (d : Disks). StayApart drive cached new disks d) (sym same) (apart_read drive sector bytes cached new disks keeps)
       | inr written ↦ apart_written drive sector bytes cached new disks now keeps written
     ]
 
 -- two calls on one drive
-pub apart_twice : (drive : ℕ) (first second third : List (Place × List ℕ)) (disks mid now : Option Disks) → StayApart drive first second disks mid → StayApart drive second third mid now
+pub apart_twice : (drive : ℕ) (first second third : List (Place × List ℕ)) (disks mid now : Disks) → StayApart drive first second disks mid → StayApart drive second third mid now
     → StayApart drive first third disks now
 apart_twice drive first second third disks mid now one two = record {
   own = λ a b own. two.own a b (one.own a b own);
@@ -114,15 +91,15 @@ apart_twice drive first second third disks mid now one two = record {
 }
 
 -- the drive of a call has no alias after it, as it had none before
-pub alone_after : (drive : ℕ) (cached new : List (Place × List ℕ)) (disks now : Option Disks) → StayApart drive cached new disks now → HasNoAlias cached disks drive → HasNoAlias new now drive
-alone_after drive cached new disks now stay alone = stay.alone drive (own_image disks drive) alone
+pub alone_after : (drive : ℕ) (cached new : List (Place × List ℕ)) (disks now : Disks) → StayApart drive cached new disks now → HasNoAlias cached disks drive → HasNoAlias new now drive
+alone_after drive cached new disks now stay alone = stay.alone drive (λ ne. absurd (ne refl)) alone
 
 -- where nothing is cached, drives are apart that are attached by names of their own
-pub apart_at_first : (among : ℕ → Bool) (disks : Option Disks) → ((drive other : ℕ) → among drive ≡ true → among other ≡ true → HaveOwnImages disks drive other) → AreApart among [] disks
+pub apart_at_first : (among : ℕ → Bool) (disks : Disks) → ((drive other : ℕ) → among drive ≡ true → among other ≡ true → HaveOwnImages disks drive other) → AreApart among [] disks
 apart_at_first among disks own = record { own = own; alone = λ drive is. no_alias_none disks drive }
 
 -- a call on one of the drives leaves them apart
-pub apart_after : (among : ℕ → Bool) (drive : ℕ) (cached new : List (Place × List ℕ)) (disks now : Option Disks) → among drive ≡ true → StayApart drive cached new disks now
+pub apart_after : (among : ℕ → Bool) (drive : ℕ) (cached new : List (Place × List ℕ)) (disks now : Disks) → among drive ≡ true → StayApart drive cached new disks now
     → AreApart among cached disks → AreApart among new now
 apart_after among drive cached new disks now is stay apart = record {
   own = λ one other a b. stay.own one other (apart.own one other a b);

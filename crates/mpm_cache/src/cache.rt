@@ -1,6 +1,6 @@
 ghost use Rattle.std.specs.Prelude.{◌≡◌, ◌≢◌, ◌⊎◌, ℕ, true, ◌+◌, ◌≤◌, [], length, Option, IfOk, IfSome, IfNone, IsSome, IsOk, OnOk, OnErr, is_some, if◌then◌else◌};
 ghost use Rattle.mpm_port.specs.Causes.{HasCause};
-ghost use Rattle.mpm_port.specs.Disks.{IsInside, SameDisks, Writes, Told, image_of, sector_of, Disks};
+ghost use Rattle.mpm_port.specs.Disks.{Disks, IsInside, Writes, KeepsTold, size_of, sector_of};
 
 use crate::OutOfMemory;
 use lru::LruCache;
@@ -48,8 +48,8 @@ impl Cache {
     #[tactic(auto, using(crate::proofs::CoherentLaws::coherent_none, crate::proofs::AliasLaws::no_alias_none))]
     pub fn new(alloc: Global) -> Result<Cache, OutOfMemory>
         ensures empty { IfOk result (λ cache. cache ≡ []) }
-        ensures coherent { IfOk result (λ cache. (disks : Option Disks) → IsCoherent cache disks) }
-        ensures apart { IfOk result (λ cache. (disks : Option Disks) (drive : ℕ) → HasNoAlias cache disks drive) }
+        ensures coherent { IfOk result (λ cache. (disks : Disks) → IsCoherent cache disks) }
+        ensures apart { IfOk result (λ cache. (disks : Disks) (drive : ℕ) → HasNoAlias cache disks drive) }
     {
         let room = NonZeroUsize::new(ROOM).unwrap();
         let sectors = LruCache::new(alloc, room)?;
@@ -105,10 +105,9 @@ impl Cache {
         out: &mut [u8; 128],
         steps: &mut Steps<L>,
     ) -> Result<(), Failed>
-        requires inside { IsInside (D.attached drives.old drive) sector }
+        requires inside { IsInside (size_of (D.disks drives.old) drive) sector }
         requires coherent { IsCoherent self.old (D.disks drives.old) }
-        ensures bytes { OnOk result (IfSome (D.disks drives.old) (λ told.
-            IfSome (image_of told drive) (λ image. out.new ≡ sector_of image sector))) }
+        ensures bytes { OnOk result (IfSome ((D.disks drives.old).image drive) (λ image. out.new ≡ sector_of image sector)) }
         ensures coherent { IsCoherent self.new (D.disks drives.new) }
         ensures apart { StayApart drive self.old self.new (D.disks drives.old) (D.disks drives.new) }
         ensures calls { steps.new ≡ (if is_some (cached_at self.old drive sector) then steps.old else steps.old + 1) }
@@ -128,9 +127,9 @@ impl Cache {
         // What is so of the drives.
         ensures cause { HasCause (D.faults drives.old) (D.faults drives.new) result }
         ensures names { D.failed_names drives.new ≡ D.failed_names drives.old }
-        ensures drives { (other : ℕ) → D.attached drives.new other ≡ D.attached drives.old other }
-        ensures unsynced { (other : ℕ) → D.unsynced drives.new other ≡ D.unsynced drives.old other }
-        ensures disks { Told SameDisks (D.disks drives.old) (D.disks drives.new) }
+        ensures disks { D.disks drives.new ≡ D.disks drives.old }
+        ensures told { D.told drives.new ≡ D.told drives.old }
+        ensures unsynced { D.unsynced drives.new ≡ D.unsynced drives.old }
     {
         if let Some(bytes) = self.find(drive, sector) {
             *out = bytes;
@@ -148,10 +147,9 @@ impl Cache {
         out: &mut [u8; 128],
         steps: &mut Steps<L>,
     ) -> Result<(), Failed>
-        requires inside { IsInside (D.attached drives.old drive) sector }
+        requires inside { IsInside (size_of (D.disks drives.old) drive) sector }
         requires coherent { IsCoherent self.old (D.disks drives.old) }
-        ensures bytes { OnOk result (IfSome (D.disks drives.old) (λ told.
-            IfSome (image_of told drive) (λ image. out.new ≡ sector_of image sector))) }
+        ensures bytes { OnOk result (IfSome ((D.disks drives.old).image drive) (λ image. out.new ≡ sector_of image sector)) }
         ensures coherent { IsCoherent self.new (D.disks drives.new) }
         ensures apart { StayApart drive self.old self.new (D.disks drives.old) (D.disks drives.new) }
         ensures calls { steps.new ≡ steps.old + 1 }
@@ -160,9 +158,9 @@ impl Cache {
         ensures err { OnErr result (self.new ≡ self.old) }
         ensures cause { HasCause (D.faults drives.old) (D.faults drives.new) result }
         ensures names { D.failed_names drives.new ≡ D.failed_names drives.old }
-        ensures drives { (other : ℕ) → D.attached drives.new other ≡ D.attached drives.old other }
-        ensures unsynced { (other : ℕ) → D.unsynced drives.new other ≡ D.unsynced drives.old other }
-        ensures disks { Told SameDisks (D.disks drives.old) (D.disks drives.new) }
+        ensures disks { D.disks drives.new ≡ D.disks drives.old }
+        ensures told { D.told drives.new ≡ D.told drives.old }
+        ensures unsynced { D.unsynced drives.new ≡ D.unsynced drives.old }
     {
         steps.tick();
         match drives.read(drive, sector, out) {
@@ -186,12 +184,11 @@ impl Cache {
         bytes: &[u8; 128],
         steps: &mut Steps<L>,
     ) -> Result<(), Failed>
-        requires inside { IsInside (D.attached drives.old drive) sector }
+        requires inside { IsInside (size_of (D.disks drives.old) drive) sector }
         requires coherent { IsCoherent self.old (D.disks drives.old) }
         requires apart { HasNoAlias self.old (D.disks drives.old) drive }
-        ensures ok { OnOk result (Told (Writes drive sector bytes.now) (D.disks drives.old) (D.disks drives.new)) }
-        ensures err { OnErr result (Told SameDisks (D.disks drives.old) (D.disks drives.new)
-            ⊎ Told (Writes drive sector bytes.now) (D.disks drives.old) (D.disks drives.new)) }
+        ensures ok { OnOk result (Writes drive sector bytes.now (D.disks drives.old) (D.disks drives.new)) }
+        ensures err { OnErr result ((D.disks drives.new ≡ D.disks drives.old) ⊎ Writes drive sector bytes.now (D.disks drives.old) (D.disks drives.new)) }
         ensures coherent { IsCoherent self.new (D.disks drives.new) }
         ensures apart { StayApart drive self.old self.new (D.disks drives.old) (D.disks drives.new) }
         ensures calls { steps.new ≡ steps.old + 1 }
@@ -205,7 +202,7 @@ impl Cache {
         // What is so of the drives.
         ensures cause { HasCause (D.faults drives.old) (D.faults drives.new) result }
         ensures names { D.failed_names drives.new ≡ D.failed_names drives.old }
-        ensures drives { (other : ℕ) → D.attached drives.new other ≡ D.attached drives.old other }
+        ensures told { KeepsTold ((D.disks drives.old).name_of drive) (D.told drives.old) (D.told drives.new) }
         ensures unsynced { D.unsynced drives.new drive ≡ true }
         ensures beside { (other : ℕ) → other ≢ drive → D.unsynced drives.new other ≡ D.unsynced drives.old other }
     {

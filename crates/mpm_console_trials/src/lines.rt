@@ -1,5 +1,5 @@
 //! The lines that consoles, printers and records of calls make, and how often a sink is called for them.
-ghost use Rattle.std.specs.Prelude.{Some, ◌≡◌, ◌+◌, ◌-◌, ◌^◌, min};
+ghost use Rattle.std.specs.Prelude.{◌≡◌, ◌+◌, ◌-◌, ◌^◌, min};
 ghost use Rattle.mpm_render.specs.Lines.{IsUnit};
 
 use arrayvec::ArrayVec;
@@ -23,7 +23,7 @@ struct Paper {
 }
 
 impl Sink for Paper {
-    ghost written = { λ sink. Some sink.bytes.items };
+    ghost written = { λ sink. sink.bytes.items };
 
     ghost faults = { λ sink. sink.faults };
 

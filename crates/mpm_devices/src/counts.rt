@@ -1,6 +1,6 @@
-ghost use Rattle.std.specs.Prelude.{◌≡◌, ◌+◌, ◌-◌, ◌^◌, ◌++◌, ◌∷◌, [], ℕ, min, if◌then◌else◌, List, Some, IfOk, IsOk, OnOk, OnErr};
+ghost use Rattle.std.specs.Prelude.{◌≡◌, ◌+◌, ◌-◌, ◌^◌, ◌++◌, ◌∷◌, [], ℕ, min, if◌then◌else◌, List, IfOk, IsOk, OnOk, OnErr};
 ghost use Rattle.mpm_port.specs.Causes.{HasCause};
-ghost use Rattle.mpm_port.specs.Texts.{appended, AppendsPart};
+ghost use Rattle.mpm_port.specs.Texts.{AppendsPart};
 ghost use Rattle.mpm_devices.specs.Kinds.{begins_with, counted};
 
 use crate::passage::Passage;
@@ -99,7 +99,7 @@ fn with_line(count: u64, first: u8, last: u8, byte: u8) -> u64
 }
 
 impl Sink for LineCounts {
-    ghost written = { λ c. Some c };
+    ghost written = { λ c. c };
 
     ghost faults = { λ _. 0 };
 
@@ -113,8 +113,8 @@ impl Sink for LineCounts {
         ensures took { OnOk result (self.new ≡ self.old ++ bytes.now) }
         ensures dropped { OnErr result ⊥ }
         ensures cause { HasCause 0 0 result }
-        ensures ok { OnOk result (Some self.new ≡ appended (Some self.old) bytes.now) }
-        ensures err { OnErr result (AppendsPart (Some self.old) bytes.now (Some self.new)) }
+        ensures ok { OnOk result (self.new ≡ self.old ++ bytes.now) }
+        ensures err { OnErr result (AppendsPart self.old bytes.now self.new) }
     {
         self.count_all(bytes);
         Ok(())

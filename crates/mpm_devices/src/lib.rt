@@ -7,4 +7,5 @@ mod passage;
 mod steady;
 
 pub use counts::LineCounts;
+pub use passage::Passage;
 pub use steady::SteadyDrives;

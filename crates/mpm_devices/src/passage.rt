@@ -8,7 +8,7 @@ use std::marker::Model;
 /// What passed, byte by byte, of which nothing is kept. Contracts see all of it: each byte goes through a ring of one place,
 /// whose ends know what was sent.
 #[derive(Drop)]
-pub(crate) struct Passage {
+pub struct Passage {
     producer: Producer<u8>,
     consumer: Consumer<u8>,
 }
@@ -29,15 +29,24 @@ impl Passage {
     ///
     /// # Errors
     /// Where no memory is found for the ring.
-    pub(crate) fn new(alloc: Global) -> Result<Passage, OutOfMemory>
+    pub fn new(alloc: Global) -> Result<Passage, OutOfMemory>
         ensures { IfOk result (λ passage. passage ≡ []) }
     {
         let (producer, consumer) = RingBuffer::new(alloc, 1)?;
         Ok(Passage { producer, consumer })
     }
 
+    /// All these bytes pass.
+    pub fn pass_all(&mut self, bytes: &[u8])
+        ensures { self.new ≡ self.old ++ bytes.now }
+    {
+        for &byte in bytes {
+            let _byte = self.pass(byte);
+        }
+    }
+
     /// One more byte passes.
-    pub(crate) fn pass(&mut self, byte: u8) -> u8
+    pub fn pass(&mut self, byte: u8) -> u8
         ensures passed { self.new ≡ self.old ++ byte ∷ [] }
         ensures same { result ≡ byte }
     {

@@ -1,5 +1,5 @@
-ghost use Rattle.std.specs.Prelude.{◌≡◌, Some};
-ghost use Rattle.mpm_port.specs.MemoryDisks.{disks_of, size_of, is_unsynced, sizes_told};
+ghost use Rattle.std.specs.Prelude.{◌≡◌};
+ghost use Rattle.mpm_port.specs.MemoryDisks.{disks_of, told_of, is_unsynced, memory_agrees};
 ghost use Rattle.mpm_devices.specs.Steady.{IsSteady};
 
 use mpm_port::{Drives, Failed, FetchError, MemoryDrives};
@@ -33,9 +33,9 @@ impl SteadyDrives {
 }
 
 impl Drives for SteadyDrives {
-    ghost attached = { size_of };
+    ghost disks = { disks_of };
 
-    ghost disks = { λ d. Some (disks_of d) };
+    ghost told = { told_of };
 
     ghost unsynced = { is_unsynced };
 
@@ -43,7 +43,7 @@ impl Drives for SteadyDrives {
 
     ghost failed_names = { λ d. d.failed };
 
-    ghost sizes = { sizes_told };
+    ghost agrees = { memory_agrees };
 
     #[tactic(auto, unfolding(mpm_port::specs::MemoryDisks::after_attach))]
     fn attach(&mut self, drive: u8, name: &str) -> Result<(), FetchError> {

@@ -72,15 +72,3 @@ direct_by kinds protected drive call SetRandomRecord = answers (record (answerin
 
 abbrev pub is_protected : List Bool → ℕ → Bool
 is_protected protected number = slice_index_or protected number false
-
--- what such a call answers, by the kinds of the drives that are mounted and by which drives are protected
-pub record ComesDirectly (kinds : ℕ → Option Kind) (protected : ℕ → Bool) (drive : ℕ) (function : DirectFunction) (call : Taken) (answer : Answer) (extended : Option Extended) : Type 0 where
-  pub answer_is : answer ≡ (direct_by kinds protected drive call function).answer
-  pub extended_is : extended ≡ (direct_by kinds protected drive call function).extended
-
--- and where these aren't named: some drives are mounted, of some kinds, and some are protected
-pub record IsToldDirectly (drive : ℕ) (function : DirectFunction) (call : Taken) (answer : Answer) (extended : Option Extended) : Type 0 where
-  pub kinds : ℕ → Option Kind
-  pub protected : ℕ → Bool
-  pub answer_is : answer ≡ (direct_by kinds protected drive call function).answer
-  pub extended_is : extended ≡ (direct_by kinds protected drive call function).extended

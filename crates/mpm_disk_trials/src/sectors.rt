@@ -1,6 +1,7 @@
 //! What is written on disks in memory, where each call of the drives fails in turn.
 ghost use Rattle.std.specs.Prelude.{◌≡◌, ℕ, ◌<◌, List, Some, OnOk};
-ghost use Rattle.mpm_port.specs.MemoryDisks.{size_of, disks_of, IsFree};
+ghost use Rattle.mpm_port.specs.Disks.{size_of};
+ghost use Rattle.mpm_port.specs.MemoryDisks.{disks_of, IsFree};
 ghost use Rattle.mpm_blocks.specs.Geometries.{geometry_of};
 ghost use Rattle.mpm_cache.specs.Coherent.{IsCoherent, HasNoAlias};
 
@@ -31,7 +32,7 @@ const FIRST: u16 = 10;
 /// the last one fails, up to a number of writers.
 fn attach_one(alloc: Global, drives: &mut MemoryDrives, kind: Kind, writers: u8) -> Result<(), Fail>
     requires { (name : List ℕ) → IsFree drives.old name }
-    ensures size { OnOk result (size_of drives.new 0 ≡ Some (geometry_of kind).bytes) }
+    ensures size { OnOk result (size_of (disks_of drives.new) 0 ≡ Some (geometry_of kind).bytes) }
 {
     let image = vec![in alloc; 0xE5; geometry(kind).bytes as usize]?;
     drives.add("A", image.as_slice())?;
@@ -43,7 +44,7 @@ fn attach_one(alloc: Global, drives: &mut MemoryDrives, kind: Kind, writers: u8)
 
 /// The last call of each writer is to fail, from the first writer on, behind call 1.
 fn fail_last(drives: &mut MemoryDrives, writers: u8) -> Result<(), Fail>
-    ensures { OnOk result (size_of drives.new 0 ≡ size_of drives.old 0) }
+    ensures { OnOk result (size_of (disks_of drives.new) 0 ≡ size_of (disks_of drives.old) 0) }
 {
     let mut call: u64 = 1;
     for number in 0..writers {
@@ -61,12 +62,12 @@ fn put_block<L: Ledger>(
     block: u16,
     fresh: Fresh,
 ) -> bool
-    requires size { size_of drives.old 0 ≡ Some (geometry_of fresh.kind).bytes }
-    requires coherent { IsCoherent cache.old (Some (disks_of drives.old)) }
-    requires apart { HasNoAlias cache.old (Some (disks_of drives.old)) 0 }
-    ensures size { size_of drives.new 0 ≡ Some (geometry_of fresh.kind).bytes }
-    ensures coherent { IsCoherent cache.new (Some (disks_of drives.new)) }
-    ensures apart { HasNoAlias cache.new (Some (disks_of drives.new)) 0 }
+    requires size { size_of (disks_of drives.old) 0 ≡ Some (geometry_of fresh.kind).bytes }
+    requires coherent { IsCoherent cache.old (disks_of drives.old) }
+    requires apart { HasNoAlias cache.old (disks_of drives.old) 0 }
+    ensures size { size_of (disks_of drives.new) 0 ≡ Some (geometry_of fresh.kind).bytes }
+    ensures coherent { IsCoherent cache.new (disks_of drives.new) }
+    ensures apart { HasNoAlias cache.new (disks_of drives.new) 0 }
 {
     let sizes = geometry(fresh.kind);
     let records = sizes.block / 128;
@@ -97,10 +98,10 @@ fn holds<L: Ledger>(
     sector: u32,
     byte: u8,
 ) -> bool
-    requires size { size_of drives.old 0 ≡ Some (geometry_of kind).bytes }
-    requires coherent { IsCoherent cache.old (Some (disks_of drives.old)) }
-    ensures size { size_of drives.new 0 ≡ Some (geometry_of kind).bytes }
-    ensures coherent { IsCoherent cache.new (Some (disks_of drives.new)) }
+    requires size { size_of (disks_of drives.old) 0 ≡ Some (geometry_of kind).bytes }
+    requires coherent { IsCoherent cache.old (disks_of drives.old) }
+    ensures size { size_of (disks_of drives.new) 0 ≡ Some (geometry_of kind).bytes }
+    ensures coherent { IsCoherent cache.new (disks_of drives.new) }
 {
     let mut out = [0; 128];
     if sector >= 1_950 {
@@ -132,10 +133,10 @@ fn put_blocks<L: Ledger>(
     steps: &mut Steps<L>,
     fresh: Fresh,
 ) -> bool
-    requires size { size_of drives.old 0 ≡ Some (geometry_of fresh.kind).bytes }
-    requires coherent { IsCoherent cache.old (Some (disks_of drives.old)) }
-    requires apart { HasNoAlias cache.old (Some (disks_of drives.old)) 0 }
-    ensures { size_of drives.new 0 ≡ Some (geometry_of fresh.kind).bytes }
+    requires size { size_of (disks_of drives.old) 0 ≡ Some (geometry_of fresh.kind).bytes }
+    requires coherent { IsCoherent cache.old (disks_of drives.old) }
+    requires apart { HasNoAlias cache.old (disks_of drives.old) 0 }
+    ensures { size_of (disks_of drives.new) 0 ≡ Some (geometry_of fresh.kind).bytes }
 {
     for number in 0..u16::from(fresh.writes) + 1 {
         let went_well = put_block(cache, drives, steps, FIRST + number, fresh);
@@ -154,10 +155,10 @@ fn block_holds<L: Ledger>(
     fresh: Fresh,
     writes: u8,
 ) -> bool
-    requires size { size_of drives.old 0 ≡ Some (geometry_of fresh.kind).bytes }
-    requires coherent { IsCoherent cache.old (Some (disks_of drives.old)) }
-    ensures size { size_of drives.new 0 ≡ Some (geometry_of fresh.kind).bytes }
-    ensures coherent { IsCoherent cache.new (Some (disks_of drives.new)) }
+    requires size { size_of (disks_of drives.old) 0 ≡ Some (geometry_of fresh.kind).bytes }
+    requires coherent { IsCoherent cache.old (disks_of drives.old) }
+    ensures size { size_of (disks_of drives.new) 0 ≡ Some (geometry_of fresh.kind).bytes }
+    ensures coherent { IsCoherent cache.new (disks_of drives.new) }
 {
     let records = (geometry(fresh.kind).block / 128) as u8;
     let first = (u32::from(FIRST) + u32::from(writes)) * u32::from(records);
@@ -184,7 +185,7 @@ fn blocks_hold<L: Ledger>(
     steps: &mut Steps<L>,
     fresh: Fresh,
 ) -> Result<bool, Fail>
-    requires size { size_of drives.old 0 ≡ Some (geometry_of fresh.kind).bytes }
+    requires size { size_of (disks_of drives.old) 0 ≡ Some (geometry_of fresh.kind).bytes }
 {
     let mut cache = Cache::new(alloc)?;
     for number in 0..u16::from(fresh.writes) + 1 {
@@ -215,9 +216,9 @@ fn passes<L: Ledger>(
     kind: Kind,
     trial: Trial,
 ) -> Result<bool, Fail>
-    requires size { size_of drives.old 0 ≡ Some (geometry_of kind).bytes }
-    requires coherent { IsCoherent cache.old (Some (disks_of drives.old)) }
-    requires apart { HasNoAlias cache.old (Some (disks_of drives.old)) 0 }
+    requires size { size_of (disks_of drives.old) 0 ≡ Some (geometry_of kind).bytes }
+    requires coherent { IsCoherent cache.old (disks_of drives.old) }
+    requires apart { HasNoAlias cache.old (disks_of drives.old) 0 }
 {
     match trial {
         Trial::Blocks {
@@ -385,12 +386,12 @@ fn acts<L: Ledger>(
     steps: &mut Steps<L>,
     line: Line,
 ) -> bool
-    requires size { size_of drives.old 0 ≡ Some 256256 }
-    requires coherent { IsCoherent cache.old (Some (disks_of drives.old)) }
-    requires apart { HasNoAlias cache.old (Some (disks_of drives.old)) 0 }
-    ensures size { size_of drives.new 0 ≡ Some 256256 }
-    ensures coherent { IsCoherent cache.new (Some (disks_of drives.new)) }
-    ensures apart { HasNoAlias cache.new (Some (disks_of drives.new)) 0 }
+    requires size { size_of (disks_of drives.old) 0 ≡ Some 256256 }
+    requires coherent { IsCoherent cache.old (disks_of drives.old) }
+    requires apart { HasNoAlias cache.old (disks_of drives.old) 0 }
+    ensures size { size_of (disks_of drives.new) 0 ≡ Some 256256 }
+    ensures coherent { IsCoherent cache.new (disks_of drives.new) }
+    ensures apart { HasNoAlias cache.new (disks_of drives.new) 0 }
 {
     let disk = Disk {
         drive: 0,
@@ -431,12 +432,12 @@ fn has<L: Ledger>(
     steps: &mut Steps<L>,
     bytes: [u8; 128],
 ) -> bool
-    requires size { size_of drives.old 0 ≡ Some 256256 }
-    requires coherent { IsCoherent cache.old (Some (disks_of drives.old)) }
-    requires apart { HasNoAlias cache.old (Some (disks_of drives.old)) 0 }
-    ensures size { size_of drives.new 0 ≡ Some 256256 }
-    ensures coherent { IsCoherent cache.new (Some (disks_of drives.new)) }
-    ensures apart { HasNoAlias cache.new (Some (disks_of drives.new)) 0 }
+    requires size { size_of (disks_of drives.old) 0 ≡ Some 256256 }
+    requires coherent { IsCoherent cache.old (disks_of drives.old) }
+    requires apart { HasNoAlias cache.old (disks_of drives.old) 0 }
+    ensures size { size_of (disks_of drives.new) 0 ≡ Some 256256 }
+    ensures coherent { IsCoherent cache.new (disks_of drives.new) }
+    ensures apart { HasNoAlias cache.new (disks_of drives.new) 0 }
 {
     let mut out = [0; 128];
     let disk = Disk {
@@ -453,9 +454,9 @@ fn go_so<L: Ledger>(
     steps: &mut Steps<L>,
     lines: &[(Line, bool)],
 ) -> bool
-    requires size { size_of drives.old 0 ≡ Some 256256 }
-    requires coherent { IsCoherent cache.old (Some (disks_of drives.old)) }
-    requires apart { HasNoAlias cache.old (Some (disks_of drives.old)) 0 }
+    requires size { size_of (disks_of drives.old) 0 ≡ Some 256256 }
+    requires coherent { IsCoherent cache.old (disks_of drives.old) }
+    requires apart { HasNoAlias cache.old (disks_of drives.old) 0 }
 {
     for (line, goes_well) in lines {
         if acts(cache, drives, steps, *line) != *goes_well {
@@ -471,9 +472,9 @@ fn are_written<L: Ledger>(
     drives: &mut MemoryDrives,
     steps: &mut Steps<L>,
 ) -> bool
-    requires size { size_of drives.old 0 ≡ Some 256256 }
-    requires coherent { IsCoherent cache.old (Some (disks_of drives.old)) }
-    requires apart { HasNoAlias cache.old (Some (disks_of drives.old)) 0 }
+    requires size { size_of (disks_of drives.old) 0 ≡ Some 256256 }
+    requires coherent { IsCoherent cache.old (disks_of drives.old) }
+    requires apart { HasNoAlias cache.old (disks_of drives.old) 0 }
 {
     let lines = [
         (Line::PutXfcb(1), false),
@@ -514,9 +515,9 @@ fn entries_are_written_by_their_sectors(rt: HostRuntime) -> Result<(), Fail> {
 
 /// Sector 16 of a floppy behind the system's tracks, the first of block 2, is sector 71 of the image.
 fn is_placed<L: Ledger>(cache: &mut Cache, drives: &mut MemoryDrives, steps: &mut Steps<L>) -> bool
-    requires size { size_of drives.old 0 ≡ Some 256256 }
-    requires coherent { IsCoherent cache.old (Some (disks_of drives.old)) }
-    requires apart { HasNoAlias cache.old (Some (disks_of drives.old)) 0 }
+    requires size { size_of (disks_of drives.old) 0 ≡ Some 256256 }
+    requires coherent { IsCoherent cache.old (disks_of drives.old) }
+    requires apart { HasNoAlias cache.old (disks_of drives.old) 0 }
 {
     let disk = Disk {
         drive: 0,

@@ -1,28 +1,25 @@
 -- The drives that are mounted, one after another.
 use Rattle.std.proofs.Common.{◌≡◌, ◌≢◌, ◌∙◌, ℕ, ◌+◌, ◌<◌, Bool, false, List, [], ◌∷◌, ◌++◌, length, take, drop, get_or, append_assoc, Option, Some, true, sym, ap, subst, inl, inr, arith}
-use Rattle.std.specs.Prelude.{IfSome, Err}
+use Rattle.std.specs.Prelude.{IfSome, IsSomeAnd, Err}
 use Rattle.std.proofs.lemmas.Bool.{cases_eq}
 use Rattle.std.proofs.lemmas.List.{take_more, take-append-drop}
 use Rattle.std.proofs.lemmas.List.Elements.{All-push, recursion_from_All}
 use Rattle.std.specs.List.{All, AllByRecursion}
-use Rattle.mpm_port.specs.Disks.{Disks, Attaches, SameDisks, Told}
+use Rattle.mpm_port.specs.Disks.{Disks, Brings, Attaches}
 use Rattle.mpm_machine_file.specs.declared.lists.DriveSpec.{DriveSpec}
 use Rattle.mpm_machine_file.specs.Drives.{all_differ}
 use Rattle.mpm_machine_file.specs.MachineFiles.{IsDrive}
 use Rattle.mpm_machine_file.proofs.OrderLaws.{IsApart, AreApart, letters_differ, apart_from_differ}
-use Rattle.mpm_blocks.specs.Geometries.{geometry_of}
-use Rattle.mpm_mount.specs.Directories.{Directory, IsDirectory}
+use Rattle.mpm_mount.specs.Directories.{Directory}
 use Rattle.mpm_drives.specs.declared.error.BootError.{BootError}
 use Rattle.mpm_drives.specs.declared.error.BootError.TheVariants.{Image, DiskFault, OutOfMemory}
 use Rattle.mpm_mount.specs.declared.errors.MountError.{MountError}
 use Rattle.mpm_mount.specs.declared.errors.MountError.TheVariants.{Image as BadImage}
-use Rattle.mpm_blocks.specs.Sectors.{told_image}
-use Rattle.mpm_mount.specs.Mounting.{IsMounted, IsImageFault, IsErrorOfSome, Counts}
-use Rattle.mpm_blocks.proofs.ToldImages.{told_image_same}
-use Rattle.mpm_drives.specs.Images.{ToldImage, Images, image_named, HasFault}
-use Rattle.mpm_drives.specs.Mounted.{number_of, IsImageOf, IsNamed, HasDirectory, IsMountedAs, AreMounted, AreSynced, OnlyDrive, SameBeside}
+use Rattle.mpm_mount.specs.Mounting.{IsMounted, IsImageFault, Counts}
+use Rattle.mpm_drives.specs.Images.{Images, HasFault}
+use Rattle.mpm_drives.specs.Mounted.{number_of, IsMountedAs, AreMounted, AreSynced, OnlyDrive, SameBeside}
 use Rattle.mpm_drives.specs.Stopping.{Failures, StopsAt, IsFirst, Stops}
-use Rattle.mpm_drives.proofs.Telling.{attached_image, attached_named, same_named, attached_only, same_only, only_over, directory_told, fault_told, faultless_told}
+use Rattle.mpm_drives.proofs.Telling.{brought_mounted, brought_fault, faultless_brought}
 
 -- drives before one of some that don't clash have other numbers
 
@@ -48,33 +45,31 @@ others_differ specs front spec rest is each differ =
 
 -- those that are mounted stay so as another drive is attached
 
-kept : (number : ℕ) (a a' : ℕ → Option ℕ) (x x' : Option Disks) (images : Images) (spec : DriveSpec) (d : Directory) → OnlyDrive number a a' x x' → number_of spec ≢ number
-    → IsMountedAs a x images spec d → IsMountedAs a' x' images spec d
-kept number a a' x x' images spec d only apart mounted =
+kept : (number : ℕ) (x x' : Disks) (images : Images) (spec : DriveSpec) (d : Directory) → OnlyDrive number x x' → number_of spec ≢ number
+    → IsMountedAs x images spec d → IsMountedAs x' images spec d
+kept number x x' images spec d only apart mounted =
     let other : d.drive ≢ number = λ same. apart (sym mounted.number ∙ same) in
     record {
       number = mounted.number;
       kind = mounted.kind;
-      size = only.others d.drive other ∙ mounted.size;
-      image = subst (IsImageOf (images spec.image)) (sym (only.told d.drive other)) mounted.image;
-      name = only.named d.drive spec.image other mounted.name;
-      directory = mounted.directory;
+      name = only.names d.drive other ∙ mounted.name;
+      image = subst (λ (o : Option (List ℕ)). IsSomeAnd o (λ image. Brings (images spec.image) image × IsMounted image spec.kind d)) (sym (only.images d.drive other)) mounted.image;
     }
 
-pub mounted_kept : (number : ℕ) (a a' : ℕ → Option ℕ) (x x' : Option Disks) (images : Images) (specs : List DriveSpec) (ds : List Directory)
-    → OnlyDrive number a a' x x' → AllByRecursion (λ spec. number_of spec ≢ number) specs → AreMounted a x images specs ds → AreMounted a' x' images specs ds
-mounted_kept number a a' x x' images [] [] only apart mounted = tt
-mounted_kept number a a' x x' images [] (d ∷ ds) only apart mounted = absurd mounted
-mounted_kept number a a' x x' images (spec ∷ specs) [] only apart mounted = absurd mounted
-mounted_kept number a a' x x' images (spec ∷ specs) (d ∷ ds) only apart mounted =
-    (kept number a a' x x' images spec d only apart.0 mounted.0, mounted_kept number a a' x x' images specs ds only apart.1 mounted.1)
+pub mounted_kept : (number : ℕ) (x x' : Disks) (images : Images) (specs : List DriveSpec) (ds : List Directory)
+    → OnlyDrive number x x' → AllByRecursion (λ spec. number_of spec ≢ number) specs → AreMounted x images specs ds → AreMounted x' images specs ds
+mounted_kept number x x' images [] [] only apart mounted = tt
+mounted_kept number x x' images [] (d ∷ ds) only apart mounted = absurd mounted
+mounted_kept number x x' images (spec ∷ specs) [] only apart mounted = absurd mounted
+mounted_kept number x x' images (spec ∷ specs) (d ∷ ds) only apart mounted =
+    (kept number x x' images spec d only apart.0 mounted.0, mounted_kept number x x' images specs ds only apart.1 mounted.1)
 
-pub mounted_more : (a : ℕ → Option ℕ) (x : Option Disks) (images : Images) (specs : List DriveSpec) (ds : List Directory) (spec : DriveSpec) (d : Directory)
-    → AreMounted a x images specs ds → IsMountedAs a x images spec d → AreMounted a x images (specs ++ (spec ∷ [])) (ds ++ (d ∷ []))
-mounted_more a x images [] [] spec d mounted here = (here, tt)
-mounted_more a x images [] (e ∷ ds) spec d mounted here = absurd mounted
-mounted_more a x images (first ∷ specs) [] spec d mounted here = absurd mounted
-mounted_more a x images (first ∷ specs) (e ∷ ds) spec d mounted here = (mounted.0, mounted_more a x images specs ds spec d mounted.1 here)
+pub mounted_more : (x : Disks) (images : Images) (specs : List DriveSpec) (ds : List Directory) (spec : DriveSpec) (d : Directory)
+    → AreMounted x images specs ds → IsMountedAs x images spec d → AreMounted x images (specs ++ (spec ∷ [])) (ds ++ (d ∷ []))
+mounted_more x images [] [] spec d mounted here = (here, tt)
+mounted_more x images [] (e ∷ ds) spec d mounted here = absurd mounted
+mounted_more x images (first ∷ specs) [] spec d mounted here = absurd mounted
+mounted_more x images (first ∷ specs) (e ∷ ds) spec d mounted here = (mounted.0, mounted_more x images specs ds spec d mounted.1 here)
 
 -- and so do drives that none of them is
 
@@ -84,83 +79,54 @@ not_listed specs front spec rest is number apart same =
     each_at (λ s. number_of s ≢ number) front spec rest
     (subst (AllByRecursion (λ s. number_of s ≢ number)) is (recursion_from_All (λ s. number_of s ≢ number) specs apart)) (sym same)
 
-pub beside_more : (specs front : List DriveSpec) (spec : DriveSpec) (rest : List DriveSpec) (a b c : ℕ → Option ℕ) (x y z : Option Disks) → specs ≡ front ++ (spec ∷ rest)
-    → SameBeside specs a b x y → OnlyDrive (number_of spec) b c y z → SameBeside specs a c x z
-beside_more specs front spec rest a b c x y z is beside only =
+pub beside_more : (specs front : List DriveSpec) (spec : DriveSpec) (rest : List DriveSpec) (x y z : Disks) → specs ≡ front ++ (spec ∷ rest)
+    → SameBeside specs x y → OnlyDrive (number_of spec) y z → SameBeside specs x z
+beside_more specs front spec rest x y z is beside only =
     let other = not_listed specs front spec rest is in
     record {
-      drives = λ number apart. only.others number (other number apart) ∙ beside.drives number apart;
-      images = λ number apart. only.told number (other number apart) ∙ beside.images number apart;
+      images = λ number apart. only.images number (other number apart) ∙ beside.images number apart;
+      names = λ number apart. only.names number (other number apart) ∙ beside.names number apart;
     }
-
--- by what was told before
-
-pub mounted_by : (a : ℕ → Option ℕ) (x : Option Disks) (one other : Images) (spec : DriveSpec) (d : Directory) → one spec.image ≡ other spec.image
-    → IsMountedAs a x one spec d → IsMountedAs a x other spec d
-mounted_by a x one other spec d same mounted = record {
-  number = mounted.number;
-  kind = mounted.kind;
-  size = mounted.size;
-  image = subst (λ (t : ToldImage). IsImageOf t (told_image x d.drive)) same mounted.image;
-  name = mounted.name;
-  directory = subst (λ (t : ToldImage). HasDirectory t spec.kind d) same mounted.directory;
-}
 
 pub failures_same : (f f' : ℕ) (n n' : List (List ℕ)) → f ≡ f' → n ≡ n' → ◌≡◌ {A = Failures} (record { faults = f; names = n }) (record { faults = f'; names = n' })
 failures_same f f' n n' faults names =
     ap (λ (k : ℕ). let failures : Failures = record { faults = k; names = n } in failures) faults
     ∙ ap (λ (k : List (List ℕ)). let failures : Failures = record { faults = f'; names = k } in failures) names
 
-stops_by : (one other : Images) (spec : DriveSpec) (old new : Failures) (error : BootError) → one spec.image ≡ other spec.image → StopsAt one spec old new error
-    → StopsAt other spec old new error
-stops_by one other spec old new (Image drive cause place) same stops =
-    (stops.0, subst (λ (t : ToldImage). HasFault t spec.kind (record { cause = cause; place = place })) same stops.1, stops.2)
-stops_by one other spec old new DiskFault same stops = stops
-stops_by one other spec old new OutOfMemory same stops = stops
-
-pub stops_from : (one other : Images) (spec : DriveSpec) (before old new : Failures) (error : BootError) → one spec.image ≡ other spec.image → before ≡ old
+pub stops_from : (one other : Images) (spec : DriveSpec) (before old new : Failures) (error : BootError) → one ≡ other → before ≡ old
     → StopsAt one spec before new error → StopsAt other spec old new error
-stops_from one other spec before old new error same is stops =
-    subst (λ (f : Failures). StopsAt other spec f new error) is (stops_by one other spec before new error same stops)
+stops_from one other spec before old new error told is stops =
+    subst (λ (f : Failures). StopsAt other spec f new error) is (subst (λ (images : Images). StopsAt images spec before new error) told stops)
 
 -- one drive, as it was attached and mounted
 
-pub mounted_as : (a a' : ℕ → Option ℕ) (x y z : Option Disks) (spec : DriveSpec) (name : List ℕ) (size : Option ℕ) (d : Directory) → name ≡ spec.image
-    → Told (Attaches (number_of spec) name size) x y → a (number_of spec) ≡ Some (geometry_of spec.kind).bytes → ((other : ℕ) → a' other ≡ a other)
-    → Told SameDisks y z → d.drive ≡ number_of spec → d.kind ≡ spec.kind → IsDirectory spec.kind d.entries
-    → IfSome (told_image y (number_of spec)) (λ image. IsMounted image spec.kind d) → IsMountedAs a' z (image_named x) spec d
-mounted_as a a' x y z spec name size d is attaches bytes drives same number kind without mounted =
-    let P : List ℕ → Type 0 = λ n. IsImageOf (image_named x n) (told_image y (number_of spec)) in
-    let image : IsImageOf (image_named x spec.image) (told_image y (number_of spec)) = subst P is (attached_image x y (number_of spec) name size attaches) in
-    let told : told_image y (number_of spec) ≡ told_image z d.drive =
-    sym (told_image_same y z (number_of spec) same) ∙ ap (told_image z) (sym number) in
+pub mounted_as : (x y z : Disks) (images : Images) (spec : DriveSpec) (name : List ℕ) (d : Directory) → name ≡ spec.image
+    → Attaches (number_of spec) name (images name) x y → z ≡ y → d.drive ≡ number_of spec → d.kind ≡ spec.kind
+    → IfSome (y.image (number_of spec)) (λ image. IsMounted image spec.kind d) → IsMountedAs z images spec d
+mounted_as x y z images spec name d is attaches same number kind mounted =
+    let here : z.image d.drive ≡ y.image (number_of spec) = ap (λ (disks : Disks). disks.image d.drive) same ∙ ap y.image number in
+    let brought : IsSomeAnd (y.image (number_of spec)) (Brings (images spec.image)) =
+    subst (λ (n : List ℕ). IsSomeAnd (y.image (number_of spec)) (Brings (images n))) is attaches.image in
     record {
       number = number;
       kind = kind;
-      size = ap a' number ∙ drives (number_of spec) ∙ bytes;
-      image = subst (IsImageOf (image_named x spec.image)) told image;
-      name = subst (λ drive. IsNamed z drive spec.image) (sym number) (same_named y z (number_of spec) spec.image same (subst (IsNamed y (number_of spec)) is (attached_named x y (number_of spec) name size attaches)));
-      directory = directory_told (image_named x spec.image) (told_image y (number_of spec)) spec.kind d image without mounted;
+      name = ap (λ (disks : Disks). disks.name_of d.drive) same ∙ ap y.name_of number ∙ attaches.here ∙ ap (λ (n : List ℕ). Some n) is;
+      image = subst (λ (o : Option (List ℕ)). IsSomeAnd o (λ image. Brings (images spec.image) image × IsMounted image spec.kind d)) (sym here)
+          (brought_mounted (y.image (number_of spec)) (images spec.image) spec.kind d brought mounted);
     }
 
-pub fault_as : (x y : Option Disks) (spec : DriveSpec) (name : List ℕ) (size its : Option ℕ) (error : MountError) (cause place : ℕ) → name ≡ spec.image
-    → error ≡ BadImage cause place → Told (Attaches (number_of spec) name size) x y
-    → IfSome (told_image y (number_of spec)) (λ image. IsImageFault image spec.kind error) → IsErrorOfSome its spec.kind error
-    → HasFault (image_named x spec.image) spec.kind (record { cause = cause; place = place })
-fault_as x y spec name size its error cause place is fault attaches has some =
-    let P : List ℕ → Type 0 = λ n. IsImageOf (image_named x n) (told_image y (number_of spec)) in
-    let Q : MountError → Type 0 = λ e. IfSome (told_image y (number_of spec)) (λ image. IsImageFault image spec.kind e) in
-    fault_told (image_named x spec.image) (told_image y (number_of spec)) its spec.kind (record { cause = cause; place = place })
-    (subst P is (attached_image x y (number_of spec) name size attaches)) (subst Q fault has) (subst (IsErrorOfSome its spec.kind) fault some)
+pub fault_as : (x y : Disks) (images : Images) (spec : DriveSpec) (name : List ℕ) (error : MountError) (cause place : ℕ) → name ≡ spec.image
+    → error ≡ BadImage cause place → Attaches (number_of spec) name (images name) x y
+    → IfSome (y.image (number_of spec)) (λ image. IsImageFault image spec.kind error)
+    → HasFault (images spec.image) spec.kind (record { cause = cause; place = place })
+fault_as x y images spec name error cause place is fault attaches has =
+    let Q : MountError → Type 0 = λ e. IfSome (y.image (number_of spec)) (λ image. IsImageFault image spec.kind e) in
+    brought_fault (y.image (number_of spec)) (images spec.image) spec.kind (record { cause = cause; place = place })
+    (subst (λ (n : List ℕ). IsSomeAnd (y.image (number_of spec)) (Brings (images n))) is attaches.image) (subst Q fault has)
 
 pub count_as : (A : Type 0) (before now : ℕ) (error : MountError) (cause place : ℕ) → error ≡ BadImage cause place → Counts {A = A} before now (Err error) → now ≡ before
 count_as A before now error cause place fault counts =
     let P : MountError → Type 0 = λ e. Counts {A = A} before now (Err e) in subst P fault counts
-
-pub only_as : (number : ℕ) (name : List ℕ) (size : Option ℕ) (a b c : ℕ → Option ℕ) (x y z : Option Disks) → Told (Attaches number name size) x y
-    → ((other : ℕ) → other ≢ number → b other ≡ a other) → ((other : ℕ) → c other ≡ b other) → Told SameDisks y z → OnlyDrive number a c x z
-only_as number name size a b c x y z attaches others drives same =
-    only_over number a b c x y z (attached_only number name size a b x y attaches others) (same_only number b c y z same (λ other apart. drives other))
 
 -- the drives before one, and that one
 
@@ -174,28 +140,28 @@ parted specs i spec within is =
     ∙ (ap (λ t. t ++ drop (i + 1) specs) (taken_more specs i spec within is) ∙ append_assoc (take i specs) (spec ∷ []) (drop (i + 1) specs))
 
 -- where it is so of one, those before it are mounted
-first_behind : (a : ℕ → Option ℕ) (x : Option Disks) (images : Images) (P : DriveSpec → Type 0) (front : List DriveSpec) (ds : List Directory) (spec : DriveSpec)
-    (rest : List DriveSpec) → AreMounted a x images front ds → P spec → IsFirst images P (front ++ (spec ∷ rest))
+first_behind : (x : Disks) (images : Images) (P : DriveSpec → Type 0) (front : List DriveSpec) (ds : List Directory) (spec : DriveSpec)
+    (rest : List DriveSpec) → AreMounted x images front ds → P spec → IsFirst images P (front ++ (spec ∷ rest))
 unfolding IsFirst
-first_behind a x images P [] [] spec rest mounted here = inl here
-first_behind a x images P [] (d ∷ ds) spec rest mounted here = absurd mounted
-first_behind a x images P (first ∷ front) [] spec rest mounted here = absurd mounted
-first_behind a x images P (first ∷ front) (d ∷ ds) spec rest mounted here =
-    inr (faultless_told (images first.image) first.kind d mounted.0.directory, first_behind a x images P front ds spec rest mounted.1 here)
+first_behind x images P [] [] spec rest mounted here = inl here
+first_behind x images P [] (d ∷ ds) spec rest mounted here = absurd mounted
+first_behind x images P (first ∷ front) [] spec rest mounted here = absurd mounted
+first_behind x images P (first ∷ front) (d ∷ ds) spec rest mounted here =
+    inr (faultless_brought (x.image d.drive) (images first.image) first.kind d mounted.0.image, first_behind x images P front ds spec rest mounted.1 here)
 
-stops_behind : (a : ℕ → Option ℕ) (x : Option Disks) (images : Images) (front : List DriveSpec) (ds : List Directory) (spec : DriveSpec) (rest : List DriveSpec)
-    (old new : Failures) (error : BootError) → AreMounted a x images front ds → StopsAt images spec old new error → Stops images (front ++ (spec ∷ rest)) old new error
-stops_behind a x images front ds spec rest old new (Image drive cause place) mounted stops =
-    first_behind a x images (λ s. StopsAt images s old new (Image drive cause place)) front ds spec rest mounted stops
-stops_behind a x images front ds spec rest old new DiskFault mounted stops =
-    first_behind a x images (λ s. StopsAt images s old new DiskFault) front ds spec rest mounted stops
-stops_behind a x images front ds spec rest old new OutOfMemory mounted stops = stops
+stops_behind : (x : Disks) (images : Images) (front : List DriveSpec) (ds : List Directory) (spec : DriveSpec) (rest : List DriveSpec)
+    (old new : Failures) (error : BootError) → AreMounted x images front ds → StopsAt images spec old new error → Stops images (front ++ (spec ∷ rest)) old new error
+stops_behind x images front ds spec rest old new (Image drive cause place) mounted stops =
+    first_behind x images (λ s. StopsAt images s old new (Image drive cause place)) front ds spec rest mounted stops
+stops_behind x images front ds spec rest old new DiskFault mounted stops =
+    first_behind x images (λ s. StopsAt images s old new DiskFault) front ds spec rest mounted stops
+stops_behind x images front ds spec rest old new OutOfMemory mounted stops = stops
 
-pub stops_at : (a : ℕ → Option ℕ) (x : Option Disks) (images : Images) (specs front : List DriveSpec) (ds : List Directory) (spec : DriveSpec) (rest : List DriveSpec)
-    (old new : Failures) (error : BootError) → specs ≡ front ++ (spec ∷ rest) → AreMounted a x images front ds → StopsAt images spec old new error
+pub stops_at : (x : Disks) (images : Images) (specs front : List DriveSpec) (ds : List Directory) (spec : DriveSpec) (rest : List DriveSpec)
+    (old new : Failures) (error : BootError) → specs ≡ front ++ (spec ∷ rest) → AreMounted x images front ds → StopsAt images spec old new error
     → Stops images specs old new error
-stops_at a x images specs front ds spec rest old new error is mounted stops =
-    subst (λ (s : List DriveSpec). Stops images s old new error) (sym is) (stops_behind a x images front ds spec rest old new error mounted stops)
+stops_at x images specs front ds spec rest old new error is mounted stops =
+    subst (λ (s : List DriveSpec). Stops images s old new error) (sym is) (stops_behind x images front ds spec rest old new error mounted stops)
 
 -- a drive that is synced stays so as one is, which is it or another
 pub stays : (old now : ℕ → Bool) (drive : ℕ) → now drive ≡ false → ((other : ℕ) → other ≢ drive → now other ≡ old other) → (number : ℕ) → old number ≡ false → now number ≡ false

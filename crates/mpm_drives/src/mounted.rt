@@ -1,7 +1,6 @@
-ghost use Rattle.std.specs.Prelude.{◌≡◌, ◌≢◌, true, false, [], ℕ, List, All, IfOk, IfErr, OnOk};
+ghost use Rattle.std.specs.Prelude.{◌≡◌, ◌≢◌, true, false, [], ℕ, All, IfOk, IfErr, OnOk};
 ghost use Rattle.mpm_machine_file.specs.Drives.{all_differ};
 ghost use Rattle.mpm_machine_file.specs.MachineFiles.{IsDrive};
-ghost use Rattle.mpm_drives.specs.Images.{image_named};
 ghost use Rattle.mpm_drives.specs.Mounted.{number_of, IsMountedAs, AreMounted, AreSynced, OnlyDrive, SameBeside};
 ghost use Rattle.mpm_drives.specs.Stopping.{StopsAt, Stops};
 
@@ -50,14 +49,14 @@ impl MountedDrives {
     ) -> Result<MountedDrives, BootError>
         requires apart { all_differ specs.now ≡ true }
         requires each { All IsDrive specs.now }
-        ensures mounted { IfOk result (λ mounted. AreMounted (D.attached drives.new) (D.disks drives.new) (image_named (D.disks drives.old)) specs.now mounted) }
+        ensures mounted { IfOk result (λ mounted. AreMounted (D.disks drives.new) (D.told drives.old) specs.now mounted) }
         ensures count { OnOk result (D.faults drives.new ≡ D.faults drives.old) }
         ensures names { OnOk result (D.failed_names drives.new ≡ D.failed_names drives.old) }
-        ensures err { IfErr result (λ error. Stops (image_named (D.disks drives.old)) specs.now
+        ensures err { IfErr result (λ error. Stops (D.told drives.old) specs.now
             (record { faults = D.faults drives.old; names = D.failed_names drives.old })
             (record { faults = D.faults drives.new; names = D.failed_names drives.new }) error) }
-        ensures images { (name : List ℕ) → image_named (D.disks drives.new) name ≡ image_named (D.disks drives.old) name }
-        ensures beside { SameBeside specs.now (D.attached drives.old) (D.attached drives.new) (D.disks drives.old) (D.disks drives.new) }
+        ensures told { D.told drives.new ≡ D.told drives.old }
+        ensures beside { SameBeside specs.now (D.disks drives.old) (D.disks drives.new) }
         ensures fresh { IfOk result (λ mounted. AreSynced (D.unsynced drives.new) mounted) }
         ensures unsynced { (number : ℕ) → All (λ spec. number_of spec ≢ number) specs.now → D.unsynced drives.new number ≡ D.unsynced drives.old number }
         ensures none { specs.now ≡ [] → drives.new ≡ drives.old }
@@ -90,15 +89,16 @@ fn mount_drive<D: Drives>(
     drives: &mut D,
 ) -> Result<Mounted, BootError>
     requires { IsDrive spec.now }
-    ensures mounted { IfOk result (λ mounted. IsMountedAs (D.attached drives.new) (D.disks drives.new) (image_named (D.disks drives.old)) spec.now mounted) }
+    ensures mounted { IfOk result (λ mounted. IsMountedAs (D.disks drives.new) (D.told drives.old) spec.now mounted) }
     ensures count { OnOk result (D.faults drives.new ≡ D.faults drives.old) }
     ensures names { OnOk result (D.failed_names drives.new ≡ D.failed_names drives.old) }
-    ensures err { IfErr result (λ error. StopsAt (image_named (D.disks drives.old)) spec.now
+    ensures err { IfErr result (λ error. StopsAt (D.told drives.old) spec.now
         (record { faults = D.faults drives.old; names = D.failed_names drives.old })
         (record { faults = D.faults drives.new; names = D.failed_names drives.new }) error) }
     ensures fresh { OnOk result (D.unsynced drives.new (number_of spec.now) ≡ false) }
     ensures unsynced { (other : ℕ) → other ≢ number_of spec.now → D.unsynced drives.new other ≡ D.unsynced drives.old other }
-    ensures only { OnlyDrive (number_of spec.now) (D.attached drives.old) (D.attached drives.new) (D.disks drives.old) (D.disks drives.new) }
+    ensures only { OnlyDrive (number_of spec.now) (D.disks drives.old) (D.disks drives.new) }
+    ensures told { D.told drives.new ≡ D.told drives.old }
 {
     let drive = spec.letter - b'A';
     match drives.attach(drive, spec.image.as_str()) {

@@ -1,10 +1,9 @@
 -- How many records a call tells as done, and the code of what ended them.
-use Rattle.std.proofs.Common.{◌≡◌, ◌∙◌, ℕ, ◌-◌, ◌≤◌, ◌<◌, Option, Some, None, IfSome, refl, ap, arith}
+use Rattle.std.proofs.Common.{◌≡◌, ◌∙◌, ℕ, ◌-◌, ◌<◌, Option, Some, None, IfSome, ap, arith}
 use Rattle.std.specs.Prelude.{min}
 use Rattle.mpm_functions.specs.declared.functions.FileFunction.{FileFunction}
 use Rattle.mpm_functions.specs.declared.ends.RecordEnd.{RecordEnd}
 use Rattle.mpm_functions.specs.Ends.{coded}
-use Rattle.mpm_entries.specs.Granting.{IsCoded}
 
 -- so many are told, and never more than that
 pub told_whole : (function : FileFunction) (moved multi : ℕ) (end : Option RecordEnd) (value : ℕ) → IfSome end (λ end. moved < multi) → value ≡ coded function (min moved (multi - 1)) end
@@ -14,7 +13,3 @@ told_whole function moved multi (Some end) value few is = is ∙ ap (λ n. coded
   where
     at_most : (n most : ℕ) → n < most → min n (most - 1) ≡ n
     at_most n most h = omega (arith, h)
-
-pub coded_within : (function : FileFunction) (moved multi : ℕ) (end : Option RecordEnd) (value : ℕ) → 1 ≤ multi → value ≡ coded function (min moved (multi - 1)) end → IsCoded multi function value
-coded_within function moved multi None value some is = record { end = None; done = multi; few = refl; is = is }
-coded_within function moved multi (Some end) value some is = record { end = Some end; done = min moved (multi - 1); few = omega (arith, some); is = is }

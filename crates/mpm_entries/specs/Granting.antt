@@ -1,5 +1,5 @@
--- What the reply of a call that isn't refused goes by, besides what its drive then has; the value and the file control block of that
--- reply; and what these may be, whatever is on the drive. (MP/M II Programmer's Guide, "BDOS Function Calls".)
+-- What the reply of a call that isn't refused goes by, besides what its drive then has; and the value and the file control block of that
+-- reply. (MP/M II Programmer's Guide, "BDOS Function Calls".)
 use Rattle.std.specs.Prelude.{◌≡◌, ℕ, ◌+◌, ◌%◌, ◌<◌, ◌≤◌, Bool, true, false, Option, Some, None, IfSome, unwrap_or, if◌then◌else◌}
 use Rattle.std.specs.FinMap.{get}
 use Rattle.mpm_dirent.specs.Names.{plain}
@@ -13,8 +13,7 @@ use Rattle.mpm_fcb.specs.Opening.{opened}
 use Rattle.mpm_mount.specs.Looking.{data_byte}
 use Rattle.mpm_entries.specs.Protections.{no_protection, told_xfcb}
 use Rattle.mpm_entries.specs.Sizes.{size_of}
-use Rattle.mpm_entries.specs.Telling.{record_count, TellsOpened, TellsPosition, TellsSize, TellsXfcb}
-use Rattle.mpm_functions.specs.declared.ends.RecordEnd.{RecordEnd}
+use Rattle.mpm_entries.specs.Telling.{record_count}
 use Rattle.mpm_functions.specs.declared.ends.Ended.{Ended}
 use Rattle.mpm_entries.specs.declared.granting.OpenedAs.{OpenedAs}
 use Rattle.mpm_entries.specs.declared.granting.Granted.{Granted}
@@ -85,39 +84,3 @@ block_by drive g TestAndWrite = moved_block drive g
 block_by drive g FileSize = with_random g.block (size_of (extents_of drive (file_in g)))
 block_by drive g ReadXfcb = told_xfcb (unwrap_or (get drive.xfcbs (file_in g)) no_protection) g.block
 block_by drive g function = g.block
-
--- what is told in a file control block, which keeps all else, by the call's function
-abbrev pub MayTellIn : FileFunction → ControlBlock → ControlBlock → Type 0
-MayTellIn OpenFile given block = TellsOpened given block
-MayTellIn ReadSequential given block = TellsPosition given block
-MayTellIn WriteSequential given block = TellsPosition given block
-MayTellIn MakeFile given block = TellsOpened given block
-MayTellIn ReadRandom given block = TellsPosition given block
-MayTellIn WriteRandom given block = TellsPosition given block
-MayTellIn FileSize given block = TellsSize given block
-MayTellIn TestAndWrite given block = TellsPosition given block
-MayTellIn ReadXfcb given block = TellsXfcb given block
-MayTellIn function given block = ⊥
-
--- of so many records all are done, or something ends them before the last
-abbrev pub AreDone : ℕ → ℕ → Option RecordEnd → Type 0
-AreDone multi done None = done ≡ multi
-AreDone multi done (Some end) = done < multi
-
--- how many records are done, and the code of what ended them; 0 where all are
-pub record IsCoded (multi : ℕ) (function : FileFunction) (value : ℕ) : Type 0 where
-  pub end : Option RecordEnd
-  pub done : ℕ
-  pub few : AreDone multi done end
-  pub is : value ≡ coded function done end
-
--- what a call on records comes to, or a label's data byte; another call answers 0
-abbrev pub MayAmount : FileFunction → ℕ → ℕ → Type 0
-MayAmount ReadSequential multi value = IsCoded multi ReadSequential value
-MayAmount WriteSequential multi value = IsCoded multi WriteSequential value
-MayAmount ReadRandom multi value = IsCoded multi ReadRandom value
-MayAmount WriteRandom multi value = IsCoded multi WriteRandom value
-MayAmount TestAndWrite multi value = IsCoded multi TestAndWrite value
-MayAmount LockRecord multi value = IsCoded multi LockRecord value
-MayAmount LabelData multi value = value < 256
-MayAmount function multi value = value ≡ 0

@@ -1,6 +1,6 @@
 -- What is told of a file: an entry as a search tells it, and what a file control block gets of a file that was opened, of a position,
 -- of its size and of its XFCB. (MP/M II Programmer's Guide, "File Control Block Definition", "Function 17: Search for First".)
-use Rattle.std.specs.Prelude.{◌≡◌, ℕ, ◌<◌, ◌≤◌, ◌/◌, ◌%◌, Bool, false, List, [], ◌++◌, Option, Some, None, unwrap_or, replicate}
+use Rattle.std.specs.Prelude.{ℕ, ◌<◌, ◌≤◌, ◌/◌, ◌%◌, false, List, [], ◌++◌, Option, Some, None, unwrap_or, replicate}
 use Rattle.std.specs.FinMap.{get}
 use Rattle.mpm_dirent.specs.declared.kinds.Entry.{Entry}
 use Rattle.mpm_dirent.specs.declared.kinds.Entry.TheVariants.{Free, File, Xfcb, Label, Kept}
@@ -8,7 +8,7 @@ use Rattle.mpm_dirent.specs.declared.kinds.FileEntry.{FileEntry}
 use Rattle.mpm_dirent.specs.Entries as entry
 use Rattle.mpm_dirent.specs.Names.{plain}
 use Rattle.mpm_opens.specs.declared.kinds.Mode.{Mode}
-use Rattle.mpm_mount.specs.Drives.{FileName, PhysicalExtent, Protection, Drive, extents_of}
+use Rattle.mpm_mount.specs.Drives.{FileName, PhysicalExtent, Drive, extents_of}
 use Rattle.mpm_mount.specs.Faults.{extent_of}
 use Rattle.mpm_mount.specs.Directories.{Directory, entry_in, extent_slot}
 use Rattle.mpm_mount.specs.Attributes.{attributes_of, attributes_in}
@@ -16,10 +16,9 @@ use Rattle.mpm_mount.specs.Files.{where_there}
 use Rattle.mpm_mount.specs.Looking.{extent_count}
 use Rattle.mpm_fcb.specs.declared.block.ControlBlock.{ControlBlock}
 use Rattle.mpm_fcb.specs.Names.{with_attributes}
-use Rattle.mpm_fcb.specs.Positions.{at_position, with_random}
+use Rattle.mpm_fcb.specs.Positions.{at_position}
 use Rattle.mpm_fcb.specs.Positions as positions
 use Rattle.mpm_fcb.specs.Opening.{opened}
-use Rattle.mpm_entries.specs.Protections.{told_xfcb}
 
 -- a directory entry as a search tells it, with S1 and map zero, and three free ones behind it
 unfoldable pub told_bytes : ℕ → List ℕ → ℕ → ℕ → List ℕ
@@ -82,27 +81,3 @@ opened_by drive owner b mode item =
 
 abbrev pub moved_to : Drive → ℕ → ControlBlock → ℕ → ControlBlock
 moved_to drive owner b position = at_position b position (record_count drive (file_in owner b) (positions.extent_of position))
-
--- what is told in a file control block, which keeps all else: a file that was opened or made, the position behind records, a file's
--- size, an XFCB
-pub record TellsOpened (given block : ControlBlock) : Type 0 where
-  pub attributes : List Bool
-  pub count : ℕ
-  pub mode : Mode
-  pub item : ℕ
-  pub few : item ≤ 63
-  pub is : block ≡ opened given attributes count mode item
-
-pub record TellsPosition (given block : ControlBlock) : Type 0 where
-  pub position : ℕ
-  pub low : position ≤ 262271
-  pub count : ℕ
-  pub is : block ≡ at_position given position count
-
-pub record TellsSize (given block : ControlBlock) : Type 0 where
-  pub size : ℕ
-  pub is : block ≡ with_random given size
-
-pub record TellsXfcb (given block : ControlBlock) : Type 0 where
-  pub xfcb : Protection
-  pub is : block ≡ told_xfcb xfcb given

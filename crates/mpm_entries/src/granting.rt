@@ -1,11 +1,9 @@
-ghost use Rattle.std.specs.Prelude.{◌≡◌, ◌≤◌, ◌⊎◌, ℕ, true, List, IfSome, unwrap_or};
+ghost use Rattle.std.specs.Prelude.{◌≡◌, ◌≤◌, ℕ, true, List, IfSome, unwrap_or};
 ghost use Rattle.std.specs.FinMap.{get};
 ghost use Rattle.mpm_mount.specs.Drives.{Drive, extents_of};
 ghost use Rattle.mpm_mount.specs.Directories.{Stands};
 ghost use Rattle.mpm_fcb.specs.Positions.{with_random};
 ghost use Rattle.mpm_entries.specs.Protections.{no_protection};
-ghost use Rattle.mpm_entries.specs.Telling.{TellsOpened, TellsPosition, TellsSize, TellsXfcb};
-ghost use Rattle.mpm_entries.specs.Granting.{MayTellIn, IsCoded, MayAmount};
 ghost use Rattle.mpm_functions.specs.Ends as records;
 ghost use Rattle.mpm_entries.specs.Granting as spec;
 ghost use Rattle.mpm_entries.specs.Protections as protections;
@@ -46,12 +44,11 @@ pub struct Granted {
 }
 
 /// How many of a call's records are done, fewer than all where something ended them, and the code of that.
-#[tactic(auto, using(crate::proofs::CodedLaws::told_whole, crate::proofs::CodedLaws::coded_within))]
+#[tactic(auto, using(crate::proofs::CodedLaws::told_whole))]
 fn told_code(function: FileFunction, ended: &Ended, multi: u8) -> u16
     requires some { 1 ≤ multi }
     requires few { multi ≤ 16 }
-    ensures all { spec.FewDone multi ended.now → result ≡ records.coded function ended.now.moved ended.now.end }
-    ensures coded { IsCoded multi function result }
+    ensures { spec.FewDone multi ended.now → result ≡ records.coded function ended.now.moved ended.now.end }
 {
     coded(function, ended.moved.min(multi - 1), ended.end)
 }
@@ -61,9 +58,8 @@ fn told_code(function: FileFunction, ended: &Ended, multi: u8) -> u16
 pub fn reply_value(granted: &Granted, multi: u8, mounted: &Mounted) -> u16
     requires some { 1 ≤ multi }
     requires few { multi ≤ 16 }
-    ensures all { (image : List ℕ) (drive : Drive) → Stands image mounted.now drive
+    ensures { (image : List ℕ) (drive : Drive) → Stands image mounted.now drive
         → spec.FewDone multi granted.now.ended → result ≡ spec.value_by drive granted.now granted.now.function }
-    ensures amount { MayAmount granted.now.function multi result }
 {
     match granted.function {
         FileFunction::ReadSequential
@@ -80,9 +76,8 @@ pub fn reply_value(granted: &Granted, multi: u8, mounted: &Mounted) -> u16
 /// The block of a file that was opened or made.
 fn opened_block(granted: &Granted, mounted: &Mounted) -> ControlBlock
     requires { IfSome granted.now.opened (λ made. made.number ≤ 63) }
-    ensures all { (image : List ℕ) (drive : Drive) → Stands image mounted.now drive
+    ensures { (image : List ℕ) (drive : Drive) → Stands image mounted.now drive
         → result ≡ spec.opened_block drive granted.now granted.now.opened }
-    ensures told { (result ≡ granted.now.block) ⊎ TellsOpened granted.now.block result }
 {
     match granted.opened {
         Some(opened) => block_as(granted, mounted, opened),
@@ -93,9 +88,8 @@ fn opened_block(granted: &Granted, mounted: &Mounted) -> ControlBlock
 /// The block of one that was opened or made so.
 fn block_as(granted: &Granted, mounted: &Mounted, made: OpenedAs) -> ControlBlock
     requires { made.number ≤ 63 }
-    ensures all { (image : List ℕ) (drive : Drive) → Stands image mounted.now drive
+    ensures { (image : List ℕ) (drive : Drive) → Stands image mounted.now drive
         → result ≡ telling.opened_by drive granted.now.owner granted.now.block made.mode made.number }
-    ensures told { TellsOpened granted.now.block result }
 {
     let mut block = granted.block;
     open_block(&mut block, mounted, granted.owner, made.mode, made.number);
@@ -104,9 +98,8 @@ fn block_as(granted: &Granted, mounted: &Mounted, made: OpenedAs) -> ControlBloc
 
 /// The block behind a call on records, which stays or moves on.
 fn moved_block(granted: &Granted, mounted: &Mounted) -> ControlBlock
-    ensures all { (image : List ℕ) (drive : Drive) → Stands image mounted.now drive → spec.IsPlaced granted.now
+    ensures { (image : List ℕ) (drive : Drive) → Stands image mounted.now drive → spec.IsPlaced granted.now
         → result ≡ spec.moved_block drive granted.now }
-    ensures told { (result ≡ granted.now.block) ⊎ TellsPosition granted.now.block result }
 {
     if does_stay(granted.ended.moved, granted.ended.end) {
         granted.block
@@ -117,9 +110,8 @@ fn moved_block(granted: &Granted, mounted: &Mounted) -> ControlBlock
 
 /// The block that moves on.
 fn placed_block(granted: &Granted, mounted: &Mounted) -> ControlBlock
-    ensures all { (image : List ℕ) (drive : Drive) → Stands image mounted.now drive → spec.position_of granted.now ≤ 262271
+    ensures { (image : List ℕ) (drive : Drive) → Stands image mounted.now drive → spec.position_of granted.now ≤ 262271
         → result ≡ telling.moved_to drive granted.now.owner granted.now.block (spec.position_of granted.now) }
-    ensures told { TellsPosition granted.now.block result }
 {
     let mut block = granted.block;
     position_block(&mut block, mounted, granted.owner, position_of(granted));
@@ -150,9 +142,8 @@ fn position_of(granted: &Granted) -> u32
 #[tactic(auto, unfolding(crate::specs::Granting::block_by))]
 pub fn reply_block(granted: &Granted, mounted: &Mounted) -> ControlBlock
     requires number { IfSome granted.now.opened (λ made. made.number ≤ 63) }
-    ensures all { (image : List ℕ) (drive : Drive) → Stands image mounted.now drive
+    ensures { (image : List ℕ) (drive : Drive) → Stands image mounted.now drive
         → (spec.is_moving granted.now.function ≡ true → spec.IsPlaced granted.now) → result ≡ spec.block_by drive granted.now granted.now.function }
-    ensures told { (result ≡ granted.now.block) ⊎ MayTellIn granted.now.function granted.now.block result }
 {
     match granted.function {
         FileFunction::OpenFile | FileFunction::MakeFile => opened_block(granted, mounted),
@@ -169,9 +160,8 @@ pub fn reply_block(granted: &Granted, mounted: &Mounted) -> ControlBlock
 
 /// The block that tells a file's size.
 fn sized_block(granted: &Granted, mounted: &Mounted) -> ControlBlock
-    ensures all { (image : List ℕ) (drive : Drive) → Stands image mounted.now drive
+    ensures { (image : List ℕ) (drive : Drive) → Stands image mounted.now drive
         → result ≡ with_random granted.now.block (sizes.size_of (extents_of drive (spec.file_in granted.now))) }
-    ensures told { TellsSize granted.now.block result }
 {
     let mut block = granted.block;
     block.set_random(size(mounted, granted.owner, &granted.block.name));
@@ -180,9 +170,8 @@ fn sized_block(granted: &Granted, mounted: &Mounted) -> ControlBlock
 
 /// The block that tells of a file's XFCB.
 fn guarded_block(granted: &Granted, mounted: &Mounted) -> ControlBlock
-    ensures all { (image : List ℕ) (drive : Drive) → Stands image mounted.now drive
+    ensures { (image : List ℕ) (drive : Drive) → Stands image mounted.now drive
         → result ≡ protections.told_xfcb (unwrap_or (get drive.xfcbs (spec.file_in granted.now)) no_protection) granted.now.block }
-    ensures told { TellsXfcb granted.now.block result }
 {
     let mut block = granted.block;
     xfcb_block(&mut block, mounted, granted.owner);

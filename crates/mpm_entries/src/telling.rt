@@ -1,4 +1,4 @@
-ghost use Rattle.std.specs.Prelude.{◌≡◌, ◌<◌, ◌≤◌, ◌/◌, ◌%◌, ℕ, List, Some, length, replicate, unwrap_or};
+ghost use Rattle.std.specs.Prelude.{◌≡◌, ◌<◌, ◌≤◌, ◌/◌, ◌%◌, ℕ, List, Some, replicate, unwrap_or};
 ghost use Rattle.mpm_mount.specs.Faults.{extent_of};
 ghost use Rattle.mpm_mount.specs.Drives.{Drive, extents_of, entry_number, free_records};
 ghost use Rattle.mpm_mount.specs.Directories.{Stands};
@@ -7,7 +7,6 @@ ghost use Rattle.std.specs.FinMap.{get};
 ghost use Rattle.mpm_dirent.specs.Names.{plain};
 ghost use Rattle.mpm_mount.specs.Attributes.{attributes_of as attributes_there};
 ghost use Rattle.mpm_mount.specs.Files.{where_there};
-ghost use Rattle.mpm_entries.specs.Telling.{TellsOpened, TellsPosition, TellsXfcb};
 ghost use Rattle.mpm_entries.specs.Protections.{no_protection};
 ghost use Rattle.mpm_entries.specs.Protections as protections;
 ghost use Rattle.mpm_entries.specs.Telling as spec;
@@ -116,9 +115,8 @@ fn attributes_or_none(mounted: &Mounted, user: u8, name: &[u8; 11]) -> [bool; 11
 /// Puts into a block what an opening or a making of a file of the user `owner` answers.
 pub fn open_block(block: &mut ControlBlock, mounted: &Mounted, owner: u8, mode: Mode, item: u8)
     requires { item < 64 }
-    ensures all { (image : List ℕ) (drive : Drive) → Stands image mounted.now drive
+    ensures { (image : List ℕ) (drive : Drive) → Stands image mounted.now drive
         → block.new ≡ spec.opened_by drive owner block.old mode item }
-    ensures told { TellsOpened block.old block.new }
 {
     let attributes = attributes_or_none(mounted, owner, &block.name);
     let records = record_count(mounted, owner, &block.name, u16::from(block.ex % 32));
@@ -128,9 +126,8 @@ pub fn open_block(block: &mut ControlBlock, mounted: &Mounted, owner: u8, mode: 
 /// Puts into a block a position, at most 262,271, in a file of the user `owner`.
 pub fn position_block(block: &mut ControlBlock, mounted: &Mounted, owner: u8, position: u32)
     requires { position ≤ 262271 }
-    ensures all { (image : List ℕ) (drive : Drive) → Stands image mounted.now drive
+    ensures { (image : List ℕ) (drive : Drive) → Stands image mounted.now drive
         → block.new ≡ spec.moved_to drive owner block.old position }
-    ensures told { TellsPosition block.old block.new }
 {
     let extent = (position / 128).min(2047) as u16;
     let records = record_count(mounted, owner, &block.name, extent);
@@ -140,9 +137,8 @@ pub fn position_block(block: &mut ControlBlock, mounted: &Mounted, owner: u8, po
 /// Puts into a block the mode and the stamps of the XFCB of a user's file. (MP/M II Programmer's Guide, "Function 102: Read File
 /// XFCB".)
 pub fn xfcb_block(block: &mut ControlBlock, mounted: &Mounted, user: u8)
-    ensures all { (image : List ℕ) (drive : Drive) → Stands image mounted.now drive
+    ensures { (image : List ℕ) (drive : Drive) → Stands image mounted.now drive
         → block.new ≡ protections.told_xfcb (unwrap_or (get drive.xfcbs (record { user = user; name = plain block.old.name })) no_protection) block.old }
-    ensures told { TellsXfcb block.old block.new }
 {
     let xfcb = xfcb_there(mounted, user, &block.name);
     xfcb.tell(block);
@@ -152,8 +148,7 @@ pub fn xfcb_block(block: &mut ControlBlock, mounted: &Mounted, user: u8)
 /// Space".)
 #[tactic(auto, using(mpm_mount::proofs::FreeRecords::free_records_same))]
 pub fn free_bytes(mounted: &Mounted) -> [u8; 3]
-    ensures all { (image : List ℕ) (drive : Drive) → Stands image mounted.now drive → result ≡ three_bytes (free_records drive) }
-    ensures size { length result ≡ 3 }
+    ensures { (image : List ℕ) (drive : Drive) → Stands image mounted.now drive → result ≡ three_bytes (free_records drive) }
 {
     three_bytes(mounted.free_records())
 }

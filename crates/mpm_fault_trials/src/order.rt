@@ -1,61 +1,55 @@
 //! In which order drives are synced at the end of a run, which no contract of a device tells.
 use crate::play::strings;
-use crate::runs::TWO_DRIVES;
-use mpm_port::{Drives, Failed, FetchError, MemoryFiles, MemorySink};
+use crate::runs::{TWO_DRIVES, drives};
+use mpm_port::{Drives, Failed, FetchError, MemoryDrives, MemoryFiles, MemorySink};
 use mpm_top::{Status, run_words};
 use std::test::Fail;
 
-/// Drives of empty disks that never fail, and note the first four that are synced.
-#[derive(Clone, Copy)]
+/// Drives over memory that note the first four that are synced.
+#[derive(Drop)]
 struct Noting {
+    drives: MemoryDrives,
     synced: [u8; 4],
     count: usize,
-    unsynced: [bool; 256],
 }
 
 impl Drives for Noting {
-    ghost use Rattle.std.specs.Prelude.{◌≡◌, ℕ, false, List, [], Option, Some, None, IfSome, slice_index_or};
-    ghost use Rattle.std.proofs.Common.{subst};
-    ghost use Rattle.mpm_port.specs.Disks.{Disks};
+    ghost use Rattle.mpm_port.specs.MemoryDisks.{disks_of, told_of, is_unsynced, memory_agrees};
 
-    ghost attached = { λ _ _. Some 256256 };
+    ghost disks = { λ d. disks_of d.drives };
 
-    ghost disks = { λ _. None };
+    ghost told = { λ d. told_of d.drives };
 
-    ghost unsynced = { λ d drive. slice_index_or d.unsynced drive false };
+    ghost unsynced = { λ d. is_unsynced d.drives };
 
-    ghost faults = { λ _. 0 };
+    ghost faults = { λ d. d.drives.faults };
 
-    ghost failed_names = { λ _. [] };
+    ghost failed_names = { λ d. d.drives.failed };
 
-    ghost sizes = { λ _ _ _ _ told size. absurd (subst (λ (disks : Option Disks). IfSome disks (λ _. ⊥)) told tt) };
+    ghost agrees = { λ d. memory_agrees d.drives };
 
-    fn attach(&mut self, drive: u8, _name: &str) -> Result<(), FetchError> {
-        self.unsynced[usize::from(drive)] = false;
-        Ok(())
+    fn attach(&mut self, drive: u8, name: &str) -> Result<(), FetchError> {
+        self.drives.attach(drive, name)
     }
 
-    fn size(&mut self, _drive: u8) -> Result<u64, Failed> {
-        Ok(256_256)
+    fn size(&mut self, drive: u8) -> Result<u64, Failed> {
+        self.drives.size(drive)
     }
 
-    fn read(&mut self, _drive: u8, _sector: u32, out: &mut [u8; 128]) -> Result<(), Failed> {
-        *out = [0xE5; 128];
-        Ok(())
+    fn read(&mut self, drive: u8, sector: u32, out: &mut [u8; 128]) -> Result<(), Failed> {
+        self.drives.read(drive, sector, out)
     }
 
-    fn write(&mut self, drive: u8, _sector: u32, _bytes: &[u8; 128]) -> Result<(), Failed> {
-        self.unsynced[usize::from(drive)] = true;
-        Ok(())
+    fn write(&mut self, drive: u8, sector: u32, bytes: &[u8; 128]) -> Result<(), Failed> {
+        self.drives.write(drive, sector, bytes)
     }
 
     fn sync(&mut self, drive: u8) -> Result<(), Failed> {
-        self.unsynced[usize::from(drive)] = false;
         if self.count < 4 {
             self.synced[self.count] = drive;
             self.count += 1;
         }
-        Ok(())
+        self.drives.sync(drive)
     }
 }
 
@@ -66,9 +60,9 @@ fn each_drive_is_synced_once_by_letter(rt: HostRuntime) -> Result<(), Fail> {
     let mut files = MemoryFiles::new(rt.alloc());
     files.add("file", TWO_DRIVES)?;
     let mut drives = Noting {
+        drives: drives(rt.alloc(), 0)?,
         synced: [0xFF; 4],
         count: 0,
-        unsynced: [false; 256],
     };
     let mut sink = MemorySink::new(rt.alloc(), 1024)?;
     let status = run_words(

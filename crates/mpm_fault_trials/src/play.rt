@@ -1,6 +1,6 @@
 //! Runs of a machine that begins, and what they leave of its disk.
-ghost use Rattle.std.specs.Prelude.{◌≡◌, ◌<◌, ◌≤◌, Some};
-ghost use Rattle.mpm_port.specs.MemoryDisks.{size_of, disks_of};
+ghost use Rattle.std.specs.Prelude.{◌≡◌, ◌<◌, ◌≤◌};
+ghost use Rattle.mpm_port.specs.MemoryDisks.{disks_of};
 ghost use Rattle.mpm_system.specs.Whole.{IsWhole, NoCompletions};
 ghost use Rattle.mpm_machine.specs.Holding.{HoldsDrives};
 
@@ -31,7 +31,7 @@ pub(crate) fn run<L: Ledger>(
     requires whole { IsWhole machine.old.system }
     requires no_completions { NoCompletions machine.old.system }
     requires start { machine.old.system.steps ≡ 0 }
-    requires holds { HoldsDrives size_of (λ d. Some (disks_of d)) machine.old.system.kernel machine.old.bdos drives.old }
+    requires holds { HoldsDrives disks_of machine.old.system.kernel machine.old.bdos drives.old }
     requires name { blank.name ≡ L.name }
     requires parts { blank.parts ≡ L.parts }
     requires some { 0 < L.parts }

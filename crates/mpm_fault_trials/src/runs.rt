@@ -64,7 +64,7 @@ fn files(alloc: Global, bytes: &[u8], fetch: u64) -> Result<MemoryFiles, Fail> {
 }
 
 /// Drives with the images `a` and `c` of E5h, whose call of that number fails.
-fn drives(alloc: Global, call: u64) -> Result<MemoryDrives, Fail> {
+pub(crate) fn drives(alloc: Global, call: u64) -> Result<MemoryDrives, Fail> {
     let image = vec![in alloc; 0xE5; SIZE]?;
     drives_of(alloc, image.as_slice(), call)
 }

@@ -1,8 +1,9 @@
 //! One run in two ways, of whose devices one call fails: by its words, and by the calls of the machine that these stand for, over
 //! equal files, drives and sinks. Both end alike, with the same text and the same disk.
-ghost use Rattle.std.specs.Prelude.{◌≡◌, ◌<◌, Some};
+ghost use Rattle.std.specs.Prelude.{◌≡◌, ◌<◌, Some, IsSome};
 ghost use Rattle.std.specs.Bool.{OnTrue};
-ghost use Rattle.mpm_port.specs.MemoryDisks.{size_of};
+ghost use Rattle.mpm_port.specs.Disks.{size_of};
+ghost use Rattle.mpm_port.specs.MemoryDisks.{disks_of};
 
 use crate::play::{run_booted, run_by_words};
 use mpm_base::Kind;
@@ -77,10 +78,10 @@ fn drives(alloc: Global, call: u64) -> Result<MemoryDrives, Fail> {
 /// Whether a sector of both disks has the same bytes.
 fn is_same(first: &mut MemoryDrives, second: &mut MemoryDrives, sector: u32) -> bool
     requires inside { sector < 2002 }
-    requires first { size_of first.old 0 ≡ Some 256256 }
-    requires second { size_of second.old 0 ≡ Some 256256 }
-    ensures first { size_of first.new 0 ≡ Some 256256 }
-    ensures second { size_of second.new 0 ≡ Some 256256 }
+    requires first { size_of (disks_of first.old) 0 ≡ Some 256256 }
+    requires second { size_of (disks_of second.old) 0 ≡ Some 256256 }
+    ensures first { size_of (disks_of first.new) 0 ≡ Some 256256 }
+    ensures second { size_of (disks_of second.new) 0 ≡ Some 256256 }
 {
     let mut one = [0; 128];
     let mut other = [0; 128];
@@ -91,9 +92,20 @@ fn is_same(first: &mut MemoryDrives, second: &mut MemoryDrives, sector: u32) -> 
 
 /// Attaches the disk, of 2,002 sectors.
 fn is_attached(drives: &mut MemoryDrives) -> bool
-    ensures { OnTrue result (size_of drives.new 0 ≡ Some 256256) }
+    ensures { OnTrue result (size_of (disks_of drives.new) 0 ≡ Some 256256) }
 {
-    drives.attach(0, "a.img") == Ok(()) && drives.size(0) == Ok(256_256)
+    drives.attach(0, "a.img") == Ok(()) && is_floppy(drives)
+}
+
+/// Whether its attached drive has the size of a floppy disk.
+fn is_floppy(drives: &mut MemoryDrives) -> bool
+    requires { IsSome (size_of (disks_of drives.old) 0) }
+    ensures { OnTrue result (size_of (disks_of drives.new) 0 ≡ Some 256256) }
+{
+    match drives.size(0) {
+        Ok(bytes) => bytes == 256_256,
+        Err(_) => false,
+    }
 }
 
 /// Whether two disks have the same bytes. The call that is to fail is one that was made, or the next.

@@ -1,15 +1,16 @@
 //! Two floppy disks in memory, as the drives A and B, one of which may fail where it is written.
-ghost use Rattle.std.specs.Prelude.{◌≡◌, ◌≤◌, IfOk};
-ghost use Rattle.mpm_port.specs.Causes.{Rose};
-ghost use Rattle.mpm_base.specs.declared.kind.Kind.TheVariants.{Ibm3740};
+ghost use Rattle.std.specs.Prelude.{◌≡◌, ◌≤◌, ◌<◌, ℕ, List, IsSome, IfOk, OnOk};
+ghost use Rattle.mpm_port.specs.Causes.{Rose, HasCause};
+ghost use Rattle.mpm_port.specs.Disks.{size_of};
+ghost use Rattle.mpm_port.specs.MemoryDisks.{IsFree, disks_of};
 ghost use Rattle.mpm_directories.specs.Places.{AreInPlace};
-ghost use Rattle.mpm_file_scenes.specs.Floppies.{AreFloppies};
+ghost use Rattle.mpm_file_scenes.specs.Floppies.{AreTwo, IsFloppy, AreFloppies};
 
 use mpm_base::Kind;
 use mpm_bdos::in_places;
-use mpm_images::{Entry, guard, image, named, put_sector, sector_of, with};
+use mpm_images::{Entry, guard, image, named, with};
 use mpm_mount::{Mounted, mount};
-use mpm_port::{Drives, Failed, FetchError};
+use mpm_port::{Drives, Failed, FetchError, MemoryDrives};
 use std::alloc::Global;
 use std::test::Fail;
 
@@ -47,8 +48,7 @@ pub fn full_disk() -> [Entry; 64] {
 /// The two disks, which drive fails in each call that writes to it, if one does, and the drives that were written and not synced.
 #[derive(Drop)]
 pub(crate) struct Floppies {
-    a: Vec<u8>,
-    b: Vec<u8>,
+    pub(crate) drives: MemoryDrives,
     failing: Option<u8>,
     unsynced: [bool; 256],
     faults: u64,
@@ -63,55 +63,90 @@ fn one_more_fault(faults: u64) -> u64
     faults.saturating_add(1)
 }
 
+/// The answer of a call, which is counted where the drive failed.
+fn counted<T>(faults: &mut u64, answer: Result<T, Failed>) -> Result<T, Failed>
+    ensures same { result ≡ answer }
+    ensures cause { HasCause faults.old faults.new result }
+{
+    match answer {
+        Ok(value) => Ok(value),
+        Err(Failed) => {
+            *faults = one_more_fault(*faults);
+            Err(Failed)
+        }
+    }
+}
+
 impl Drives for Floppies {
-    ghost use Rattle.std.specs.Prelude.{◌≡◌, ℕ, false, List, [], Option, Some, None, IfSome, slice_index_or};
-    ghost use Rattle.std.proofs.Common.{subst};
-    ghost use Rattle.mpm_port.specs.Disks.{Disks};
+    ghost use Rattle.std.specs.Prelude.{false, slice_index_or};
+    ghost use Rattle.mpm_port.specs.MemoryDisks.{disks_of, told_of, memory_agrees};
 
-    ghost attached = { λ _ _. Some 256256 };
+    ghost disks = { λ d. disks_of d.drives };
 
-    ghost disks = { λ _. None };
+    ghost told = { λ d. told_of d.drives };
 
     ghost unsynced = { λ d drive. slice_index_or d.unsynced drive false };
 
     ghost faults = { λ d. d.faults };
 
-    ghost failed_names = { λ _. [] };
+    ghost failed_names = { λ d. d.drives.failed };
 
-    ghost sizes = { λ _ _ _ _ told size. absurd (subst (λ (disks : Option Disks). IfSome disks (λ _. ⊥)) told tt) };
+    ghost agrees = { λ d. memory_agrees d.drives };
 
-    fn attach(&mut self, drive: u8, _name: &str) -> Result<(), FetchError> {
-        self.unsynced[usize::from(drive)] = false;
-        Ok(())
+    fn attach(&mut self, drive: u8, name: &str) -> Result<(), FetchError> {
+        match self.drives.attach(drive, name) {
+            Ok(()) => {
+                self.unsynced[usize::from(drive)] = false;
+                Ok(())
+            }
+            Err(error) => Err(error),
+        }
     }
 
-    fn size(&mut self, _drive: u8) -> Result<u64, Failed> {
-        Ok(256_256)
+    fn size(&mut self, drive: u8) -> Result<u64, Failed> {
+        counted(&mut self.faults, self.drives.size(drive))
     }
 
     fn read(&mut self, drive: u8, sector: u32, out: &mut [u8; 128]) -> Result<(), Failed> {
-        let image = if drive == 0 { &self.a } else { &self.b };
-        *out = sector_of(image.as_slice(), sector);
-        Ok(())
+        counted(&mut self.faults, self.drives.read(drive, sector, out))
     }
 
     fn write(&mut self, drive: u8, sector: u32, bytes: &[u8; 128]) -> Result<(), Failed> {
         self.unsynced[usize::from(drive)] = true;
         if self.failing == Some(drive) {
-            self.faults = one_more_fault(self.faults);
-            return Err(Failed);
+            return counted(&mut self.faults, Err(Failed));
         }
-        if drive == 0 {
-            put_sector(self.a.as_mut_slice(), sector, bytes);
-        } else {
-            put_sector(self.b.as_mut_slice(), sector, bytes);
-        }
-        Ok(())
+        counted(&mut self.faults, self.drives.write(drive, sector, bytes))
     }
 
     fn sync(&mut self, drive: u8) -> Result<(), Failed> {
-        self.unsynced[usize::from(drive)] = false;
-        Ok(())
+        match counted(&mut self.faults, self.drives.sync(drive)) {
+            Ok(()) => {
+                self.unsynced[usize::from(drive)] = false;
+                Ok(())
+            }
+            Err(Failed) => Err(Failed),
+        }
+    }
+}
+
+/// Attaches drives A and B to images with these entries.
+fn attach_both(
+    alloc: Global,
+    drives: &mut MemoryDrives,
+    a: &[Entry],
+    b: &[Entry],
+) -> Result<(), Fail>
+    requires { (name : List ℕ) → IsFree drives.old name }
+    ensures { OnOk result (AreTwo (disks_of drives.new)) }
+{
+    let a = image(alloc, Kind::Ibm3740, a)?;
+    let b = image(alloc, Kind::Ibm3740, b)?;
+    drives.add("a", a.as_slice())?;
+    drives.add("b", b.as_slice())?;
+    match (drives.attach(0, "a"), drives.attach(1, "b")) {
+        (Ok(()), Ok(())) => Ok(()),
+        _ => Err(Fail::from("a drive isn't attached")),
     }
 }
 
@@ -121,12 +156,13 @@ pub(crate) fn two_disks(
     a: &[Entry],
     b: &[Entry],
     failing: Option<u8>,
-) -> Result<Floppies, Fail> {
-    let a = image(alloc, Kind::Ibm3740, a)?;
-    let b = image(alloc, Kind::Ibm3740, b)?;
+) -> Result<Floppies, Fail>
+    ensures { IfOk result (λ d. AreTwo (disks_of d.drives)) }
+{
+    let mut drives = MemoryDrives::new(alloc);
+    attach_both(alloc, &mut drives, a, b)?;
     Ok(Floppies {
-        a,
-        b,
+        drives,
         failing,
         unsynced: [false; 256],
         faults: 0,
@@ -135,7 +171,11 @@ pub(crate) fn two_disks(
 
 /// The directory of one of them.
 fn mounted_drive(alloc: Global, drives: &mut Floppies, number: u8) -> Result<Mounted, Fail>
-    ensures { IfOk result (λ mounted. mounted.kind ≡ Ibm3740) }
+    requires some { IsSome (size_of (disks_of drives.old.drives) number) }
+    requires low { number < 2 }
+    ensures floppy { IfOk result (λ mounted. IsFloppy (disks_of drives.old.drives) number mounted) }
+    ensures drive { IfOk result (λ mounted. mounted.drive ≡ number) }
+    ensures same { disks_of drives.new.drives ≡ disks_of drives.old.drives }
 {
     match mount(alloc, drives, number, Kind::Ibm3740) {
         Ok(mounted) => Ok(mounted),
@@ -148,7 +188,9 @@ pub(crate) fn mounted_places(
     alloc: Global,
     drives: &mut Floppies,
 ) -> Result<Vec<Option<Mounted>>, Fail>
-    ensures floppies { IfOk result (λ places. AreFloppies places.items) }
+    requires { AreTwo (disks_of drives.old.drives) }
+    ensures floppies { IfOk result (λ places. AreFloppies (disks_of drives.new.drives) places.items) }
+    ensures same { disks_of drives.new.drives ≡ disks_of drives.old.drives }
     ensures placed { IfOk result (λ places. AreInPlace places.items) }
 {
     let a = mounted_drive(alloc, drives, 0)?;

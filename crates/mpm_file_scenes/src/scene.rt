@@ -4,6 +4,8 @@ ghost use Rattle.mpm_clock.specs.Times.{IsTime};
 ghost use Rattle.mpm_bdos.specs.Serving.{IsCaller};
 ghost use Rattle.mpm_bdos.specs.Starting.{caller_of};
 ghost use Rattle.mpm_bdos.specs.Turns.{FitsDrives};
+ghost use Rattle.mpm_port.specs.MemoryDisks.{disks_of};
+ghost use Rattle.mpm_file_scenes.specs.Floppies.{AreTwo};
 
 use crate::desk::{Desk, Line};
 use crate::floppies::{Floppies, mounted_places, two_disks};
@@ -49,9 +51,9 @@ fn serves_at_once<D: Drives, L: Ledger>(
     call: &Call,
     process: &Process,
 ) -> Result<Option<Extended>, Failed>
-    requires fits { FitsDrives D.attached D.disks bdos.old.mounted bdos.old.cached drives.old }
+    requires fits { FitsDrives D.disks bdos.old.mounted bdos.old.cached drives.old }
     requires caller { (p : ℕ) → IsCaller (caller_of p process.now) }
-    ensures { FitsDrives D.attached D.disks bdos.new.mounted bdos.new.cached drives.new }
+    ensures { FitsDrives D.disks bdos.new.mounted bdos.new.cached drives.new }
 {
     let pid = Pid(desk.pid % 32);
     bdos.call_at_once(pid, call, process, moment(), drives, steps, &mut desk.reply)
@@ -75,9 +77,9 @@ fn serves_in_turns<D: Drives, L: Ledger>(
     call: &Call,
     process: &Process,
 ) -> Result<Option<Extended>, Failed>
-    requires fits { FitsDrives D.attached D.disks bdos.old.mounted bdos.old.cached drives.old }
+    requires fits { FitsDrives D.disks bdos.old.mounted bdos.old.cached drives.old }
     requires caller { (p : ℕ) → IsCaller (caller_of p process.now) }
-    ensures { FitsDrives D.attached D.disks bdos.new.mounted bdos.new.cached drives.new }
+    ensures { FitsDrives D.disks bdos.new.mounted bdos.new.cached drives.new }
 {
     let mounted = login_vector(bdos, process);
     let turns = bdos.start(Pid(desk.pid % 32), call, process, moment());
@@ -98,8 +100,8 @@ fn asks<D: Drives, L: Ledger>(
     desk: &mut Desk,
     function: u8,
 ) -> Option<Answer>
-    requires { FitsDrives D.attached D.disks bdos.old.mounted bdos.old.cached drives.old }
-    ensures { FitsDrives D.attached D.disks bdos.new.mounted bdos.new.cached drives.new }
+    requires { FitsDrives D.disks bdos.old.mounted bdos.old.cached drives.old }
+    ensures { FitsDrives D.disks bdos.new.mounted bdos.new.cached drives.new }
 {
     let process = desk.process;
     if !may_call(&process) {
@@ -134,8 +136,8 @@ fn takes_turns<D: Drives, L: Ledger>(
     steps: &mut Steps<L>,
     turns: u32,
 ) -> bool
-    requires { FitsDrives D.attached D.disks bdos.old.mounted bdos.old.cached drives.old }
-    ensures { FitsDrives D.attached D.disks bdos.new.mounted bdos.new.cached drives.new }
+    requires { FitsDrives D.disks bdos.old.mounted bdos.old.cached drives.old }
+    ensures { FitsDrives D.disks bdos.new.mounted bdos.new.cached drives.new }
 {
     for turn in 0..turns {
         let expected = if turn + 1 < turns {
@@ -165,8 +167,8 @@ fn serves<D: Drives, L: Ledger>(
     turns: u32,
     hl: u16,
 ) -> bool
-    requires { FitsDrives D.attached D.disks bdos.old.mounted bdos.old.cached drives.old }
-    ensures { FitsDrives D.attached D.disks bdos.new.mounted bdos.new.cached drives.new }
+    requires { FitsDrives D.disks bdos.old.mounted bdos.old.cached drives.old }
+    ensures { FitsDrives D.disks bdos.new.mounted bdos.new.cached drives.new }
 {
     let process = desk.process;
     if !may_call(&process) {
@@ -193,8 +195,8 @@ fn answers<D: Drives, L: Ledger>(
     function: u8,
     hl: u16,
 ) -> bool
-    requires { FitsDrives D.attached D.disks bdos.old.mounted bdos.old.cached drives.old }
-    ensures { FitsDrives D.attached D.disks bdos.new.mounted bdos.new.cached drives.new }
+    requires { FitsDrives D.disks bdos.old.mounted bdos.old.cached drives.old }
+    ensures { FitsDrives D.disks bdos.new.mounted bdos.new.cached drives.new }
 {
     let expected = Answer { hl, extended: None };
     asks(bdos, drives, steps, desk, function) == Some(expected)
@@ -209,8 +211,8 @@ fn repeats<D: Drives, L: Ledger>(
     count: u8,
     function: u8,
 ) -> bool
-    requires { FitsDrives D.attached D.disks bdos.old.mounted bdos.old.cached drives.old }
-    ensures { FitsDrives D.attached D.disks bdos.new.mounted bdos.new.cached drives.new }
+    requires { FitsDrives D.disks bdos.old.mounted bdos.old.cached drives.old }
+    ensures { FitsDrives D.disks bdos.new.mounted bdos.new.cached drives.new }
 {
     for _call in 0..count {
         if !answers(bdos, drives, steps, desk, function, 0) {
@@ -229,8 +231,8 @@ fn opens<D: Drives, L: Ledger>(
     from: u8,
     to: u8,
 ) -> bool
-    requires { FitsDrives D.attached D.disks bdos.old.mounted bdos.old.cached drives.old }
-    ensures { FitsDrives D.attached D.disks bdos.new.mounted bdos.new.cached drives.new }
+    requires { FitsDrives D.disks bdos.old.mounted bdos.old.cached drives.old }
+    ensures { FitsDrives D.disks bdos.new.mounted bdos.new.cached drives.new }
 {
     for slot in from..to {
         desk.names_slot(slot);
@@ -251,8 +253,8 @@ fn refuses<D: Drives, L: Ledger>(
     code: u8,
     drive: u8,
 ) -> bool
-    requires { FitsDrives D.attached D.disks bdos.old.mounted bdos.old.cached drives.old }
-    ensures { FitsDrives D.attached D.disks bdos.new.mounted bdos.new.cached drives.new }
+    requires { FitsDrives D.disks bdos.old.mounted bdos.old.cached drives.old }
+    ensures { FitsDrives D.disks bdos.new.mounted bdos.new.cached drives.new }
 {
     let expected = Answer {
         hl: u16::from(code) * 256 + 255,
@@ -269,8 +271,8 @@ fn plays<D: Drives, L: Ledger>(
     desk: &mut Desk,
     line: &Line<'_>,
 ) -> bool
-    requires { FitsDrives D.attached D.disks bdos.old.mounted bdos.old.cached drives.old }
-    ensures { FitsDrives D.attached D.disks bdos.new.mounted bdos.new.cached drives.new }
+    requires { FitsDrives D.disks bdos.old.mounted bdos.old.cached drives.old }
+    ensures { FitsDrives D.disks bdos.new.mounted bdos.new.cached drives.new }
 {
     match line {
         Line::Asks(function, hl) => answers(bdos, drives, steps, desk, *function, *hl),
@@ -302,8 +304,8 @@ fn first_wrong<D: Drives, L: Ledger>(
     desk: &mut Desk,
     lines: &[Line<'_>],
 ) -> Option<usize>
-    requires { FitsDrives D.attached D.disks bdos.old.mounted bdos.old.cached drives.old }
-    ensures { FitsDrives D.attached D.disks bdos.new.mounted bdos.new.cached drives.new }
+    requires { FitsDrives D.disks bdos.old.mounted bdos.old.cached drives.old }
+    ensures { FitsDrives D.disks bdos.new.mounted bdos.new.cached drives.new }
 {
     for (place, line) in lines.iter().enumerate() {
         if !plays(bdos, drives, steps, desk, line) {
@@ -325,6 +327,7 @@ fn wrong_on<L: Ledger>(
     requires name { blank.name ≡ L.name }
     requires parts { blank.parts ≡ L.parts }
     requires some { 0 < L.parts }
+    requires two { AreTwo (disks_of drives.old.drives) }
 {
     let mut steps = Steps::<L>::new(blank);
     let places = mounted_places(alloc, drives)?;
@@ -340,7 +343,9 @@ fn wrong_by(
     process: &Process,
     in_turns: bool,
     lines: &[Line<'_>],
-) -> Result<Option<usize>, Fail> {
+) -> Result<Option<usize>, Fail>
+    requires { AreTwo (disks_of drives.old.drives) }
+{
     wrong_on::<Brand>(alloc, Blank::new(1), drives, process, in_turns, lines)
 }
 

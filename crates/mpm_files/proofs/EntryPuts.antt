@@ -1,10 +1,10 @@
 -- Directory entries that are put in the place of others: what the image stands for after the write, and where it failed.
-use Rattle.std.proofs.Common.{◌≡◌, ◌⊎◌, inl, inr, ℕ, ◌+◌, ◌*◌, ◌/◌, ◌%◌, ◌<◌, ◌≤◌, List, [], ◌∷◌, ◌++◌, Option, Some, None, Result, Ok, Err, OnOk, length, refl, sym, ap, subst, ◌∙◌, arith}
+use Rattle.std.proofs.Common.{◌≡◌, ◌⊎◌, inl, inr, ℕ, ◌+◌, ◌*◌, ◌/◌, ◌%◌, ◌<◌, ◌≤◌, List, [], ◌∷◌, ◌++◌, Some, None, Result, Ok, Err, OnOk, length, refl, sym, ap, subst, ◌∙◌, arith}
 use Rattle.std.specs.Prelude.{slice_set}
 use Rattle.mpm_port.specs.Disks.{Disks, with_sector}
 use Rattle.mpm_base.specs.declared.kind.Kind.{Kind}
 use Rattle.mpm_blocks.specs.Geometries.{geometry_of, place_of}
-use Rattle.mpm_blocks.specs.Sectors.{Sectors, told_image, sectors_of, with_slot}
+use Rattle.mpm_blocks.specs.Sectors.{Sectors, sectors_of, with_slot}
 use Rattle.mpm_blocks.proofs.Written.{spliced_size, sector_size}
 use Rattle.mpm_dirent.specs.declared.kinds.Entry.{Entry}
 use Rattle.mpm_dirent.specs.Entries.{entry_of}
@@ -34,24 +34,24 @@ first_of_one w [] rest is = inl refl
 first_of_one w (v ∷ []) rest is = inr (ap (λ (x : Write). x ∷ []) (same_first v w rest is))
 first_of_one w (v ∷ u ∷ more) rest is = absurd (too_long v w u (more ++ rest) is)
 
-none_told : (disks now : Option Disks) (d : Directory) (kind : Kind) (image : List ℕ) → AreWritten d.drive kind [] disks now → told_image disks d.drive ≡ Some image
-    → told_image now d.drive ≡ Some image
+none_told : (disks now : Disks) (d : Directory) (kind : Kind) (image : List ℕ) → AreWritten d.drive kind [] disks now → disks.image d.drive ≡ Some image
+    → now.image d.drive ≡ Some image
 unfolding AreWritten written
 none_told disks now d kind image are told = are image told
 
-pub all_told : (disks now : Option Disks) (drive : ℕ) (kind : Kind) (ws : List Write) (image : List ℕ) → AreWritten drive kind ws disks now → told_image disks drive ≡ Some image
-    → told_image now drive ≡ Some (written kind ws image)
+pub all_told : (disks now : Disks) (drive : ℕ) (kind : Kind) (ws : List Write) (image : List ℕ) → AreWritten drive kind ws disks now → disks.image drive ≡ Some image
+    → now.image drive ≡ Some (written kind ws image)
 unfolding AreWritten
 all_told disks now drive kind ws image are told = are image told
 
 -- it was written
-one_on : (d after : Directory) (image : List ℕ) (files : Drive) (w : Write) (old new : Option Disks) → told_image old d.drive ≡ Some image → after.drive ≡ d.drive
+one_on : (d after : Directory) (image : List ℕ) (files : Drive) (w : Write) (old new : Disks) → old.image d.drive ≡ Some image → after.drive ≡ d.drive
     → Stands (written d.kind (w ∷ []) image) after files → AreWritten d.drive d.kind (w ∷ []) old new → StandsOn new after files
 one_on d after image files w old new told here stands are =
-    record { image = written d.kind (w ∷ []) image; told = ap (told_image new) here ∙ all_told old new d.drive d.kind (w ∷ []) image are told; stands = stands }
+    record { image = written d.kind (w ∷ []) image; told = ap new.image here ∙ all_told old new d.drive d.kind (w ∷ []) image are told; stands = stands }
 
 -- it was to be written, and the device failed
-one_among : (d after : Directory) (image : List ℕ) (files : Drive) (later : List Drive) (w : Write) (old new : Option Disks) (first : List Write) → told_image old d.drive ≡ Some image
+one_among : (d after : Directory) (image : List ℕ) (files : Drive) (later : List Drive) (w : Write) (old new : Disks) (first : List Write) → old.image d.drive ≡ Some image
     → Stands image d files → after.drive ≡ d.drive → Stands (written d.kind (w ∷ []) image) after (last_of files later) → AreWritten d.drive d.kind first old new
     → (first ≡ []) ⊎ (first ≡ w ∷ []) → StandsAmong new d.drive files later
 one_among d after image files later w old new first told stands here stands_after are (inl none) = record {
@@ -73,8 +73,8 @@ one_among d after image files later w old new first told stands here stands_afte
   stands = one_on d after image (last_of files later) w old new told here stands_after (subst (λ (ws : List Write). AreWritten d.drive d.kind ws old new) all are);
 }
 
-pub one_put : {A E : Type 0} (d after now : Directory) (image : List ℕ) (files : Drive) (later : List Drive) (w : Write) (old new : Option Disks) (result : Result A E)
-    → told_image old d.drive ≡ Some image → Stands image d files → after.drive ≡ d.drive → Stands (written d.kind (w ∷ []) image) after (last_of files later)
+pub one_put : {A E : Type 0} (d after now : Directory) (image : List ℕ) (files : Drive) (later : List Drive) (w : Write) (old new : Disks) (result : Result A E)
+    → old.image d.drive ≡ Some image → Stands image d files → after.drive ≡ d.drive → Stands (written d.kind (w ∷ []) image) after (last_of files later)
     → Puts d.drive d.kind (w ∷ []) old new result → OnOk result (now ≡ after) → GoesThrough new d.drive now files later result
 one_put d after now image files later w old new (Ok x) told stands here stands_after puts now_is = record {
   ok = subst (λ (a : Directory). StandsOn new a (last_of files later)) (sym now_is) (one_on d after image (last_of files later) w old new told here stands_after puts.ok);
@@ -104,19 +104,19 @@ entry_stands image d files slot entry stands h inside none back long =
     (exchanged (sectors_of image d.kind) files (entry_in d slot) e)) is
     (entry_written image d files slot over stands h inside (long old whole) (ap (cause_of d.kind (others d.entries slot)) is ∙ none))
 
-pub entry_put : {A E : Type 0} (d now : Directory) (image : List ℕ) (files : Drive) (slot : ℕ) (entry : Entry) (disk : Disk) (old new : Option Disks) (result : Result A E)
-    → disk ≡ record { drive = d.drive; kind = d.kind } → told_image old d.drive ≡ Some image → Stands image d files → length d.entries ≡ (geometry_of d.kind).drm + 1
+pub entry_put : {A E : Type 0} (d now : Directory) (image : List ℕ) (files : Drive) (slot : ℕ) (entry : Entry) (disk : Disk) (old new : Disks) (result : Result A E)
+    → disk ≡ record { drive = d.drive; kind = d.kind } → old.image d.drive ≡ Some image → Stands image d files → length d.entries ≡ (geometry_of d.kind).drm + 1
     → slot ≤ (geometry_of d.kind).drm → cause_of d.kind (others d.entries slot) entry ≡ None
     → ((i : List ℕ) → length i ≡ 32 → entry_of (bytes_over (geometry_of disk.kind).wide i entry) (geometry_of disk.kind).wide ≡ entry)
     → ((i : List ℕ) → length i ≡ 32 → length (bytes_over (geometry_of disk.kind).wide i entry) ≡ 32)
-    → ((i : List ℕ) → told_image old disk.drive ≡ Some i → Puts disk.drive disk.kind (slot_write disk.kind i slot entry ∷ []) old new result)
+    → ((i : List ℕ) → old.image disk.drive ≡ Some i → Puts disk.drive disk.kind (slot_write disk.kind i slot entry ∷ []) old new result)
     → OnOk result (now ≡ directories.with_entry d slot entry)
     → GoesThrough new d.drive now files (exchanged (sectors_of image d.kind) files (entry_in d slot) entry ∷ []) result
 unfolding last_of
 entry_put d now image files slot entry disk old new result is told stands full within none back long puts now_is =
     let k : d.kind ≡ disk.kind = sym (ap (λ (x : Disk). x.kind) is) in
     let put : Puts d.drive d.kind (slot_write d.kind image slot entry ∷ []) old new result =
-    subst (λ (x : Disk). told_image old x.drive ≡ Some image → Puts x.drive x.kind (slot_write x.kind image slot entry ∷ []) old new result) is (puts image) told in
+    subst (λ (x : Disk). old.image x.drive ≡ Some image → Puts x.drive x.kind (slot_write x.kind image slot entry ∷ []) old new result) is (puts image) told in
     let back_too : (i : List ℕ) → length i ≡ 32 → entry_of (bytes_over (geometry_of d.kind).wide i entry) (geometry_of d.kind).wide ≡ entry =
     subst (λ (x : Kind). (i : List ℕ) → length i ≡ 32 → entry_of (bytes_over (geometry_of x).wide i entry) (geometry_of x).wide ≡ entry) (sym k) back in
     let long_too : (i : List ℕ) → length i ≡ 32 → length (bytes_over (geometry_of d.kind).wide i entry) ≡ 32 =
@@ -167,15 +167,15 @@ entries_stand image d files last slot other_slot entry other stands h inside k w
     (directories.with_entry (directories.with_entry d slot e) other_slot (entry_of more wide))
     (exchanged (sectors_of mid d.kind) (exchanged (sectors_of image d.kind) files (entry_in d slot) e) (entry_in (directories.with_entry d slot e) other_slot) (entry_of more wide))) is both))
 
-pub entries_put : {A E : Type 0} (d now : Directory) (image : List ℕ) (files last : Drive) (slot other_slot : ℕ) (entry other : Entry) (disk : Disk) (old new : Option Disks)
-    (result : Result A E) → disk ≡ record { drive = d.drive; kind = d.kind } → told_image old d.drive ≡ Some image → Stands image d files
+pub entries_put : {A E : Type 0} (d now : Directory) (image : List ℕ) (files last : Drive) (slot other_slot : ℕ) (entry other : Entry) (disk : Disk) (old new : Disks)
+    (result : Result A E) → disk ≡ record { drive = d.drive; kind = d.kind } → old.image d.drive ≡ Some image → Stands image d files
     → length d.entries ≡ (geometry_of d.kind).drm + 1 → slot ≤ (geometry_of d.kind).drm → other_slot ≤ (geometry_of d.kind).drm → other_slot / 4 ≡ slot / 4
     → cause_of d.kind (others d.entries slot) entry ≡ None → cause_of d.kind (others (slice_set d.entries slot entry) other_slot) other ≡ None
     → ((i : List ℕ) → length i ≡ 32 → entry_of (bytes_over (geometry_of disk.kind).wide i entry) (geometry_of disk.kind).wide ≡ entry)
     → ((i : List ℕ) → length i ≡ 32 → length (bytes_over (geometry_of disk.kind).wide i entry) ≡ 32)
     → ((i : List ℕ) → length i ≡ 32 → entry_of (bytes_over (geometry_of disk.kind).wide i other) (geometry_of disk.kind).wide ≡ other)
     → ((i : List ℕ) → length i ≡ 32 → length (bytes_over (geometry_of disk.kind).wide i other) ≡ 32)
-    → ((i : List ℕ) → told_image old disk.drive ≡ Some i → Puts disk.drive disk.kind (slots_write disk.kind i slot entry other_slot other ∷ []) old new result)
+    → ((i : List ℕ) → old.image disk.drive ≡ Some i → Puts disk.drive disk.kind (slots_write disk.kind i slot entry other_slot other ∷ []) old new result)
     → ((sectors : Sectors) → exchanged sectors (exchanged (sectors_of image d.kind) files (entry_in d slot) entry) (entry_in (directories.with_entry d slot entry) other_slot) other ≡ last)
     → OnOk result (now ≡ directories.with_entry (directories.with_entry d slot entry) other_slot other)
     → GoesThrough new d.drive now files (exchanged (sectors_of image d.kind) files (entry_in d slot) entry ∷ last ∷ []) result
@@ -185,7 +185,7 @@ entries_put {A = A} {E = E} d now image files last slot other_slot entry other d
     let P : Kind → Entry → Type 0 = λ x e. (i : List ℕ) → length i ≡ 32 → entry_of (bytes_over (geometry_of x).wide i e) (geometry_of x).wide ≡ e in
     let Q : Kind → Entry → Type 0 = λ x e. (i : List ℕ) → length i ≡ 32 → length (bytes_over (geometry_of x).wide i e) ≡ 32 in
     let put : Puts {A = A} {E = E} d.drive d.kind (slots_write d.kind image slot entry other_slot other ∷ []) old new result =
-    subst (λ (x : Disk). told_image old x.drive ≡ Some image → Puts {A = A} {E = E} x.drive x.kind (slots_write x.kind image slot entry other_slot other ∷ []) old new result) is (puts image) told in
+    subst (λ (x : Disk). old.image x.drive ≡ Some image → Puts {A = A} {E = E} x.drive x.kind (slots_write x.kind image slot entry other_slot other ∷ []) old new result) is (puts image) told in
     one_put d (directories.with_entry (directories.with_entry d slot entry) other_slot other) now image files
     (exchanged (sectors_of image d.kind) files (entry_in d slot) entry ∷ last ∷ []) (slots_write d.kind image slot entry other_slot other) old new result told stands refl
     (entries_stand image d files last slot other_slot entry other stands (omega (arith, h)) (omega (arith, h, full)) (omega (arith, k)) (omega (arith, k, full)) same none none_more

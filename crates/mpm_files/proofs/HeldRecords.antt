@@ -1,12 +1,12 @@
 -- A record that is written into a block that its entry holds, and last extent and record count behind it.
-use Rattle.std.proofs.Common.{◌≡◌, ◌≢◌, ℕ, ◌+◌, ◌*◌, ◌/◌, ◌%◌, ◌<◌, ◌≤◌, Bool, true, false, List, [], ◌∷◌, Option, Some, None, Result, Ok, Err, OnOk, length, refl, sym, ap, subst, ◌∙◌, arith}
+use Rattle.std.proofs.Common.{◌≡◌, ◌≢◌, ℕ, ◌+◌, ◌*◌, ◌/◌, ◌%◌, ◌<◌, ◌≤◌, Bool, true, false, List, [], ◌∷◌, Some, None, Result, Ok, Err, OnOk, length, refl, sym, ap, subst, ◌∙◌, arith}
 use Rattle.std.specs.Prelude.{if◌then◌else◌}
 use Rattle.std.proofs.lemmas.Bool.{true≢false}
 use Rattle.mpm_base.specs.declared.kind.Kind.{Kind}
 use Rattle.mpm_base.specs.declared.kind.Kind.TheVariants.{Ibm3740, Hd4, Hd8}
 use Rattle.mpm_port.specs.Disks.{Disks}
 use Rattle.mpm_blocks.specs.Geometries.{block_records, logical_sectors}
-use Rattle.mpm_blocks.specs.Sectors.{Sectors, told_image, sectors_of}
+use Rattle.mpm_blocks.specs.Sectors.{Sectors, sectors_of}
 use Rattle.mpm_dirent.specs.declared.kinds.Entry.{Entry}
 use Rattle.mpm_dirent.specs.declared.kinds.Entry.TheVariants.{File}
 use Rattle.mpm_dirent.specs.declared.kinds.FileEntry.{FileEntry}
@@ -60,8 +60,8 @@ held_stands image d files file n slot f bytes stands has some size =
     record_written image d files slot (block_place d.kind n) (n % block_records d.kind) f bytes stands (entry_inside d file n slot f has) has.entry (place_within d.kind n)
     (index_within d.kind n) some size
 
-pub record_put : {A E : Type 0} (image : List ℕ) (d : Directory) (files : Drive) (file : FileName) (n slot sector : ℕ) (f : FileEntry) (bytes : List ℕ) (old new : Option Disks)
-    (result : Result A E) → told_image old d.drive ≡ Some image → Stands image d files → HasEntry d file n slot f → IsHeldAt d.kind f n sector → length bytes ≡ 128
+pub record_put : {A E : Type 0} (image : List ℕ) (d : Directory) (files : Drive) (file : FileName) (n slot sector : ℕ) (f : FileEntry) (bytes : List ℕ) (old new : Disks)
+    (result : Result A E) → old.image d.drive ≡ Some image → Stands image d files → HasEntry d file n slot f → IsHeldAt d.kind f n sector → length bytes ≡ 128
     → Puts d.drive d.kind (record { sector = sector; bytes = bytes } ∷ []) old new result
     → GoesThrough new d.drive d files (with_extent files (name_of d.kind f) (with_record d.kind n bytes (extent_in (sectors_of image d.kind) d.kind f)) ∷ []) result
 unfolding last_of

@@ -5,7 +5,7 @@ use Rattle.std.specs.Prelude.{is_some, position, OnErr, IfSome}
 use Rattle.std.proofs.lemmas.Bool.{true≢false}
 use Rattle.std.proofs.lemmas.Result.{on_ok_weaker}
 use Rattle.mpm_port.specs.Disks.{Disks}
-use Rattle.mpm_blocks.specs.Sectors.{sectors_of, told_image}
+use Rattle.mpm_blocks.specs.Sectors.{sectors_of}
 use Rattle.mpm_dirent.specs.declared.kinds.Entry.{Entry}
 use Rattle.mpm_blocks.specs.Geometries.{geometry_of}
 use Rattle.mpm_mount.specs.declared.searching.Found.{Found}
@@ -32,7 +32,7 @@ pub record IsDone (before : Drive) (job : Job) (j : ℕ) (new : Work) (unit : Fi
   pub serving : IsServing before job (suc j) (one_ended new)
 
 -- what a change went through are the unit's stages
-pub goes_as : {A E : Type 0} (disks : Option Disks) (drive : ℕ) (now : Directory) (files : Drive) (later : List Drive) (unit : FileUnit) (result : Result A E)
+pub goes_as : {A E : Type 0} (disks : Disks) (drive : ℕ) (now : Directory) (files : Drive) (later : List Drive) (unit : FileUnit) (result : Result A E)
     → GoesThrough disks drive now files later result → stages unit files ≡ later → Does disks drive now files unit result
 unfolding applied
 goes_as disks drive now files later unit result goes is = record {
@@ -41,11 +41,11 @@ goes_as disks drive now files later unit result goes is = record {
 }
 
 -- of the same unit, in other words
-pub does_as : {A E : Type 0} (now : Option Disks) (drive : ℕ) (e : Directory) (files : Drive) (unit same : FileUnit) (result : Result A E) → unit ≡ same → Does now drive e files unit result
+pub does_as : {A E : Type 0} (now : Disks) (drive : ℕ) (e : Directory) (files : Drive) (unit same : FileUnit) (result : Result A E) → unit ≡ same → Does now drive e files unit result
     → Does now drive e files same result
 does_as now drive e files unit same result is does = subst (λ u. Does now drive e files u result) is does
 
-in_service : (now : Option Disks) (e : Directory) (before : Drive) (job : Job) (j : ℕ) (new : Work) (unit : FileUnit) → IsDone before job j new unit → new.cleared ≡ None
+in_service : (now : Disks) (e : Directory) (before : Drive) (job : Job) (j : ℕ) (new : Work) (unit : FileUnit) → IsDone before job j new unit → new.cleared ≡ None
     → StandsOn now e (applied (units_done before job j) unit) → InService now e before job (suc j) (one_ended new)
 in_service now e before job j new unit done none on = record {
   image = on.image;
@@ -58,13 +58,13 @@ in_service now e before job j new unit done none on = record {
   };
 }
 
-contained : (now : Option Disks) (drive : ℕ) (before : Drive) (job : Job) (j : ℕ) (unit : FileUnit) → unit_at before job j ≡ unit
+contained : (now : Disks) (drive : ℕ) (before : Drive) (job : Job) (j : ℕ) (unit : FileUnit) → unit_at before job j ≡ unit
     → StandsWithin now drive (units_done before job j) unit → Contained now drive before job j
 contained now drive before job j unit is within = record { within = subst (StandsWithin now drive (units_done before job j)) (sym is) within }
 
 -- a device failed within a unit that was next
-pub fails_next : {A E : Type 0} (disks now : Option Disks) (d e : Directory) (old new : Work) (error : E)
-    → ((image : List ℕ) (before : Drive) (job : Job) (j : ℕ) → told_image disks d.drive ≡ Some image → Suits before job → IsInService image d before job j old
+pub fails_next : {A E : Type 0} (disks now : Disks) (d e : Directory) (old new : Work) (error : E)
+    → ((image : List ℕ) (before : Drive) (job : Job) (j : ℕ) → disks.image d.drive ≡ Some image → Suits before job → IsInService image d before job j old
     → j < length (plan_of before job).units → (unit : FileUnit) × ((unit_at before job j ≡ unit) × StandsWithin now d.drive (units_done before job j) unit))
     → DoesNext {A = A} disks now d e old new (Err error)
 fails_next disks now d e old new error by = record {
@@ -75,14 +75,14 @@ fails_next disks now d e old new error by = record {
 }
 
 -- a block was cleared: the drive is as before, and the record that is next has its directory entry
-pub record HasCleared (now : Option Disks) (d : Directory) (before : Drive) (job : Job) (j : ℕ) (new : Work) : Type 0 where
+pub record HasCleared (now : Disks) (d : Directory) (before : Drive) (job : Job) (j : ℕ) (new : Work) : Type 0 where
   pub unit : FileUnit
   pub done : IsDone before job j new unit
   pub same : applied (units_done before job j) unit ≡ units_done before job j
   pub stands : StandsCleared now d (units_done before job j) new.cleared
   pub entered : needs_entry (units_done before job j) (file_of_job new.job) (new.job.first + new.moved) ≡ false
 
-still_in_service : (now : Option Disks) (d : Directory) (before : Drive) (job : Job) (j : ℕ) (new : Work) → HasCleared now d before job j new
+still_in_service : (now : Disks) (d : Directory) (before : Drive) (job : Job) (j : ℕ) (new : Work) → HasCleared now d before job j new
     → InService now d before job (suc j) (one_ended new)
 still_in_service now d before job j new has =
     let same : units_done before job (suc j) ≡ units_done before job j = one_turn before job j ∙ ap (applied (units_done before job j)) has.done.unit_is ∙ has.same in
@@ -97,8 +97,8 @@ still_in_service now d before job j new has =
       };
     }
 
-pub clears_next : {A E : Type 0} (disks now : Option Disks) (d : Directory) (old new : Work) (x : A)
-    → ((image : List ℕ) (before : Drive) (job : Job) (j : ℕ) → told_image disks d.drive ≡ Some image → Suits before job → IsInService image d before job j old
+pub clears_next : {A E : Type 0} (disks now : Disks) (d : Directory) (old new : Work) (x : A)
+    → ((image : List ℕ) (before : Drive) (job : Job) (j : ℕ) → disks.image d.drive ≡ Some image → Suits before job → IsInService image d before job j old
     → j < length (plan_of before job).units → HasCleared now d before job j new)
     → DoesNext {E = E} disks now d d old new (Ok x)
 clears_next disks now d old new x by = record {
@@ -107,11 +107,11 @@ clears_next disks now d old new x by = record {
 }
 
 -- what is done of a job in service
-abbrev pub Done : {A E : Type 0} → Option Disks → Directory → Directory → Work → Work → Drive → Job → ℕ → Result A E → Type 0
+abbrev pub Done : {A E : Type 0} → Disks → Directory → Directory → Work → Work → Drive → Job → ℕ → Result A E → Type 0
 Done now d e old new before job j result = (unit : FileUnit) × (IsDone before job j new unit × Does now d.drive e (units_done before job j) unit result)
 
-pub does_next : {A E : Type 0} (disks now : Option Disks) (d e : Directory) (old new : Work) (result : Result A E) → new.cleared ≡ None
-    → ((image : List ℕ) (before : Drive) (job : Job) (j : ℕ) → told_image disks d.drive ≡ Some image → Suits before job → IsInService image d before job j old
+pub does_next : {A E : Type 0} (disks now : Disks) (d e : Directory) (old new : Work) (result : Result A E) → new.cleared ≡ None
+    → ((image : List ℕ) (before : Drive) (job : Job) (j : ℕ) → disks.image d.drive ≡ Some image → Suits before job → IsInService image d before job j old
     → j < length (plan_of before job).units → Done now d e old new before job j result)
     → DoesNext disks now d e old new result
 does_next disks now d e old new result none by = record {
@@ -124,8 +124,8 @@ does_next disks now d e old new result none by = record {
 }
 
 -- by one entry in the place of another
-pub put_does : {A E : Type 0} (disks now : Option Disks) (d e : Directory) (old new : Work) (slot : ℕ) (entry : Entry) (result : Result A E) → new.cleared ≡ None
-    → ((image : List ℕ) (files : Drive) → told_image disks d.drive ≡ Some image → Stands image d files
+pub put_does : {A E : Type 0} (disks now : Disks) (d e : Directory) (old new : Work) (slot : ℕ) (entry : Entry) (result : Result A E) → new.cleared ≡ None
+    → ((image : List ℕ) (files : Drive) → disks.image d.drive ≡ Some image → Stands image d files
     → GoesThrough now d.drive e files (exchanged (sectors_of image d.kind) files (entry_in d slot) entry ∷ []) result)
     → ((image : List ℕ) (before : Drive) (job : Job) (j : ℕ) → Suits before job → Stands image d (units_done before job j) → IsServing before job j old → j < length (plan_of before job).units
     → (unit : FileUnit) × (IsDone before job j new unit × (stages unit (units_done before job j) ≡ exchanged (sectors_of image d.kind) (units_done before job j) (entry_in d slot) entry ∷ [])))
@@ -147,7 +147,7 @@ place_within p [] slot last full found = absurd (omega arith)
 place_within p (x ∷ xs) slot last full found = let at = position-Some p (x ∷ xs) slot x found in omega (arith, at.0, full)
 
 -- nothing was to be done, where the cursor can't stand so
-pub never_next : {A E : Type 0} (disks now : Option Disks) (d e : Directory) (old new : Work) (result : Result A E)
+pub never_next : {A E : Type 0} (disks now : Disks) (d e : Directory) (old new : Work) (result : Result A E)
     → ((image : List ℕ) (before : Drive) (job : Job) (j : ℕ) → Suits before job → IsInService image d before job j old → j < length (plan_of before job).units → ⊥)
     → DoesNext disks now d e old new result
 never_next disks now d e old new result never = record {

@@ -9,7 +9,7 @@ use Rattle.std.proofs.lemmas.List.Quantifiers.{position-Some}
 use Rattle.mpm_port.specs.Disks.{Disks}
 use Rattle.mpm_base.specs.declared.kind.Kind.{Kind}
 use Rattle.mpm_base.specs.Counts.{one_if}
-use Rattle.mpm_blocks.specs.Sectors.{Sectors, sectors_of, told_image}
+use Rattle.mpm_blocks.specs.Sectors.{Sectors, sectors_of}
 use Rattle.mpm_dirent.specs.declared.kinds.Entry.{Entry}
 use Rattle.mpm_dirent.specs.declared.kinds.Entry.TheVariants.{Free, File, Xfcb, Label}
 use Rattle.mpm_dirent.specs.declared.kinds.FileEntry.{FileEntry}
@@ -315,7 +315,7 @@ pub no_attributes : {K : Type 0} (extents : List (K × PhysicalExtent)) → firs
 no_attributes extents none = sym (ap (λ o. unwrap_or o (replicate 11 false)) none)
 
 -- a unit without stages is done by nothing
-pub does_nothing : {E : Type 0} (disks : Option Disks) (d : Directory) (files : Drive) (image : List ℕ) (unit : FileUnit) → told_image disks d.drive ≡ Some image → Stands image d files → stages unit files ≡ []
+pub does_nothing : {E : Type 0} (disks : Disks) (d : Directory) (files : Drive) (image : List ℕ) (unit : FileUnit) → disks.image d.drive ≡ Some image → Stands image d files → stages unit files ≡ []
     → Does {A = Unit {0}} {E = E} disks d.drive d files unit (Ok tt)
 unfolding applied last_of
 does_nothing disks d files image unit told stands none = record {

@@ -6,9 +6,7 @@ use Rattle.std.proofs.lemmas.List.{append-nil, append_assoc, length-append, leng
 use Rattle.std.proofs.lemmas.List.Sums.{sum_by-cons}
 use Rattle.std.proofs.lemmas.Bool.{true≢false, cases_lt}
 use Rattle.std.proofs.Math.Seq.{take-append_seam, drop-append-add}
-use Rattle.mpm_port.specs.Disks.{Disks, SameDisks, Told}
-use Rattle.mpm_blocks.specs.Sectors.{told_image}
-use Rattle.mpm_blocks.proofs.ToldImages.{told_image_same}
+use Rattle.mpm_port.specs.Disks.{Disks}
 use Rattle.mpm_mount.specs.Drives.{FileName, Drive, extent_at, visible_of}
 use Rattle.mpm_mount.specs.Directories.{Directory, Stands}
 use Rattle.mpm_mount.specs.Files.{where_there}
@@ -192,10 +190,10 @@ record_was_read before job j work bytes serving is h size whole few seen =
     }
 
 -- reading changes nothing
-pub read_stands : (image : List ℕ) (d : Directory) (files : Drive) (old new : Option Disks) → told_image old d.drive ≡ Some image → Stands image d files → Told SameDisks old new → StandsOn new d files
-read_stands image d files old new told stands same = record { image = image; told = told_image_same old new d.drive same ∙ told; stands = stands }
+pub read_stands : (image : List ℕ) (d : Directory) (files : Drive) (old new : Disks) → old.image d.drive ≡ Some image → Stands image d files → new ≡ old → StandsOn new d files
+read_stands image d files old new told stands same = record { image = image; told = ap (λ (x : Disks). x.image d.drive) same ∙ told; stands = stands }
 
-pub reading_failed : {A E : Type 0} (old new : Option Disks) (d : Directory) (work after : Work) (error : E) → Told SameDisks old new → DoesNext {A = A} old new d d work after (Err error)
+pub reading_failed : {A E : Type 0} (old new : Disks) (d : Directory) (work after : Work) (error : E) → new ≡ old → DoesNext {A = A} old new d d work after (Err error)
 reading_failed {A = A} old new d work after error same =
     fails_next old new d d work after error (λ image before job j told suits service h. (
       unit_at before job j,

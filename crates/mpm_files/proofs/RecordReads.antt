@@ -5,10 +5,9 @@ use Rattle.std.specs.List.{range_with_len}
 use Rattle.std.specs.FinMap.{get}
 use Rattle.std.proofs.lemmas.Bool.{true≢false}
 use Rattle.mpm_base.specs.declared.kind.Kind.{Kind}
-use Rattle.mpm_port.specs.Disks.{Disks, SameDisks, Told}
+use Rattle.mpm_port.specs.Disks.{Disks}
 use Rattle.mpm_blocks.specs.Geometries.{block_records, logical_sectors}
-use Rattle.mpm_blocks.specs.Sectors.{Sectors, told_image, sectors_of}
-use Rattle.mpm_blocks.proofs.ToldImages.{told_image_same}
+use Rattle.mpm_blocks.specs.Sectors.{Sectors, sectors_of}
 use Rattle.mpm_dirent.specs.declared.kinds.Entry.{Entry}
 use Rattle.mpm_dirent.specs.declared.kinds.FileEntry.{FileEntry}
 use Rattle.mpm_mount.specs.Drives.{FileName, PhysicalExtent, Drive, places, entry_name, count_in, block_place, with_extent_there, extent_at, record_in, record_of, visible_in, visible_of}
@@ -100,14 +99,14 @@ its_sector d file n slot sector f has held =
 is_held : (d : Directory) (file : FileName) (n slot sector : ℕ) (f : FileEntry) → HasEntry d file n slot f → IsHeldAt d.kind f n sector → lacks_block d file n ≡ false
 is_held d file n slot sector f has held = lacks_is d file n slot f has ∙ ne_eqb (block_at f (block_place d.kind n)) 0 held.held
 
-pub reads : {A E : Type 0} (image : List ℕ) (d : Directory) (files : Drive) (file : FileName) (n slot sector : ℕ) (f : FileEntry) (out : List ℕ) (disk : Disk) (disks : Option Disks)
-    (result : Result A E) → disk ≡ record { drive = d.drive; kind = d.kind } → HasEntry d file n slot f → IsHeldAt d.kind f n sector → told_image disks d.drive ≡ Some image
-    → Stands image d files → ((i : List ℕ) → told_image disks disk.drive ≡ Some i → OnOk result (out ≡ sectors_of i disk.kind sector))
+pub reads : {A E : Type 0} (image : List ℕ) (d : Directory) (files : Drive) (file : FileName) (n slot sector : ℕ) (f : FileEntry) (out : List ℕ) (disk : Disk) (disks : Disks)
+    (result : Result A E) → disk ≡ record { drive = d.drive; kind = d.kind } → HasEntry d file n slot f → IsHeldAt d.kind f n sector → disks.image d.drive ≡ Some image
+    → Stands image d files → ((i : List ℕ) → disks.image disk.drive ≡ Some i → OnOk result (out ≡ sectors_of i disk.kind sector))
     → OnOk result (record_of files file n ≡ Some out)
 reads image d files file n slot sector f out disk disks (Err e) is has held told stands read = tt
 reads image d files file n slot sector f out disk disks (Ok x) is has held told stands read =
     let here : out ≡ sectors_of image d.kind sector =
-    subst (λ (y : Disk). told_image disks y.drive ≡ Some image → out ≡ sectors_of image y.kind sector) is (read image) told in
+    subst (λ (y : Disk). disks.image y.drive ≡ Some image → out ≡ sectors_of image y.kind sector) is (read image) told in
     record_found image d files file n stands (is_held d file n slot sector f has held)
     ∙ ap (λ (s : ℕ). Some (sectors_of image d.kind s)) (its_sector d file n slot sector f has held) ∙ ap (λ (b : List ℕ). Some b) (sym here)
 
@@ -121,12 +120,12 @@ reads_visible image d files file n out (Err e) stands none read = tt
 reads_visible image d files file n out (Ok x) stands none read = (is_readable image d files file n stands none).0 ∙ read
 
 -- nothing is written
-pub reads_only : {A E : Type 0} (image : List ℕ) (d : Directory) (files : Drive) (file : FileName) (n : ℕ) (old new : Option Disks) (result : Result A E) → told_image old d.drive ≡ Some image
-    → Stands image d files → Told SameDisks old new → Does new d.drive d files (ReadsRecord file n) result
+pub reads_only : {A E : Type 0} (image : List ℕ) (d : Directory) (files : Drive) (file : FileName) (n : ℕ) (old new : Disks) (result : Result A E) → old.image d.drive ≡ Some image
+    → Stands image d files → new ≡ old → Does new d.drive d files (ReadsRecord file n) result
 unfolding stages
 reads_only image d files file n old new (Ok x) told stands same =
     does new d.drive d files (ReadsRecord file n) [] (Ok x) refl
-    (goes_nowhere new d.drive d files x (record { image = image; told = told_image_same old new d.drive same ∙ told; stands = stands }))
+    (goes_nowhere new d.drive d files x (record { image = image; told = ap (λ (x : Disks). x.image d.drive) same ∙ told; stands = stands }))
 reads_only image d files file n old new (Err e) told stands same =
     does new d.drive d files (ReadsRecord file n) [] (Err e) refl
-    (stays new d.drive d d files [] e refl (record { image = image; told = told_image_same old new d.drive same ∙ told; stands = stands }))
+    (stays new d.drive d d files [] e refl (record { image = image; told = ap (λ (x : Disks). x.image d.drive) same ∙ told; stands = stands }))

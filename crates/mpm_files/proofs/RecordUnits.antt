@@ -8,7 +8,7 @@ use Rattle.mpm_base.specs.declared.kind.Kind.{Kind}
 use Rattle.mpm_base.specs.declared.kind.Kind.TheVariants.{Ibm3740, Hd4, Hd8}
 use Rattle.mpm_port.specs.Disks.{Disks}
 use Rattle.mpm_blocks.specs.Geometries.{last_block, block_records, logical_sectors}
-use Rattle.mpm_blocks.specs.Sectors.{Sectors, told_image, sectors_of}
+use Rattle.mpm_blocks.specs.Sectors.{Sectors, sectors_of}
 use Rattle.mpm_dirent.specs.declared.kinds.Entry.{Entry}
 use Rattle.mpm_dirent.specs.declared.kinds.FileEntry.{FileEntry}
 use Rattle.mpm_mount.specs.Drives.{FileName, PhysicalExtent, Drive, block_place, with_extent}
@@ -67,9 +67,9 @@ number_lacking d file n slot f has none held = true≢false (sym (lacks_is d fil
 -- ---- into a block that is held
 
 pub held_done : {A B E : Type 0} (image : List ℕ) (d now : Directory) (files : Drive) (file : FileName) (n slot : ℕ) (f : FileEntry) (bytes : List ℕ) (moment : Option (List ℕ))
-    (mid new : Option Disks) (x : A) (result : Result B E) → Stands image d files → HasEntry d file n slot f → block_at f (block_place d.kind n) ≢ 0
+    (mid new : Disks) (x : A) (result : Result B E) → Stands image d files → HasEntry d file n slot f → block_at f (block_place d.kind n) ≢ 0
     → GoesThrough {A = A} {E = E} mid d.drive d files (with_extent files (name_of d.kind f) (with_record d.kind n bytes (extent_in (sectors_of image d.kind) d.kind f)) ∷ []) (Ok x)
-    → ((i : List ℕ) (before : Drive) → told_image mid d.drive ≡ Some i → Stands i d before
+    → ((i : List ℕ) (before : Drive) → mid.image d.drive ≡ Some i → Stands i d before
     → GoesThrough new d.drive now before (with_stamp file moment before (raises d.kind n f before (extent_in (sectors_of i d.kind) d.kind f))) result)
     → Does new d.drive now files (WritesRecord file n bytes moment) result
 unfolding last_of
@@ -85,7 +85,7 @@ held_done image d now files file n slot f bytes moment mid new x result stands h
     (goes_on new d.drive now files (next ∷ []) (with_stamp file moment next (raises d.kind n f next there)) result goes)
 
 pub held_failed : {A B E : Type 0} (image : List ℕ) (d now : Directory) (files : Drive) (file : FileName) (n slot : ℕ) (f : FileEntry) (bytes : List ℕ) (moment : Option (List ℕ))
-    (disks : Option Disks) (error : E) → Stands image d files → HasEntry d file n slot f → block_at f (block_place d.kind n) ≢ 0
+    (disks : Disks) (error : E) → Stands image d files → HasEntry d file n slot f → block_at f (block_place d.kind n) ≢ 0
     → GoesThrough {A = A} disks d.drive d files (with_extent files (name_of d.kind f) (with_record d.kind n bytes (extent_in (sectors_of image d.kind) d.kind f)) ∷ []) (Err error)
     → Does {A = B} disks d.drive now files (WritesRecord file n bytes moment) (Err error)
 unfolding last_of
@@ -121,10 +121,10 @@ zeros_before true sectors d (Some c) block clear fresh free is i h =
     (fresh.zeros i (omega (arith, h, bounds_by true (Some c) block clear is)))
 
 pub fresh_done : {A B E : Type 0} (image : List ℕ) (d now : Directory) (files : Drive) (file : FileName) (n slot block clear index : ℕ) (f : FileEntry) (bytes : List ℕ) (cleared : Option ℕ) (moment : Option (List ℕ))
-    (old mid new : Option Disks) (x : A) (result : Result B E) → told_image old d.drive ≡ Some image → Stands image d files → HasEntry d file n slot f → block_at f (block_place d.kind n) ≡ 0
+    (old mid new : Disks) (x : A) (result : Result B E) → old.image d.drive ≡ Some image → Stands image d files → HasEntry d file n slot f → block_at f (block_place d.kind n) ≡ 0
     → free_block d ≡ Some block → cleared_of (clears_blocks d.kind) cleared block ≡ Some clear → HasFreshBlock (clears_blocks d.kind) (sectors_of image d.kind) d cleared → length bytes ≡ 128
     → index ≡ n % block_records d.kind → Puts {A = A} {E = E} d.drive d.kind (block_writes d.kind block clear index bytes) old mid (Ok x)
-    → ((i : List ℕ) (before : Drive) → told_image mid d.drive ≡ Some i → Stands i d before
+    → ((i : List ℕ) (before : Drive) → mid.image d.drive ≡ Some i → Stands i d before
     → GoesThrough new d.drive now before (with_stamp file moment before
     (with_extent before (name_of d.kind f) (with_taken d.kind n (contents_of (sectors_of i d.kind) d.kind block) (extent_in (sectors_of i d.kind) d.kind f)) ∷ [])) result)
     → Does new d.drive now files (WritesRecord file n bytes moment) result
@@ -149,8 +149,8 @@ fresh_done image d now files file n slot block clear index f bytes cleared momen
     (with_stamp file moment files (with_extent files (name_of d.kind f) (with_taken d.kind n (contents_of (sectors_of i d.kind) d.kind block) e) ∷ [])) result)
     (same_extent image i d files file n slot f stands stands_i has) goes))
 
-pub fresh_failed : {A B E : Type 0} (image : List ℕ) (d now : Directory) (files : Drive) (file : FileName) (n block clear index : ℕ) (bytes : List ℕ) (cleared : Option ℕ) (moment : Option (List ℕ)) (old new : Option Disks)
-    (error : E) → told_image old d.drive ≡ Some image → Stands image d files → free_block d ≡ Some block → cleared_of (clears_blocks d.kind) cleared block ≡ Some clear → length bytes ≡ 128
+pub fresh_failed : {A B E : Type 0} (image : List ℕ) (d now : Directory) (files : Drive) (file : FileName) (n block clear index : ℕ) (bytes : List ℕ) (cleared : Option ℕ) (moment : Option (List ℕ)) (old new : Disks)
+    (error : E) → old.image d.drive ≡ Some image → Stands image d files → free_block d ≡ Some block → cleared_of (clears_blocks d.kind) cleared block ≡ Some clear → length bytes ≡ 128
     → index < block_records d.kind → Puts {A = A} {E = E} d.drive d.kind (block_writes d.kind block clear index bytes) old new (Err error)
     → Does {A = B} new d.drive now files (WritesRecord file n bytes moment) (Err error)
 fresh_failed image d now files file n block clear index bytes cleared moment old new error told stands free is long less puts =
@@ -169,13 +169,13 @@ enough Ibm3740 clears = absurd (false≢true clears)
 enough Hd4 clears = absurd (false≢true clears)
 enough Hd8 clears = omega arith
 
-pub clears_none : {A E : Type 0} (disks : Option Disks) (d : Directory) (image : List ℕ) (files : Drive) (file : FileName) (n : ℕ) (result : A) → told_image disks d.drive ≡ Some image
+pub clears_none : {A E : Type 0} (disks : Disks) (d : Directory) (image : List ℕ) (files : Drive) (file : FileName) (n : ℕ) (result : A) → disks.image d.drive ≡ Some image
     → Stands image d files → Does {A = A} {E = E} disks d.drive d files (ClearsBlock file n) (Ok result)
 unfolding stages
 clears_none disks d image files file n result told stands =
     does disks d.drive d files (ClearsBlock file n) [] (Ok result) refl (goes_nowhere disks d.drive d files result (record { image = image; told = told; stands = stands }))
 
-pub clears_first : {A B E : Type 0} (old new : Option Disks) (d : Directory) (image : List ℕ) (files : Drive) (file : FileName) (n block : ℕ) (x : A) (result : B) → told_image old d.drive ≡ Some image
+pub clears_first : {A B E : Type 0} (old new : Disks) (d : Directory) (image : List ℕ) (files : Drive) (file : FileName) (n block : ℕ) (x : A) (result : B) → old.image d.drive ≡ Some image
     → Stands image d files → clears_blocks d.kind ≡ true → free_block d ≡ Some block
     → Puts {A = A} {E = E} d.drive d.kind (zeros_from (sectors.block_sector d.kind block) 18) old new (Ok x)
     → Does {A = B} {E = E} new d.drive d files (ClearsBlock file n) (Ok result)
@@ -184,7 +184,7 @@ clears_first old new d image files file n block x result told stands clears free
     clears_none new d (written d.kind ws image) files file n result (all_told old new d.drive d.kind ws image puts.ok told)
     (cleared_stands d files block 18 image (free_block_unheld d block free) (enough d.kind clears) stands ws [] (append-nil ws))
 
-pub clears_stopped : {A B E : Type 0} (old new : Option Disks) (d : Directory) (image : List ℕ) (files : Drive) (file : FileName) (n block : ℕ) (error : E) → told_image old d.drive ≡ Some image
+pub clears_stopped : {A B E : Type 0} (old new : Disks) (d : Directory) (image : List ℕ) (files : Drive) (file : FileName) (n block : ℕ) (error : E) → old.image d.drive ≡ Some image
     → Stands image d files → clears_blocks d.kind ≡ true → free_block d ≡ Some block
     → Puts {A = A} {E = E} d.drive d.kind (zeros_from (sectors.block_sector d.kind block) 18) old new (Err error)
     → Does {A = B} new d.drive d files (ClearsBlock file n) (Err error)
@@ -196,7 +196,7 @@ clears_stopped old new d image files file n block error told stands clears free 
       stands = cleared_stands d files block 18 image (free_block_unheld d block free) (enough d.kind clears) stands puts.err.first puts.err.rest puts.err.all;
     }))
 
-pub block_cleared : {A E : Type 0} (old new : Option Disks) (d : Directory) (image : List ℕ) (files : Drive) (block : ℕ) (x : A) → told_image old d.drive ≡ Some image → Stands image d files
+pub block_cleared : {A E : Type 0} (old new : Disks) (d : Directory) (image : List ℕ) (files : Drive) (block : ℕ) (x : A) → old.image d.drive ≡ Some image → Stands image d files
     → clears_blocks d.kind ≡ true → free_block d ≡ Some block → Puts {A = A} {E = E} d.drive d.kind (zeros_from (sectors.block_sector d.kind block) 18) old new (Ok x)
     → StandsCleared new d files (Some block)
 block_cleared old new d image files block x told stands clears free puts =

@@ -65,7 +65,7 @@ beside_is image d files next file slot other x y g moment stands has was is sect
     ∙ ap (λ (z : XfcbEntry). exchanged sectors next (Xfcb x) (Xfcb z)) is
     ∙ xfcb_changed sectors next x (record x { second = moment }) file name name
 
-pub stamped_beside : {A E : Type 0} (disks : Option Disks) (drive : ℕ) (image : List ℕ) (d now : Directory) (files : Drive) (file : FileName) (slot other : ℕ) (x : XfcbEntry) (g : FileEntry)
+pub stamped_beside : {A E : Type 0} (disks : Disks) (drive : ℕ) (image : List ℕ) (d now : Directory) (files : Drive) (file : FileName) (slot other : ℕ) (x : XfcbEntry) (g : FileEntry)
     (moment : List ℕ) (o : Option (List ℕ)) (result : Result A E) → o ≡ Some moment → Stands image d files → HasXfcb d file other x → is_file (entry_in d slot) ≡ true
     → GoesThrough disks drive now files (exchanged (sectors_of image d.kind) files (entry_in d slot) (File g)
     ∷ with_xfcb (exchanged (sectors_of image d.kind) files (entry_in d slot) (File g)) file (second_stamped moment (protection_of x)) ∷ []) result

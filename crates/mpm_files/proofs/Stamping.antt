@@ -2,7 +2,7 @@
 use Rattle.std.proofs.Common.{◌≡◌, ℕ, List, [], ◌∷◌, Option, Some, None, Result, Ok, Err, refl, sym, ap, subst, ◌∙◌}
 use Rattle.std.specs.FinMap.{get}
 use Rattle.mpm_port.specs.Disks.{Disks}
-use Rattle.mpm_blocks.specs.Sectors.{Sectors, told_image}
+use Rattle.mpm_blocks.specs.Sectors.{Sectors}
 use Rattle.mpm_dirent.specs.declared.kinds.Entry.{Entry}
 use Rattle.mpm_dirent.specs.declared.kinds.Entry.TheVariants.{Xfcb}
 use Rattle.mpm_dirent.specs.declared.kinds.XfcbEntry.{XfcbEntry}
@@ -50,7 +50,7 @@ xfcb_stamped sectors image d files file slot x stamp moment stands has =
     ∙ ap (λ (p : Protection). with_xfcb files file p) (stamped_protection stamp moment x))
     ∙ sym (ap (λ (o : Option Protection). where_there o (λ xfcb. with_xfcb files file (stamped_in stamp moment xfcb) ∷ [])) there.1)
 
-pub stamp_put : {A E : Type 0} (disks : Option Disks) (drive : ℕ) (image : List ℕ) (d now : Directory) (files : Drive) (file : FileName) (slot : ℕ) (x : XfcbEntry) (stamp : Stamp)
+pub stamp_put : {A E : Type 0} (disks : Disks) (drive : ℕ) (image : List ℕ) (d now : Directory) (files : Drive) (file : FileName) (slot : ℕ) (x : XfcbEntry) (stamp : Stamp)
     (moment : List ℕ) (y : XfcbEntry) (sectors : Sectors) (result : Result A E) → Stands image d files → HasXfcb d file slot x → y ≡ stamped_entry stamp moment x
     → GoesThrough disks drive now files (exchanged sectors files (entry_in d slot) (Xfcb y) ∷ []) result
     → GoesThrough disks drive now files (stamped (stamped_in stamp) file (Some moment) files) result
@@ -59,15 +59,15 @@ stamp_put disks drive image d now files file slot x stamp moment y sectors resul
     (ap (λ (z : XfcbEntry). exchanged sectors files (entry_in d slot) (Xfcb z) ∷ []) is ∙ xfcb_stamped sectors image d files file slot x stamp moment stands has) goes
 
 -- nothing is stamped where there is no moment, or no XFCB
-pub no_moment : {A E : Type 0} (disks : Option Disks) (drive : ℕ) (image : List ℕ) (d : Directory) (files : Drive) (change : List ℕ → Protection → Protection) (file : FileName)
-    (moment : Option (List ℕ)) (result : A) → moment ≡ None → told_image disks d.drive ≡ Some image → Stands image d files
+pub no_moment : {A E : Type 0} (disks : Disks) (drive : ℕ) (image : List ℕ) (d : Directory) (files : Drive) (change : List ℕ → Protection → Protection) (file : FileName)
+    (moment : Option (List ℕ)) (result : A) → moment ≡ None → disks.image d.drive ≡ Some image → Stands image d files
     → GoesThrough {A = A} {E = E} disks drive d files (stamped change file moment files) (Ok result)
 no_moment {A = A} {E = E} disks drive image d files change file moment result none told stands =
     subst (λ (m : Option (List ℕ)). GoesThrough {A = A} {E = E} disks drive d files (stamped change file m files) (Ok result)) (sym none)
     (goes_nowhere disks drive d files result (record { image = image; told = told; stands = stands }))
 
-pub no_xfcb : {A E : Type 0} (disks : Option Disks) (drive : ℕ) (image : List ℕ) (d : Directory) (files : Drive) (change : List ℕ → Protection → Protection) (file : FileName)
-    (moment : Option (List ℕ)) (result : A) → xfcb_slot d file ≡ None → told_image disks d.drive ≡ Some image → Stands image d files
+pub no_xfcb : {A E : Type 0} (disks : Disks) (drive : ℕ) (image : List ℕ) (d : Directory) (files : Drive) (change : List ℕ → Protection → Protection) (file : FileName)
+    (moment : Option (List ℕ)) (result : A) → xfcb_slot d file ≡ None → disks.image d.drive ≡ Some image → Stands image d files
     → GoesThrough {A = A} {E = E} disks drive d files (stamped change file moment files) (Ok result)
 no_xfcb {A = A} {E = E} disks drive image d files change file moment result missing told stands =
     subst (λ (l : List Drive). GoesThrough {A = A} {E = E} disks drive d files l (Ok result)) (sym (nothing moment))
@@ -78,9 +78,9 @@ no_xfcb {A = A} {E = E} disks drive image d files change file moment result miss
     nothing (Some moment) = ap (λ (o : Option Protection). where_there o (λ xfcb. with_xfcb files file (change moment xfcb) ∷ [])) (xfcb_missing image d files file stands missing)
 
 -- a stamp behind other changes
-pub then_stamped : {A B E : Type 0} (mid new : Option Disks) (drive : ℕ) (d now : Directory) (files : Drive) (xs : List Drive) (file : FileName) (moment : Option (List ℕ)) (done : A)
+pub then_stamped : {A B E : Type 0} (mid new : Disks) (drive : ℕ) (d now : Directory) (files : Drive) (xs : List Drive) (file : FileName) (moment : Option (List ℕ)) (done : A)
     (result : Result B E) → d.drive ≡ drive → GoesThrough {A = A} {E = E} mid drive d files xs (Ok done)
-    → ((image : List ℕ) (before : Drive) → told_image mid d.drive ≡ Some image → Stands image d before
+    → ((image : List ℕ) (before : Drive) → mid.image d.drive ≡ Some image → Stands image d before
     → GoesThrough new d.drive now before (stamped second_stamped file moment before) result)
     → GoesThrough new drive now files (with_stamp file moment files xs) result
 then_stamped mid new drive d now files xs file moment done result here first second =
@@ -88,26 +88,26 @@ then_stamped mid new drive d now files xs file moment done result here first sec
     goes_on new drive now files xs (stamped second_stamped file moment last) result
     (subst (λ (n : ℕ). GoesThrough new n now last (stamped second_stamped file moment last) result) here (second first.ok.image last first.ok.told first.ok.stands))
 
-pub unstamped : {A B E : Type 0} (disks : Option Disks) (drive : ℕ) (d now : Directory) (files : Drive) (xs : List Drive) (file : FileName) (moment : Option (List ℕ)) (error : E)
+pub unstamped : {A B E : Type 0} (disks : Disks) (drive : ℕ) (d now : Directory) (files : Drive) (xs : List Drive) (file : FileName) (moment : Option (List ℕ)) (error : E)
     → GoesThrough {A = A} disks drive d files xs (Err error) → GoesThrough {A = B} disks drive now files (with_stamp file moment files xs) (Err error)
 unstamped disks drive d now files xs file moment error first = goes_stopped disks drive d now files xs (stamped second_stamped file moment (last_of files xs)) error first
 
 -- a unit that is a stamp alone
-pub idles : {A E : Type 0} (disks : Option Disks) (drive : ℕ) (now : Directory) (files : Drive) (file : FileName) (moment : Option (List ℕ)) (result : Result A E)
+pub idles : {A E : Type 0} (disks : Disks) (drive : ℕ) (now : Directory) (files : Drive) (file : FileName) (moment : Option (List ℕ)) (result : Result A E)
     → GoesThrough disks drive now files (stamped first_stamped file moment files) result → Does disks drive now files (Idles file moment) result
 unfolding stages
 idles disks drive now files file moment result goes = does disks drive now files (Idles file moment) (stamped first_stamped file moment files) result refl goes
 
 -- a stamp behind nothing
-pub only_stamped : {A E : Type 0} (disks : Option Disks) (drive : ℕ) (now : Directory) (files : Drive) (file : FileName) (moment : Option (List ℕ)) (xs : List Drive) (result : Result A E)
+pub only_stamped : {A E : Type 0} (disks : Disks) (drive : ℕ) (now : Directory) (files : Drive) (file : FileName) (moment : Option (List ℕ)) (xs : List Drive) (result : Result A E)
     → [] ≡ xs → GoesThrough disks drive now files (stamped second_stamped file moment files) result → GoesThrough disks drive now files (with_stamp file moment files xs) result
 unfolding last_of
 only_stamped disks drive now files file moment xs result is goes = subst (λ (l : List Drive). GoesThrough disks drive now files (with_stamp file moment files l) result) is goes
 
-pub stamped_as : {A E : Type 0} (disks : Option Disks) (drive : ℕ) (now : Directory) (files : Drive) (file : FileName) (moment : Option (List ℕ)) (xs ys : List Drive) (result : Result A E)
+pub stamped_as : {A E : Type 0} (disks : Disks) (drive : ℕ) (now : Directory) (files : Drive) (file : FileName) (moment : Option (List ℕ)) (xs ys : List Drive) (result : Result A E)
     → xs ≡ ys → GoesThrough disks drive now files (with_stamp file moment files xs) result → GoesThrough disks drive now files (with_stamp file moment files ys) result
 stamped_as disks drive now files file moment xs ys result is goes = subst (λ (l : List Drive). GoesThrough disks drive now files (with_stamp file moment files l) result) is goes
 
-pub stamped_at : {A E : Type 0} (disks : Option Disks) (drive : ℕ) (now : Directory) (files : Drive) (file : FileName) (moment same : Option (List ℕ)) (xs : List Drive) (result : Result A E)
+pub stamped_at : {A E : Type 0} (disks : Disks) (drive : ℕ) (now : Directory) (files : Drive) (file : FileName) (moment same : Option (List ℕ)) (xs : List Drive) (result : Result A E)
     → moment ≡ same → GoesThrough disks drive now files (with_stamp file moment files xs) result → GoesThrough disks drive now files (with_stamp file same files xs) result
 stamped_at disks drive now files file moment same xs result is goes = subst (λ (m : Option (List ℕ)). GoesThrough disks drive now files (with_stamp file m files xs) result) is goes

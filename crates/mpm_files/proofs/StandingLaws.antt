@@ -1,5 +1,5 @@
 -- Where the image of a drive stands as a drive of files goes through some others, one part of them after the other.
-use Rattle.std.proofs.Common.{◌≡◌, inl, inr, ℕ, List, [], ◌∷◌, ◌++◌, Option, Result, Ok, Err, refl, sym, subst}
+use Rattle.std.proofs.Common.{◌≡◌, inl, inr, ℕ, List, [], ◌∷◌, ◌++◌, Result, Ok, Err, refl, sym, subst}
 use Rattle.std.specs.List.{AllByRecursion}
 use Rattle.mpm_port.specs.Disks.{Disks}
 use Rattle.mpm_mount.specs.Drives.{Drive}
@@ -42,18 +42,18 @@ among_all P before (x ∷ xs) files each (inl is) = subst P (sym is) each.0
 among_all P before (x ∷ xs) files each (inr more) = among_all P x xs files each.1 more
 
 -- nothing is to be done; nothing was done
-pub goes_nowhere : {A E : Type 0} (disks : Option Disks) (drive : ℕ) (now : Directory) (files : Drive) (result : A) → StandsOn disks now files
+pub goes_nowhere : {A E : Type 0} (disks : Disks) (drive : ℕ) (now : Directory) (files : Drive) (result : A) → StandsOn disks now files
     → GoesThrough {A = A} {E = E} disks drive now files [] (Ok result)
 unfolding last_of
 goes_nowhere disks drive now files result stands = record { ok = stands; err = tt }
 
-pub stays : {A E : Type 0} (disks : Option Disks) (drive : ℕ) (d now : Directory) (files : Drive) (later : List Drive) (error : E) → d.drive ≡ drive → StandsOn disks d files
+pub stays : {A E : Type 0} (disks : Disks) (drive : ℕ) (d now : Directory) (files : Drive) (later : List Drive) (error : E) → d.drive ≡ drive → StandsOn disks d files
     → GoesThrough {A = A} disks drive now files later (Err error)
 stays disks drive d now files later error here stands =
     record { ok = tt; err = record { directory = d; here = here; files = files; among = among_first files later; stands = stands } }
 
 -- some drives, and then more of them
-pub goes_on : {A E : Type 0} (disks : Option Disks) (drive : ℕ) (now : Directory) (before : Drive) (xs ys : List Drive) (result : Result A E)
+pub goes_on : {A E : Type 0} (disks : Disks) (drive : ℕ) (now : Directory) (before : Drive) (xs ys : List Drive) (result : Result A E)
     → GoesThrough disks drive now (last_of before xs) ys result → GoesThrough disks drive now before (xs ++ ys) result
 goes_on disks drive now before xs ys (Ok x) goes = record { ok = subst (StandsOn disks now) (last_behind before xs ys) goes.ok; err = tt }
 goes_on disks drive now before xs ys (Err e) goes = record {
@@ -67,7 +67,7 @@ goes_on disks drive now before xs ys (Err e) goes = record {
   };
 }
 
-pub goes_stopped : {A B E : Type 0} (disks : Option Disks) (drive : ℕ) (mid now : Directory) (before : Drive) (xs ys : List Drive) (error : E)
+pub goes_stopped : {A B E : Type 0} (disks : Disks) (drive : ℕ) (mid now : Directory) (before : Drive) (xs ys : List Drive) (error : E)
     → GoesThrough {A = A} disks drive mid before xs (Err error) → GoesThrough {A = B} disks drive now before (xs ++ ys) (Err error)
 goes_stopped disks drive mid now before xs ys error goes = record {
   ok = tt;
@@ -81,7 +81,7 @@ goes_stopped disks drive mid now before xs ys error goes = record {
 }
 
 -- a unit is done by going through its stages
-pub does : {A E : Type 0} (disks : Option Disks) (drive : ℕ) (now : Directory) (before : Drive) (unit : FileUnit) (later : List Drive) (result : Result A E) → later ≡ stages unit before
+pub does : {A E : Type 0} (disks : Disks) (drive : ℕ) (now : Directory) (before : Drive) (unit : FileUnit) (later : List Drive) (result : Result A E) → later ≡ stages unit before
     → GoesThrough disks drive now before later result → Does disks drive now before unit result
 unfolding applied
 does disks drive now before unit later result is goes =
@@ -89,10 +89,10 @@ does disks drive now before unit later result is goes =
     record { ok = through.ok; err = through.err }
 
 -- of a success, and of an error, whatever it is
-pub done : {A B E F : Type 0} (disks : Option Disks) (drive : ℕ) (now : Directory) (before : Drive) (later : List Drive) (x : A) (y : B)
+pub done : {A B E F : Type 0} (disks : Disks) (drive : ℕ) (now : Directory) (before : Drive) (later : List Drive) (x : A) (y : B)
     → GoesThrough {A = A} {E = E} disks drive now before later (Ok x) → GoesThrough {A = B} {E = F} disks drive now before later (Ok y)
 done disks drive now before later x y goes = record { ok = goes.ok; err = tt }
 
-pub failed : {A B E F : Type 0} (disks : Option Disks) (drive : ℕ) (d now : Directory) (before : Drive) (later : List Drive) (x : E) (y : F)
+pub failed : {A B E F : Type 0} (disks : Disks) (drive : ℕ) (d now : Directory) (before : Drive) (later : List Drive) (x : E) (y : F)
     → GoesThrough {A = A} {E = E} disks drive d before later (Err x) → GoesThrough {A = B} {E = F} disks drive now before later (Err y)
 failed disks drive d now before later x y goes = record { ok = tt; err = goes.err }

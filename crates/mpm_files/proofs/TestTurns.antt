@@ -246,7 +246,7 @@ pub has_there : (files : Drive) (file : FileName) (n : ℕ) (there expected : Li
 has_there files file n there expected is = ap (λ (o : Option (List ℕ)). bytes_eq (where_there o (λ bytes. bytes)) expected) is
 
 -- passing changes nothing
-pub passes : {A E : Type 0} (disks : Option Disks) (d : Directory) (files : Drive) (file : FileName) (n : ℕ) (x : A) → StandsOn disks d files
+pub passes : {A E : Type 0} (disks : Disks) (d : Directory) (files : Drive) (file : FileName) (n : ℕ) (x : A) → StandsOn disks d files
     → Does {A = A} {E = E} disks d.drive d files (PassesRecord file n) (Ok x)
 unfolding stages
 passes disks d files file n x stands = does disks d.drive d files (PassesRecord file n) [] (Ok x) refl (goes_nowhere disks d.drive d files x stands)

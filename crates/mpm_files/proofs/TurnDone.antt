@@ -1,8 +1,7 @@
 -- A turn of a job in service.
-use Rattle.std.proofs.Common.{◌≡◌, ℕ, suc, ◌+◌, ◌≤◌, ◌<◌, Option, Some, Ok, length, sym, ap, subst, ◌∙◌, arith}
+use Rattle.std.proofs.Common.{◌≡◌, ℕ, suc, ◌+◌, ◌≤◌, ◌<◌, Some, Ok, length, sym, ap, subst, ◌∙◌, arith}
 use Rattle.std.specs.Prelude.{max, nat_lt, if◌then◌else◌}
 use Rattle.mpm_port.specs.Disks.{Disks}
-use Rattle.mpm_blocks.specs.Sectors.{told_image}
 use Rattle.mpm_mount.specs.Drives.{Drive}
 use Rattle.mpm_mount.specs.Images.{files_of}
 use Rattle.mpm_mount.specs.Directories.{Directory, Stands}
@@ -30,7 +29,7 @@ pub still_more : (old mid : Work) → mid.ended ≡ old.ended → mid.units ≡ 
 still_more old mid ended units more =
     subst (λ k. k < turns_in mid) (sym ended) (subst (λ n. old.ended < max n 1) (sym units) more)
 
-pub turn_ends : (now : Option Disks) (e : Directory) (before : Drive) (job : Job) (j : ℕ) (mid new : Work) → new ≡ one_ended mid → InService now e before job (suc j) (one_ended mid)
+pub turn_ends : (now : Disks) (e : Directory) (before : Drive) (job : Job) (j : ℕ) (mid new : Work) → new ≡ one_ended mid → InService now e before job (suc j) (one_ended mid)
     → InService now e before job (suc j) new
 turn_ends now e before job j mid new ends service = subst (InService now e before job (suc j)) (sym ends) service
 
@@ -46,7 +45,7 @@ pub none_there : (before : Drive) (job : Job) (j : ℕ) (work : Work) → IsServ
 none_there before job j work serving h = omega (arith, h, serving.ended, serving.units)
 
 -- a job without units has one turn, in which nothing is done
-pub idle_turn : (disks : Option Disks) (d : Directory) (before : Drive) (job : Job) (j : ℕ) (work : Work) → InService disks d before job j work → j < turns_of before job → work.units ≤ work.ended
+pub idle_turn : (disks : Disks) (d : Directory) (before : Drive) (job : Job) (j : ℕ) (work : Work) → InService disks d before job j work → j < turns_of before job → work.units ≤ work.ended
     → InService disks d before job (suc j) (one_ended work)
 idle_turn disks d before job j work service turn over =
     let serving = service.service.serving in
@@ -63,22 +62,22 @@ idle_turn disks d before job j work service turn over =
     }
 
 -- the image of a drive stands for what the units of its job that were done have made of it
-pub service_stands : (disks : Option Disks) (d : Directory) (before : Drive) (job : Job) (j : ℕ) (work : Work) → InService disks d before job j work → StandsOn disks d (units_done before job j)
+pub service_stands : (disks : Disks) (d : Directory) (before : Drive) (job : Job) (j : ℕ) (work : Work) → InService disks d before job j work → StandsOn disks d (units_done before job j)
 service_stands disks d before job j work service = record { image = service.image; told = service.told; stands = service.service.stands }
 
 -- where the device failed in the turn behind j that have ended, the image stands for a drive that the job contains
-pub failure_contained : (disks : Option Disks) (drive : ℕ) (before : Drive) (job : Job) (j : ℕ) (stopped : Contained disks drive before job j) → IsContained before job j stopped.within.files
+pub failure_contained : (disks : Disks) (drive : ℕ) (before : Drive) (job : Job) (j : ℕ) (stopped : Contained disks drive before job j) → IsContained before job j stopped.within.files
 failure_contained disks drive before job j stopped =
     among_all (IsContained before job j) (units_done before job j) (stages (unit_at before job j) (units_done before job j)) stopped.within.files
     (turn_contained before job j j (omega arith)) stopped.within.among
 
 -- and that image mounts again, as that drive
-pub failure_mounts : (disks : Option Disks) (drive : ℕ) (before : Drive) (job : Job) (j : ℕ) (stopped : Contained disks drive before job j)
-    → (told_image disks drive ≡ Some stopped.within.stands.image) × (files_of stopped.within.stands.image before.kind ≡ Ok stopped.within.files)
+pub failure_mounts : (disks : Disks) (drive : ℕ) (before : Drive) (job : Job) (j : ℕ) (stopped : Contained disks drive before job j)
+    → (disks.image drive ≡ Some stopped.within.stands.image) × (files_of stopped.within.stands.image before.kind ≡ Ok stopped.within.files)
 failure_mounts disks drive before job j stopped =
     let within = stopped.within in
     let kind : before.kind ≡ within.directory.kind =
     sym (failure_contained disks drive before job j stopped).keeps.kind ∙ kind_of within.stands.image within.directory within.files within.stands.stands in (
-      ap (told_image disks) (sym within.here) ∙ within.stands.told,
+      ap disks.image (sym within.here) ∙ within.stands.told,
       ap (files_of within.stands.image) kind ∙ mounts within.stands.image within.directory within.files within.stands.stands,
     )

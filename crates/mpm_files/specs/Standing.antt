@@ -3,7 +3,7 @@ use Rattle.std.specs.Prelude.{◌≡◌, ◌⊎◌, ℕ, ◌==◌, ◌%◌, slic
 use Rattle.mpm_base.specs.declared.kind.Kind.{Kind}
 use Rattle.mpm_port.specs.Disks.{Disks}
 use Rattle.mpm_blocks.specs.Geometries.{block_records}
-use Rattle.mpm_blocks.specs.Sectors.{Sectors, sectors_of, told_image}
+use Rattle.mpm_blocks.specs.Sectors.{Sectors, sectors_of}
 use Rattle.mpm_dirent.specs.declared.kinds.FileEntry.{FileEntry}
 use Rattle.mpm_mount.specs.Drives.{PhysicalExtent, Drive, block_place, with_record_in, with_extent}
 use Rattle.mpm_mount.specs.Faults.{name_of}
@@ -12,9 +12,9 @@ use Rattle.mpm_files.specs.Units.{FileUnit, is_raising, raised, last_of, stages,
 use Rattle.mpm_files.specs.Serving.{cleared_sectors, IsCleared}
 
 -- the attached image of a directory's drive stands, with the directory, for a drive of files
-pub record StandsOn (disks : Option Disks) (d : Directory) (files : Drive) : Type 0 where
+pub record StandsOn (disks : Disks) (d : Directory) (files : Drive) : Type 0 where
   pub image : List ℕ
-  pub told : told_image disks d.drive ≡ Some image
+  pub told : disks.image d.drive ≡ Some image
   pub stands : Stands image d files
 
 -- a drive of files is the one before a change, or one of those that it goes through
@@ -23,7 +23,7 @@ IsAmong before [] files = files ≡ before
 IsAmong before (next ∷ later) files = (files ≡ before) ⊎ IsAmong next later files
 
 -- the attached image of a drive stands for one of these, with some directory of the drive
-pub record StandsAmong (disks : Option Disks) (drive : ℕ) (before : Drive) (later : List Drive) : Type 0 where
+pub record StandsAmong (disks : Disks) (drive : ℕ) (before : Drive) (later : List Drive) : Type 0 where
   pub directory : Directory
   pub here : directory.drive ≡ drive
   pub files : Drive
@@ -32,16 +32,16 @@ pub record StandsAmong (disks : Option Disks) (drive : ℕ) (before : Drive) (la
 
 -- a drive of files was to go through some others: after a success image and directory stand for the last of them, after a
 -- failure the image stands for one of them, or for the drive before them
-pub record GoesThrough {A E : Type 0} (disks : Option Disks) (drive : ℕ) (now : Directory) (before : Drive) (later : List Drive) (result : Result A E) : Type 0 where
+pub record GoesThrough {A E : Type 0} (disks : Disks) (drive : ℕ) (now : Directory) (before : Drive) (later : List Drive) (result : Result A E) : Type 0 where
   pub ok : OnOk result (StandsOn disks now (last_of before later))
   pub err : OnErr result (StandsAmong disks drive before later)
 
 -- within a unit: the drive before it, or one of its stages
-abbrev pub StandsWithin : Option Disks → ℕ → Drive → FileUnit → Type 0
+abbrev pub StandsWithin : Disks → ℕ → Drive → FileUnit → Type 0
 StandsWithin disks drive before unit = StandsAmong disks drive before (stages unit before)
 
 -- a unit was to be done: after a success image and directory stand for what it makes, after a failure the image stands within it
-pub record Does {A E : Type 0} (disks : Option Disks) (drive : ℕ) (now : Directory) (before : Drive) (unit : FileUnit) (result : Result A E) : Type 0 where
+pub record Does {A E : Type 0} (disks : Disks) (drive : ℕ) (now : Directory) (before : Drive) (unit : FileUnit) (result : Result A E) : Type 0 where
   pub ok : OnOk result (StandsOn disks now (applied before unit))
   pub err : OnErr result (StandsWithin disks drive before unit)
 
@@ -51,9 +51,9 @@ HasFreshBlock true sectors d cleared = IsSomeAnd cleared (IsCleared sectors d)
 HasFreshBlock false sectors d cleared = IsSome (free_block d)
 
 -- image and directory stand for a drive of files, and a block was cleared, where there was one
-pub record StandsCleared (disks : Option Disks) (d : Directory) (files : Drive) (cleared : Option ℕ) : Type 0 where
+pub record StandsCleared (disks : Disks) (d : Directory) (files : Drive) (cleared : Option ℕ) : Type 0 where
   pub image : List ℕ
-  pub told : told_image disks d.drive ≡ Some image
+  pub told : disks.image d.drive ≡ Some image
   pub stands : Stands image d files
   pub cleared_is : IfSome cleared (IsCleared (sectors_of image d.kind) d)
 

@@ -4,7 +4,6 @@ use Rattle.std.specs.List.{list_any}
 use Rattle.std.specs.FinMap.{get}
 use Rattle.mpm_port.specs.Disks.{Disks}
 use Rattle.mpm_base.specs.Counts.{one_if}
-use Rattle.mpm_blocks.specs.Sectors.{told_image}
 use Rattle.mpm_blocks.specs.Geometries.{geometry_of}
 use Rattle.mpm_cache.specs.declared.cache.Place.{Place}
 use Rattle.mpm_dirent.specs.declared.kinds.Entry.TheVariants.{File}
@@ -110,13 +109,13 @@ pub record Suits (drive : Drive) (job : Job) : Type 0 where
   pub kind : SuitsKind drive job job.kind
 
 -- a job is in service on the attached image of a directory's drive, with j turns ended
-pub record InService (disks : Option Disks) (d : Directory) (before : Drive) (job : Job) (j : ℕ) (work : Work) : Type 0 where
+pub record InService (disks : Disks) (d : Directory) (before : Drive) (job : Job) (j : ℕ) (work : Work) : Type 0 where
   pub image : List ℕ
-  pub told : told_image disks d.drive ≡ Some image
+  pub told : disks.image d.drive ≡ Some image
   pub service : IsInService image d before job j work
 
 -- a device failed in the turn behind j that have ended: the image stands within its unit
-pub record Contained (disks : Option Disks) (drive : ℕ) (before : Drive) (job : Job) (j : ℕ) : Type 0 where
+pub record Contained (disks : Disks) (drive : ℕ) (before : Drive) (job : Job) (j : ℕ) : Type 0 where
   pub within : StandsWithin disks drive (units_done before job j) (unit_at before job j)
 
 -- one turn more has ended
@@ -125,7 +124,7 @@ one_ended work = record work { ended = work.ended + 1 }
 
 -- a job that is in service was to do its next unit: after a success it is in service with one turn more, after a failure the image
 -- stands within the unit
-pub record DoesNext {A E : Type 0} (disks now : Option Disks) (d e : Directory) (old new : Work) (result : Result A E) : Type 0 where
+pub record DoesNext {A E : Type 0} (disks now : Disks) (d e : Directory) (old new : Work) (result : Result A E) : Type 0 where
   pub ok : (before : Drive) (job : Job) (j : ℕ) → Suits before job → InService disks d before job j old → j < length (plan_of before job).units
       → OnOk result (InService now e before job (suc j) (one_ended new))
   pub err : (before : Drive) (job : Job) (j : ℕ) → Suits before job → InService disks d before job j old → j < length (plan_of before job).units

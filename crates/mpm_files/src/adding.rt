@@ -1,9 +1,9 @@
 ghost use Rattle.std.specs.Prelude.{◌≡◌, ◌≢◌, ◌+◌, ◌/◌, ◌%◌, ◌<◌, ◌≤◌, ℕ, List, Some, None, map, nat_le, replicate};
 ghost use Rattle.std.specs.FinMap.{get};
+ghost use Rattle.mpm_port.specs.Disks.{size_of};
 ghost use Rattle.mpm_port.specs.Causes.{HasCause};
 ghost use Rattle.mpm_dirent.specs.Names.{plain};
 ghost use Rattle.mpm_blocks.specs.Geometries.{geometry_of};
-ghost use Rattle.mpm_blocks.specs.Sectors.{told_image};
 ghost use Rattle.mpm_mount.specs.Drives.{Drive, entry_name, extents_of, free_entries};
 ghost use Rattle.mpm_mount.specs.Directories.{Stands};
 ghost use Rattle.mpm_cache.specs.Coherent.{IsCoherent, HasNoAlias};
@@ -71,16 +71,16 @@ pub(crate) fn add_entry<D: Drives, L: Ledger>(
     extent: u16,
     steps: &mut Steps<L>,
 ) -> Result<(), Failed>
-    requires size { D.attached drives.old mounted.old.drive ≡ Some (geometry_of mounted.old.kind).bytes }
+    requires size { size_of (D.disks drives.old) mounted.old.drive ≡ Some (geometry_of mounted.old.kind).bytes }
     requires coherent { IsCoherent cache.old (D.disks drives.old) }
     requires apart { HasNoAlias cache.old (D.disks drives.old) mounted.old.drive }
-    ensures does { (image : List ℕ) (files : Drive) → told_image (D.disks drives.old) mounted.old.drive ≡ Some image → Stands image mounted.old files
+    ensures does { (image : List ℕ) (files : Drive) → (D.disks drives.old).image mounted.old.drive ≡ Some image → Stands image mounted.old files
         → job.now.user < 16 → extent ≤ 2047 → get files.extents (entry_name files.kind (file_of_job job.now) extent) ≡ None
         → free_entries files ≢ 0 → Does (D.disks drives.new) mounted.old.drive mounted.new files (AddsEntry (file_of_job job.now) extent) result }
     ensures drive { mounted.new.drive ≡ mounted.old.drive }
     ensures kind { mounted.new.kind ≡ mounted.old.kind }
     ensures calls { steps.new ≤ steps.old + 2 }
-    ensures leaves { Leaves D.attached D.disks D.failed_names D.unsynced mounted.old.drive cache.old cache.new drives.old drives.new }
+    ensures leaves { Leaves D.disks D.told D.failed_names D.unsynced mounted.old.drive cache.old cache.new drives.old drives.new }
     ensures cause { HasCause (D.faults drives.old) (D.faults drives.new) result }
 {
     let _kind = mounted.kind();

@@ -1,7 +1,7 @@
 ghost use Rattle.std.specs.Prelude.{◌≡◌, ◌+◌, ◌≤◌, ℕ, List, Some, None, IfOk, if◌then◌else◌, true};
+ghost use Rattle.mpm_port.specs.Disks.{size_of};
 ghost use Rattle.mpm_port.specs.Causes.{HasCause};
 ghost use Rattle.mpm_blocks.specs.Geometries.{geometry_of};
-ghost use Rattle.mpm_blocks.specs.Sectors.{told_image};
 ghost use Rattle.mpm_mount.specs.Drives.{FileName, Drive};
 ghost use Rattle.mpm_mount.specs.Directories.{Stands, free_block};
 ghost use Rattle.mpm_cache.specs.Coherent.{IsCoherent, HasNoAlias};
@@ -36,16 +36,16 @@ pub(crate) fn clear_block<D: Drives, L: Ledger>(
     drives: &mut D,
     steps: &mut Steps<L>,
 ) -> Result<Option<u16>, Failed>
-    requires size { D.attached drives.old mounted.now.drive ≡ Some (geometry_of mounted.now.kind).bytes }
+    requires size { size_of (D.disks drives.old) mounted.now.drive ≡ Some (geometry_of mounted.now.kind).bytes }
     requires coherent { IsCoherent cache.old (D.disks drives.old) }
     requires apart { HasNoAlias cache.old (D.disks drives.old) mounted.now.drive }
     ensures block { IfOk result (λ block. block ≡ (if plans.clears_blocks mounted.now.kind then free_block mounted.now else None)) }
-    ensures does { (image : List ℕ) (files : Drive) (file : FileName) (n : ℕ) → told_image (D.disks drives.old) mounted.now.drive ≡ Some image
+    ensures does { (image : List ℕ) (files : Drive) (file : FileName) (n : ℕ) → (D.disks drives.old).image mounted.now.drive ≡ Some image
         → Stands image mounted.now files → Does (D.disks drives.new) mounted.now.drive mounted.now files (ClearsBlock file n) result }
-    ensures cleared { (image : List ℕ) (files : Drive) → told_image (D.disks drives.old) mounted.now.drive ≡ Some image → Stands image mounted.now files
+    ensures cleared { (image : List ℕ) (files : Drive) → (D.disks drives.old).image mounted.now.drive ≡ Some image → Stands image mounted.now files
         → IfOk result (λ block. StandsCleared (D.disks drives.new) mounted.now files block) }
     ensures calls { steps.new ≤ steps.old + 18 }
-    ensures leaves { Leaves D.attached D.disks D.failed_names D.unsynced mounted.now.drive cache.old cache.new drives.old drives.new }
+    ensures leaves { Leaves D.disks D.told D.failed_names D.unsynced mounted.now.drive cache.old cache.new drives.old drives.new }
     ensures cause { HasCause (D.faults drives.old) (D.faults drives.new) result }
 {
     if !clears_blocks(mounted.kind()) {
@@ -69,14 +69,14 @@ fn clear_first<D: Drives, L: Ledger>(
     block: u16,
     steps: &mut Steps<L>,
 ) -> Result<(), Failed>
-    requires size { D.attached drives.old mounted.now.drive ≡ Some (geometry_of mounted.now.kind).bytes }
+    requires size { size_of (D.disks drives.old) mounted.now.drive ≡ Some (geometry_of mounted.now.kind).bytes }
     requires coherent { IsCoherent cache.old (D.disks drives.old) }
     requires apart { HasNoAlias cache.old (D.disks drives.old) mounted.now.drive }
     requires clears { plans.clears_blocks mounted.now.kind ≡ true }
     requires free { free_block mounted.now ≡ Some block }
     ensures puts { Puts mounted.now.drive mounted.now.kind (zeros_from (block_sector mounted.now.kind block) 18) (D.disks drives.old) (D.disks drives.new) result }
     ensures calls { steps.new ≤ steps.old + 18 }
-    ensures leaves { Leaves D.attached D.disks D.failed_names D.unsynced mounted.now.drive cache.old cache.new drives.old drives.new }
+    ensures leaves { Leaves D.disks D.told D.failed_names D.unsynced mounted.now.drive cache.old cache.new drives.old drives.new }
     ensures cause { HasCause (D.faults drives.old) (D.faults drives.new) result }
 {
     let first = u32::from(block) * block_records(mounted.kind());

@@ -1,7 +1,8 @@
 ghost use Rattle.std.specs.Prelude.{◌≡◌, ◌+◌, ◌/◌, ◌≤◌, ℕ, List, [], ◌∷◌, Some, None, OnOk, OnErr};
+ghost use Rattle.mpm_port.specs.Disks.{size_of};
 ghost use Rattle.mpm_port.specs.Causes.{HasCause};
 ghost use Rattle.mpm_blocks.specs.Geometries.{geometry_of};
-ghost use Rattle.mpm_blocks.specs.Sectors.{Sectors, told_image, sectors_of};
+ghost use Rattle.mpm_blocks.specs.Sectors.{Sectors, sectors_of};
 ghost use Rattle.mpm_dirent.specs.Proper.{IsProper};
 ghost use Rattle.mpm_mount.specs.Drives.{Drive};
 ghost use Rattle.mpm_mount.specs.Faults.{cause_of};
@@ -40,13 +41,13 @@ pub(crate) fn put_entry<D: Drives, L: Ledger>(
     entry: &Entry,
     steps: &mut Steps<L>,
 ) -> Result<(), Failed>
-    requires size { D.attached drives.old mounted.old.drive ≡ Some (geometry_of mounted.old.kind).bytes }
+    requires size { size_of (D.disks drives.old) mounted.old.drive ≡ Some (geometry_of mounted.old.kind).bytes }
     requires coherent { IsCoherent cache.old (D.disks drives.old) }
     requires apart { HasNoAlias cache.old (D.disks drives.old) mounted.old.drive }
     requires slot { slot ≤ (geometry_of mounted.old.kind).drm }
     requires proper { IsProper (geometry_of mounted.old.kind).wide entry.now }
     requires faultless { cause_of mounted.old.kind (others mounted.old.entries slot) entry.now ≡ None }
-    ensures puts { (image : List ℕ) (files : Drive) → told_image (D.disks drives.old) mounted.old.drive ≡ Some image → Stands image mounted.old files
+    ensures puts { (image : List ℕ) (files : Drive) → (D.disks drives.old).image mounted.old.drive ≡ Some image → Stands image mounted.old files
         → GoesThrough (D.disks drives.new) mounted.old.drive mounted.new files
         (exchanged (sectors_of image mounted.old.kind) files (entry_in mounted.old slot) entry.now ∷ []) result }
     ensures placed { OnOk result (mounted.new ≡ with_entry mounted.old slot entry.now) }
@@ -54,7 +55,7 @@ pub(crate) fn put_entry<D: Drives, L: Ledger>(
     ensures drive { mounted.new.drive ≡ mounted.old.drive }
     ensures kind { mounted.new.kind ≡ mounted.old.kind }
     ensures calls { steps.new ≤ steps.old + 2 }
-    ensures leaves { Leaves D.attached D.disks D.failed_names D.unsynced mounted.old.drive cache.old cache.new drives.old drives.new }
+    ensures leaves { Leaves D.disks D.told D.failed_names D.unsynced mounted.old.drive cache.old cache.new drives.old drives.new }
     ensures cause { HasCause (D.faults drives.old) (D.faults drives.new) result }
 {
     let disk = disk_of(mounted);
@@ -78,7 +79,7 @@ pub(crate) fn put_entries<D: Drives, L: Ledger>(
     other: &Entry,
     steps: &mut Steps<L>,
 ) -> Result<(), Failed>
-    requires size { D.attached drives.old mounted.old.drive ≡ Some (geometry_of mounted.old.kind).bytes }
+    requires size { size_of (D.disks drives.old) mounted.old.drive ≡ Some (geometry_of mounted.old.kind).bytes }
     requires coherent { IsCoherent cache.old (D.disks drives.old) }
     requires apart { HasNoAlias cache.old (D.disks drives.old) mounted.old.drive }
     requires slot { slot ≤ (geometry_of mounted.old.kind).drm }
@@ -88,7 +89,7 @@ pub(crate) fn put_entries<D: Drives, L: Ledger>(
     requires other_proper { IsProper (geometry_of mounted.old.kind).wide other.now }
     requires faultless { cause_of mounted.old.kind (others mounted.old.entries slot) entry.now ≡ None }
     requires other_faultless { cause_of mounted.old.kind (others (with_entry mounted.old slot entry.now).entries other_slot) other.now ≡ None }
-    ensures puts { (image : List ℕ) (files last : Drive) → told_image (D.disks drives.old) mounted.old.drive ≡ Some image → Stands image mounted.old files
+    ensures puts { (image : List ℕ) (files last : Drive) → (D.disks drives.old).image mounted.old.drive ≡ Some image → Stands image mounted.old files
         → ((sectors : Sectors) → exchanged sectors (exchanged (sectors_of image mounted.old.kind) files (entry_in mounted.old slot) entry.now)
         (entry_in (with_entry mounted.old slot entry.now) other_slot) other.now ≡ last)
         → GoesThrough (D.disks drives.new) mounted.old.drive mounted.new files
@@ -96,7 +97,7 @@ pub(crate) fn put_entries<D: Drives, L: Ledger>(
     ensures drive { mounted.new.drive ≡ mounted.old.drive }
     ensures kind { mounted.new.kind ≡ mounted.old.kind }
     ensures calls { steps.new ≤ steps.old + 2 }
-    ensures leaves { Leaves D.attached D.disks D.failed_names D.unsynced mounted.old.drive cache.old cache.new drives.old drives.new }
+    ensures leaves { Leaves D.disks D.told D.failed_names D.unsynced mounted.old.drive cache.old cache.new drives.old drives.new }
     ensures cause { HasCause (D.faults drives.old) (D.faults drives.new) result }
 {
     let disk = disk_of(mounted);

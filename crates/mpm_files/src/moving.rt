@@ -1,3 +1,4 @@
+ghost use Rattle.mpm_port.specs.Disks.{size_of};
 ghost use Rattle.mpm_files.specs.declared.moving.Step.TheVariants as steps_of;
 ghost use Rattle.mpm_files.specs.Stepping as stepping;
 ghost use Rattle.std.specs.Prelude.{length, ℕ, ◌≡◌, ◌+◌, ◌*◌, ◌<◌, ◌≤◌, Some, None};
@@ -64,7 +65,7 @@ pub(crate) fn read_next<D: Drives, L: Ledger>(
     work: &mut Work,
     steps: &mut Steps<L>,
 ) -> Result<(), Failed>
-    requires size { D.attached drives.old mounted.old.drive ≡ Some (geometry_of mounted.old.kind).bytes }
+    requires size { size_of (D.disks drives.old) mounted.old.drive ≡ Some (geometry_of mounted.old.kind).bytes }
     requires coherent { IsCoherent cache.old (D.disks drives.old) }
     requires apart { HasNoAlias cache.old (D.disks drives.old) mounted.old.drive }
     ensures read { work.old.job.kind ≡ kinds.Read → DoesNext (D.disks drives.old) (D.disks drives.new) mounted.old mounted.new work.old work.new result }
@@ -75,7 +76,7 @@ pub(crate) fn read_next<D: Drives, L: Ledger>(
     ensures calls { steps.new ≤ steps.old + 1 }
     ensures cached { turning.IsNextCached cache.old mounted.old work.old → steps.new ≡ steps.old }
     ensures unsynced { (other : ℕ) → D.unsynced drives.new other ≡ D.unsynced drives.old other }
-    ensures leaves { Leaves D.attached D.disks D.failed_names D.unsynced mounted.old.drive cache.old cache.new drives.old drives.new }
+    ensures leaves { Leaves D.disks D.told D.failed_names D.unsynced mounted.old.drive cache.old cache.new drives.old drives.new }
     ensures cause { HasCause (D.faults drives.old) (D.faults drives.new) result }
 {
     work.cleared = None;
@@ -132,7 +133,7 @@ fn write_record<D: Drives, L: Ledger>(
     work: &mut Work,
     steps: &mut Steps<L>,
 ) -> Result<(), Failed>
-    requires size { D.attached drives.old mounted.old.drive ≡ Some (geometry_of mounted.old.kind).bytes }
+    requires size { size_of (D.disks drives.old) mounted.old.drive ≡ Some (geometry_of mounted.old.kind).bytes }
     requires coherent { IsCoherent cache.old (D.disks drives.old) }
     requires apart { HasNoAlias cache.old (D.disks drives.old) mounted.old.drive }
     ensures write { work.old.job.kind ≡ kinds.Write → stepping.step_of mounted.old work.old (stepping.record_next work.old) ≡ steps_of.Record
@@ -142,7 +143,7 @@ fn write_record<D: Drives, L: Ledger>(
     ensures drive { mounted.new.drive ≡ mounted.old.drive }
     ensures kind { mounted.new.kind ≡ mounted.old.kind }
     ensures calls { steps.new ≤ steps.old + 20 }
-    ensures leaves { Leaves D.attached D.disks D.failed_names D.unsynced mounted.old.drive cache.old cache.new drives.old drives.new }
+    ensures leaves { Leaves D.disks D.told D.failed_names D.unsynced mounted.old.drive cache.old cache.new drives.old drives.new }
     ensures cause { HasCause (D.faults drives.old) (D.faults drives.new) result }
 {
     let n = work.job.first.saturating_add(u32::from(work.moved));
@@ -175,7 +176,7 @@ pub(crate) fn write_next<D: Drives, L: Ledger>(
     work: &mut Work,
     steps: &mut Steps<L>,
 ) -> Result<(), Failed>
-    requires size { D.attached drives.old mounted.old.drive ≡ Some (geometry_of mounted.old.kind).bytes }
+    requires size { size_of (D.disks drives.old) mounted.old.drive ≡ Some (geometry_of mounted.old.kind).bytes }
     requires coherent { IsCoherent cache.old (D.disks drives.old) }
     requires apart { HasNoAlias cache.old (D.disks drives.old) mounted.old.drive }
     ensures write { work.old.job.kind ≡ kinds.Write → DoesNext (D.disks drives.old) (D.disks drives.new) mounted.old mounted.new work.old work.new result }
@@ -184,7 +185,7 @@ pub(crate) fn write_next<D: Drives, L: Ledger>(
     ensures drive { mounted.new.drive ≡ mounted.old.drive }
     ensures kind { mounted.new.kind ≡ mounted.old.kind }
     ensures calls { steps.new ≤ steps.old + 20 }
-    ensures leaves { Leaves D.attached D.disks D.failed_names D.unsynced mounted.old.drive cache.old cache.new drives.old drives.new }
+    ensures leaves { Leaves D.disks D.told D.failed_names D.unsynced mounted.old.drive cache.old cache.new drives.old drives.new }
     ensures cause { HasCause (D.faults drives.old) (D.faults drives.new) result }
 {
     let n = work.job.first.saturating_add(u32::from(work.moved));
@@ -215,7 +216,7 @@ pub(crate) fn test_next<D: Drives, L: Ledger>(
     work: &mut Work,
     steps: &mut Steps<L>,
 ) -> Result<(), Failed>
-    requires size { D.attached drives.old mounted.old.drive ≡ Some (geometry_of mounted.old.kind).bytes }
+    requires size { size_of (D.disks drives.old) mounted.old.drive ≡ Some (geometry_of mounted.old.kind).bytes }
     requires coherent { IsCoherent cache.old (D.disks drives.old) }
     requires apart { HasNoAlias cache.old (D.disks drives.old) mounted.old.drive }
     ensures testwrite { work.old.job.kind ≡ kinds.TestWrite → DoesNext (D.disks drives.old) (D.disks drives.new) mounted.old mounted.new work.old work.new result }
@@ -224,7 +225,7 @@ pub(crate) fn test_next<D: Drives, L: Ledger>(
     ensures drive { mounted.new.drive ≡ mounted.old.drive }
     ensures kind { mounted.new.kind ≡ mounted.old.kind }
     ensures calls { steps.new ≤ steps.old + 6 }
-    ensures leaves { Leaves D.attached D.disks D.failed_names D.unsynced mounted.old.drive cache.old cache.new drives.old drives.new }
+    ensures leaves { Leaves D.disks D.told D.failed_names D.unsynced mounted.old.drive cache.old cache.new drives.old drives.new }
     ensures cause { HasCause (D.faults drives.old) (D.faults drives.new) result }
 {
     work.cleared = None;

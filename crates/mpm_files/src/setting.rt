@@ -1,4 +1,5 @@
 ghost use Rattle.std.specs.Prelude.{◌≡◌, ◌+◌, ◌≤◌, Some, None};
+ghost use Rattle.mpm_port.specs.Disks.{size_of};
 ghost use Rattle.mpm_port.specs.Causes.{HasCause};
 ghost use Rattle.mpm_blocks.specs.Geometries.{geometry_of};
 ghost use Rattle.mpm_cache.specs.Coherent.{IsCoherent, HasNoAlias};
@@ -36,7 +37,7 @@ pub(crate) fn set_next<D: Drives, L: Ledger>(
     work: &mut Work,
     steps: &mut Steps<L>,
 ) -> Result<(), Failed>
-    requires size { D.attached drives.old mounted.old.drive ≡ Some (geometry_of mounted.old.kind).bytes }
+    requires size { size_of (D.disks drives.old) mounted.old.drive ≡ Some (geometry_of mounted.old.kind).bytes }
     requires coherent { IsCoherent cache.old (D.disks drives.old) }
     requires apart { HasNoAlias cache.old (D.disks drives.old) mounted.old.drive }
     ensures attributes { work.old.job.kind ≡ kinds.Attributes → DoesNext (D.disks drives.old) (D.disks drives.new) mounted.old mounted.new work.old work.new result }
@@ -45,7 +46,7 @@ pub(crate) fn set_next<D: Drives, L: Ledger>(
     ensures drive { mounted.new.drive ≡ mounted.old.drive }
     ensures kind { mounted.new.kind ≡ mounted.old.kind }
     ensures calls { steps.new ≤ steps.old + 2 }
-    ensures leaves { Leaves D.attached D.disks D.failed_names D.unsynced mounted.old.drive cache.old cache.new drives.old drives.new }
+    ensures leaves { Leaves D.disks D.told D.failed_names D.unsynced mounted.old.drive cache.old cache.new drives.old drives.new }
     ensures cause { HasCause (D.faults drives.old) (D.faults drives.new) result }
 {
     let _kind = mounted.kind();

@@ -1,7 +1,8 @@
 ghost use Rattle.std.specs.Prelude.{◌≡◌, ◌+◌, ◌≤◌, ℕ, List, [], ◌∷◌, Some, None, ◌/◌, true};
+ghost use Rattle.mpm_port.specs.Disks.{size_of};
 ghost use Rattle.mpm_port.specs.Causes.{HasCause};
 ghost use Rattle.mpm_blocks.specs.Geometries.{geometry_of};
-ghost use Rattle.mpm_blocks.specs.Sectors.{told_image, sectors_of};
+ghost use Rattle.mpm_blocks.specs.Sectors.{sectors_of};
 ghost use Rattle.mpm_dirent.specs.declared.kinds.Entry.TheVariants.{File};
 ghost use Rattle.mpm_dirent.specs.Proper.{IsProper};
 ghost use Rattle.mpm_mount.specs.Drives.{Drive};
@@ -61,16 +62,16 @@ pub(crate) fn put_stamp<D: Drives, L: Ledger>(
     moment: Option<[u8; 4]>,
     steps: &mut Steps<L>,
 ) -> Result<(), Failed>
-    requires size { D.attached drives.old mounted.old.drive ≡ Some (geometry_of mounted.old.kind).bytes }
+    requires size { size_of (D.disks drives.old) mounted.old.drive ≡ Some (geometry_of mounted.old.kind).bytes }
     requires coherent { IsCoherent cache.old (D.disks drives.old) }
     requires apart { HasNoAlias cache.old (D.disks drives.old) mounted.old.drive }
-    ensures puts { (image : List ℕ) (files : Drive) → told_image (D.disks drives.old) mounted.old.drive ≡ Some image → Stands image mounted.old files
+    ensures puts { (image : List ℕ) (files : Drive) → (D.disks drives.old).image mounted.old.drive ≡ Some image → Stands image mounted.old files
         → GoesThrough (D.disks drives.new) mounted.old.drive mounted.new files
         (stamped (stamped_in stamp) (file_of_job job.now) moment files) result }
     ensures drive { mounted.new.drive ≡ mounted.old.drive }
     ensures kind { mounted.new.kind ≡ mounted.old.kind }
     ensures calls { steps.new ≤ steps.old + 2 }
-    ensures leaves { Leaves D.attached D.disks D.failed_names D.unsynced mounted.old.drive cache.old cache.new drives.old drives.new }
+    ensures leaves { Leaves D.disks D.told D.failed_names D.unsynced mounted.old.drive cache.old cache.new drives.old drives.new }
     ensures cause { HasCause (D.faults drives.old) (D.faults drives.new) result }
 {
     let moment = match moment {
@@ -101,15 +102,15 @@ pub(crate) fn idle<D: Drives, L: Ledger>(
     moment: Option<[u8; 4]>,
     steps: &mut Steps<L>,
 ) -> Result<(), Failed>
-    requires size { D.attached drives.old mounted.old.drive ≡ Some (geometry_of mounted.old.kind).bytes }
+    requires size { size_of (D.disks drives.old) mounted.old.drive ≡ Some (geometry_of mounted.old.kind).bytes }
     requires coherent { IsCoherent cache.old (D.disks drives.old) }
     requires apart { HasNoAlias cache.old (D.disks drives.old) mounted.old.drive }
-    ensures does { (image : List ℕ) (files : Drive) → told_image (D.disks drives.old) mounted.old.drive ≡ Some image → Stands image mounted.old files
+    ensures does { (image : List ℕ) (files : Drive) → (D.disks drives.old).image mounted.old.drive ≡ Some image → Stands image mounted.old files
         → Does (D.disks drives.new) mounted.old.drive mounted.new files (Idles (file_of_job job.now) moment) result }
     ensures drive { mounted.new.drive ≡ mounted.old.drive }
     ensures kind { mounted.new.kind ≡ mounted.old.kind }
     ensures calls { steps.new ≤ steps.old + 2 }
-    ensures leaves { Leaves D.attached D.disks D.failed_names D.unsynced mounted.old.drive cache.old cache.new drives.old drives.new }
+    ensures leaves { Leaves D.disks D.told D.failed_names D.unsynced mounted.old.drive cache.old cache.new drives.old drives.new }
     ensures cause { HasCause (D.faults drives.old) (D.faults drives.new) result }
 {
     put_stamp(mounted, cache, drives, job, Stamp::First, moment, steps)
@@ -127,21 +128,21 @@ pub(crate) fn put_stamped<D: Drives, L: Ledger>(
     moment: Option<[u8; 4]>,
     steps: &mut Steps<L>,
 ) -> Result<(), Failed>
-    requires size { D.attached drives.old mounted.old.drive ≡ Some (geometry_of mounted.old.kind).bytes }
+    requires size { size_of (D.disks drives.old) mounted.old.drive ≡ Some (geometry_of mounted.old.kind).bytes }
     requires coherent { IsCoherent cache.old (D.disks drives.old) }
     requires apart { HasNoAlias cache.old (D.disks drives.old) mounted.old.drive }
     requires slot { slot ≤ (geometry_of mounted.old.kind).drm }
     requires was { is_file (entry_in mounted.old slot) ≡ true }
     requires proper { IsProper (geometry_of mounted.old.kind).wide (File file.now) }
     requires faultless { cause_of mounted.old.kind (others mounted.old.entries slot) (File file.now) ≡ None }
-    ensures puts { (image : List ℕ) (files : Drive) → told_image (D.disks drives.old) mounted.old.drive ≡ Some image → Stands image mounted.old files
+    ensures puts { (image : List ℕ) (files : Drive) → (D.disks drives.old).image mounted.old.drive ≡ Some image → Stands image mounted.old files
         → GoesThrough (D.disks drives.new) mounted.old.drive mounted.new files
         (with_stamp (file_of_job job.now) moment files
         (exchanged (sectors_of image mounted.old.kind) files (entry_in mounted.old slot) (File file.now) ∷ [])) result }
     ensures drive { mounted.new.drive ≡ mounted.old.drive }
     ensures kind { mounted.new.kind ≡ mounted.old.kind }
     ensures calls { steps.new ≤ steps.old + 4 }
-    ensures leaves { Leaves D.attached D.disks D.failed_names D.unsynced mounted.old.drive cache.old cache.new drives.old drives.new }
+    ensures leaves { Leaves D.disks D.told D.failed_names D.unsynced mounted.old.drive cache.old cache.new drives.old drives.new }
     ensures cause { HasCause (D.faults drives.old) (D.faults drives.new) result }
 {
     let second = match moment {
@@ -167,20 +168,20 @@ fn put_apart<D: Drives, L: Ledger>(
     moment: Option<[u8; 4]>,
     steps: &mut Steps<L>,
 ) -> Result<(), Failed>
-    requires size { D.attached drives.old mounted.old.drive ≡ Some (geometry_of mounted.old.kind).bytes }
+    requires size { size_of (D.disks drives.old) mounted.old.drive ≡ Some (geometry_of mounted.old.kind).bytes }
     requires coherent { IsCoherent cache.old (D.disks drives.old) }
     requires apart { HasNoAlias cache.old (D.disks drives.old) mounted.old.drive }
     requires slot { slot ≤ (geometry_of mounted.old.kind).drm }
     requires proper { IsProper (geometry_of mounted.old.kind).wide (File file.now) }
     requires faultless { cause_of mounted.old.kind (others mounted.old.entries slot) (File file.now) ≡ None }
-    ensures puts { (image : List ℕ) (files : Drive) → told_image (D.disks drives.old) mounted.old.drive ≡ Some image → Stands image mounted.old files
+    ensures puts { (image : List ℕ) (files : Drive) → (D.disks drives.old).image mounted.old.drive ≡ Some image → Stands image mounted.old files
         → GoesThrough (D.disks drives.new) mounted.old.drive mounted.new files
         (with_stamp (file_of_job job.now) moment files
         (exchanged (sectors_of image mounted.old.kind) files (entry_in mounted.old slot) (File file.now) ∷ [])) result }
     ensures drive { mounted.new.drive ≡ mounted.old.drive }
     ensures kind { mounted.new.kind ≡ mounted.old.kind }
     ensures calls { steps.new ≤ steps.old + 4 }
-    ensures leaves { Leaves D.attached D.disks D.failed_names D.unsynced mounted.old.drive cache.old cache.new drives.old drives.new }
+    ensures leaves { Leaves D.disks D.told D.failed_names D.unsynced mounted.old.drive cache.old cache.new drives.old drives.new }
     ensures cause { HasCause (D.faults drives.old) (D.faults drives.new) result }
 {
     match put_entry(
@@ -208,7 +209,7 @@ fn put_both<D: Drives, L: Ledger>(
     moment: [u8; 4],
     steps: &mut Steps<L>,
 ) -> Result<(), Failed>
-    requires size { D.attached drives.old mounted.old.drive ≡ Some (geometry_of mounted.old.kind).bytes }
+    requires size { size_of (D.disks drives.old) mounted.old.drive ≡ Some (geometry_of mounted.old.kind).bytes }
     requires coherent { IsCoherent cache.old (D.disks drives.old) }
     requires apart { HasNoAlias cache.old (D.disks drives.old) mounted.old.drive }
     requires slot { slot ≤ (geometry_of mounted.old.kind).drm }
@@ -217,14 +218,14 @@ fn put_both<D: Drives, L: Ledger>(
     requires beside { found.now.slot / 4 ≡ slot / 4 }
     requires proper { IsProper (geometry_of mounted.old.kind).wide (File file.now) }
     requires faultless { cause_of mounted.old.kind (others mounted.old.entries slot) (File file.now) ≡ None }
-    ensures puts { (image : List ℕ) (files : Drive) → told_image (D.disks drives.old) mounted.old.drive ≡ Some image → Stands image mounted.old files
+    ensures puts { (image : List ℕ) (files : Drive) → (D.disks drives.old).image mounted.old.drive ≡ Some image → Stands image mounted.old files
         → GoesThrough (D.disks drives.new) mounted.old.drive mounted.new files
         (with_stamp (file_of_job job.now) (Some moment) files
         (exchanged (sectors_of image mounted.old.kind) files (entry_in mounted.old slot) (File file.now) ∷ [])) result }
     ensures drive { mounted.new.drive ≡ mounted.old.drive }
     ensures kind { mounted.new.kind ≡ mounted.old.kind }
     ensures calls { steps.new ≤ steps.old + 2 }
-    ensures leaves { Leaves D.attached D.disks D.failed_names D.unsynced mounted.old.drive cache.old cache.new drives.old drives.new }
+    ensures leaves { Leaves D.disks D.told D.failed_names D.unsynced mounted.old.drive cache.old cache.new drives.old drives.new }
     ensures cause { HasCause (D.faults drives.old) (D.faults drives.new) result }
 {
     let xfcb = stamped(&found.xfcb, Stamp::Second, moment);

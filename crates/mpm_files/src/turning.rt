@@ -1,4 +1,5 @@
 ghost use Rattle.std.specs.Prelude.{◌≡◌, ℕ, suc, ◌+◌, ◌<◌, ◌≤◌, Some, IfOk, OnOk, OnErr, nat_lt, if◌then◌else◌};
+ghost use Rattle.mpm_port.specs.Disks.{size_of};
 ghost use Rattle.mpm_port.specs.Causes.{HasCause};
 ghost use Rattle.mpm_blocks.specs.Geometries.{geometry_of};
 ghost use Rattle.mpm_cache.specs.Coherent.{IsCoherent, HasNoAlias};
@@ -39,7 +40,7 @@ fn do_next<D: Drives, L: Ledger>(
     work: &mut Work,
     steps: &mut Steps<L>,
 ) -> Result<(), Failed>
-    requires size { D.attached drives.old mounted.old.drive ≡ Some (geometry_of mounted.old.kind).bytes }
+    requires size { size_of (D.disks drives.old) mounted.old.drive ≡ Some (geometry_of mounted.old.kind).bytes }
     requires coherent { IsCoherent cache.old (D.disks drives.old) }
     requires apart { HasNoAlias cache.old (D.disks drives.old) mounted.old.drive }
     ensures does { DoesNext (D.disks drives.old) (D.disks drives.new) mounted.old mounted.new work.old work.new result }
@@ -51,7 +52,7 @@ fn do_next<D: Drives, L: Ledger>(
     ensures reads { work.old.job.kind ≡ kinds.Read → steps.new ≤ steps.old + 1 }
     ensures reads_only { work.old.job.kind ≡ kinds.Read → (other : ℕ) → D.unsynced drives.new other ≡ D.unsynced drives.old other }
     ensures cached { work.old.job.kind ≡ kinds.Read → IsNextCached cache.old mounted.old work.old → steps.new ≡ steps.old }
-    ensures leaves { Leaves D.attached D.disks D.failed_names D.unsynced mounted.old.drive cache.old cache.new drives.old drives.new }
+    ensures leaves { Leaves D.disks D.told D.failed_names D.unsynced mounted.old.drive cache.old cache.new drives.old drives.new }
     ensures cause { HasCause (D.faults drives.old) (D.faults drives.new) result }
 {
     match work.job.kind {
@@ -76,7 +77,7 @@ fn do_unit<D: Drives, L: Ledger>(
     work: &mut Work,
     steps: &mut Steps<L>,
 ) -> Result<(), Failed>
-    requires size { D.attached drives.old mounted.old.drive ≡ Some (geometry_of mounted.old.kind).bytes }
+    requires size { size_of (D.disks drives.old) mounted.old.drive ≡ Some (geometry_of mounted.old.kind).bytes }
     requires coherent { IsCoherent cache.old (D.disks drives.old) }
     requires apart { HasNoAlias cache.old (D.disks drives.old) mounted.old.drive }
     ensures ok { (before : Drive) (job : Job) (j : ℕ) → Suits before job → InService (D.disks drives.old) mounted.old before job j work.old → j < turns_of before job
@@ -91,7 +92,7 @@ fn do_unit<D: Drives, L: Ledger>(
     ensures reads { work.old.job.kind ≡ kinds.Read → steps.new ≤ steps.old + 1 }
     ensures reads_only { work.old.job.kind ≡ kinds.Read → (other : ℕ) → D.unsynced drives.new other ≡ D.unsynced drives.old other }
     ensures cached { work.old.job.kind ≡ kinds.Read → IsNextCached cache.old mounted.old work.old → steps.new ≡ steps.old }
-    ensures leaves { Leaves D.attached D.disks D.failed_names D.unsynced mounted.old.drive cache.old cache.new drives.old drives.new }
+    ensures leaves { Leaves D.disks D.told D.failed_names D.unsynced mounted.old.drive cache.old cache.new drives.old drives.new }
     ensures cause { HasCause (D.faults drives.old) (D.faults drives.new) result }
 {
     if work.ended < work.units {
@@ -110,7 +111,7 @@ pub fn turn<D: Drives, L: Ledger>(
     drives: &mut D,
     steps: &mut Steps<L>,
 ) -> Result<Progress, Failed>
-    requires size { D.attached drives.old mounted.old.drive ≡ Some (geometry_of mounted.old.kind).bytes }
+    requires size { size_of (D.disks drives.old) mounted.old.drive ≡ Some (geometry_of mounted.old.kind).bytes }
     requires coherent { IsCoherent cache.old (D.disks drives.old) }
     requires apart { HasNoAlias cache.old (D.disks drives.old) mounted.old.drive }
     ensures ok { (before : Drive) (job : Job) (j : ℕ) → Suits before job → InService (D.disks drives.old) mounted.old before job j work.old → j < turns_of before job
@@ -126,7 +127,7 @@ pub fn turn<D: Drives, L: Ledger>(
     ensures reads { work.old.job.kind ≡ kinds.Read → steps.new ≤ steps.old + 1 }
     ensures reads_only { work.old.job.kind ≡ kinds.Read → (other : ℕ) → D.unsynced drives.new other ≡ D.unsynced drives.old other }
     ensures cached { work.old.job.kind ≡ kinds.Read → IsNextCached cache.old mounted.old work.old → steps.new ≡ steps.old }
-    ensures leaves { Leaves D.attached D.disks D.failed_names D.unsynced mounted.old.drive cache.old cache.new drives.old drives.new }
+    ensures leaves { Leaves D.disks D.told D.failed_names D.unsynced mounted.old.drive cache.old cache.new drives.old drives.new }
     ensures cause { HasCause (D.faults drives.old) (D.faults drives.new) result }
 {
     match do_unit(mounted, cache, drives, work, steps) {

@@ -1,8 +1,9 @@
 ghost use Rattle.std.specs.Prelude.{◌≡◌, ◌+◌, ◌<◌, ◌≤◌, ℕ, List, [], ◌∷◌, length, slice_set, ◌/◌, ◌%◌, Some, None, true, false};
+ghost use Rattle.mpm_port.specs.Disks.{size_of};
 ghost use Rattle.mpm_port.specs.Causes.{HasCause};
 ghost use Rattle.mpm_blocks.specs.Geometries as geometries;
 ghost use Rattle.mpm_blocks.specs.Geometries.{geometry_of};
-ghost use Rattle.mpm_blocks.specs.Sectors.{told_image, sectors_of};
+ghost use Rattle.mpm_blocks.specs.Sectors.{sectors_of};
 ghost use Rattle.mpm_mount.specs.Drives.{Drive, with_extent};
 ghost use Rattle.mpm_mount.specs.Faults.{name_of};
 ghost use Rattle.mpm_mount.specs.Images.{contents_of, extent_in};
@@ -111,17 +112,17 @@ pub(crate) fn put_held<D: Drives, L: Ledger>(
     steps: &mut Steps<L>,
 ) -> Result<(), Failed>
     requires number { written.now.number ≤ 262286 }
-    requires size { D.attached drives.old mounted.old.drive ≡ Some (geometry_of mounted.old.kind).bytes }
+    requires size { size_of (D.disks drives.old) mounted.old.drive ≡ Some (geometry_of mounted.old.kind).bytes }
     requires coherent { IsCoherent cache.old (D.disks drives.old) }
     requires apart { HasNoAlias cache.old (D.disks drives.old) mounted.old.drive }
-    ensures does { (image : List ℕ) (files : Drive) → told_image (D.disks drives.old) mounted.old.drive ≡ Some image → Stands image mounted.old files
+    ensures does { (image : List ℕ) (files : Drive) → (D.disks drives.old).image mounted.old.drive ≡ Some image → Stands image mounted.old files
         → lacks_block mounted.old (file_of_job job.now) written.now.number ≡ false
         → Does (D.disks drives.new) mounted.old.drive mounted.new files
         (WritesRecord (file_of_job job.now) written.now.number written.now.bytes written.now.moment) result }
     ensures drive { mounted.new.drive ≡ mounted.old.drive }
     ensures kind { mounted.new.kind ≡ mounted.old.kind }
     ensures calls { steps.new ≤ steps.old + 5 }
-    ensures leaves { Leaves D.attached D.disks D.failed_names D.unsynced mounted.old.drive cache.old cache.new drives.old drives.new }
+    ensures leaves { Leaves D.disks D.told D.failed_names D.unsynced mounted.old.drive cache.old cache.new drives.old drives.new }
     ensures cause { HasCause (D.faults drives.old) (D.faults drives.new) result }
 {
     let found = match find_entry(mounted, job, written.number) {
@@ -151,10 +152,10 @@ pub(crate) fn put_fresh<D: Drives, L: Ledger>(
     steps: &mut Steps<L>,
 ) -> Result<(), Failed>
     requires number { written.now.number ≤ 262286 }
-    requires size { D.attached drives.old mounted.old.drive ≡ Some (geometry_of mounted.old.kind).bytes }
+    requires size { size_of (D.disks drives.old) mounted.old.drive ≡ Some (geometry_of mounted.old.kind).bytes }
     requires coherent { IsCoherent cache.old (D.disks drives.old) }
     requires apart { HasNoAlias cache.old (D.disks drives.old) mounted.old.drive }
-    ensures does { (image : List ℕ) (files : Drive) → told_image (D.disks drives.old) mounted.old.drive ≡ Some image → Stands image mounted.old files
+    ensures does { (image : List ℕ) (files : Drive) → (D.disks drives.old).image mounted.old.drive ≡ Some image → Stands image mounted.old files
         → lacks_entry mounted.old (file_of_job job.now) written.now.number ≡ false
         → lacks_block mounted.old (file_of_job job.now) written.now.number ≡ true
         → HasFreshBlock (plans.clears_blocks mounted.old.kind) (sectors_of image mounted.old.kind) mounted.old cleared
@@ -163,7 +164,7 @@ pub(crate) fn put_fresh<D: Drives, L: Ledger>(
     ensures drive { mounted.new.drive ≡ mounted.old.drive }
     ensures kind { mounted.new.kind ≡ mounted.old.kind }
     ensures calls { steps.new ≤ steps.old + 20 }
-    ensures leaves { Leaves D.attached D.disks D.failed_names D.unsynced mounted.old.drive cache.old cache.new drives.old drives.new }
+    ensures leaves { Leaves D.disks D.told D.failed_names D.unsynced mounted.old.drive cache.old cache.new drives.old drives.new }
     ensures cause { HasCause (D.faults drives.old) (D.faults drives.new) result }
 {
     let found = match find_entry(mounted, job, written.number) {
@@ -203,14 +204,14 @@ fn put_sector<D: Drives, L: Ledger>(
     bytes: &[u8; 128],
     steps: &mut Steps<L>,
 ) -> Result<(), Failed>
-    requires size { D.attached drives.old mounted.now.drive ≡ Some (geometry_of mounted.now.kind).bytes }
+    requires size { size_of (D.disks drives.old) mounted.now.drive ≡ Some (geometry_of mounted.now.kind).bytes }
     requires within { sector < geometries.logical_sectors mounted.now.kind }
     requires coherent { IsCoherent cache.old (D.disks drives.old) }
     requires apart { HasNoAlias cache.old (D.disks drives.old) mounted.now.drive }
     ensures puts { Puts mounted.now.drive mounted.now.kind (record { sector = sector; bytes = bytes.now } ∷ []) (D.disks drives.old) (D.disks drives.new) result }
     ensures long { length bytes.now ≡ 128 }
     ensures calls { steps.new ≤ steps.old + 1 }
-    ensures leaves { Leaves D.attached D.disks D.failed_names D.unsynced mounted.now.drive cache.old cache.new drives.old drives.new }
+    ensures leaves { Leaves D.disks D.told D.failed_names D.unsynced mounted.now.drive cache.old cache.new drives.old drives.new }
     ensures cause { HasCause (D.faults drives.old) (D.faults drives.new) result }
 {
     disk_of(mounted).put(cache, drives, sector, bytes, steps)
@@ -227,17 +228,17 @@ fn put_in_block<D: Drives, L: Ledger>(
     sector: u32,
     steps: &mut Steps<L>,
 ) -> Result<(), Failed>
-    requires size { D.attached drives.old mounted.now.drive ≡ Some (geometry_of mounted.now.kind).bytes }
+    requires size { size_of (D.disks drives.old) mounted.now.drive ≡ Some (geometry_of mounted.now.kind).bytes }
     requires coherent { IsCoherent cache.old (D.disks drives.old) }
     requires apart { HasNoAlias cache.old (D.disks drives.old) mounted.now.drive }
     requires entry { HasEntry mounted.now (file_of_job job.now) written.now.number found.now.slot found.now.file }
     requires held { IsHeldAt mounted.now.kind found.now.file written.now.number sector }
-    ensures puts { (image : List ℕ) (files : Drive) → told_image (D.disks drives.old) mounted.now.drive ≡ Some image → Stands image mounted.now files
+    ensures puts { (image : List ℕ) (files : Drive) → (D.disks drives.old).image mounted.now.drive ≡ Some image → Stands image mounted.now files
         → GoesThrough (D.disks drives.new) mounted.now.drive mounted.now files
         (with_extent files (name_of mounted.now.kind found.now.file)
         (spec.with_record mounted.now.kind written.now.number written.now.bytes (extent_in (sectors_of image mounted.now.kind) mounted.now.kind found.now.file)) ∷ []) result }
     ensures calls { steps.new ≤ steps.old + 1 }
-    ensures leaves { Leaves D.attached D.disks D.failed_names D.unsynced mounted.now.drive cache.old cache.new drives.old drives.new }
+    ensures leaves { Leaves D.disks D.told D.failed_names D.unsynced mounted.now.drive cache.old cache.new drives.old drives.new }
     ensures cause { HasCause (D.faults drives.old) (D.faults drives.new) result }
 {
     put_sector(mounted, cache, drives, sector, &written.bytes, steps)
@@ -253,18 +254,18 @@ fn put_raised<D: Drives, L: Ledger>(
     found: &FoundEntry,
     steps: &mut Steps<L>,
 ) -> Result<(), Failed>
-    requires size { D.attached drives.old mounted.old.drive ≡ Some (geometry_of mounted.old.kind).bytes }
+    requires size { size_of (D.disks drives.old) mounted.old.drive ≡ Some (geometry_of mounted.old.kind).bytes }
     requires coherent { IsCoherent cache.old (D.disks drives.old) }
     requires apart { HasNoAlias cache.old (D.disks drives.old) mounted.old.drive }
     requires entry { HasEntry mounted.old (file_of_job job.now) written.now.number found.now.slot found.now.file }
-    ensures puts { (image : List ℕ) (files : Drive) → told_image (D.disks drives.old) mounted.old.drive ≡ Some image → Stands image mounted.old files
+    ensures puts { (image : List ℕ) (files : Drive) → (D.disks drives.old).image mounted.old.drive ≡ Some image → Stands image mounted.old files
         → GoesThrough (D.disks drives.new) mounted.old.drive mounted.new files
         (with_stamp (file_of_job job.now) written.now.moment files
         (spec.raises mounted.old.kind written.now.number found.now.file files (extent_in (sectors_of image mounted.old.kind) mounted.old.kind found.now.file))) result }
     ensures drive { mounted.new.drive ≡ mounted.old.drive }
     ensures kind { mounted.new.kind ≡ mounted.old.kind }
     ensures calls { steps.new ≤ steps.old + 4 }
-    ensures leaves { Leaves D.attached D.disks D.failed_names D.unsynced mounted.old.drive cache.old cache.new drives.old drives.new }
+    ensures leaves { Leaves D.disks D.told D.failed_names D.unsynced mounted.old.drive cache.old cache.new drives.old drives.new }
     ensures cause { HasCause (D.faults drives.old) (D.faults drives.new) result }
 {
     if is_above(&found.file, written.number) {
@@ -303,7 +304,7 @@ fn put_with_block<D: Drives, L: Ledger>(
     bytes: &[u8; 128],
     steps: &mut Steps<L>,
 ) -> Result<(), Failed>
-    requires size { D.attached drives.old mounted.now.drive ≡ Some (geometry_of mounted.now.kind).bytes }
+    requires size { size_of (D.disks drives.old) mounted.now.drive ≡ Some (geometry_of mounted.now.kind).bytes }
     requires coherent { IsCoherent cache.old (D.disks drives.old) }
     requires apart { HasNoAlias cache.old (D.disks drives.old) mounted.now.drive }
     requires free { free_block mounted.now ≡ Some block }
@@ -314,7 +315,7 @@ fn put_with_block<D: Drives, L: Ledger>(
         (block_writes mounted.now.kind block clear index bytes.now) (D.disks drives.old) (D.disks drives.new) result }
     ensures long { length bytes.now ≡ 128 }
     ensures calls { steps.new ≤ steps.old + 16 }
-    ensures leaves { Leaves D.attached D.disks D.failed_names D.unsynced mounted.now.drive cache.old cache.new drives.old drives.new }
+    ensures leaves { Leaves D.disks D.told D.failed_names D.unsynced mounted.now.drive cache.old cache.new drives.old drives.new }
     ensures cause { HasCause (D.faults drives.old) (D.faults drives.new) result }
 {
     disk_of(mounted).put_block(cache, drives, block, clear, index, bytes, steps)
@@ -331,12 +332,12 @@ fn put_taken<D: Drives, L: Ledger>(
     block: u16,
     steps: &mut Steps<L>,
 ) -> Result<(), Failed>
-    requires size { D.attached drives.old mounted.old.drive ≡ Some (geometry_of mounted.old.kind).bytes }
+    requires size { size_of (D.disks drives.old) mounted.old.drive ≡ Some (geometry_of mounted.old.kind).bytes }
     requires coherent { IsCoherent cache.old (D.disks drives.old) }
     requires apart { HasNoAlias cache.old (D.disks drives.old) mounted.old.drive }
     requires entry { HasEntry mounted.old (file_of_job job.now) written.now.number found.now.slot found.now.file }
     requires free { free_block mounted.old ≡ Some block }
-    ensures puts { (image : List ℕ) (files : Drive) → told_image (D.disks drives.old) mounted.old.drive ≡ Some image → Stands image mounted.old files
+    ensures puts { (image : List ℕ) (files : Drive) → (D.disks drives.old).image mounted.old.drive ≡ Some image → Stands image mounted.old files
         → GoesThrough (D.disks drives.new) mounted.old.drive mounted.new files
         (with_stamp (file_of_job job.now) written.now.moment files
         (with_extent files (name_of mounted.old.kind found.now.file)
@@ -345,7 +346,7 @@ fn put_taken<D: Drives, L: Ledger>(
     ensures drive { mounted.new.drive ≡ mounted.old.drive }
     ensures kind { mounted.new.kind ≡ mounted.old.kind }
     ensures calls { steps.new ≤ steps.old + 4 }
-    ensures leaves { Leaves D.attached D.disks D.failed_names D.unsynced mounted.old.drive cache.old cache.new drives.old drives.new }
+    ensures leaves { Leaves D.disks D.told D.failed_names D.unsynced mounted.old.drive cache.old cache.new drives.old drives.new }
     ensures cause { HasCause (D.faults drives.old) (D.faults drives.new) result }
 {
     let taken = taken(mounted, &found.file, written.number, block);

@@ -1,36 +1,9 @@
--- The rows of the table of refusals: their order, and which refusals they have.
-use Rattle.std.proofs.Common.{inl, inr, ℕ, zero, suc, ◌<◌, List, [], ◌∷◌, ◌++◌, Option, Some, None, IfSome, length, get_or, refl, arith, ◌≡◌, true}
+-- The rows of the table of refusals are in one order.
+use Rattle.std.proofs.Common.{◌++◌, refl, ◌≡◌, true}
 use Rattle.mpm_functions.specs.declared.functions.FileFunction.{FileFunction}
-use Rattle.mpm_functions.specs.declared.refusals.Refusal.{Refusal}
 use Rattle.mpm_functions.specs.declared.functions.FileFunction.TheVariants.{ResetDisks, OpenFile, CloseFile, SearchFirst, SearchNext, DeleteFile, ReadSequential, WriteSequential, MakeFile, RenameFile, ProtectDisk, SetAttributes, ReadRandom, WriteRandom, FileSize, ResetDrives, AccessDrives, FreeDrives, TestAndWrite, LockRecord, UnlockRecord, FreeSpace, FlushBuffers, SetLabel, LabelData, ReadXfcb, WriteXfcb}
-use Rattle.mpm_functions.specs.Refusals.{refusals_of, refusals_of_each, IsOneOf, IsOfRow}
+use Rattle.mpm_functions.specs.Refusals.{refusals_of, refusals_of_each}
 use Rattle.mpm_functions.specs.Order.{is_rising}
-
--- a refusal of some
-pub one_at : (refusals : List Refusal) (place : ℕ) (other : Refusal) → place < length refusals → IsOneOf (get_or refusals place other) refusals
-unfolding IsOneOf
-one_at [] place other within = absurd (omega (arith, within))
-one_at (one ∷ others) zero other within = inl refl
-one_at (one ∷ others) (suc place) other within = inr (one_at others place other (omega (arith, within)))
-
-one_of_first : (refusal : Refusal) (ones others : List Refusal) → IsOneOf refusal ones → IsOneOf refusal (ones ++ others)
-unfolding IsOneOf
-one_of_first refusal [] others is = absurd is
-one_of_first refusal (one ∷ ones) others (inl same) = inl same
-one_of_first refusal (one ∷ ones) others (inr is) = inr (one_of_first refusal ones others is)
-
-one_of_last : (refusal : Refusal) (ones others : List Refusal) → IsOneOf refusal others → IsOneOf refusal (ones ++ others)
-unfolding IsOneOf
-one_of_last refusal [] others is = is
-one_of_last refusal (one ∷ ones) others is = inr (one_of_last refusal ones others is)
-
-pub in_row : (function : FileFunction) (result : Option Refusal) → IfSome result (λ refusal. IsOneOf refusal (refusals_of function)) → IfSome result (IsOfRow function)
-in_row function None is = tt
-in_row function (Some refusal) is = one_of_first refusal (refusals_of function) (refusals_of_each function) is
-
-pub in_row_of_each : (function : FileFunction) (result : Option Refusal) → IfSome result (λ refusal. IsOneOf refusal (refusals_of_each function)) → IfSome result (IsOfRow function)
-in_row_of_each function None is = tt
-in_row_of_each function (Some refusal) is = one_of_last refusal (refusals_of function) (refusals_of_each function) is
 
 -- refusals are asked in one order, whatever the call
 pub in_order : (function : FileFunction) → is_rising (refusals_of function ++ refusals_of_each function) ≡ true

@@ -1,6 +1,6 @@
 -- What a file call is refused for: one table by function, and how each refusal is answered. (MP/M II Programmer's Guide, "BDOS Error
 -- Handling", and the functions.)
-use Rattle.std.specs.Prelude.{List, [], ◌∷◌, ℕ, ◌+◌, ◌*◌, Option, Some, None, ◌≡◌, ◌⊎◌, ◌++◌}
+use Rattle.std.specs.Prelude.{List, [], ◌∷◌, ℕ, ◌+◌, ◌*◌, Option, Some, None}
 use Rattle.mpm_functions.specs.declared.answers.Answered.{Answered}
 use Rattle.mpm_functions.specs.declared.answers.Answered.TheVariants.{AsExtended, AsRecord, AsNotFound}
 use Rattle.mpm_functions.specs.declared.functions.FileFunction.{FileFunction}
@@ -72,11 +72,3 @@ abbrev pub refused_extended : ℕ → Answered → Option Extended
 refused_extended drive (AsExtended code) = Some (record { code = code; drive = drive })
 refused_extended drive (AsRecord code) = None
 refused_extended drive AsNotFound = None
-
--- a refusal of some; and of a function's row, or of that of each file that it names
-unfoldable pub IsOneOf : Refusal → List Refusal → Type 0
-IsOneOf refusal [] = ⊥
-IsOneOf refusal (one ∷ others) = (refusal ≡ one) ⊎ IsOneOf refusal others
-
-abbrev pub IsOfRow : FileFunction → Refusal → Type 0
-IsOfRow function refusal = IsOneOf refusal (refusals_of function ++ refusals_of_each function)

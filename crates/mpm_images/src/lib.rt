@@ -193,18 +193,6 @@ pub fn put_sector(image: &mut [u8], sector: u32, bytes: &[u8; 128]) {
     }
 }
 
-/// The bytes of a sector of an image; those that the image hasn't are E5h.
-pub fn sector_of(image: &[u8], sector: u32) -> [u8; 128] {
-    let first = (sector as usize).saturating_mul(128);
-    let mut bytes = [0xE5; 128];
-    for (byte, value) in bytes.iter_mut().enumerate() {
-        if let Some(found) = image.get(first.saturating_add(byte)) {
-            *value = *found;
-        }
-    }
-    bytes
-}
-
 /// Puts a text into an image as a record that is counted behind the system's tracks, with zeros behind the text.
 pub fn put_text(image: &mut [u8], kind: Kind, number: u32, text: &[u8]) {
     let mut bytes = [0; 128];

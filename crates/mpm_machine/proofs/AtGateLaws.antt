@@ -5,6 +5,7 @@ use Rattle.std.proofs.Common.{◌≡◌, ◌∙◌, ℕ, ◌+◌, ◌*◌, ◌<�
 use Rattle.std.specs.Prelude.{is_some, is_none, option_map}
 use Rattle.std.proofs.lemmas.Bool.{false≢true, or_parts}
 use Rattle.std.proofs.lemmas.Bool.Decides.{nat_tests}
+use Rattle.std.proofs.lemmas.Result.{on_ok_weaker}
 use Rattle.mpm_base.specs.Calls.{Answer}
 use Rattle.mpm_port.specs.Disks.{Disks}
 use Rattle.mpm_procs.specs.Table.{call_of}
@@ -25,7 +26,7 @@ use Rattle.mpm_requests.specs.Filing.{Filing, Situation}
 use Rattle.mpm_functions.specs.Functions.{function_of}
 use Rattle.mpm_bdos.specs.Serving.{Kept, InService, Serves}
 use Rattle.mpm_directories.specs.Places.{directory_at}
-use Rattle.mpm_bdos.specs.Turns.{FitsDrives, has_work, labelled, told_images}
+use Rattle.mpm_bdos.specs.Turns.{FitsDrives, has_work, labelled, images_of}
 use Rattle.mpm_bdos.proofs.ServedLaws.{none_before}
 use Rattle.mpm_system.specs.declared.system.System.{System}
 use Rattle.mpm_system.specs.Whole.{Change, silent}
@@ -34,15 +35,14 @@ use Rattle.mpm_machine.specs.declared.machine.StepFault.TheVariants.{DiskFault, 
 use Rattle.mpm_machine.specs.Faults.{Counts, HasFailed, HaveCause, itself, OnDiskFault, OnWriteFault}
 use Rattle.mpm_machine.specs.Files.{Files, Between, Within, one_more, StandsBetween, StandsWorkedBy, StandsWorked}
 use Rattle.mpm_machine.specs.Filed.{IsOutcome}
-use Rattle.mpm_machine.specs.FileCalls.{IsToldOf, IsToldAsKept, outcome_in, told_of, concluded}
+use Rattle.mpm_machine.specs.FileCalls.{outcome_in, told_of, concluded}
 use Rattle.mpm_machine.specs.DiskStep.{is_done_at_once, with_kernel, file_called, done_at_once, files_called, told_at_gate}
-use Rattle.mpm_machine.specs.Holding.{IsOwn, HoldsDrives}
+use Rattle.mpm_machine.specs.Holding.{IsOwn, HoldsKept}
 use Rattle.mpm_machine.specs.Failing.{HaveImagesOf, FailsWithin, working_if, turns_done}
-use Rattle.mpm_machine.specs.After.{StopsBy, HasCalled, HasToldAtGate, HasStoppedAtGate}
+use Rattle.mpm_machine.specs.After.{IsOfSome, StopsBy, HasCalled}
+use Rattle.mpm_machine.specs.Stepping.{nothing_told}
 use Rattle.mpm_machine.proofs.KeepingLaws.{ready_unserved, concluded_serves}
 use Rattle.mpm_machine.proofs.TurnLaws.{worked_on}
-use Rattle.mpm_machine.proofs.ToldLaws.{something_told, waits_as_kept}
-use Rattle.mpm_machine.proofs.HoldingLaws.{not_none}
 use Rattle.mpm_machine.proofs.BegunLaws.{waiting_serves}
 
 once_is : (told : Directly) (p : ℕ) (system : System) → is_done_at_once p system ≡ true → file_called told p system ≡ concluded told p system
@@ -79,7 +79,7 @@ waits_called told p o old new waits is =
     let so = sym (waits_is told p old waits) in
     record { system = is ∙ ap (λ (c : Change). c.system) so; wrote = subst (λ (c : Change). Wrote o o c.emitted) so (wrote_nothing o) }
 
-waits_stands : (p : ℕ) (old new : System) (kept : Kept) (disks : Option Disks) (files : Files) → is_done_at_once p old ≡ false → new ≡ with_kernel (waiting_for_disk p) old
+waits_stands : (p : ℕ) (old new : System) (kept : Kept) (disks : Disks) (files : Files) → is_done_at_once p old ≡ false → new ≡ with_kernel (waiting_for_disk p) old
     → StandsWorked old.kernel.disk kept disks files → StandsWorked new.kernel.disk kept disks (files_called p old files)
 waits_stands p old new kept disks files waits is stands =
     let serves = waiting_serves p old.kernel in
@@ -87,28 +87,15 @@ waits_stands p old new kept disks files waits is stands =
     (worked_on old.kernel.disk new.kernel.disk kept disks files
     (ap (λ (s : System). s.kernel.disk.served) is ∙ serves.served) (ap (λ (s : System). s.kernel.disk.turn_steps) is ∙ serves.steps) stands)
 
-pub waits_ok : (p : ℕ) (o : Outside) (old new : System) (kept : Kept) (disks : Option Disks) (files : Files) → is_done_at_once p old ≡ false
+pub waits_ok : (p : ℕ) (o : Outside) (old new : System) (kept : Kept) (disks : Disks) (files : Files) → is_done_at_once p old ≡ false
     → new ≡ with_kernel (waiting_for_disk p) old → StandsWorked old.kernel.disk kept disks files
     → HasCalled (told_at_gate p old files) p o o old new × StandsWorked new.kernel.disk kept disks (files_called p old files)
 waits_ok p o old new kept disks files waits is stands =
     (waits_called (told_at_gate p old files) p o old new waits is, waits_stands p old new kept disks files waits is stands)
 
-pub waits_told : {kept : Kept} (p : ℕ) (o : Outside) (old new : System) → is_done_at_once p old ≡ false → new ≡ with_kernel (waiting_for_disk p) old → HasToldAtGate kept kept p o o old new
-waits_told {kept} p o old new waits is =
-    let any = something_told p old in
-    let told = told_of (call_of old.kernel.dispatcher.procs p) any.0 any.1 in
-    record {
-      told = told;
-      of_call = refl;
-      tells = any.2;
-      as_kept = waits_as_kept kept kept p old any.0 any.1 (not_none (function_of (call_of old.kernel.dispatcher.procs p).function) (old.kernel.disk.turn_steps == 0) waits)
-          (or_parts (is_none (function_of (call_of old.kernel.dispatcher.procs p).function)) (old.kernel.disk.turn_steps == 0) waits).1;
-      called = waits_called told p o old new waits is;
-    }
-
 -- what one comes to that is done at once: where a call is in service, one that no disk serves, which leaves files
 
-record Comes (p : ℕ) (old : System) (served : Option Served) (kept : Kept) (disks : Option Disks) (files : Files) (reply : Answer) (extended : Option Extended) : Type 0 where
+record Comes (p : ℕ) (old : System) (served : Option Served) (kept : Kept) (disks : Disks) (files : Files) (reply : Answer) (extended : Option Extended) : Type 0 where
   pub told : told_at_gate p old files ≡ told_of (call_of old.kernel.dispatcher.procs p) reply extended
   pub stands : StandsWorkedBy old.kernel.disk.turn_steps served kept disks (done_at_once p old files)
 
@@ -122,13 +109,13 @@ told_so p old files filing reply extended is answer error =
     is ∙ ap (λ (a : Answer). told_of call a (outcome_in filing p old).extended) (sym answer) ∙ ap (λ (e : Option Extended). told_of call reply e) (sym error)
 
 -- the clauses of the call's work
-pub record IsCalled (p : ℕ) (old : System) (kept kept' : Kept) (disks disks' : Option Disks) (reply : Answer) (extended : Option Extended) : Type 0 where
+pub record IsCalled (p : ℕ) (old : System) (kept kept' : Kept) (disks disks' : Disks) (reply : Answer) (extended : Option Extended) : Type 0 where
   pub ok : (filing : Filing) → StandsBetween kept disks filing → IsOutcome disks' (outcome_in filing p old) kept' reply extended
   pub within : (images : ℕ → List ℕ) (s : Situation) (j : ℕ) → function_of (call_of old.kernel.dispatcher.procs p).function ≡ None → Serves images kept s j
       → (reply ≡ (outcome_in s.filing p old).answer) × (extended ≡ (outcome_in s.filing p old).extended)
   pub direct : function_of (call_of old.kernel.dispatcher.procs p).function ≡ None → (kept' ≡ kept) × (disks' ≡ disks)
 
-comes_by : (p : ℕ) (old : System) (served : Option Served) (kept kept' : Kept) (disks disks' : Option Disks) (files : Files) (reply : Answer) (extended : Option Extended)
+comes_by : (p : ℕ) (old : System) (served : Option Served) (kept kept' : Kept) (disks disks' : Disks) (files : Files) (reply : Answer) (extended : Option Extended)
     → (is_some served ≡ true → function_of (call_of old.kernel.dispatcher.procs p).function ≡ None)
     → IsCalled p old kept kept' disks disks' reply extended → StandsWorkedBy old.kernel.disk.turn_steps served kept disks files
     → Comes p old served kept' disks' files reply extended
@@ -139,23 +126,23 @@ comes_by p old None kept kept' disks disks' (Within s) reply extended apart c st
 comes_by p old (Some call) kept kept' disks disks' (Between filing) reply extended apart c stands = absurd stands
 comes_by p old (Some call) kept kept' disks disks' (Within s) reply extended apart c stands =
     let none = apart refl in
-    let so = c.within (told_images disks) s (one_more (is_last_step old.kernel.disk.turn_steps call) stands.turns) none stands.serves in
+    let so = c.within (images_of disks) s (one_more (is_last_step old.kernel.disk.turn_steps call) stands.turns) none stands.serves in
     let same = c.direct none in
     let steps = old.kernel.disk.turn_steps in
     record {
       told = told_so p old (Within s) s.filing reply extended refl so.0 so.1;
       stands = subst (λ (k : Kept). StandsWorkedBy steps (Some call) k disks' (Within s)) (sym same.0)
-          (subst (λ (d : Option Disks). StandsWorkedBy steps (Some call) kept d (Within s)) (sym same.1) stands);
+          (subst (λ (d : Disks). StandsWorkedBy steps (Some call) kept d (Within s)) (sym same.1) stands);
     }
 
-comes : (p : ℕ) (old : System) (kept kept' : Kept) (disks disks' : Option Disks) (files : Files) (reply : Answer) (extended : Option Extended)
+comes : (p : ℕ) (old : System) (kept kept' : Kept) (disks disks' : Disks) (files : Files) (reply : Answer) (extended : Option Extended)
     → (is_some old.kernel.disk.served ≡ true → function_of (call_of old.kernel.dispatcher.procs p).function ≡ None)
     → IsCalled p old kept kept' disks disks' reply extended → StandsWorked old.kernel.disk kept disks files
     → Comes p old old.kernel.disk.served kept' disks' files reply extended
 comes p old kept kept' disks disks' files reply extended apart c stands =
     comes_by p old old.kernel.disk.served kept kept' disks disks' files reply extended apart c stands.stands
 
-once_stands : (p : ℕ) (old : System) (kept : Kept) (disks : Option Disks) (files : Files) (reply : Answer) (extended : Option Extended) → is_done_at_once p old ≡ true
+once_stands : (p : ℕ) (old : System) (kept : Kept) (disks : Disks) (files : Files) (reply : Answer) (extended : Option Extended) → is_done_at_once p old ≡ true
     → Comes p old old.kernel.disk.served kept disks files reply extended → StandsWorked old.kernel.disk kept disks (files_called p old files)
 once_stands p old kept disks files reply extended done c =
     subst (StandsWorked old.kernel.disk kept disks) (sym (files_once p old files done)) (record { stands = c.stands })
@@ -166,7 +153,7 @@ called_so told p o n old new done is wrote =
     let so = sym (once_is told p old done) in
     record { system = is ∙ ap (λ (c : Change). c.system) so; wrote = subst (λ (c : Change). Wrote o n c.emitted) so wrote }
 
-pub once_ok : {A E : Type 0} (r : Result A E) (p : ℕ) (o n : Outside) (old new : System) (kept kept' : Kept) (disks disks' : Option Disks) (files : Files) (reply : Answer) (extended : Option Extended)
+pub once_ok : {A E : Type 0} (r : Result A E) (p : ℕ) (o n : Outside) (old new : System) (kept kept' : Kept) (disks disks' : Disks) (files : Files) (reply : Answer) (extended : Option Extended)
     → IsSound old.kernel → IsReady old.kernel.dispatcher p → is_done_at_once p old ≡ true
     → (is_some old.kernel.disk.served ≡ true → function_of (call_of old.kernel.dispatcher.procs p).function ≡ None)
     → IsCalled p old kept kept' disks disks' reply extended
@@ -185,17 +172,15 @@ once_ok (Ok a) p o n old new kept kept' disks disks' files reply extended s is_r
           (once_stands p old kept' disks' files reply extended done came),
     )
 
--- and whatever is on the drives
+-- whatever it comes to
+pub waits_made : (p : ℕ) (old new : System) → is_done_at_once p old ≡ false → new ≡ with_kernel (waiting_for_disk p) old
+    → IsOfSome (λ (told : Directly). (file_called told p old).system) new
+waits_made p old new waits is = (nothing_told, is ∙ ap (λ (c : Change). c.system) (sym (waits_is nothing_told p old waits)))
 
-pub once_told : {A E : Type 0} (kept left : Kept) (r : Result A E) (p : ℕ) (o n : Outside) (old new : System) (reply : Answer) (extended : Option Extended) → is_done_at_once p old ≡ true
-    → IsToldOf p old reply extended → IsToldAsKept kept left p old reply extended
-    → OnOk r (new ≡ (concluded (told_of (call_of old.kernel.dispatcher.procs p) reply extended) p old).system)
-    → OnOk r (Wrote o n (concluded (told_of (call_of old.kernel.dispatcher.procs p) reply extended) p old).emitted)
-    → OnOk r (HasToldAtGate kept left p o n old new)
-once_told kept left (Err e) p o n old new reply extended done tells as_kept is wrote = tt
-once_told kept left (Ok a) p o n old new reply extended done tells as_kept is wrote =
-    let told = told_of (call_of old.kernel.dispatcher.procs p) reply extended in
-    record { told = told; of_call = refl; tells = tells; as_kept = as_kept; called = called_so told p o n old new done is wrote }
+pub once_made : {A E : Type 0} (r : Result A E) (told : Directly) (p : ℕ) (old new : System) → is_done_at_once p old ≡ true
+    → OnOk r (new ≡ (concluded told p old).system) → OnOk r (IsOfSome (λ (told : Directly). (file_called told p old).system) new)
+once_made r told p old new done =
+    on_ok_weaker r (λ (is : new ≡ (concluded told p old).system). (told, is ∙ ap (λ (c : Change). c.system) (sym (once_is told p old done))))
 
 -- the sink failed in its answer
 
@@ -208,7 +193,7 @@ stops_so fault told p o n old done is stopped =
     subst (λ (f : StepFault). StopsBy f o n (file_called told p old).emitted) (sym is)
     (subst (λ (c : Change). Stopped o n c.emitted) (sym (once_is told p old done)) stopped)
 
-pub once_err : {A : Type 0} (r : Result A StepFault) (p : ℕ) (o n : Outside) (old : System) (kept kept' : Kept) (disks disks' : Option Disks) (files : Files) (reply : Answer) (extended : Option Extended)
+pub once_err : {A : Type 0} (r : Result A StepFault) (p : ℕ) (o n : Outside) (old : System) (kept kept' : Kept) (disks disks' : Disks) (files : Files) (reply : Answer) (extended : Option Extended)
     → is_done_at_once p old ≡ true
     → (is_some old.kernel.disk.served ≡ true → function_of (call_of old.kernel.dispatcher.procs p).function ≡ None)
     → IsCalled p old kept kept' disks disks' reply extended
@@ -225,7 +210,7 @@ on_write : (fault : StepFault) (P : Type 0) → P → OnWriteFault fault P
 on_write WriteFault P p = p
 on_write DiskFault P p = tt
 
-pub once_still : {A : Type 0} (r : Result A StepFault) (p : ℕ) (old : System) (kept kept' : Kept) (disks disks' : Option Disks) (files : Files) (reply : Answer) (extended : Option Extended)
+pub once_still : {A : Type 0} (r : Result A StepFault) (p : ℕ) (old : System) (kept kept' : Kept) (disks disks' : Disks) (files : Files) (reply : Answer) (extended : Option Extended)
     → is_done_at_once p old ≡ true
     → (is_some old.kernel.disk.served ≡ true → function_of (call_of old.kernel.dispatcher.procs p).function ≡ None)
     → IsCalled p old kept kept' disks disks' reply extended → StandsWorked old.kernel.disk kept disks files
@@ -245,19 +230,6 @@ once_images (Err fault) P o n emitted failed = no_disk_fault fault P failed.0
 pub once_fault : {A : Type 0} (r : Result A StepFault) (o n : Outside) (emitted : List Output) → SinkFailed r o n emitted → IfErr r (λ fault. fault ≡ WriteFault)
 once_fault (Ok a) o n emitted failed = tt
 once_fault (Err fault) o n emitted failed = failed.0
-
-pub once_stops : {A : Type 0} (r : Result A StepFault) (kept left : Kept) (p : ℕ) (o n : Outside) (old : System) (reply : Answer) (extended : Option Extended) → is_done_at_once p old ≡ true
-    → IsToldOf p old reply extended → IsToldAsKept kept left p old reply extended
-    → SinkFailed r o n (concluded (told_of (call_of old.kernel.dispatcher.procs p) reply extended) p old).emitted
-    → IfErr r (λ fault. HasStoppedAtGate fault kept p o n old)
-once_stops (Ok a) kept left p o n old reply extended done tells as_kept failed = tt
-once_stops (Err WriteFault) kept left p o n old reply extended done tells as_kept failed =
-    let told = told_of (call_of old.kernel.dispatcher.procs p) reply extended in
-    record { told = told; of_call = refl; tells = tells; left = left; as_kept = as_kept; stops = stops_so WriteFault told p o n old done refl failed.1 }
-once_stops (Err DiskFault) kept left p o n old reply extended done tells as_kept failed = absurd (disk_is_no_sink failed.0)
-  where
-    disk_is_no_sink : DiskFault ≡ WriteFault → ⊥
-    disk_is_no_sink is = cc
 
 -- whether records are asked for stays, and what failed is the sink
 
@@ -280,15 +252,15 @@ once_cause (Err fault) o n emitted before behind same wrote failed = record {
 
 -- a drive failed in it
 
-between_by : (turn_steps : ℕ) (served : Option Served) (kept : Kept) (disks : Option Disks) (filing : Filing) → StandsWorkedBy turn_steps served kept disks (Between filing)
+between_by : (turn_steps : ℕ) (served : Option Served) (kept : Kept) (disks : Disks) (filing : Filing) → StandsWorkedBy turn_steps served kept disks (Between filing)
     → StandsBetween kept disks filing
 between_by turn_steps None kept disks filing stands = stands
 between_by turn_steps (Some call) kept disks filing stands = absurd stands
 
-pub between : (system : System) (kept : Kept) (disks : Option Disks) (filing : Filing) → StandsWorked system.kernel.disk kept disks (Between filing) → StandsBetween kept disks filing
+pub between : (system : System) (kept : Kept) (disks : Disks) (filing : Filing) → StandsWorked system.kernel.disk kept disks (Between filing) → StandsBetween kept disks filing
 between system kept disks filing stands = between_by system.kernel.disk.turn_steps system.kernel.disk.served kept disks filing stands.stands
 
-pub fails_images : (p : ℕ) (old : System) (disks : Option Disks) (filing : Filing) (mounted : List (Option Directory)) → is_done_at_once p old ≡ true
+pub fails_images : (p : ℕ) (old : System) (disks : Disks) (filing : Filing) (mounted : List (Option Directory)) → is_done_at_once p old ≡ true
     → HaveImagesOf (FailsWithin (working_if true filing p old)) disks mounted → HaveImagesOf (FailsWithin (working_if (is_done_at_once p old) filing p old)) disks mounted
 fails_images p old disks filing mounted done have = subst (λ b. HaveImagesOf (FailsWithin (working_if b filing p old)) disks mounted) (sym done) have
 
@@ -319,12 +291,12 @@ workless_by : (found : Option FileFunction) (old new : Kept) → (found ≡ None
 workless_by None old new direct idle none = ap (λ (k : Kept). has_work k.service) (direct refl) ∙ none
 workless_by (Some function) old new direct idle none = ap has_work (idle refl)
 
-pub holds_filed : {D : Type 0} (attached : D → ℕ → Option ℕ) (disks : D → Option Disks) (kernel : Kernel) (found : Option FileFunction) (old new : Kept) (before behind : D)
-    → HoldsDrives attached disks kernel old before → (is_some kernel.disk.served ≡ true → found ≡ None)
+pub holds_filed : {D : Type 0} (disks : D → Disks) (kernel : Kernel) (found : Option FileFunction) (old new : Kept) (before behind : D)
+    → HoldsKept disks kernel old before → (is_some kernel.disk.served ≡ true → found ≡ None)
     → (found ≡ None → new ≡ old) → (is_some found ≡ true → new.service ≡ None)
     → ((number : ℕ) → option_map labelled (directory_at new.mounted number) ≡ option_map labelled (directory_at old.mounted number))
-    → FitsDrives attached disks new.mounted new.cached behind → HoldsDrives attached disks kernel new behind
-holds_filed attached disks kernel found old new before behind holds apart direct idle labels fits = record {
+    → FitsDrives disks new.mounted new.cached behind → HoldsKept disks kernel new behind
+holds_filed disks kernel found old new before behind holds apart direct idle labels fits = record {
   filed = holds.filed;
   own = own_filed kernel.disk.served kernel old.service new.service (λ some. ap (λ (k : Kept). k.service) (direct (apart some))) holds.own;
   begun = holds.begun;

@@ -26,7 +26,7 @@ use Rattle.mpm_system.specs.Answering.{popped}
 use Rattle.mpm_system.specs.Residents.{asked_by}
 use Rattle.mpm_system.specs.Coming.{coming, counted}
 use Rattle.mpm_system.specs.FileCalling.{made_by, call_made}
-use Rattle.mpm_machine.specs.Holding.{AreFiled, HoldsDrives}
+use Rattle.mpm_machine.specs.Holding.{AreFiled, HoldsKept}
 use Rattle.mpm_machine.specs.Finishing.{completion_dequeued, command_let_in, all_answered}
 use Rattle.mpm_machine.specs.Step.{begun_by}
 use Rattle.mpm_machine.specs.FileCalls.{file_caller, concluded}
@@ -52,9 +52,9 @@ keeps_then old middle new first second = record {
   serves = same_then old.kernel.disk middle.kernel.disk new.kernel.disk first.serves second.serves;
 }
 
-pub holds_kept : {D : Type 0} (attached : D → ℕ → Option ℕ) (disks : D → Option Disks) (old new : System) (kept : Kept) (drives : D) → KeepsDisk old new
-    → HoldsDrives attached disks old.kernel kept drives → HoldsDrives attached disks new.kernel kept drives
-holds_kept attached disks old new kept drives keeps h = record {
+pub holds_kept : {D : Type 0} (disks : D → Disks) (old new : System) (kept : Kept) (drives : D) → KeepsDisk old new
+    → HoldsKept disks old.kernel kept drives → HoldsKept disks new.kernel kept drives
+holds_kept disks old new kept drives keeps h = record {
   filed = filed_still old.kernel new.kernel keeps.calls h.filed;
   own = own_still old.kernel new.kernel kept.service keeps.calls keeps.serves.served h.own;
   begun = subst (λ (o : Option Served). IfSome o (λ (call : Served). 0 < call.left)) (sym keeps.serves.served) h.begun;
@@ -140,10 +140,10 @@ pub waiting_serves : (p : ℕ) (kernel : Kernel) → KeepsService kernel.disk (w
 unfolding waiting_for_disk entered
 waiting_serves p kernel = record { served = refl; steps = refl }
 
-holds_waiting : {D : Type 0} (attached : D → ℕ → Option ℕ) (disks : D → Option Disks) (p : ℕ) (system : System) (kept : Kept) (drives : D) → is_done_at_once p system ≡ false
-    → HoldsDrives attached disks system.kernel kept drives → HoldsDrives attached disks (waiting_for_disk p system.kernel) kept drives
+holds_waiting : {D : Type 0} (disks : D → Disks) (p : ℕ) (system : System) (kept : Kept) (drives : D) → is_done_at_once p system ≡ false
+    → HoldsKept disks system.kernel kept drives → HoldsKept disks (waiting_for_disk p system.kernel) kept drives
 unfolding waiting_for_disk entered
-holds_waiting attached disks p system kept drives waits h = record {
+holds_waiting disks p system kept drives waits h = record {
   filed = filed_waiting p system waits h.filed;
   own = h.own;
   begun = h.begun;
@@ -165,24 +165,24 @@ called_serves told p system s is_ready =
     either (λ (c : Change). ServesSame system c.system) (is_done_at_once p system) _ _
     (λ _. concluded_serves told p system (ready_unserved system p s is_ready)) (λ _. waiting_serves p system.kernel)
 
-pub holds_called : {D : Type 0} (attached : D → ℕ → Option ℕ) (disks : D → Option Disks) (told : Directly) (p : ℕ) (system : System) (kept : Kept) (drives : D) → IsWhole system
-    → Lives system.kernel.dispatcher.procs p → IsReady system.kernel.dispatcher p → HoldsDrives attached disks system.kernel kept drives
-    → HoldsDrives attached disks (file_called told p system).system.kernel kept drives
+pub holds_called : {D : Type 0} (disks : D → Disks) (told : Directly) (p : ℕ) (system : System) (kept : Kept) (drives : D) → IsWhole system
+    → Lives system.kernel.dispatcher.procs p → IsReady system.kernel.dispatcher p → HoldsKept disks system.kernel kept drives
+    → HoldsKept disks (file_called told p system).system.kernel kept drives
 unfolding file_called
-holds_called attached disks told p system kept drives w h is_ready holds =
-    either (λ (c : Change). HoldsDrives attached disks c.system.kernel kept drives) (is_done_at_once p system) _ _
-    (λ _. holds_kept attached disks system (concluded told p system).system kept drives (keeps_concluded told p system w h is_ready) holds)
-    (λ waits. holds_waiting attached disks p system kept drives waits holds)
+holds_called disks told p system kept drives w h is_ready holds =
+    either (λ (c : Change). HoldsKept disks c.system.kernel kept drives) (is_done_at_once p system) _ _
+    (λ _. holds_kept disks system (concluded told p system).system kept drives (keeps_concluded told p system w h is_ready) holds)
+    (λ waits. holds_waiting disks p system kept drives waits holds)
 
 -- and then the held calls that this completed are answered
-pub holds_answered : {D : Type 0} (attached : D → ℕ → Option ℕ) (disks : D → Option Disks) (told : Directly) (p : ℕ) (made called new : System) (kept : Kept) (drives : D) → IsWhole made
+pub holds_answered : {D : Type 0} (disks : D → Disks) (told : Directly) (p : ℕ) (made called new : System) (kept : Kept) (drives : D) → IsWhole made
     → Lives made.kernel.dispatcher.procs p → IsReady made.kernel.dispatcher p → IsWhole called → called ≡ (file_called told p made).system → new ≡ all_answered called
-    → HoldsDrives attached disks made.kernel kept drives → HoldsDrives attached disks new.kernel kept drives
-holds_answered attached disks told p made called new kept drives w h is_ready whole is was holds =
-    let behind : HoldsDrives attached disks called.kernel kept drives =
-    subst (λ (s : System). HoldsDrives attached disks s.kernel kept drives) (sym is) (holds_called attached disks told p made kept drives w h is_ready holds) in
-    subst (λ (s : System). HoldsDrives attached disks s.kernel kept drives) (sym was)
-    (holds_kept attached disks called (all_answered called) kept drives (keeps_answered called whole behind.filed) behind)
+    → HoldsKept disks made.kernel kept drives → HoldsKept disks new.kernel kept drives
+holds_answered disks told p made called new kept drives w h is_ready whole is was holds =
+    let behind : HoldsKept disks called.kernel kept drives =
+    subst (λ (s : System). HoldsKept disks s.kernel kept drives) (sym is) (holds_called disks told p made kept drives w h is_ready holds) in
+    subst (λ (s : System). HoldsKept disks s.kernel kept drives) (sym was)
+    (holds_kept disks called (all_answered called) kept drives (keeps_answered called whole behind.filed) behind)
 
 -- whatever it begins with, the disk serves the same call
 

@@ -24,7 +24,7 @@ use Rattle.mpm_bdos.specs.Jobs.{call_turns, job_of}
 use Rattle.mpm_bdos.specs.Outcomes.{file_call, drives_after}
 use Rattle.mpm_bdos.specs.Serving.{Kept, StandEach}
 use Rattle.mpm_requests.specs.Subjects.{drive_number, blank_drive, drive_at}
-use Rattle.mpm_bdos.specs.Turns.{told_images}
+use Rattle.mpm_bdos.specs.Turns.{images_of}
 use Rattle.mpm_bdos.proofs.NextTurns.{job_drives, idle_drives}
 use Rattle.mpm_bdos.proofs.ServedLaws.{job_mounted}
 use Rattle.mpm_bdos.proofs.ServingLaws.{stand_at_last}
@@ -42,23 +42,23 @@ use Rattle.mpm_machine.proofs.ServeLaws.{IsNotLast, over_served, over_files, ove
 use Rattle.mpm_machine.proofs.EnterLaws.{none_served, files_kept, worked_between, entered_so, files_so, nobody_enters, files_stay}
 use Rattle.mpm_machine.proofs.StandingLaws.{within_by}
 
-stand_in : (served : Option Served) (kept : Kept) (disks : Option Disks) (files : Files) → StandsServed served kept disks files
-    → StandEach (told_images disks) kept.mounted (drives_in served files)
+stand_in : (served : Option Served) (kept : Kept) (disks : Disks) (files : Files) → StandsServed served kept disks files
+    → StandEach (images_of disks) kept.mounted (drives_in served files)
 unfolding drives_in
 stand_in None kept disks (Between filing) stands = stands.stand
 stand_in None kept disks (Within s) stands = absurd stands
 stand_in (Some call) kept disks (Between filing) stands = absurd stands
 stand_in (Some call) kept disks (Within s) stands =
     let ended : stands.turns ≡ turns_ended call s = omega (arith, stands.left) in
-    subst (λ (j : ℕ). StandEach (told_images disks) kept.mounted (drives_after s j)) ended stands.serves.stand
+    subst (λ (j : ℕ). StandEach (images_of disks) kept.mounted (drives_after s j)) ended stands.serves.stand
 
 -- behind the step of the disk
 
-record StandIn (kept : Kept) (disks : Option Disks) (served : Option Served) (files : Files) : Type 0 where
+record StandIn (kept : Kept) (disks : Disks) (served : Option Served) (files : Files) : Type 0 where
   pub within : AreWithin served files
-  pub stand : StandEach (told_images disks) kept.mounted (drives_in served files)
+  pub stand : StandEach (images_of disks) kept.mounted (drives_in served files)
 
-stands_so : (served : Option Served) (kept : Kept) (disks : Option Disks) (files : Files) → StandsServed served kept disks files → StandIn kept disks served files
+stands_so : (served : Option Served) (kept : Kept) (disks : Disks) (files : Files) → StandsServed served kept disks files → StandIn kept disks served files
 stands_so served kept disks files stands = record { within = within_by served kept disks files stands; stand = stand_in served kept disks files stands }
 
 last_or_not : (turn : Turn) → ((p : ℕ) × (turn ≡ Work p true)) ⊎ IsNotLast turn
@@ -69,7 +69,7 @@ last_or_not (Starts q) = inr (λ p is. absurd (cc))
 last_or_not (Work q true) = inl (q, refl)
 last_or_not (Work q false) = inr (λ p is. absurd (cc))
 
-last_stands : (told : Directly) (old : System) (kept : Kept) (disks : Option Disks) (files : Files) (p : ℕ) → turn_answer old.kernel.disk ≡ Work p true
+last_stands : (told : Directly) (old : System) (kept : Kept) (disks : Disks) (files : Files) (p : ℕ) → turn_answer old.kernel.disk ≡ Work p true
     → StandsWorked old.kernel.disk kept disks files → StandIn kept disks (disk_served told old).system.kernel.disk.served (files_served old files)
 unfolding turn_answer drives_in
 last_stands told old kept disks (Between filing) p works stands =
@@ -80,9 +80,9 @@ last_stands told old kept disks (Within s) p works stands =
     ∙ (over_serves told p (step_passed old) (none_behind old.kernel.disk p works)).served ∙ none_behind old.kernel.disk p works in
     subst (λ (files : Files). StandIn kept disks (disk_served told old).system.kernel.disk.served files) (sym (over_files old (Within s) p works))
     (subst (λ (served : Option Served). StandIn kept disks served (Between (file_call s).filing)) (sym nobody)
-    (record { within = tt; stand = stand_at_last (told_images disks) kept s (last_turn_serves old.kernel.disk kept disks s p works stands) }))
+    (record { within = tt; stand = stand_at_last (images_of disks) kept s (last_turn_serves old.kernel.disk kept disks s p works stands) }))
 
-more_stands : (told : Directly) (old : System) (kept : Kept) (disks : Option Disks) (files : Files) → is_some old.kernel.disk.served ≡ true → IsNotLast (turn_answer old.kernel.disk)
+more_stands : (told : Directly) (old : System) (kept : Kept) (disks : Disks) (files : Files) → is_some old.kernel.disk.served ≡ true → IsNotLast (turn_answer old.kernel.disk)
     → StandsWorked old.kernel.disk kept disks files → StandIn kept disks (disk_served told old).system.kernel.disk.served (files_served old files)
 more_stands told old kept disks (Between filing) some more stands = absurd (not_between old.kernel.disk.turn_steps old.kernel.disk.served kept disks filing some stands.stands)
 more_stands told old kept disks (Within s) some more stands =
@@ -90,7 +90,7 @@ more_stands told old kept disks (Within s) some more stands =
     (subst (λ (c : Change). StandIn kept disks c.system.kernel.disk.served (Within s)) (sym (silent_served told old some more))
     (stands_so (turned old.kernel.disk).served kept disks (Within s) (turn_goes_on old.kernel.disk kept disks s some more stands).stands))
 
-none_stands : (told : Directly) (old : System) (kept : Kept) (disks : Option Disks) (files : Files) → old.kernel.disk.served ≡ None
+none_stands : (told : Directly) (old : System) (kept : Kept) (disks : Disks) (files : Files) → old.kernel.disk.served ≡ None
     → StandsWorked old.kernel.disk kept disks files → StandIn kept disks (disk_served told old).system.kernel.disk.served (files_served old files)
 none_stands told old kept disks files none stands =
     subst (λ (f : Files). StandIn kept disks (disk_served told old).system.kernel.disk.served f) (sym (files_kept old files none))
@@ -101,7 +101,7 @@ none_or : (served : Option Served) → (served ≡ None) ⊎ (is_some served ≡
 none_or None = inl refl
 none_or (Some call) = inr refl
 
-served_stands : (told : Directly) (old : System) (kept : Kept) (disks : Option Disks) (files : Files) → StandsWorked old.kernel.disk kept disks files
+served_stands : (told : Directly) (old : System) (kept : Kept) (disks : Disks) (files : Files) → StandsWorked old.kernel.disk kept disks files
     → StandIn kept disks (disk_served told old).system.kernel.disk.served (files_served old files)
 served_stands told old kept disks files stands = elim (none_or old.kernel.disk.served) [
   | inl none ↦ none_stands told old kept disks files none stands
@@ -154,10 +154,10 @@ entry_drives (Work p last) system filing answer none = refl
 entry_drives (Starts p) system filing answer none =
     entered_drives (turned system.kernel.disk).served filing (function_of (call_of system.kernel.dispatcher.procs p).function) p system
 
-abbrev Drives : Kept → Option Disks → Option Served → Files → Type 0
-Drives kept disks served files = StandEach (told_images disks) kept.mounted (drives_in served files)
+abbrev Drives : Kept → Disks → Option Served → Files → Type 0
+Drives kept disks served files = StandEach (images_of disks) kept.mounted (drives_in served files)
 
-entry_stands_in : (system : System) (kept : Kept) (disks : Option Disks) (files : Files) → system.kernel.disk.served ≡ None → StandIn kept disks system.kernel.disk.served files
+entry_stands_in : (system : System) (kept : Kept) (disks : Disks) (files : Files) → system.kernel.disk.served ≡ None → StandIn kept disks system.kernel.disk.served files
     → Drives kept disks (call_entered (turns_within (files_entered system files)) system).kernel.disk.served (files_entered system files)
 unfolding drives_in
 entry_stands_in system kept disks (Between filing) none stands =
@@ -167,10 +167,10 @@ entry_stands_in system kept disks (Between filing) none stands =
     subst P (sym files)
     (subst (λ (s : System). Drives kept disks s.kernel.disk.served (files_entered_by turn system (Between filing)))
     (sym (entered_so (turns_within (files_entered_by turn system (Between filing))) system turn none refl))
-    (subst (λ (drives : List (Option Drive)). StandEach (told_images disks) kept.mounted drives) (sym (entry_drives turn system filing refl none)) stands.stand))
+    (subst (λ (drives : List (Option Drive)). StandEach (images_of disks) kept.mounted drives) (sym (entry_drives turn system filing refl none)) stands.stand))
 entry_stands_in system kept disks (Within s) none stands = absurd (subst (λ (served : Option Served). AreWithin served (Within s)) none stands.within)
 
-entered_stands : (system : System) (kept : Kept) (disks : Option Disks) (files : Files) → StandIn kept disks system.kernel.disk.served files
+entered_stands : (system : System) (kept : Kept) (disks : Disks) (files : Files) → StandIn kept disks system.kernel.disk.served files
     → Drives kept disks (call_entered (turns_within (files_entered system files)) system).kernel.disk.served (files_entered system files)
 entered_stands system kept disks files stands = elim (none_or system.kernel.disk.served) [
   | inl none ↦ entry_stands_in system kept disks files none stands
@@ -188,13 +188,13 @@ given_within owed None (Within s) within = within
 given_within owed (Some call) (Between filing) within = within
 given_within owed (Some call) (Within s) within = tt
 
-given_stands : (owed : List Bool) (served : Option Served) (kept : Kept) (disks : Option Disks) (files : Files) → StandIn kept disks served files → StandIn kept disks served (given_back owed files)
+given_stands : (owed : List Bool) (served : Option Served) (kept : Kept) (disks : Disks) (files : Files) → StandIn kept disks served files → StandIn kept disks served (given_back owed files)
 given_stands owed served kept disks files stands = record {
   within = given_within owed served files stands.within;
-  stand = subst (λ (drives : List (Option Drive)). StandEach (told_images disks) kept.mounted drives) (sym (drives_given owed served files)) stands.stand;
+  stand = subst (λ (drives : List (Option Drive)). StandEach (images_of disks) kept.mounted drives) (sym (drives_given owed served files)) stands.stand;
 }
 
-then_stands : (old : System) (kept : Kept) (disks : Option Disks) (files : Files) → StandsWorked old.kernel.disk kept disks files
+then_stands : (old : System) (kept : Kept) (disks : Disks) (files : Files) → StandsWorked old.kernel.disk kept disks files
     → Drives kept disks (entered_after (telling_then nothing_told old files) old).kernel.disk.served (files_then old files)
 unfolding files_then files_paid entered_after telling_then all_paid
 then_stands old kept disks files stands =
@@ -207,18 +207,18 @@ rest_serves : (instruction : Bool) (telling : Telling) (old : System) → (rest_
 unfolding rest_of ended_after all_paid
 rest_serves instruction telling old = (ends_serve (entered_after telling old)).served
 
-rest_stands : (instruction : Bool) (old : System) (kept : Kept) (disks : Option Disks) (files : Files) → StandsWorked old.kernel.disk kept disks files
+rest_stands : (instruction : Bool) (old : System) (kept : Kept) (disks : Disks) (files : Files) → StandsWorked old.kernel.disk kept disks files
     → Drives kept disks (rest_of instruction (telling_then nothing_told old files) (silent old)).system.kernel.disk.served (files_rest old files)
 unfolding files_rest
 rest_stands instruction old kept disks files stands =
     let telling = telling_then nothing_told old files in
     let owed = (ended_after telling old).owed in
-    let P : List (Option Drive) → Type 0 = λ drives. StandEach (told_images disks) kept.mounted drives in
+    let P : List (Option Drive) → Type 0 = λ drives. StandEach (images_of disks) kept.mounted drives in
     subst (λ (served : Option Served). Drives kept disks served (given_back owed (files_then old files))) (sym (rest_serves instruction telling old))
     (subst P (sym (drives_given owed (entered_after telling old).kernel.disk.served (files_then old files))) (then_stands old kept disks files stands))
 
 -- so the images do where the sink failed in it, which leaves the directories
-pub rest_images : (instruction : Bool) (old : System) (kept new : Kept) (disks : Option Disks) (files : Files) → EndKeeps kept new
+pub rest_images : (instruction : Bool) (old : System) (kept new : Kept) (disks : Disks) (files : Files) → EndKeeps kept new
     → StandsWorked old.kernel.disk kept disks files
     → HaveImages disks new.mounted (drives_in (rest_of instruction (telling_then nothing_told old files) (silent old)).system.kernel.disk.served (files_rest old files))
 rest_images instruction old kept new disks files keeps stands =

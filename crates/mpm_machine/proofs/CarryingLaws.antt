@@ -1,13 +1,12 @@
 -- The call in service as it is carried to its end: the turns that are left to it, its answer, the ends that are then due, and the records.
 -- the call in service, with the turns that are left to it
-use Rattle.std.proofs.Common.{◌≡◌, ◌∙◌, ℕ, ◌+◌, Bool, false, List, [], ◌++◌, Option, Some, None, refl, sym, ap, subst, arith}
+use Rattle.std.proofs.Common.{◌≡◌, ◌∙◌, ℕ, ◌+◌, Bool, List, [], ◌++◌, Option, Some, None, refl, sym, ap, subst, arith}
 use Rattle.std.proofs.lemmas.Option.{same_Some}
-use Rattle.std.specs.Prelude.{Result, Ok, Err, IsOk, IfSome, option_map}
+use Rattle.std.specs.Prelude.{Result, Ok, Err, IsOk, option_map}
 use Rattle.mpm_port.specs.Causes.{HasCause}
 use Rattle.mpm_port.specs.Disks.{Disks}
 use Rattle.mpm_mount.specs.Drives.{Drive}
 use Rattle.mpm_mount.specs.Directories.{Directory}
-use Rattle.mpm_procs.specs.Table.{Table, call_of}
 use Rattle.mpm_service.specs.Ahead.{left_to, turns_left, unserved}
 use Rattle.mpm_service.specs.Disk.{DiskService, served_process}
 use Rattle.mpm_service.specs.Places.{is_call_of}
@@ -23,40 +22,37 @@ use Rattle.mpm_directories.specs.Direct.{Directly}
 use Rattle.mpm_requests.specs.Filing.{Situation}
 use Rattle.mpm_bdos.specs.Jobs.{call_turns}
 use Rattle.mpm_bdos.specs.Outcomes.{file_call}
-use Rattle.mpm_bdos.specs.Serving.{Kept as Filed, InService, StandEach, Serves, filing_of}
-use Rattle.mpm_bdos.specs.Turns.{has_work, told_images, without_work}
-use Rattle.mpm_bdos.proofs.Answerable.{still_entered}
+use Rattle.mpm_bdos.specs.Serving.{Kept as Filed, StandEach, Serves, filing_of}
+use Rattle.mpm_bdos.specs.Turns.{images_of}
 use Rattle.mpm_bdos.proofs.ServingLaws.{stand_at_last}
 use Rattle.mpm_system.specs.declared.system.System.{System}
 use Rattle.mpm_system.specs.Whole.{Change, IsWhole}
 use Rattle.mpm_system.specs.Written.{recorded_behind, records_out}
 use Rattle.mpm_system.proofs.WholeLaws.{whole_kernel}
 use Rattle.mpm_system.proofs.WrittenLaws.{recorded_after}
-use Rattle.mpm_machine.specs.After.{IsOfCall, IsToldIn, IsOverAsKept, EndKeeps}
+use Rattle.mpm_machine.specs.After.{EndKeeps}
 use Rattle.mpm_machine.specs.Files.{Files, Between, Within, StandsBetween, StandsServed, StandsForFiles, filing_in, all_left, given_back}
-use Rattle.mpm_machine.specs.Holding.{IsOwn}
 use Rattle.mpm_machine.specs.FileCalls.{concluded}
 use Rattle.mpm_machine.specs.Due.{with_ends}
 use Rattle.mpm_machine.specs.DiskStep.{ready_again, call_over, told_of_call, all_paid}
 use Rattle.mpm_machine.specs.Failing.{Working, HaveImages}
-use Rattle.mpm_machine.specs.Settling.{turns_passed, over_at_end, ended_at_end, ended_with, files_at_end, carried_out, HasCarried, left_of, IsEndBy, WritesEndOf, StopsEndOf}
+use Rattle.mpm_machine.specs.Settling.{turns_passed, over_at_end, ended_at_end, ended_with, files_at_end, carried_out, HasCarried, left_of}
 use Rattle.mpm_machine.proofs.WholeLaws.{whole_written}
 use Rattle.mpm_machine.proofs.WholeStepLaws.{whole_with_ends}
 use Rattle.mpm_machine.proofs.DiskStepLaws.{whole_all_paid}
 use Rattle.mpm_machine.proofs.KeepingLaws.{finishing_disk, concluded_serves, ends_serve}
 use Rattle.mpm_machine.proofs.TurnLaws.{stands_idle, paid_stands, drives_left}
-use Rattle.mpm_machine.proofs.FilesStepLaws.{over_as_before}
 
-pub record InCall (files : Files) (served : Option Served) (p : ℕ) (kept : Filed) (disks : Option Disks) : Type 0 where
+pub record InCall (files : Files) (served : Option Served) (p : ℕ) (kept : Filed) (disks : Disks) : Type 0 where
   pub call : Situation
   pub is : files ≡ Within call
   pub turns : ℕ
   pub left : turns + left_to served ≡ call_turns call
   pub whose : call.caller.process ≡ p
-  pub serves : Serves (told_images disks) kept call turns
+  pub serves : Serves (images_of disks) kept call turns
   pub left_is : left_of files served ≡ Some (record { call = call; ended = turns; most = left_to served })
 
-in_call_of : (files : Files) (served : Option Served) (p : ℕ) (kept : Filed) (disks : Option Disks) → option_map (λ (call : Served). call.p) served ≡ Some p
+in_call_of : (files : Files) (served : Option Served) (p : ℕ) (kept : Filed) (disks : Disks) → option_map (λ (call : Served). call.p) served ≡ Some p
     → StandsServed served kept disks files → InCall files served p kept disks
 in_call_of files None p kept disks some stands = absurd (cc)
 in_call_of (Between filing) (Some call) p kept disks some stands = absurd stands
@@ -72,7 +68,7 @@ in_call_of (Within s) (Some call) p kept disks some stands =
       left_is = ap working (omega (arith, stands.left));
     }
 
-pub in_call : (files : Files) (disk : DiskService) (p : ℕ) (kept : Filed) (disks : Option Disks) → served_process disk ≡ Some p → StandsForFiles disk kept disks files
+pub in_call : (files : Files) (disk : DiskService) (p : ℕ) (kept : Filed) (disks : Disks) → served_process disk ≡ Some p → StandsForFiles disk kept disks files
     → InCall files disk.served p kept disks
 unfolding served_process
 in_call files disk p kept disks some stands = in_call_of files disk.served p kept disks some stands.stands
@@ -80,25 +76,6 @@ in_call files disk p kept disks some stands = in_call_of files disk.served p kep
 pub all_left_turns : (disk : DiskService) → turns_left disk ≡ left_to disk.served
 unfolding turns_left
 all_left_turns disk = refl
-
--- it is its process's own, also behind its turns
-its_own : (served : Option Served) (p : ℕ) (procs : Table) (service : Option InService) → option_map (λ (call : Served). call.p) served ≡ Some p
-    → IfSome served (λ call. IsOwn procs call.p service) → IsOwn procs p service
-its_own None p procs service some own = absurd (cc)
-its_own (Some call) p procs service some own = subst (λ (q : ℕ). IsOwn procs q service) (same_Some call.p p some) own
-
-pub own_behind : (disk : DiskService) (p : ℕ) (procs : Table) (service new : Option InService) → served_process disk ≡ Some p
-    → IfSome disk.served (λ call. IsOwn procs call.p service) → option_map without_work new ≡ option_map without_work service → IsOwn procs p new
-unfolding served_process
-own_behind disk p procs service new some own same =
-    let here = its_own disk.served p procs service some own in
-    record {
-      function = here.function;
-      its = here.its;
-      caller = here.caller;
-      multi = here.multi;
-      entered = still_entered here.caller here.function (call_of procs p) service new same here.entered;
-    }
 
 pub whole_unserved : (system : System) (kernel : Kernel) → IsWhole system → kernel ≡ with_disk unserved system.kernel → IsSound kernel → IsWhole (record system { kernel = kernel })
 whole_unserved system kernel w is sound =
@@ -160,8 +137,8 @@ stopped_last told p before one two o m n a b first last =
     (subst (λ (s : System). Stopped m n (records_out (with_ends s)).emitted) two_is last))
 
 -- so the images stand for what the call leaves on the drives, whether the sink fails or not
-pub end_images : (disks : Option Disks) (kept : Filed) (mounted : List (Option Directory)) (s : Situation) (told : Directly) (before : System)
-    → Serves (told_images disks) kept s (call_turns s) → mounted ≡ kept.mounted → HaveImages disks mounted (filing_in (files_at_end told s before)).drives
+pub end_images : (disks : Disks) (kept : Filed) (mounted : List (Option Directory)) (s : Situation) (told : Directly) (before : System)
+    → Serves (images_of disks) kept s (call_turns s) → mounted ≡ kept.mounted → HaveImages disks mounted (filing_in (files_at_end told s before)).drives
 end_images disks kept mounted s told before serves same =
     let one = (over_at_end told s.caller.process before).system.owed in
     let all = (ended_at_end told s.caller.process before).owed in
@@ -170,8 +147,8 @@ end_images disks kept mounted s told before serves same =
     record {
       directories = mounted;
       labels = λ number. refl;
-      stand = subst (λ (m : List (Option Directory)). StandEach (told_images disks) m (all_left all (all_left one (file_call s).filing)).drives) (sym same)
-          (subst (λ (d : List (Option Drive)). StandEach (told_images disks) kept.mounted d) (sym drives) (stand_at_last (told_images disks) kept s serves));
+      stand = subst (λ (m : List (Option Directory)). StandEach (images_of disks) m (all_left all (all_left one (file_call s).filing)).drives) (sym same)
+          (subst (λ (d : List (Option Drive)). StandEach (images_of disks) kept.mounted d) (sym drives) (stand_at_last (images_of disks) kept s serves));
     }
 
 -- what was paid
@@ -179,17 +156,17 @@ pub record Pays (system : System) (old new : Filed) : Type 0 where
   pub rest : new ≡ record old { opens = new.opens; marks = new.marks; searches = new.searches }
   pub filing : system.kernel.disk.served ≡ None → (drives : List (Option Drive)) → filing_of new drives ≡ all_left system.owed (filing_of old drives)
 
-paid_in : (system : System) (old new : Filed) (disks : Option Disks) (files : Files) → Pays system old new → system.kernel.disk.served ≡ None
+paid_in : (system : System) (old new : Filed) (disks : Disks) (files : Files) → Pays system old new → system.kernel.disk.served ≡ None
     → StandsForFiles system.kernel.disk old disks files → StandsForFiles (all_paid system).kernel.disk new disks (given_back system.owed files)
 paid_in system old new disks files pays none stands =
     paid_stands system old new disks files stands none pays.rest (λ filing is. pays.filing none filing.drives ∙ ap (all_left system.owed) is)
 
-still_stand : (one other : DiskService) (kept : Filed) (disks : Option Disks) (files : Files) → one.served ≡ None → other.served ≡ None → StandsForFiles one kept disks files
+still_stand : (one other : DiskService) (kept : Filed) (disks : Disks) (files : Files) → one.served ≡ None → other.served ≡ None → StandsForFiles one kept disks files
     → StandsForFiles other kept disks files
 still_stand one other kept disks files none same stands =
     record { stands = subst (λ (o : Option Served). StandsServed o kept disks files) (none ∙ sym same) stands.stands }
 
-pub end_stands : (told : Directly) (s : Situation) (before one two three four : System) (first second third : Filed) (disks : Option Disks)
+pub end_stands : (told : Directly) (s : Situation) (before one two three four : System) (first second third : Filed) (disks : Disks)
     → one ≡ (over_at_end told s.caller.process before).system → two ≡ all_paid one → three ≡ (records_out (with_ends two)).system → four ≡ all_paid three
     → StandsBetween first disks (file_call s).filing → Pays one first second → Pays three second third
     → StandsForFiles four.kernel.disk third disks (files_at_end told s before)
@@ -221,8 +198,8 @@ over_is s p system before whose is =
     ap (λ (x : System). call_over (told_of_call s p x) p x) is
     ∙ ap (λ (q : ℕ). call_over (told_of_call s q (turns_passed before)) q (turns_passed before)) (sym whose)
 
-pub carried_stopped_first : (o n : Outside) (disks : Option Disks) (kept new : Filed) (s : Situation) (p : ℕ) (system before : System) → s.caller.process ≡ p → system ≡ turns_passed before
-    → Serves (told_images disks) kept s (call_turns s) → EndKeeps kept new → Stopped o n (call_over (told_of_call s p system) p system).emitted
+pub carried_stopped_first : (o n : Outside) (disks : Disks) (kept new : Filed) (s : Situation) (p : ℕ) (system before : System) → s.caller.process ≡ p → system ≡ turns_passed before
+    → Serves (images_of disks) kept s (call_turns s) → EndKeeps kept new → Stopped o n (call_over (told_of_call s p system) p system).emitted
     → Stopped o n (carried_out s before).change.emitted × HaveImages disks new.mounted (filing_in (carried_out s before).files).drives
 unfolding carried_out
 carried_stopped_first o n disks kept new s p system before whose is serves keeps stopped =
@@ -231,8 +208,8 @@ carried_stopped_first o n disks kept new s p system before whose is serves keeps
       end_images disks kept new.mounted s told before serves (ap (λ (k : Filed). k.mounted) keeps),
     )
 
-pub carried_stopped_last : (o m n : Outside) (disks : Option Disks) (kept new : Filed) (s : Situation) (p : ℕ) (system before one two : System) → s.caller.process ≡ p → system ≡ turns_passed before
-    → Serves (told_images disks) kept s (call_turns s) → new.mounted ≡ kept.mounted → one ≡ (call_over (told_of_call s p system) p system).system → two ≡ all_paid one
+pub carried_stopped_last : (o m n : Outside) (disks : Disks) (kept new : Filed) (s : Situation) (p : ℕ) (system before one two : System) → s.caller.process ≡ p → system ≡ turns_passed before
+    → Serves (images_of disks) kept s (call_turns s) → new.mounted ≡ kept.mounted → one ≡ (call_over (told_of_call s p system) p system).system → two ≡ all_paid one
     → Wrote o m (call_over (told_of_call s p system) p system).emitted → Stopped m n (records_out (with_ends two)).emitted
     → Stopped o n (carried_out s before).change.emitted × HaveImages disks new.mounted (filing_in (carried_out s before).files).drives
 unfolding carried_out
@@ -243,7 +220,7 @@ carried_stopped_last o m n disks kept new s p system before one two whose is ser
       end_images disks kept new.mounted s told before serves same,
     )
 
-pub carried_all : (o m n : Outside) (disks : Option Disks) (first second third : Filed) (s : Situation) (p : ℕ) (system before one two three four : System) → s.caller.process ≡ p
+pub carried_all : (o m n : Outside) (disks : Disks) (first second third : Filed) (s : Situation) (p : ℕ) (system before one two three four : System) → s.caller.process ≡ p
     → system ≡ turns_passed before → one ≡ (call_over (told_of_call s p system) p system).system → two ≡ all_paid one → three ≡ (records_out (with_ends two)).system → four ≡ all_paid three
     → Wrote o m (call_over (told_of_call s p system) p system).emitted → Wrote m n (records_out (with_ends two)).emitted
     → StandsBetween first disks (file_call s).filing → Pays one first second → Pays three second third → HasCarried (Within s) o n before four third disks
@@ -257,66 +234,6 @@ carried_all o m n disks first second third s p system before one two three four 
       wrote = ended_wrote told s.caller.process before one two o m n one_is b (subst (λ (x : Change). Wrote o m x.emitted) over wrote) records;
       stands = end_stands told s before one two three four first second third disks one_is b c d stands paid_first paid_last;
     }
-
--- whatever is on the drives, by what the call may tell
-
-pub told_stopped : (o n : Outside) (p : ℕ) (system before : System) (told : Directly) → system ≡ turns_passed before → Stopped o n (call_over told p system).emitted
-    → Stopped o n (ended_with told p before).emitted
-unfolding over_at_end
-told_stopped o n p system before told is stopped =
-    stopped_first told p before o n (subst (λ (x : System). Stopped o n (call_over told p x).emitted) is stopped)
-
-pub told_stopped_last : (o m n : Outside) (p : ℕ) (system before one two : System) (told : Directly) → system ≡ turns_passed before → one ≡ (call_over told p system).system → two ≡ all_paid one
-    → Wrote o m (call_over told p system).emitted → Stopped m n (records_out (with_ends two)).emitted → Stopped o n (ended_with told p before).emitted
-unfolding over_at_end
-told_stopped_last o m n p system before one two told is a b wrote stopped =
-    stopped_last told p before one two o m n (a ∙ ap (λ (x : System). (call_over told p x).system) is) b (subst (λ (x : System). Wrote o m (call_over told p x).emitted) is wrote) stopped
-
-pub told_wrote : (o m n : Outside) (p : ℕ) (system before one two : System) (told : Directly) → system ≡ turns_passed before → one ≡ (call_over told p system).system → two ≡ all_paid one
-    → Wrote o m (call_over told p system).emitted → Wrote m n (records_out (with_ends two)).emitted → Wrote o n (ended_with told p before).emitted
-unfolding over_at_end
-told_wrote o m n p system before one two told is a b wrote records =
-    ended_wrote told p before one two o m n (a ∙ ap (λ (x : System). (call_over told p x).system) is) b
-    (subst (λ (x : System). Wrote o m (call_over told p x).emitted) is wrote) records
-
-pub told_system : (p : ℕ) (system before one two three four : System) (told : Directly) → system ≡ turns_passed before → one ≡ (call_over told p system).system → two ≡ all_paid one
-    → three ≡ (records_out (with_ends two)).system → four ≡ all_paid three → four ≡ (ended_with told p before).system
-unfolding over_at_end
-told_system p system before one two three four told is a b c d =
-    ended_system told p before one two three four (a ∙ ap (λ (x : System). (call_over told p x).system) is) b c d
-
-pub ends_told : (kept left : Filed) (p : ℕ) (system before : System) (told : Directly) → system ≡ turns_passed before → IsOfCall (Some p) told system → IsToldIn (Some p) told system
-    → IsOverAsKept kept left (Some p) told → IsEndBy kept (Some p) before (ended_with told p before)
-ends_told kept left p system before told is of_call tells as_kept = record {
-  told = told;
-  of_call = subst (λ (x : System). IsOfCall (Some p) told x) is of_call;
-  tells = subst (λ (x : System). IsToldIn (Some p) told x) is tells;
-  left = left;
-  as_kept = as_kept;
-  is = refl;
-}
-
--- what is kept as its turns are done is what was kept before, where it has no work
-
-end_before : (old worked : Filed) (p : ℕ) (before : System) (change : Change) → (has_work old.service ≡ false → worked ≡ old) → IsEndBy worked (Some p) before change
-    → IsEndBy old (Some p) before change
-end_before old worked p before change rests end = record {
-  told = end.told;
-  of_call = end.of_call;
-  tells = end.tells;
-  left = end.left;
-  as_kept = over_as_before old worked worked end.left (Some p) end.told rests (λ some. refl) end.as_kept;
-  is = end.is;
-}
-
-pub writes_before : (old worked : Filed) (p : ℕ) (o n : Outside) (before new : System) → (has_work old.service ≡ false → worked ≡ old) → WritesEndOf worked (Some p) o n before new
-    → WritesEndOf old (Some p) o n before new
-writes_before old worked p o n before new rests end =
-    record { change = end.change; is = end_before old worked p before end.change rests end.is; system = end.system; wrote = end.wrote }
-
-pub stops_before : (old worked : Filed) (p : ℕ) (o n : Outside) (before : System) → (has_work old.service ≡ false → worked ≡ old) → StopsEndOf worked (Some p) o n before
-    → StopsEndOf old (Some p) o n before
-stops_before old worked p o n before rests end = record { change = end.change; is = end_before old worked p before end.change rests end.is; stops = end.stops }
 
 pub never_both : {A E : Type 0} (r : Result A E) (e : E) (P : Type 0) → r ≡ Err e → IsOk r → P
 never_both (Ok x) e P is ok = absurd (cc)

@@ -14,11 +14,9 @@ use Rattle.mpm_output.proofs.WritingLaws.{wrote_after, fails_before, fails_withi
 use Rattle.mpm_output.specs.Outside.{Outside, TheSink}
 use Rattle.mpm_render.specs.Outputs.{Output}
 use Rattle.mpm_directories.specs.Direct.{Directly}
-use Rattle.mpm_bdos.specs.Serving.{Kept, InService, StandEach, Serves, filing_of}
+use Rattle.mpm_bdos.specs.Serving.{Kept, InService, filing_of}
 use Rattle.mpm_directories.specs.Places.{directory_at}
-use Rattle.mpm_bdos.specs.Jobs.{call_turns}
 use Rattle.mpm_bdos.specs.Turns.{has_work}
-use Rattle.mpm_functions.specs.declared.functions.FileFunction.{FileFunction}
 use Rattle.mpm_system.specs.declared.system.System.{System}
 use Rattle.mpm_system.specs.Whole.{IsWhole, NoCompletions, silent}
 use Rattle.mpm_system.specs.Written.{records_out}
@@ -27,20 +25,17 @@ use Rattle.mpm_machine.specs.Files.{Files, StandsServed, StandsForFiles, all_lef
 use Rattle.mpm_machine.specs.Due.{NobodyDue, with_ends}
 use Rattle.mpm_machine.specs.Mounting.{HasNoDrive}
 use Rattle.mpm_machine.specs.Holding.{OwnsService, AreFiled}
-use Rattle.mpm_machine.specs.FileCalls.{situation_of}
-use Rattle.mpm_machine.specs.Filed.{kept_paid, kept_behind}
-use Rattle.mpm_machine.specs.DiskStep.{step_passed, over_after, process_over, served_by, disk_served, all_paid, entered_by, entered_unless, call_entered}
+use Rattle.mpm_machine.specs.DiskStep.{step_passed, over_after, served_by, disk_served, all_paid, entered_by, entered_unless, call_entered}
 use Rattle.mpm_machine.specs.Stepping.{Telling, nothing_told, told_within, paid_after, entered_after, ended_after, rest_of, telling_then, files_then, files_rest}
-use Rattle.mpm_machine.specs.After.{EntersService, ServesEntered, LeavesServed, LeavesKept, HasServedTo, HasStoppedServing, HasServed, HasEndedStep, HasEndedTo, HasEndedToStop, EndKeeps}
+use Rattle.mpm_machine.specs.After.{IsOfSome, HasServedTo, HasEndedTo, EndKeeps}
 use Rattle.mpm_machine.proofs.WholeStepLaws.{whole_with_ends}
 use Rattle.mpm_machine.proofs.KeepingLaws.{ServesSame, ends_serve}
 use Rattle.mpm_machine.proofs.RestLaws.{whole_rest, none_entered_after, no_completions_rest, nobody_due_rest}
 use Rattle.mpm_machine.proofs.FileStepLaws.{rest_steps}
-use Rattle.mpm_machine.proofs.TellingLaws.{any_turns, enters_for_any}
 use Rattle.mpm_machine.proofs.CallsLaws.{SystemKeepsCalls, calls_same, calls_then, calls_with_ends}
 use Rattle.mpm_machine.proofs.HoldingLaws.{filed_still, own_still}
 use Rattle.mpm_machine.proofs.ServeLaws.{over_serves, none_behind}
-use Rattle.mpm_machine.proofs.EnterLaws.{entry_serves, still_behind, paid_service, paid_kernel, pays}
+use Rattle.mpm_machine.proofs.EnterLaws.{paid_kernel, pays}
 use Rattle.mpm_machine.proofs.CarryingLaws.{keeps_by}
 
 -- what comes behind the disk's step
@@ -77,91 +72,38 @@ ended_so : (instruction : Bool) (served ended paid new : System) → ended ≡ (
 ended_so instruction served ended paid new ends pays picks =
     picks ∙ ap (λ (system : System). record system { kernel = with_dispatcher (picked instruction) system.kernel }) (pays ∙ ap all_paid ends)
 
--- a call in service stays there as ends come
-pub ends_still : (served ended : System) → ended ≡ (records_out (with_ends served)).system → is_some served.kernel.disk.served ≡ true → is_some ended.kernel.disk.served ≡ true
-ends_still served ended is some =
-    subst (λ (call : Option Served). is_some call ≡ true) (sym (ap (λ (system : System). system.kernel.disk.served) is ∙ (ends_serve served).served)) some
+-- whatever its file calls came to
+abbrev pub IsServedFrom : System → System → Type 0
+IsServedFrom old new = IsOfSome (λ (telling : Telling). entered_after telling old) new
 
-pub ended_still : {kept kept' : Kept} (o n : Outside) (old served ended : System) → HasServed kept kept' o n old served → ended ≡ (records_out (with_ends served)).system
-    → is_some old.kernel.disk.served ≡ true → process_over old ≡ None → is_some ended.kernel.disk.served ≡ true
-ended_still o n old served ended has is some none =
-    ends_still served ended is (subst (λ (s : System). is_some s.kernel.disk.served ≡ true) (sym has.system) (still_behind has.telling old some none))
+abbrev pub IsEndedFrom : Bool → System → System → Type 0
+IsEndedFrom instruction old new = IsOfSome (λ (telling : Telling). (rest_of instruction telling (silent old)).system) new
 
--- so one that entered is served by what is kept behind it
-entered_then : {kept kept' kept'' : Kept} (o n : Outside) (old served ended : System) (has : HasServed kept kept' o n old served) → ended ≡ (records_out (with_ends served)).system
-    → (is_some ended.kernel.disk.served ≡ true → kept'' ≡ kept') → ServesEntered kept'' has.telling.turns (paid_after has.telling.at_disk old)
-entered_then {kept} {kept'} {kept''} o n old served ended has is same =
-    let behind = paid_after has.telling.at_disk old in
-    let keeps : (function : FileFunction) (p : ℕ) → EntersService function p behind → kept'' ≡ kept' =
-    λ function p enters. same (ends_still served ended is
-    (subst (λ (s : System). is_some s.kernel.disk.served ≡ true) (sym has.system) (entry_serves has.telling old function p enters))) in
-    record {
-      serves = λ function p images drives enters stand.
-          let is = keeps function p enters in
-          subst (λ (k : Kept). Serves images k (situation_of (filing_of k drives) function p behind) 0) (sym is)
-          (has.entered.serves function p images drives enters (subst (λ (k : Kept). StandEach images k.mounted drives) is stand));
-      takes = λ function p images drives enters stand.
-          let is = keeps function p enters in
-          subst (λ (k : Kept). has.telling.turns ≡ call_turns (situation_of (filing_of k drives) function p behind)) (sym is)
-          (has.entered.takes function p images drives enters (subst (λ (k : Kept). StandEach images k.mounted drives) is stand));
-    }
-
--- of what is kept those leave what they had open and marked whose ends were due
-paid_ended : (telling : Telling) (old served ended : System) (kept : Kept) → served ≡ entered_after telling old → ended ≡ (records_out (with_ends served)).system
-    → kept_paid ended kept ≡ kept_paid (ended_after telling old) kept
-unfolding kept_paid ended_after
-paid_ended telling old served ended kept is ends =
-    ap (λ (s : System). kept_paid s kept) ends ∙ ap (λ (s : System). kept_paid (records_out (with_ends s)).system kept) is
-
-leaves_behind : (telling : Telling) (old served ended : System) (kept kept' kept'' : Kept) → served ≡ entered_after telling old → ended ≡ (records_out (with_ends served)).system
-    → LeavesServed telling kept kept' old → kept'' ≡ kept_paid ended kept' → LeavesKept telling kept kept'' old
-leaves_behind telling old served ended kept kept' kept'' is ends leaves pays =
-    let service : kept''.service ≡ kept'.service = ap (λ (k : Kept). k.service) pays ∙ paid_service ended kept' in
-    record {
-      is = pays ∙ paid_ended telling old served ended kept' is ends ∙ ap (kept_paid (ended_after telling old)) leaves.is
-          ∙ ap (λ (call : Option InService). kept_behind telling call old kept) (sym service);
-      service = λ none. service ∙ leaves.service none;
-    }
-
-pub has_ended : {kept kept' kept'' : Kept} (instruction : Bool) (o m n : Outside) (old served ended paid new : System) → HasServed kept kept' o m old served
-    → kept'' ≡ kept_paid ended kept' → (is_some ended.kernel.disk.served ≡ true → kept'' ≡ kept') → ended ≡ (records_out (with_ends served)).system → Wrote m n (records_out (with_ends served)).emitted → paid ≡ all_paid ended
-    → new ≡ record paid { kernel = with_dispatcher (picked instruction) paid.kernel } → HasEndedStep kept kept'' instruction o n old new
-has_ended {kept} {kept'} {kept''} instruction o m n old served ended paid new has gives same ends wrote pays picks =
-    let done = rest_done instruction has.telling o m n old served new has.system has.wrote wrote (ended_so instruction served ended paid new ends pays picks) in
-    record {
-      telling = has.telling;
-      turns = has.turns;
-      of_call = has.of_call;
-      tells = has.tells;
-      left = has.left;
-      as_kept = has.as_kept;
-      passes = has.passes;
-      entered = entered_then o m old served ended has ends same;
-      leaves = leaves_behind has.telling old served ended has.left kept' kept'' has.system ends has.leaves gives;
-      system = done.0;
-      wrote = done.1;
-    }
+pub ended_made : (instruction : Bool) (old served ended paid new : System) → IsServedFrom old served → ended ≡ (records_out (with_ends served)).system → paid ≡ all_paid ended
+    → new ≡ record paid { kernel = with_dispatcher (picked instruction) paid.kernel } → IsEndedFrom instruction old new
+ended_made instruction old served ended paid new made ends pays picks =
+    (made.0, ended_so instruction served ended paid new ends pays picks ∙ ap (ended_by instruction) made.1 ∙ sym (rest_is instruction made.0 old))
 
 -- by what is on the drives
 
-served_so : (files : Files) (o m : Outside) (old served : System) (kept : Kept) (disks : Option Disks) → HasServedTo files o m old served kept disks
+served_so : (files : Files) (o m : Outside) (old served : System) (kept : Kept) (disks : Disks) → HasServedTo files o m old served kept disks
     → served ≡ entered_after (telling_then nothing_told old files) old
 unfolding telling_then entered_after
 served_so files o m old served kept disks has = has.system
 
-said_so : (files : Files) (o m : Outside) (old served : System) (kept : Kept) (disks : Option Disks) → HasServedTo files o m old served kept disks
+said_so : (files : Files) (o m : Outside) (old served : System) (kept : Kept) (disks : Disks) → HasServedTo files o m old served kept disks
     → Wrote o m (disk_served (telling_then nothing_told old files).at_disk old).emitted
 unfolding telling_then
 said_so files o m old served kept disks has = has.wrote
 
-ends_stand : (served ended : System) (kept : Kept) (disks : Option Disks) (files : Files) → ended ≡ (records_out (with_ends served)).system → StandsForFiles served.kernel.disk kept disks files
+ends_stand : (served ended : System) (kept : Kept) (disks : Disks) (files : Files) → ended ≡ (records_out (with_ends served)).system → StandsForFiles served.kernel.disk kept disks files
     → StandsForFiles ended.kernel.disk kept disks files
 ends_stand served ended kept disks files is stands = record {
   stands = subst (λ (call : Option Served). StandsServed call kept disks files)
       (sym (ap (λ (system : System). system.kernel.disk.served) is ∙ (ends_serve served).served)) stands.stands;
 }
 
-pub has_ended_to : (instruction : Bool) (files : Files) (o m n : Outside) (old served ended paid new : System) (kept kept' : Kept) (disks : Option Disks)
+pub has_ended_to : (instruction : Bool) (files : Files) (o m n : Outside) (old served ended paid new : System) (kept kept' : Kept) (disks : Disks)
     → HasServedTo files o m old served kept disks → ended ≡ (records_out (with_ends served)).system → Wrote m n (records_out (with_ends served)).emitted → paid ≡ all_paid ended
     → new ≡ record paid { kernel = with_dispatcher (picked instruction) paid.kernel }
     → kept' ≡ record kept { opens = kept'.opens; marks = kept'.marks; searches = kept'.searches }
@@ -255,10 +197,10 @@ steps_entered_after telling system =
     steps_entered_unless (served_process (paid_after telling.at_disk system).kernel.disk) telling.turns (paid_after telling.at_disk system)
     ∙ steps_served_by (served_process system.kernel.disk) telling.at_disk system
 
-pub ended_turn_steps : {kept kept' : Kept} (instruction : Bool) (o n : Outside) (old served new : System) → EndsServed instruction served new → HasServed kept kept' o n old served
+pub ended_turn_steps : (instruction : Bool) (old served new : System) → EndsServed instruction served new → IsServedFrom old served
     → new.kernel.disk.turn_steps ≡ old.kernel.disk.turn_steps
-ended_turn_steps instruction o n old served new so has =
-    so.serves.steps ∙ ap (λ (system : System). system.kernel.disk.turn_steps) has.system ∙ steps_entered_after has.telling old
+ended_turn_steps instruction old served new so made =
+    so.serves.steps ∙ ap (λ (system : System). system.kernel.disk.turn_steps) made.1 ∙ steps_entered_after made.0 old
 
 -- the sink failed: in the disk's step, or behind it
 
@@ -280,60 +222,28 @@ pub serving_stopped : (instruction : Bool) (files : Files) (o n : Outside) (old 
 unfolding telling_then
 serving_stopped instruction files o n old stopped = served_stops instruction (telling_then nothing_told old files) o n old stopped
 
-pub serving_stops : {kept : Kept} (instruction : Bool) (o n : Outside) (old : System) → HasStoppedServing kept o n old → HasEndedToStop kept instruction o n old
-serving_stops instruction o n old stopped =
-    let paid = paid_after stopped.told old in
-    let telling : Telling = record { at_gate = nothing_told; at_disk = stopped.told; turns = any_turns paid } in
-    record {
-      telling = telling;
-      turns = enters_for_any paid;
-      of_call = stopped.of_call;
-      tells = stopped.tells;
-      left = stopped.left;
-      as_kept = stopped.as_kept;
-      stops = served_stops instruction telling o n old stopped.stops;
-    }
-
-pub ending_stopped : (instruction : Bool) (files : Files) (o m n : Outside) (old served : System) (kept : Kept) (disks : Option Disks) → HasServedTo files o m old served kept disks
+pub ending_stopped : (instruction : Bool) (files : Files) (o m n : Outside) (old served : System) (kept : Kept) (disks : Disks) → HasServedTo files o m old served kept disks
     → Stopped m n (records_out (with_ends served)).emitted → Stopped o n (rest_of instruction (telling_then nothing_told old files) (silent old)).emitted
 ending_stopped instruction files o m n old served kept disks has stopped =
     ends_stop instruction (telling_then nothing_told old files) o m n old served (served_so files o m old served kept disks has) (said_so files o m old served kept disks has) stopped
 
-pub ended_stops : {kept kept' : Kept} (instruction : Bool) (o m n : Outside) (old served : System) → HasServed kept kept' o m old served → Stopped m n (records_out (with_ends served)).emitted
-    → HasEndedToStop kept instruction o n old
-ended_stops instruction o m n old served has stopped = record {
-  telling = has.telling;
-  turns = has.turns;
-  of_call = has.of_call;
-  tells = has.tells;
-  left = has.left;
-  as_kept = has.as_kept;
-  stops = ends_stop instruction has.telling o m n old served has.system has.wrote stopped;
-}
-
 -- what is so of the system behind the disk's step, and behind the rest of a step
 
-pub served_nobody : {kept kept' : Kept} (o n : Outside) (old new : System) → old.kernel.dispatcher.completed ≡ [] → HasServed kept kept' o n old new → new.kernel.dispatcher.completed ≡ []
-served_nobody o n old new none has = ap (λ (system : System). system.kernel.dispatcher.completed) has.system ∙ none_entered_after has.telling old none
+pub served_nobody : (old new : System) → old.kernel.dispatcher.completed ≡ [] → IsServedFrom old new → new.kernel.dispatcher.completed ≡ []
+served_nobody old new none made = ap (λ (system : System). system.kernel.dispatcher.completed) made.1 ∙ none_entered_after made.0 old none
 
-ended_as : {kept kept' : Kept} (P : System → Type 0) (instruction : Bool) (o n : Outside) (old new : System) (has : HasEndedStep kept kept' instruction o n old new)
-    → P (rest_of instruction has.telling (silent old)).system → P new
-ended_as P instruction o n old new has so = subst P (sym has.system) so
+pub ended_whole : (instruction : Bool) (old new : System) → IsWhole old → IsEndedFrom instruction old new → IsWhole new
+ended_whole instruction old new w made = subst IsWhole (sym made.1) (whole_rest instruction made.0 (silent old) w)
 
-pub ended_whole : {kept kept' : Kept} (instruction : Bool) (o n : Outside) (old new : System) → IsWhole old → HasEndedStep kept kept' instruction o n old new → IsWhole new
-ended_whole instruction o n old new w has = ended_as IsWhole instruction o n old new has (whole_rest instruction has.telling (silent old) w)
+pub ended_nobody_due : (instruction : Bool) (old new : System) → IsWhole old → IsEndedFrom instruction old new → NobodyDue new.kernel
+ended_nobody_due instruction old new w made =
+    subst (λ (system : System). NobodyDue system.kernel) (sym made.1) (nobody_due_rest instruction made.0 (silent old) w)
 
-pub ended_nobody_due : {kept kept' : Kept} (instruction : Bool) (o n : Outside) (old new : System) → IsWhole old → HasEndedStep kept kept' instruction o n old new → NobodyDue new.kernel
-ended_nobody_due instruction o n old new w has =
-    ended_as (λ system. NobodyDue system.kernel) instruction o n old new has (nobody_due_rest instruction has.telling (silent old) w)
+pub ended_no_completions : (instruction : Bool) (old new : System) → old.kernel.dispatcher.completed ≡ [] → IsEndedFrom instruction old new → NoCompletions new
+ended_no_completions instruction old new none made = subst NoCompletions (sym made.1) (no_completions_rest instruction made.0 (silent old) none)
 
-pub ended_no_completions : {kept kept' : Kept} (instruction : Bool) (o n : Outside) (old new : System) → old.kernel.dispatcher.completed ≡ [] → HasEndedStep kept kept' instruction o n old new → NoCompletions new
-ended_no_completions instruction o n old new none has =
-    ended_as NoCompletions instruction o n old new has (no_completions_rest instruction has.telling (silent old) none)
-
-pub ended_steps : {kept kept' : Kept} (instruction : Bool) (o n : Outside) (old new : System) → HasEndedStep kept kept' instruction o n old new → new.steps ≡ old.steps
-ended_steps instruction o n old new has =
-    ended_as (λ system. system.steps ≡ old.steps) instruction o n old new has (rest_steps instruction has.telling (silent old))
+pub ended_steps : (instruction : Bool) (old new : System) → IsEndedFrom instruction old new → new.steps ≡ old.steps
+ended_steps instruction old new made = subst (λ (system : System). system.steps ≡ old.steps) (sym made.1) (rest_steps instruction made.0 (silent old))
 
 -- what is kept of directories and of what is cached stays, through one part after the other
 

@@ -1,9 +1,9 @@
 -- The disk's step as the code makes it, behind the turn of the call in service: those who ended give back, and the first that waits
 -- enters service, in the situation of that moment.
 -- where nobody is in service
-use Rattle.std.proofs.Common.{◌≡◌, ◌∙◌, ◌<◌, ◌==◌, ℕ, Bool, true, false, if◌then◌else◌, List, [], Option, Some, None, Result, Ok, Err, OnOk, is_some, option_map, IfSome, refl, sym, ap, subst, arith}
-use Rattle.std.specs.Prelude.{option_and_then}
+use Rattle.std.proofs.Common.{◌≡◌, ◌∙◌, ◌<◌, ◌==◌, ℕ, Bool, true, false, if◌then◌else◌, List, Option, Some, None, Result, OnOk, is_some, option_map, IfSome, refl, sym, ap, subst, arith}
 use Rattle.std.proofs.lemmas.Bool.{false≢true}
+use Rattle.std.proofs.lemmas.Result.{on_ok_weaker}
 use Rattle.mpm_base.proofs.CountLaws.{one_if_true}
 use Rattle.mpm_port.specs.Disks.{Disks}
 use Rattle.mpm_procs.specs.Table.{Lives, process_in, call_of}
@@ -22,28 +22,26 @@ use Rattle.mpm_output.specs.Writing.{Wrote}
 use Rattle.mpm_output.proofs.WritingLaws.{wrote_nothing}
 use Rattle.mpm_directories.specs.Direct.{Directly}
 use Rattle.mpm_functions.specs.declared.functions.FileFunction.{FileFunction}
-use Rattle.mpm_bdos.specs.Answering.{HasEntered}
-use Rattle.mpm_requests.specs.Filing.{Filing, Situation}
+use Rattle.mpm_bdos.specs.Starting.{HasEntered}
+use Rattle.mpm_requests.specs.Filing.{Filing}
 use Rattle.mpm_functions.specs.Functions.{function_of}
 use Rattle.mpm_bdos.specs.Jobs.{call_turns}
 use Rattle.mpm_bdos.specs.Serving.{Kept, InService, StandEach, Serves, filing_of}
 use Rattle.mpm_bdos.specs.Starting.{caller_of}
-use Rattle.mpm_bdos.specs.Turns.{told_images}
+use Rattle.mpm_bdos.specs.Turns.{images_of}
 use Rattle.mpm_system.specs.declared.system.System.{System}
 use Rattle.mpm_system.specs.Whole.{Change, IsWhole, silent}
 use Rattle.mpm_machine.specs.Files.{Files, Between, Within, StandsBetween, StandsServed, StandsForFiles, StandsWorkedBy, StandsWorked, all_left, given_back}
 use Rattle.mpm_machine.specs.Holding.{IsOwn, OwnsService, AreFiled}
 use Rattle.mpm_machine.specs.FileCalls.{looked_at, situation_of}
-use Rattle.mpm_machine.specs.Filed.{left_unless, kept_paid}
-use Rattle.mpm_machine.specs.DiskStep.{with_kernel, step_passed, served_by, disk_served, over_by, process_over, files_served_by, files_served, all_paid, entered_by, entered_unless, call_entered, within_call, entering_call, files_entered_by, files_entered_unless, files_entered, turns_within}
-use Rattle.mpm_machine.specs.Stepping.{Telling, nothing_told, told_within, paid_after, entered_after, files_paid, files_then}
-use Rattle.mpm_machine.specs.After.{IsOfCall, IsToldIn, IsOverAsKept, EntersService, ServesEntered, EntersFor, HasServedTo, HasPassed, HasServed, HasEnteredCall}
+use Rattle.mpm_machine.specs.DiskStep.{with_kernel, step_passed, served_by, disk_served, files_served_by, files_served, all_paid, entered_by, entered_unless, call_entered, within_call, entering_call, files_entered_by, files_entered_unless, files_entered, turns_within}
+use Rattle.mpm_machine.specs.Stepping.{Telling, nothing_told, told_within, entered_after, files_paid, files_then}
+use Rattle.mpm_machine.specs.After.{IsOfSome, HasServedTo}
 use Rattle.mpm_machine.proofs.DiskStepLaws.{whole_passed, whole_call_entered, whole_all_paid}
 use Rattle.mpm_machine.proofs.CallsLaws.{SystemKeepsCalls, calls_same, calls_then, calls_disk_served, calls_call_entered, at_disk_lives}
 use Rattle.mpm_machine.proofs.HoldingLaws.{filed_still}
 use Rattle.mpm_machine.proofs.FilingLaws.{named_by}
-use Rattle.mpm_machine.proofs.ServeLaws.{somebody, still_served}
-use Rattle.mpm_machine.proofs.TellingLaws.{any_turns, enters_for_any}
+use Rattle.mpm_machine.proofs.ServeLaws.{IsServedBy, somebody}
 use Rattle.mpm_machine.proofs.TurnLaws.{who, stands_idle, entered_first, paid_stands, entry_stands}
 
 pub nobody_served : (disk : DiskService) → disk.served ≡ None → served_process disk ≡ None
@@ -68,10 +66,10 @@ enters_within : (system : System) (filing : Filing) (function : FileFunction) (p
     → entering_call p system (Between filing) ≡ Within (situation_of filing function p system)
 enters_within system filing function p is = ap (λ (named : Option FileFunction). within_call named filing p system) is
 
-pub enters_ok : (old : System) (filing : Filing) (function : FileFunction) (p turns : ℕ) (kept kept' : Kept) (disks : Option Disks)
+pub enters_ok : (old : System) (filing : Filing) (function : FileFunction) (p turns : ℕ) (kept kept' : Kept) (disks : Disks)
     → turn_answer old.kernel.disk ≡ Starts p → old.kernel.disk.served ≡ None → function_of (call_of old.kernel.dispatcher.procs p).function ≡ Some function
     → StandsBetween kept disks filing → turns ≡ call_turns (situation_of filing function p old) → 0 < turns
-    → Serves (told_images disks) kept' (situation_of filing function p old) 0
+    → Serves (images_of disks) kept' (situation_of filing function p old) 0
     → (with_kernel (with_disk (λ disk. begun disk turns)) (step_passed old) ≡ call_entered (turns_within (files_entered old (Between filing))) old)
     × StandsForFiles (begun (turned old.kernel.disk) turns) kept' disks (files_entered old (Between filing))
 enters_ok old filing function p turns kept kept' disks starts none calls stands many some serves =
@@ -87,11 +85,11 @@ enters_ok old filing function p turns kept kept' disks starts none calls stands 
 
 -- the next call enters where nobody is in service
 
-abbrev Entered : System → System → Kept → Option Disks → Files → Type 0
+abbrev Entered : System → System → Kept → Disks → Files → Type 0
 Entered old new kept disks files =
     (new ≡ call_entered (turns_within (files_entered old files)) old) × StandsForFiles new.kernel.disk kept disks (files_entered old files)
 
-pub enters_by : (system new : System) (kept kept' : Kept) (disks : Option Disks) (files : Files) → system.kernel.disk.served ≡ None → StandsForFiles system.kernel.disk kept disks files
+pub enters_by : (system new : System) (kept kept' : Kept) (disks : Disks) (files : Files) → system.kernel.disk.served ≡ None → StandsForFiles system.kernel.disk kept disks files
     → ((filing : Filing) → StandsBetween kept disks filing → Entered system new kept' disks (Between filing))
     → Entered system new kept' disks files
 enters_by system new kept kept' disks (Between filing) none stands enters =
@@ -135,8 +133,6 @@ starts_filed old kernel p is starts filed =
 pub record Begins (p turns : ℕ) (old : System) (kept kept' : Kept) : Type 0 where
   pub turns_are : (images : ℕ → List ℕ) (drives : List (Option Drive)) (function : FileFunction) → function_of (call_of old.kernel.dispatcher.procs p).function ≡ Some function
       → StandEach images kept.mounted drives → turns ≡ call_turns (situation_of (filing_of kept drives) function p old)
-  pub takes : (function : FileFunction) → function_of (call_of old.kernel.dispatcher.procs p).function ≡ Some function
-      → (filing : Filing) × (turns ≡ call_turns (situation_of filing function p old))
   pub serves : (images : ℕ → List ℕ) (drives : List (Option Drive)) (function : FileFunction) → function_of (call_of old.kernel.dispatcher.procs p).function ≡ Some function
       → StandEach images kept.mounted drives → Serves images kept' (situation_of (filing_of kept drives) function p old) 0
   pub entered : (function : FileFunction) → function_of (call_of old.kernel.dispatcher.procs p).function ≡ Some function
@@ -152,7 +148,7 @@ pub begun_is : (turns : ℕ) (old : System) (kernel behind : Kernel) → kernel 
 begun_is turns old kernel behind is begins =
     ap (λ (k : Kernel). record old { kernel = k }) (begins ∙ ap (with_disk (λ disk. begun disk turns)) is)
 
-pub enters_so : (old new : System) (p turns : ℕ) (kept kept' : Kept) (disks : Option Disks) (files : Files) → new ≡ with_kernel (with_disk (λ disk. begun disk turns)) (step_passed old)
+pub enters_so : (old new : System) (p turns : ℕ) (kept kept' : Kept) (disks : Disks) (files : Files) → new ≡ with_kernel (with_disk (λ disk. begun disk turns)) (step_passed old)
     → turn_answer old.kernel.disk ≡ Starts p → old.kernel.disk.served ≡ None → AreFiled old.kernel → Begins p turns (step_passed old) kept kept'
     → StandsForFiles old.kernel.disk kept disks files → Entered old new kept' disks files
 enters_so old new p turns kept kept' disks files is starts none filed begins stands =
@@ -161,68 +157,21 @@ enters_so old new p turns kept kept' disks files is starts none filed begins sta
     let its = named_by (function_of (call_of old.kernel.dispatcher.procs p).function) (filed p (starts_at old.kernel.disk p starts)) in
     let so = enters_ok old filing its.0 p turns kept kept' disks starts none its.1 between
     (subst (λ (found : Filing). turns ≡ call_turns (situation_of found its.0 p old)) between.filing_is
-    (begins.turns_are (told_images disks) filing.drives its.0 its.1 between.stand)) begins.some
-    (subst (λ (found : Filing). Serves (told_images disks) kept' (situation_of found its.0 p old) 0) between.filing_is
-    (begins.serves (told_images disks) filing.drives its.0 its.1 between.stand)) in
+    (begins.turns_are (images_of disks) filing.drives its.0 its.1 between.stand)) begins.some
+    (subst (λ (found : Filing). Serves (images_of disks) kept' (situation_of found its.0 p old) 0) between.filing_is
+    (begins.serves (images_of disks) filing.drives its.0 its.1 between.stand)) in
     (is ∙ so.0, subst (λ (system : System). StandsForFiles system.kernel.disk kept' disks (files_entered old (Between filing))) (sym is) so.1))
 
-enters_for : (old : System) (p turns : ℕ) (kept kept' : Kept) → turn_answer old.kernel.disk ≡ Starts p → old.kernel.disk.served ≡ None → AreFiled old.kernel
-    → Begins p turns (step_passed old) kept kept' → EntersFor turns old
-enters_for old p turns kept kept' starts none filed begins =
-    let its = named_by (function_of (call_of old.kernel.dispatcher.procs p).function) (filed p (starts_at old.kernel.disk p starts)) in
-    let takes = begins.takes its.0 its.1 in
-    let files : files_entered old (Between takes.0) ≡ entering_call p old (Between takes.0) = files_so old (Between takes.0) (Starts p) none starts in
-    record { filing = takes.0; are = takes.1 ∙ sym (ap turns_within (files ∙ enters_within old takes.0 its.0 p its.1)) }
+-- for whatever turns
+abbrev pub IsEnteredFrom : System → System → Type 0
+IsEnteredFrom old new = IsOfSome (λ (turns : ℕ). call_entered turns old) new
 
--- by what is kept then it is served in the situation of that moment, for the turns that it takes in that one
-enters_as : (P : Situation → Type 0) (old : System) (p turns : ℕ) (kept kept' : Kept) → turn_answer old.kernel.disk ≡ Starts p → kept' ≡ record kept { service = kept'.service }
-    → (function : FileFunction) (q : ℕ) (images : ℕ → List ℕ) (drives : List (Option Drive)) → EntersService function q old → StandEach images kept'.mounted drives
-    → (function_of (call_of old.kernel.dispatcher.procs p).function ≡ Some function → StandEach images kept.mounted drives → P (situation_of (filing_of kept drives) function p old))
-    → P (situation_of (filing_of kept' drives) function q old)
-enters_as P old p turns kept kept' starts rest function q images drives enters stand so =
-    let same : p ≡ q = ap who (sym starts ∙ enters.starts) in
-    let its = subst (λ (r : ℕ). function_of (call_of old.kernel.dispatcher.procs r).function ≡ Some function) (sym same) enters.calls in
-    subst (λ (found : Filing). P (situation_of found function q old)) (sym (ap (λ (k : Kept). filing_of k drives) rest))
-    (subst (λ (r : ℕ). P (situation_of (filing_of kept drives) function r old)) same (so its (subst (λ (k : Kept). StandEach images k.mounted drives) rest stand)))
+pub entered_made : (old new : System) (p turns : ℕ) → new ≡ with_kernel (with_disk (λ disk. begun disk turns)) (step_passed old) → turn_answer old.kernel.disk ≡ Starts p
+    → old.kernel.disk.served ≡ None → IsEnteredFrom old new
+entered_made old new p turns is starts none = (turns, is ∙ sym (entered_so turns old (Starts p) none starts))
 
-enters_anew : (old : System) (p turns : ℕ) (kept kept' : Kept) → turn_answer old.kernel.disk ≡ Starts p → kept' ≡ record kept { service = kept'.service }
-    → Begins p turns (step_passed old) kept kept' → ServesEntered kept' turns old
-enters_anew old p turns kept kept' starts rest begins = record {
-  serves = λ function q images drives enters stand.
-      enters_as (λ (s : Situation). Serves images kept' s 0) old p turns kept kept' starts rest function q images drives enters stand (begins.serves images drives function);
-  takes = λ function q images drives enters stand.
-      enters_as (λ (s : Situation). turns ≡ call_turns s) old p turns kept kept' starts rest function q images drives enters stand (begins.turns_are images drives function);
-}
-
--- and is in service behind it
-serves_behind : (turns : ℕ) (system : System) (p : ℕ) → system.kernel.disk.served ≡ None → turn_answer system.kernel.disk ≡ Starts p
-    → is_some (call_entered turns system).kernel.disk.served ≡ true
-unfolding turn_answer turned begun
-serves_behind turns system p none starts =
-    let disk = system.kernel.disk in
-    subst (λ (s : System). is_some s.kernel.disk.served ≡ true) (sym (entered_so turns system (Starts p) none starts))
-    (ap is_some (entered_first disk.turn_steps disk.served (first_of disk.waiting) p turns none starts))
-
-pub never_idle : (old new : System) (p turns : ℕ) → new ≡ call_entered turns old → old.kernel.disk.served ≡ None → turn_answer old.kernel.disk ≡ Starts p → new.kernel.disk.served ≡ None → ⊥
-never_idle old new p turns is none starts idle =
-    false≢true (sym (ap is_some idle) ∙ subst (λ (s : System). is_some s.kernel.disk.served ≡ true) (sym is) (serves_behind turns old p none starts))
-
-pub entry_serves : (telling : Telling) (old : System) (function : FileFunction) (p : ℕ) → EntersService function p (paid_after telling.at_disk old)
-    → is_some (entered_after telling old).kernel.disk.served ≡ true
-unfolding entered_after
-entry_serves telling old function p enters = serves_behind telling.turns (paid_after telling.at_disk old) p enters.idle enters.starts
-
-pub has_entered : (old new : System) (p turns : ℕ) (kept kept' : Kept) → new ≡ with_kernel (with_disk (λ disk. begun disk turns)) (step_passed old) → turn_answer old.kernel.disk ≡ Starts p
-    → old.kernel.disk.served ≡ None → AreFiled old.kernel → kept' ≡ record kept { service = kept'.service } → Begins p turns (step_passed old) kept kept' → HasEnteredCall kept' old new
-has_entered old new p turns kept kept' is starts none filed rest begins = record {
-  turns = turns;
-  its = enters_for old p turns kept kept' starts none filed begins;
-  entered = enters_anew old p turns kept kept' starts rest begins;
-  is = is ∙ sym (entered_so turns old (Starts p) none starts);
-}
-
-pub enters_whole : {kept : Kept} (old new : System) → IsWhole old → HasEnteredCall kept old new → IsWhole new
-enters_whole old new w has = subst IsWhole (sym has.is) (whole_call_entered has.turns old w)
+pub enters_whole : (old new : System) → IsWhole old → IsEnteredFrom old new → IsWhole new
+enters_whole old new w made = subst IsWhole (sym made.1) (whole_call_entered made.0 old w)
 
 -- his is the call in service then
 pub owns_entered : (old new : System) (p turns : ℕ) (kept kept' : Kept) → new ≡ with_kernel (with_disk (λ disk. begun disk turns)) (step_passed old)
@@ -267,7 +216,7 @@ nobody_turned disk none idle = by_first disk.turn_steps disk.served (first_of di
     by_first turn_steps None (Some p) none idle = absurd (cc)
     by_first turn_steps (Some call) first none idle = absurd (cc)
 
-pub none_enters : (old : System) (filing : Filing) (kept : Kept) (disks : Option Disks) → old.kernel.disk.served ≡ None → StartsNobody (turn_answer old.kernel.disk)
+pub none_enters : (old : System) (filing : Filing) (kept : Kept) (disks : Disks) → old.kernel.disk.served ≡ None → StartsNobody (turn_answer old.kernel.disk)
     → StandsBetween kept disks filing
     → (step_passed old ≡ call_entered (turns_within (files_entered old (Between filing))) old)
     × StandsForFiles (turned old.kernel.disk) kept disks (files_entered old (Between filing))
@@ -283,7 +232,7 @@ pub nobody_starts : (disk : DiskService) (answer : Turn) → answer ≡ turn_ans
 unfolding StartsNobody
 nobody_starts disk answer is never = λ p starts. never p (is ∙ starts)
 
-pub none_enters_so : (old : System) (kernel : Kernel) (kept : Kept) (disks : Option Disks) (files : Files) → kernel ≡ with_disk turned old.kernel → old.kernel.disk.served ≡ None
+pub none_enters_so : (old : System) (kernel : Kernel) (kept : Kept) (disks : Disks) (files : Files) → kernel ≡ with_disk turned old.kernel → old.kernel.disk.served ≡ None
     → StartsNobody (turn_answer old.kernel.disk) → StandsForFiles old.kernel.disk kept disks files → Entered old (record old { kernel = kernel }) kept disks files
 none_enters_so old kernel kept disks files is none nobody stands =
     enters_by old (record old { kernel = kernel }) kept kept disks files none stands
@@ -298,31 +247,20 @@ unserved_begun kernel none = subst (λ (served : Option Served). IfSome served (
 pub unserved_own : (kernel : Kernel) (service : Option InService) → kernel.disk.served ≡ None → OwnsService kernel service
 unserved_own kernel service none = subst (λ (served : Option Served). IfSome served (λ (call : Served). IsOwn kernel.dispatcher.procs call.p service)) (sym none) tt
 
-pub has_entered_none : (kept : Kept) (old : System) → old.kernel.disk.served ≡ None → StartsNobody (turn_answer old.kernel.disk) → HasEnteredCall kept old (step_passed old)
-unfolding StartsNobody
-has_entered_none kept old none nobody = record {
-  turns = any_turns old;
-  its = enters_for_any old;
-  entered = record {
-    serves = λ function p images drives enters stand. absurd (nobody p enters.starts);
-    takes = λ function p images drives enters stand. absurd (nobody p enters.starts);
-  };
-  is = sym (entered_so (any_turns old) old Idle none (stays_idle old.kernel.disk none nobody));
-}
-
-pub has_entered_nobody : (kept : Kept) (old : System) (kernel : Kernel) → kernel ≡ with_disk turned old.kernel → old.kernel.disk.served ≡ None → StartsNobody (turn_answer old.kernel.disk)
-    → HasEnteredCall kept old (record old { kernel = kernel })
-has_entered_nobody kept old kernel is none nobody = subst (λ (k : Kernel). HasEnteredCall kept old (record old { kernel = k })) (sym is) (has_entered_none kept old none nobody)
+pub nobody_made : (old : System) (kernel : Kernel) → kernel ≡ with_disk turned old.kernel → old.kernel.disk.served ≡ None → StartsNobody (turn_answer old.kernel.disk)
+    → IsEnteredFrom old (record old { kernel = kernel })
+nobody_made old kernel is none nobody =
+    (1, ap (λ (k : Kernel). record old { kernel = k }) is ∙ sym (entered_so 1 old Idle none (stays_idle old.kernel.disk none nobody)))
 
 -- those who ended give back where nobody is in service
 
-given_within : (served : Option Served) (kept : Kept) (disks : Option Disks) (owed : List Bool) (files : Files) → is_some served ≡ true → StandsServed served kept disks files
+given_within : (served : Option Served) (kept : Kept) (disks : Disks) (owed : List Bool) (files : Files) → is_some served ≡ true → StandsServed served kept disks files
     → StandsServed served kept disks (given_back owed files)
 given_within None kept disks owed files some stands = absurd (false≢true some)
 given_within (Some call) kept disks owed (Between filing) some stands = absurd stands
 given_within (Some call) kept disks owed (Within s) some stands = stands
 
-pub pays : (system : System) (kept kept' : Kept) (disks : Option Disks) (files : Files) → StandsForFiles system.kernel.disk kept disks files
+pub pays : (system : System) (kept kept' : Kept) (disks : Disks) (files : Files) → StandsForFiles system.kernel.disk kept disks files
     → kept' ≡ record kept { opens = kept'.opens; marks = kept'.marks; searches = kept'.searches }
     → (is_some system.kernel.disk.served ≡ true → kept' ≡ kept)
     → (system.kernel.disk.served ≡ None → (drives : List (Option Drive)) → filing_of kept' drives ≡ all_left system.owed (filing_of kept drives))
@@ -338,31 +276,6 @@ pays system kept kept' disks files stands rest same left = by_served system.kern
           stands = subst (λ (k : Kept). StandsServed system.kernel.disk.served k disks (given_back system.owed files)) (sym (same some))
               (given_within system.kernel.disk.served kept disks system.owed files some stands.stands);
         }
-
--- so of what is kept as of files
-pub paid_is : (system : System) (kept kept' : Kept) → kept' ≡ record kept { opens = kept'.opens; marks = kept'.marks; searches = kept'.searches }
-    → (is_some system.kernel.disk.served ≡ true → kept' ≡ kept)
-    → (system.kernel.disk.served ≡ None → (drives : List (Option Drive)) → filing_of kept' drives ≡ all_left system.owed (filing_of kept drives))
-    → kept' ≡ kept_paid system kept
-unfolding kept_paid
-paid_is system kept kept' rest same left = by_served system.kernel.disk.served refl
-  where
-    given : Filing → Kept
-    given filing = record kept { opens = filing.opens; marks = filing.marks; searches = filing.searches }
-
-    by_served : (served : Option Served) → system.kernel.disk.served ≡ served → kept' ≡ left_unless system.kernel.disk.served system.owed kept
-    by_served None is =
-        rest ∙ ap given (left is []) ∙ sym (ap (λ (call : Option Served). left_unless call system.owed kept) is)
-    by_served (Some call) is =
-        same (ap is_some is) ∙ sym (ap (λ (call : Option Served). left_unless call system.owed kept) is)
-
-pub paid_service : (system : System) (kept : Kept) → (kept_paid system kept).service ≡ kept.service
-unfolding kept_paid
-paid_service system kept = by_served system.kernel.disk.served
-  where
-    by_served : (served : Option Served) → (left_unless served system.owed kept).service ≡ kept.service
-    by_served None = refl
-    by_served (Some call) = refl
 
 -- that is all that they change
 
@@ -395,35 +308,27 @@ pub files_stay : (system : System) (files : Files) → is_some system.kernel.dis
 unfolding files_entered
 files_stay system files some = ap (λ (served : Option ℕ). files_entered_unless served system files) (somebody system.kernel.disk some).1
 
-pub goes_on : (system : System) (kept : Kept) (disks : Option Disks) (files : Files) → is_some system.kernel.disk.served ≡ true → StandsForFiles system.kernel.disk kept disks files
+pub goes_on : (system : System) (kept : Kept) (disks : Disks) (files : Files) → is_some system.kernel.disk.served ≡ true → StandsForFiles system.kernel.disk kept disks files
     → Entered system system kept disks files
 goes_on system kept disks files some stands = (
   sym (nobody_enters (turns_within (files_entered system files)) system some),
   subst (λ (f : Files). StandsForFiles system.kernel.disk kept disks f) (sym (files_stay system files some)) stands,
 )
 
-pub has_entered_still : (kept : Kept) (old : System) → is_some old.kernel.disk.served ≡ true → HasEnteredCall kept old old
-has_entered_still kept old some = record {
-  turns = any_turns old;
-  its = enters_for_any old;
-  entered = record {
-    serves = λ function p images drives enters stand. absurd (false≢true (sym (ap is_some enters.idle) ∙ some));
-    takes = λ function p images drives enters stand. absurd (false≢true (sym (ap is_some enters.idle) ∙ some));
-  };
-  is = sym (nobody_enters (any_turns old) old some);
-}
-
--- behind the disk's step a call in service that isn't over is in service still
-pub still_behind : (telling : Telling) (old : System) → is_some old.kernel.disk.served ≡ true → process_over old ≡ None
-    → is_some (entered_after telling old).kernel.disk.served ≡ true
-unfolding entered_after all_paid
-still_behind telling old some none =
-    let still = still_served telling.at_disk old some none in
-    subst (λ (s : System). is_some s.kernel.disk.served ≡ true) (sym (nobody_enters telling.turns (paid_after telling.at_disk old) still)) still
+pub still_made : (old : System) → is_some old.kernel.disk.served ≡ true → IsEnteredFrom old old
+still_made old some = (1, sym (nobody_enters 1 old some))
 
 -- so the disk made its step
 
-pub has_served_to : (files : Files) (o n : Outside) (old passed new : System) (kept : Kept) (disks : Option Disks)
+pub served_made : (old passed paid new : System) → IsServedBy old passed → paid ≡ all_paid passed → IsEnteredFrom paid new
+    → IsOfSome (λ (telling : Telling). entered_after telling old) new
+unfolding entered_after
+served_made old passed paid new first pays last = (
+  record { at_gate = nothing_told; at_disk = first.0; turns = last.0 },
+  last.1 ∙ ap (λ (s : System). call_entered last.0 s) (pays ∙ ap all_paid first.1),
+)
+
+pub has_served_to : (files : Files) (o n : Outside) (old passed new : System) (kept : Kept) (disks : Disks)
     → passed ≡ (disk_served (told_within files old) old).system → Wrote o n (disk_served (told_within files old) old).emitted
     → Entered (all_paid passed) new kept disks (given_back passed.owed (files_served old files))
     → HasServedTo files o n old new kept disks
@@ -433,7 +338,7 @@ has_served_to files o n old passed new kept disks is wrote entered =
     let so = subst P is entered in
     record { system = so.0; wrote = wrote; stands = so.1 }
 
-pub entered_behind : (passed paid new : System) (kept kept' kept'' : Kept) (disks : Option Disks) (files : Files) → paid ≡ all_paid passed → StandsForFiles passed.kernel.disk kept disks files
+pub entered_behind : (passed paid new : System) (kept kept' kept'' : Kept) (disks : Disks) (files : Files) → paid ≡ all_paid passed → StandsForFiles passed.kernel.disk kept disks files
     → kept' ≡ record kept { opens = kept'.opens; marks = kept'.marks; searches = kept'.searches }
     → (is_some passed.kernel.disk.served ≡ true → kept' ≡ kept)
     → (passed.kernel.disk.served ≡ None → (drives : List (Option Drive)) → filing_of kept' drives ≡ all_left passed.owed (filing_of kept drives))
@@ -445,55 +350,22 @@ entered_behind passed paid new kept kept' kept'' disks files is stands rest same
     (subst (λ (system : System). StandsForFiles system.kernel.disk kept' disks (given_back passed.owed files)) (sym is)
     (pays passed kept kept' disks files stands rest same left)))
 
-pub has_served : {kept left kept' : Kept} (turns : ℕ) (o n : Outside) (old passed new : System) (has : HasPassed kept left o n old passed) → EntersFor turns (all_paid passed)
-    → ServesEntered kept' turns (all_paid passed) → new ≡ call_entered turns (all_paid passed)
-    → (process_over old ≡ None → left ≡ kept) → kept' ≡ record (kept_paid passed left) { service = kept'.service } → (new.kernel.disk.served ≡ None → kept'.service ≡ left.service)
-    → HasServed kept kept' o n old new
-unfolding entered_after
-has_served {kept} {left} {kept'} turns o n old passed new has enters entered is passes leaves service = record {
-  telling = record { at_gate = nothing_told; at_disk = has.told; turns = turns };
-  turns = subst (λ (system : System). EntersFor turns (all_paid system)) has.system enters;
-  of_call = has.of_call;
-  tells = has.tells;
-  left = left;
-  as_kept = has.as_kept;
-  passes = passes;
-  entered = subst (λ (system : System). ServesEntered kept' turns (all_paid system)) has.system entered;
-  leaves =
-      let behind : new ≡ call_entered turns (all_paid (disk_served has.told old).system) = is ∙ ap (λ (system : System). call_entered turns (all_paid system)) has.system in
-      record {
-        is = leaves ∙ ap (λ (system : System). record (kept_paid system left) { service = kept'.service }) has.system;
-        service = λ idle. service (ap (λ (system : System). system.kernel.disk.served) behind ∙ idle);
-      };
-  system = is ∙ ap (λ (system : System). call_entered turns (all_paid system)) has.system;
-  wrote = has.wrote;
-}
-
--- of what is kept
-pub leaves_served : (passed : System) (left paid new : Kept) → paid ≡ kept_paid passed left → new ≡ record paid { service = new.service }
-    → new ≡ record (kept_paid passed left) { service = new.service }
-leaves_served passed left paid new pays enters = enters ∙ ap (λ (k : Kept). record k { service = new.service }) pays
-
 -- where nobody was in service as it began
 pub none_served : (told : Directly) (system : System) → system.kernel.disk.served ≡ None → disk_served told system ≡ silent system
 unfolding disk_served
 none_served told system none = ap (λ (served : Option ℕ). served_by served told system) (nobody_served system.kernel.disk none)
 
-pub none_over : (system : System) → system.kernel.disk.served ≡ None → process_over system ≡ None
-unfolding process_over
-none_over system none = ap (option_and_then (λ (p : ℕ). over_by (turn_answer system.kernel.disk))) (nobody_served system.kernel.disk none)
-
 pub files_kept : (system : System) (files : Files) → system.kernel.disk.served ≡ None → files_served system files ≡ files
 unfolding files_served
 files_kept system files none = ap (λ (served : Option ℕ). files_served_by served system files) (nobody_served system.kernel.disk none)
 
-pub worked_between : (turn_steps : ℕ) (served : Option Served) (kept : Kept) (disks : Option Disks) (files : Files) → served ≡ None → StandsWorkedBy turn_steps served kept disks files
+pub worked_between : (turn_steps : ℕ) (served : Option Served) (kept : Kept) (disks : Disks) (files : Files) → served ≡ None → StandsWorkedBy turn_steps served kept disks files
     → StandsServed served kept disks files
 worked_between turn_steps None kept disks (Between filing) none stands = stands
 worked_between turn_steps None kept disks (Within s) none stands = absurd stands
 worked_between turn_steps (Some call) kept disks files none stands = absurd (cc)
 
-pub nothing_passes : (files : Files) (o : Outside) (old : System) (kept : Kept) (disks : Option Disks) → old.kernel.disk.served ≡ None → StandsWorked old.kernel.disk kept disks files
+pub nothing_passes : (files : Files) (o : Outside) (old : System) (kept : Kept) (disks : Disks) → old.kernel.disk.served ≡ None → StandsWorked old.kernel.disk kept disks files
     → (old ≡ (disk_served (told_within files old) old).system) × Wrote o o (disk_served (told_within files old) old).emitted × StandsForFiles old.kernel.disk kept disks (files_served old files)
 nothing_passes files o old kept disks none stands =
     let is = none_served (told_within files old) old none in (
@@ -503,26 +375,16 @@ nothing_passes files o old kept disks none stands =
           (record { stands = worked_between old.kernel.disk.turn_steps old.kernel.disk.served kept disks files none stands.stands }),
     )
 
-pub has_passed_none : (kept : Kept) (o : Outside) (old : System) → old.kernel.disk.served ≡ None → HasPassed kept kept o o old old
-has_passed_none kept o old none =
-    let is = none_served nothing_told old none in
-    record {
-      told = nothing_told;
-      of_call = subst (λ (over : Option ℕ). IsOfCall over nothing_told old) (sym (none_over old none)) tt;
-      tells = subst (λ (over : Option ℕ). IsToldIn over nothing_told old) (sym (none_over old none)) tt;
-      as_kept = subst (λ (over : Option ℕ). IsOverAsKept kept kept over nothing_told) (sym (none_over old none)) tt;
-      system = sym (ap (λ (c : Change). c.system) is);
-      wrote = subst (λ (c : Change). Wrote o o c.emitted) (sym is) (wrote_nothing o);
-    }
+pub none_made : (old : System) → old.kernel.disk.served ≡ None → IsServedBy old old
+none_made old none = (nothing_told, sym (ap (λ (c : Change). c.system) (none_served nothing_told old none)))
 
 -- who is at the disk keeps a call that it serves
 
-pub passed_filed : {kept left : Kept} (o n : Outside) (old new : System) → IsWhole old → AreFiled old.kernel → HasPassed kept left o n old new → AreFiled new.kernel
-passed_filed o n old new w filed has = filed_still old.kernel new.kernel (subst (SystemKeepsCalls old) (sym has.system) (calls_disk_served has.told old w)) filed
+pub passed_filed : (old new : System) → IsWhole old → AreFiled old.kernel → IsServedBy old new → AreFiled new.kernel
+passed_filed old new w filed made = filed_still old.kernel new.kernel (subst (SystemKeepsCalls old) (sym made.1) (calls_disk_served made.0 old w)) filed
 
-pub filed_if_passed : {A E : Type 0} (r : Result A E) (kept left : Kept) (o n : Outside) (old new : System) → IsWhole old → AreFiled old.kernel → OnOk r (HasPassed kept left o n old new) → OnOk r (AreFiled new.kernel)
-filed_if_passed (Ok a) kept left o n old new w filed has = passed_filed o n old new w filed has
-filed_if_passed (Err e) kept left o n old new w filed has = tt
+pub filed_if_passed : {A E : Type 0} (r : Result A E) (old new : System) → IsWhole old → AreFiled old.kernel → OnOk r (IsServedBy old new) → OnOk r (AreFiled new.kernel)
+filed_if_passed r old new w filed = on_ok_weaker r (passed_filed old new w filed)
 
 calls_paid : (system : System) → SystemKeepsCalls system (all_paid system)
 unfolding all_paid
@@ -536,5 +398,5 @@ calls_entered_after telling system w =
     (calls_then system.kernel passed.kernel (all_paid passed).kernel (calls_disk_served telling.at_disk system w) (calls_paid passed))
     (calls_call_entered telling.turns (all_paid passed))
 
-pub served_filed : {kept kept' : Kept} (o n : Outside) (old new : System) → IsWhole old → AreFiled old.kernel → HasServed kept kept' o n old new → AreFiled new.kernel
-served_filed o n old new w filed has = filed_still old.kernel new.kernel (subst (SystemKeepsCalls old) (sym has.system) (calls_entered_after has.telling old w)) filed
+pub served_filed : (old new : System) → IsWhole old → AreFiled old.kernel → IsOfSome (λ (telling : Telling). entered_after telling old) new → AreFiled new.kernel
+served_filed old new w filed made = filed_still old.kernel new.kernel (subst (SystemKeepsCalls old) (sym made.1) (calls_entered_after made.0 old w)) filed

@@ -8,7 +8,6 @@ use Rattle.std.proofs.lemmas.Result.{on_err_weaker}
 use Rattle.std.proofs.lemmas.Option.{same_Some}
 use Rattle.mpm_base.specs.Calls.{Taken}
 use Rattle.mpm_port.specs.Disks.{Disks}
-use Rattle.mpm_blocks.specs.Sectors.{told_image}
 use Rattle.mpm_clock.specs.declared.moment.Moment.{Moment}
 use Rattle.mpm_clock.specs.Times.{moment_of}
 use Rattle.mpm_clock.specs.PackedDecimal.{stamp}
@@ -33,7 +32,7 @@ use Rattle.mpm_bdos.specs.Serving.{Kept, Serves, StandEach}
 use Rattle.mpm_directories.specs.Places.{directory_at}
 use Rattle.mpm_requests.specs.Asking.{StandsWhere}
 use Rattle.mpm_bdos.specs.Starting.{caller_of, entering as entering_here}
-use Rattle.mpm_bdos.specs.Turns.{KeepsImages, StopsWithin, drive_served, labelled, told_images, has_directory}
+use Rattle.mpm_bdos.specs.Turns.{KeepsImages, StopsWithin, drive_served, labelled, images_of, has_directory}
 use Rattle.mpm_bdos.specs.AtOnce.{FailsSince, FailsIn, ChangesAlone}
 use Rattle.mpm_bdos.proofs.ServedLaws.{job_mounted, kinds_within, set_within}
 use Rattle.mpm_bdos.proofs.Fitting.{there_label}
@@ -70,19 +69,19 @@ label_there number image (Some d) (Some drive) there stands =
     ap (λ n. Some (n, d.kind)) stands.number_is ∙ ap (λ k. Some (number, k)) (sym (kind_of image d drive stands.stands))
 
 -- the image of one drive stands for other files, with its directory, and each other image is as it was
-record Changes (disks now : Option Disks) (old new : List (Option Directory)) (drives : List (Option Drive)) (number : ℕ) (d : Directory) (files : Drive) : Type 0 where
+record Changes (disks now : Disks) (old new : List (Option Directory)) (drives : List (Option Drive)) (number : ℕ) (d : Directory) (files : Drive) : Type 0 where
   pub label : option_map labelled (directory_at old number) ≡ Some (labelled d)
   pub here : d.drive ≡ number
-  pub stands : Stands (told_images now number) d files
+  pub stands : Stands (images_of now number) d files
   pub there : is_some (slice_index_or drives number None) ≡ true
-  pub images : (other : ℕ) → other ≢ number → has_directory old other ≡ true → told_image now other ≡ told_image disks other
+  pub images : (other : ℕ) → other ≢ number → has_directory old other ≡ true → now.image other ≡ disks.image other
   pub labels : (other : ℕ) → option_map labelled (directory_at new other) ≡ option_map labelled (directory_at old other)
-  pub stand : StandEach (told_images disks) old drives
+  pub stand : StandEach (images_of disks) old drives
 
 has_directory_there : (old : List (Option Directory)) (number : ℕ) (d : Directory) → option_map labelled (directory_at old number) ≡ Some (labelled d) → is_some (directory_at old number) ≡ true
 has_directory_there old number d label = sym (there_label (directory_at old number)) ∙ ap is_some label
 
-changed_label : (disks now : Option Disks) (old new : List (Option Directory)) (drives : List (Option Drive)) (number : ℕ) (d : Directory) (files : Drive) → Changes disks now old new drives number d files
+changed_label : (disks now : Disks) (old new : List (Option Directory)) (drives : List (Option Drive)) (number : ℕ) (d : Directory) (files : Drive) → Changes disks now old new drives number d files
     → (other : ℕ) → (other ≡ number) ⊎ (other ≢ number) → option_map labelled (directory_at (slice_set old number (Some d)) other) ≡ option_map labelled (directory_at new other)
 changed_label disks now old new drives number d files c other (inl same) =
     subst (λ n. option_map labelled (directory_at (slice_set old number (Some d)) n) ≡ option_map labelled (directory_at new n)) (sym same)
@@ -90,23 +89,23 @@ changed_label disks now old new drives number d files c other (inl same) =
 changed_label disks now old new drives number d files c other (inr apart) =
     ap (option_map labelled) (get_or-set_other old number other (Some d) None apart) ∙ sym (c.labels other)
 
-changed_stands : (disks now : Option Disks) (old new : List (Option Directory)) (drives : List (Option Drive)) (number : ℕ) (d : Directory) (files : Drive) → Changes disks now old new drives number d files
+changed_stands : (disks now : Disks) (old new : List (Option Directory)) (drives : List (Option Drive)) (number : ℕ) (d : Directory) (files : Drive) → Changes disks now old new drives number d files
     → (other : ℕ) → (other ≡ number) ⊎ (other ≢ number)
-    → StandsWhere other (told_images now other) (directory_at (slice_set old number (Some d)) other) (slice_index_or (slice_set drives number (Some files)) other None)
+    → StandsWhere other (images_of now other) (directory_at (slice_set old number (Some d)) other) (slice_index_or (slice_set drives number (Some files)) other None)
 changed_stands disks now old new drives number d files c other (inl same) =
-    subst (λ n. StandsWhere n (told_images now n) (directory_at (slice_set old number (Some d)) n) (slice_index_or (slice_set drives number (Some files)) n None)) (sym same)
-    (subst (λ place. StandsWhere number (told_images now number) place (slice_index_or (slice_set drives number (Some files)) number None))
+    subst (λ n. StandsWhere n (images_of now n) (directory_at (slice_set old number (Some d)) n) (slice_index_or (slice_set drives number (Some files)) n None)) (sym same)
+    (subst (λ place. StandsWhere number (images_of now number) place (slice_index_or (slice_set drives number (Some files)) number None))
     (sym (set_here old number d (has_directory_there old number d c.label)))
-    (subst (λ place. StandsWhere number (told_images now number) (Some d) place) (sym (set_here drives number files c.there))
+    (subst (λ place. StandsWhere number (images_of now number) (Some d) place) (sym (set_here drives number files c.there))
     (record { number_is = c.here; stands = c.stands })))
 changed_stands disks now old new drives number d files c other (inr apart) =
-    subst (λ place. StandsWhere other (told_images now other) place (slice_index_or (slice_set drives number (Some files)) other None))
+    subst (λ place. StandsWhere other (images_of now other) place (slice_index_or (slice_set drives number (Some files)) other None))
     (sym (get_or-set_other old number other (Some d) None apart))
-    (subst (λ place. StandsWhere other (told_images now other) (directory_at old other) place) (sym (get_or-set_other drives number other (Some files) None apart))
-    (stands_still other (told_images disks other) (told_images now other) (directory_at old other) (slice_index_or drives other None)
+    (subst (λ place. StandsWhere other (images_of now other) (directory_at old other) place) (sym (get_or-set_other drives number other (Some files) None apart))
+    (stands_still other (images_of disks other) (images_of now other) (directory_at old other) (slice_index_or drives other None)
     (λ some. same_images disks now other (c.images other apart some)) (c.stand.each other)))
 
-have_changed : (disks now : Option Disks) (old new : List (Option Directory)) (drives : List (Option Drive)) (number : ℕ) (d : Directory) (files : Drive) → Changes disks now old new drives number d files
+have_changed : (disks now : Disks) (old new : List (Option Directory)) (drives : List (Option Drive)) (number : ℕ) (d : Directory) (files : Drive) → Changes disks now old new drives number d files
     → HaveImages now new (slice_set drives number (Some files))
 have_changed disks now old new drives number d files c = record {
   directories = slice_set old number (Some d);
@@ -147,9 +146,9 @@ call_label images mounted call drives behind stand =
     label_there number (images number) (directory_at mounted number) (slice_index_or drives number None) behind.there (stand.each number)
     ∙ ap (λ k. Some (number, k)) behind.kind
 
-fails_stand : (disks now : Option Disks) (old new : List (Option Directory)) (call : Situation) (drives : List (Option Drive)) (ended most : ℕ) → AreBehind call drives
+fails_stand : (disks now : Disks) (old new : List (Option Directory)) (call : Situation) (drives : List (Option Drive)) (ended most : ℕ) → AreBehind call drives
     → (fails : FailsSince now call ended) → fails.turn < ended + most → KeepsImages (Some (drive_number call)) old disks now
-    → ((number : ℕ) → option_map labelled (directory_at new number) ≡ option_map labelled (directory_at old number)) → StandEach (told_images disks) old drives
+    → ((number : ℕ) → option_map labelled (directory_at new number) ≡ option_map labelled (directory_at old number)) → StandEach (images_of disks) old drives
     → HaveImagesOf (FailsWithin (Some (record { call = call; ended = ended; most = most }))) now new
 fails_stand disks now old new call drives ended most behind fails before images labels stand =
     let stops = fails.stops in
@@ -159,9 +158,9 @@ fails_stand disks now old new call drives ended most behind fails before images 
     let within : IsWithin call ended most found.files =
     record { job = stops.job; its = stops.its; turn = fails.turn; since = fails.since; before = before; among = found.among } in
     let kind : (drive_at call).kind ≡ d.kind = sym (within_contained call ended most found.files within).keeps.kind ∙ kind_of found.stands.image d found.files found.stands.stands in
-    let told : told_image now number ≡ Some found.stands.image = ap (told_image now) (sym found.here) ∙ found.stands.told in
+    let told : now.image number ≡ Some found.stands.image = ap (now.image) (sym found.here) ∙ found.stands.told in
     let changes : Changes disks now old new drives number d found.files = record {
-      label = call_label (told_images disks) old call drives behind stand ∙ ap (λ n. Some (n, (drive_at call).kind)) (sym found.here) ∙ ap (λ k. Some (d.drive, k)) kind;
+      label = call_label (images_of disks) old call drives behind stand ∙ ap (λ n. Some (n, (drive_at call).kind)) (sym found.here) ∙ ap (λ k. Some (d.drive, k)) kind;
       here = found.here;
       stands = subst (λ image. Stands image d found.files) (told_is now number found.stands.image told) found.stands.stands;
       there = behind.there;
@@ -176,14 +175,14 @@ fails_stand disks now old new call drives ended most behind fails before images 
     }
 
 -- one that is done at once
-at_once_fails : (disks now : Option Disks) (old new : List (Option Directory)) (call : Situation) → FailsIn now call → ChangesAlone (drive_number call) old new disks now
-    → ((number : ℕ) → option_map labelled (directory_at new number) ≡ option_map labelled (directory_at old number)) → StandEach (told_images disks) old call.filing.drives
+at_once_fails : (disks now : Disks) (old new : List (Option Directory)) (call : Situation) → FailsIn now call → ChangesAlone (drive_number call) old new disks now
+    → ((number : ℕ) → option_map labelled (directory_at new number) ≡ option_map labelled (directory_at old number)) → StandEach (images_of disks) old call.filing.drives
     → HaveImagesOf (FailsWithin (Some (working_at_once call))) now new
 at_once_fails disks now old new call fails alone labels stand =
     fails_stand disks now old new call call.filing.drives 0 (call_turns call) (behind_nothing call fails.stops.job fails.stops.its) fails (omega (arith, fails.its)) alone.images labels stand
 
 -- and one in service, in its turns from one on
-pub turns_fail : (disks now : Option Disks) (old : Kept) (new : List (Option Directory)) (call : Situation) (ended most : ℕ) → Serves (told_images disks) old call ended
+pub turns_fail : (disks now : Disks) (old : Kept) (new : List (Option Directory)) (call : Situation) (ended most : ℕ) → Serves (images_of disks) old call ended
     → (fails : FailsSince now call ended) → fails.turn < ended + most
     → KeepsImages (drive_served old.service) old.mounted disks now
     → ((number : ℕ) → option_map labelled (directory_at new number) ≡ option_map labelled (directory_at old.mounted number))
@@ -193,7 +192,7 @@ turns_fail disks now old new call ended most serves fails before images labels =
     fails_stand disks now old.mounted new call (drives_after call ended) ended most (behind_turns call ended fails.stops.job fails.stops.its) fails before
     (subst (λ drive. KeepsImages drive old.mounted disks now) on images) labels serves.stand
 
-pub turn_fails : (disks now : Option Disks) (old : Kept) (new : List (Option Directory)) (call : Situation) (j : ℕ) → Serves (told_images disks) old call j → j < call_turns call
+pub turn_fails : (disks now : Disks) (old : Kept) (new : List (Option Directory)) (call : Situation) (j : ℕ) → Serves (images_of disks) old call j → j < call_turns call
     → StopsWithin now call j → KeepsImages (drive_served old.service) old.mounted disks now
     → ((number : ℕ) → option_map labelled (directory_at new number) ≡ option_map labelled (directory_at old.mounted number))
     → HaveImagesOf (FailsWithin (Some (record { call = call; ended = j; most = 1 }))) now new
@@ -207,10 +206,10 @@ found_is : (filing : Filing) (function : FileFunction) (p : ℕ) (system : Syste
     → working_if true filing p system ≡ Some (working_at_once (situation_of filing function p system))
 found_is filing function p system is = ap (option_map (λ f. working_at_once (situation_of filing f p system))) is
 
-pub disk_fails : {A E : Type 0} (disks now : Option Disks) (filing : Filing) (p : ℕ) (system : System) (kept new : Kept) (caller process : Process) (call : Taken) (moment : Moment) (result : Result A E)
+pub disk_fails : {A E : Type 0} (disks now : Disks) (filing : Filing) (p : ℕ) (system : System) (kept new : Kept) (caller process : Process) (call : Taken) (moment : Moment) (result : Result A E)
     → caller ≡ looked_at process → process ≡ process_in system.kernel.dispatcher.procs p → call ≡ call_of system.kernel.dispatcher.procs p → moment ≡ moment_of system.kernel.clock
     → is_some (function_of (call_of system.kernel.dispatcher.procs p).function) ≡ true → StandsBetween kept disks filing
-    → ((before : List (Option Drive)) (function : FileFunction) → function_of call.function ≡ Some function → StandEach (told_images disks) kept.mounted before
+    → ((before : List (Option Drive)) (function : FileFunction) → function_of call.function ≡ Some function → StandEach (images_of disks) kept.mounted before
     → OnErr result (FailsIn now (entering_here kept before (caller_of p caller) function call (stamp moment))))
     → ((before : List (Option Drive)) (function : FileFunction) → function_of call.function ≡ Some function
     → ChangesAlone (drive_number (entering_here kept before (caller_of p caller) function call (stamp moment))) kept.mounted new.mounted disks now)
@@ -229,10 +228,10 @@ disk_fails disks now filing p system kept new caller process call moment result 
 
 -- how often it calls its drive
 
-pub disk_calls : (disks : Option Disks) (filing : Filing) (p : ℕ) (system : System) (kept : Kept) (caller process : Process) (call : Taken) (moment : Moment) (before behind : ℕ)
+pub disk_calls : (disks : Disks) (filing : Filing) (p : ℕ) (system : System) (kept : Kept) (caller process : Process) (call : Taken) (moment : Moment) (before behind : ℕ)
     → caller ≡ looked_at process → process ≡ process_in system.kernel.dispatcher.procs p → call ≡ call_of system.kernel.dispatcher.procs p → moment ≡ moment_of system.kernel.clock
     → is_some (function_of (call_of system.kernel.dispatcher.procs p).function) ≡ true → StandsBetween kept disks filing
-    → ((images : ℕ → List ℕ) (drives : List (Option Drive)) (function : FileFunction) → function_of call.function ≡ Some function → StandEach images kept.mounted drives
+    → ((drives : List (Option Drive)) (function : FileFunction) → function_of call.function ≡ Some function → StandEach (images_of disks) kept.mounted drives
     → behind ≤ before + 20 * call_turns (entering_here kept drives (caller_of p caller) function call (stamp moment)))
     → behind ≤ before + 20 * turns_done (working_if true filing p system)
 disk_calls disks filing p system kept caller process call moment before behind looks lives calls at some stands bound =
@@ -242,11 +241,11 @@ disk_calls disks filing p system kept caller process call moment before behind l
     let its : function_of call.function ≡ Some function = ap (λ (c : Taken). function_of c.function) calls ∙ named.1 in
     let is : s ≡ situation_of filing function p system = situation_is filing p system kept function caller process call moment stands.filing_is looks lives calls at in
     let found : working_if true filing p system ≡ Some (working_at_once s) = found_is filing function p system named.1 ∙ ap (λ c. Some (working_at_once c)) (sym is) in
-    subst (λ c. behind ≤ before + 20 * turns_done c) (sym found) (bound (told_images disks) filing.drives function its stands.stand)
+    subst (λ c. behind ≤ before + 20 * turns_done c) (sym found) (bound filing.drives function its stands.stand)
 
 -- the step of a state
 
-pub step_leaves : (old : Machine) (disks now : Option Disks) (mounted : List (Option Directory)) (fault : StepFault) (kept : Lines) (written : Option (List ℕ)) (s : State) (first : Option (List ℕ))
+pub step_leaves : (old : Machine) (disks now : Disks) (mounted : List (Option Directory)) (fault : StepFault) (kept : Lines) (written : List ℕ) (s : State) (first : List ℕ)
     → ((files : Files) → StandsForFiles old.system.kernel.disk old.bdos disks files → HaveImagesOf (StopsOn fault old.system files) now mounted)
     → StandsWithDrives old kept written disks s first → StopsWithImages fault now mounted s
 step_leaves old disks now mounted fault kept written s first leaves stands =

@@ -13,9 +13,8 @@ use Rattle.mpm_residents.specs.declared.native.Native.{Native}
 use Rattle.mpm_residents.specs.Natives.{native_in}
 use Rattle.mpm_functions.specs.declared.refusals.Extended.{Extended}
 use Rattle.mpm_directories.specs.Direct.{CallerChange, Stays, Selects, Resets, Directly}
-use Rattle.mpm_bdos.specs.Serving.{Kept, StandForSome}
 use Rattle.mpm_system.specs.declared.system.System.{System}
-use Rattle.mpm_system.specs.Whole.{Change, IsWhole, NoCompletions, HasRoomForAll, speaking}
+use Rattle.mpm_system.specs.Whole.{Change, HasRoomForAll, speaking}
 use Rattle.mpm_system.specs.Taking.{keeping}
 use Rattle.mpm_system.specs.Answering.{popped}
 use Rattle.mpm_system.specs.Residents.{asked_by}
@@ -24,17 +23,10 @@ use Rattle.mpm_system.specs.FileCalling.{made_by, call_made, with_caller, reply_
 use Rattle.mpm_machine.specs.Ending.{ended}
 use Rattle.mpm_machine.specs.Step.{gate_before}
 use Rattle.mpm_machine.specs.FileCalls.{at_gate, is_of_files, is_file_number, file_caller_by, file_caller, told_then, error_met, answered_by, concluded}
-use Rattle.mpm_machine.specs.DiskStep.{is_done_at_once, file_called, ready_again, step_passed, call_over, over_after, served_by, disk_served, process_over, all_paid, entered_by, entered_unless, call_entered}
-use Rattle.mpm_machine.specs.Stepping.{Telling, begun_with, begun_as, is_instruction, paid_after, entered_after, ended_after, rest_of, step_with, nothing_told}
-use Rattle.mpm_machine.specs.After.{IsOfCall, made_in, IsStep, IsToldIn, IsAsKept, IsOverAsKept, EntersFor, IsMade, IsMadeUpon}
-use Rattle.mpm_machine.proofs.FiledLaws.{contained_by}
+use Rattle.mpm_machine.specs.DiskStep.{is_done_at_once, file_called, ready_again, step_passed, call_over, over_after, served_by, disk_served, all_paid, entered_by, entered_unless, call_entered}
+use Rattle.mpm_machine.specs.Stepping.{Telling, begun_with, begun_as, is_instruction, paid_after, entered_after, ended_after, rest_of, step_with}
 use Rattle.mpm_machine.proofs.TallyLaws.{Tally, tally, OneMore, none_more, one_more_behind, answering_more, more_have_room, begun_more, all_answered_steps, all_finished_steps, ends_steps}
-use Rattle.mpm_machine.proofs.StepWithLaws.{no_file_at, instructed_with, served_with}
-use Rattle.mpm_machine.proofs.ValueLaws.{resided_with}
-use Rattle.mpm_machine.proofs.FiledValue.{filed_by_value, over_by_value, enters_by_value}
-use Rattle.mpm_machine.proofs.TellingLaws.{any_turns, enters_for_any}
-use Rattle.mpm_machine.proofs.PassingLaws.{Passes, nobody_over, nobody_starts}
-use Rattle.mpm_machine.proofs.PlainLaws.{rest_keeps}
+use Rattle.mpm_machine.proofs.StepWithLaws.{no_file_at}
 
 pub nobody_calls : (system : System) → system.kernel.dispatcher.running ≡ None → file_caller system ≡ None
 unfolding file_caller
@@ -177,109 +169,3 @@ pub steps_with : (telling : Telling) (system : System) → (step_with telling sy
 unfolding step_with
 steps_with telling system =
     rest_steps (is_instruction (file_caller system) system) telling (begun_as telling.at_gate system) ∙ begun_steps telling.at_gate system
-
--- and its parts are what is said of a step
-
-abbrev OfCall : Telling → System → Type 0
-OfCall telling system = IsOfCall (process_over (begun_as telling.at_gate system).system) telling.at_disk (begun_as telling.at_gate system).system
-
-abbrev step_is : (telling : Telling) (system : System) → IsWhole system → NoCompletions system
-    → IsOfCall (file_caller system) telling.at_gate (made_in (file_caller system) system) → OfCall telling system → IsStep system (step_with telling system)
-step_is telling system w handed first later = record {
-  telling = telling;
-  at_gate = first;
-  at_disk = later;
-  is = refl;
-  contained = contained_by telling system w;
-  instruction = λ p seg i. instructed_with telling p seg system handed i;
-  calls = λ p seg i none. served_with telling p seg system i none;
-  resides = λ p native i none. resided_with telling p native system i none;
-}
-
-pub is_step : (telling : Telling) (system : System) (change : Change) → IsWhole system → NoCompletions system
-    → IsOfCall (file_caller system) telling.at_gate (made_in (file_caller system) system) → OfCall telling system → change ≡ step_with telling system → IsStep system change
-is_step telling system change w handed first later is = subst (IsStep system) (sym is) (step_is telling system w handed first later)
-
--- and of one that a machine makes
-
-pub record IsMadeAs (telling : Telling) (system : System) (change : Change) : Type 0 where
-  pub made : IsMade system change
-  pub telling_is : made.step.telling ≡ telling
-
-pub made_as : (telling : Telling) (system : System) (change : Change) → EntersFor telling.turns (paid_after telling.at_disk (begun_as telling.at_gate system).system)
-    → IsWhole system → NoCompletions system
-    → IsOfCall (file_caller system) telling.at_gate (made_in (file_caller system) system) → OfCall telling system
-    → IsToldIn (file_caller system) telling.at_gate (made_in (file_caller system) system)
-    → IsToldIn (process_over (begun_as telling.at_gate system).system) telling.at_disk (begun_as telling.at_gate system).system
-    → change ≡ step_with telling system → IsMadeAs telling system change
-made_as telling system change enters w handed first later tells_first tells_later is =
-    let made : IsMade system (step_with telling system) = record {
-      step = step_is telling system w handed first later;
-      turns = enters;
-      at_gate = tells_first;
-      at_disk = tells_later;
-      filed = filed_by_value (file_caller system) telling.at_gate (made_in (file_caller system) system) tells_first;
-      over = over_by_value (process_over (begun_as telling.at_gate system).system) telling.at_disk (begun_as telling.at_gate system).system tells_later;
-      enters = enters_by_value (paid_after telling.at_disk (begun_as telling.at_gate system).system);
-    } in
-    subst (IsMadeAs telling system) (sym is) (record { made = made; telling_is = refl })
-
-is_made : (telling : Telling) (system : System) (change : Change) → EntersFor telling.turns (paid_after telling.at_disk (begun_as telling.at_gate system).system)
-    → IsWhole system → NoCompletions system
-    → IsOfCall (file_caller system) telling.at_gate (made_in (file_caller system) system) → OfCall telling system
-    → IsToldIn (file_caller system) telling.at_gate (made_in (file_caller system) system)
-    → IsToldIn (process_over (begun_as telling.at_gate system).system) telling.at_disk (begun_as telling.at_gate system).system
-    → change ≡ step_with telling system → IsMade system change
-is_made telling system change enters w handed first later tells_first tells_later is =
-    (made_as telling system change enters w handed first later tells_first tells_later is).made
-
--- and of one in which no file call is made and none is over
-
-is_made_so : (caller over : Option ℕ) (telling : Telling) (system : System) (change : Change)
-    → EntersFor telling.turns (paid_after telling.at_disk (begun_as telling.at_gate system).system) → IsWhole system → NoCompletions system
-    → file_caller system ≡ caller → caller ≡ None → process_over (begun_as telling.at_gate system).system ≡ over → over ≡ None → change ≡ step_with telling system
-    → IsMade system change
-is_made_so caller over telling system change enters w handed alone none here nobody is =
-    let made = made_in (file_caller system) system in
-    let begun = (begun_as telling.at_gate system).system in
-    is_made telling system change enters w handed
-    (subst (λ c. IsOfCall c telling.at_gate made) (sym (alone ∙ none)) tt) (subst (λ c. IsOfCall c telling.at_disk begun) (sym (here ∙ nobody)) tt)
-    (subst (λ c. IsToldIn c telling.at_gate made) (sym (alone ∙ none)) tt) (subst (λ c. IsToldIn c telling.at_disk begun) (sym (here ∙ nobody)) tt) is
-
--- by nothing that is told
-abbrev behind_nothing : System → System
-behind_nothing system = paid_after nothing_told (begun_as nothing_told system).system
-
-abbrev telling_nothing : System → Telling
-telling_nothing system = record { at_gate = nothing_told; at_disk = nothing_told; turns = any_turns (behind_nothing system) }
-
--- it leaves what is kept: none is over in it, and none enters service
-pub is_made_still : (kept : Kept) (system : System) (change : Change) → StandForSome kept.mounted → IsWhole system → NoCompletions system → file_caller system ≡ None
-    → ((told : Directly) → Passes (begun_as told system).system) → ((telling : Telling) → change ≡ step_with telling system) → IsMadeUpon kept kept system change
-is_made_still kept system change stand w handed alone passes is =
-    let nobody : (told : Directly) → process_over (begun_as told system).system ≡ None = λ told. nobody_over (begun_as told system).system (passes told).still in
-    let made = is_made_so (file_caller system) (process_over (begun_as nothing_told system).system) (telling_nothing system) system change (enters_for_any (behind_nothing system)) w handed
-    refl alone refl (nobody nothing_told) (is (telling_nothing system)) in
-    let told = made.step.telling.at_gate in
-    let begun = (begun_as told system).system in
-    let here = passes told in
-    record {
-      made = made;
-      stand = stand;
-      begun = kept;
-      left = kept;
-      as_kept = subst (λ (c : Option ℕ). IsAsKept kept kept c told (made_in c system)) (sym alone) tt;
-      over_as_kept = subst (λ (c : Option ℕ). IsOverAsKept kept kept c made.step.telling.at_disk) (sym (nobody told)) tt;
-      entered = record {
-        serves = λ function p images drives enters stand. absurd (nobody_starts made.step.telling.at_disk begun function p here.still enters);
-        takes = λ function p images drives enters stand. absurd (nobody_starts made.step.telling.at_disk begun function p here.still enters);
-      };
-      stays = λ some over. record {
-        turn = record { rest = refl; service = refl; places = λ number _. refl; labels = λ number. refl };
-        passing = λ none. refl;
-        workless = λ less. refl;
-      };
-      rests = λ none off. refl;
-      passes = λ over. refl;
-      leaves = rest_keeps made.step.telling begun kept here.paid here.nobody here.off here.still;
-    }

@@ -1,7 +1,6 @@
 -- A file call in a step: what becomes of its caller, what it comes to, and what those leave who end in the step.
 -- a row of a table of numbers
-use Rattle.std.proofs.Common.{◌≡◌, ◌∙◌, ℕ, suc, ◌+◌, ◌-◌, ◌<◌, ◌==◌, ◌&&◌, Bool, true, false, List, [], ◌∷◌, Option, Some, None, IsSome, IfSome, Result, Ok, Err, IsOk, OnErr, IfOk, if◌then◌else◌, refl, ap, sym, subst, arith, eqb-true}
-use Rattle.std.proofs.lemmas.Bool.{false≢true}
+use Rattle.std.proofs.Common.{◌≡◌, ◌∙◌, ℕ, suc, ◌+◌, ◌-◌, ◌<◌, ◌==◌, ◌&&◌, Bool, true, false, List, [], ◌∷◌, Option, Some, None, IsSome, IfSome, Result, Ok, Err, IfOk, if◌then◌else◌, refl, ap, sym, subst, arith, eqb-true}
 use Rattle.std.specs.Prelude.{is_none, find, option_map}
 use Rattle.std.specs.List.{AllByRecursion, range_with_len}
 use Rattle.mpm_base.specs.Calls.{Taken, Answer, answering}
@@ -21,7 +20,6 @@ use Rattle.mpm_functions.specs.declared.refusals.Refusal.{Refusal}
 use Rattle.mpm_functions.specs.declared.refusals.Extended.{Extended}
 use Rattle.mpm_functions.specs.Functions.{numbers, function_of, direct_numbers, direct_of}
 use Rattle.mpm_requests.specs.Filing.{Filing, Situation}
-use Rattle.mpm_bdos.specs.AtOnce.{IsJobless}
 use Rattle.mpm_bdos.specs.Finishing.{ComesTo}
 use Rattle.mpm_bdos.specs.Jobs.{turned, call_turns}
 use Rattle.mpm_directories.specs.Direct.{CallerChange, Stays, Selects, Resets, Directly, parameters_told, direct_by, is_protected, where_mounted, selected}
@@ -30,18 +28,17 @@ use Rattle.mpm_requests.specs.Refusals.{refusal_of}
 use Rattle.mpm_bdos.specs.Direct.{direct, kind_of}
 use Rattle.mpm_bdos.specs.Serving.{Kept, InService, StandEach, Serves, filing_of}
 use Rattle.mpm_directories.specs.Places.{directory_at}
-use Rattle.mpm_bdos.specs.Answering.{HasEntered}
+use Rattle.mpm_bdos.specs.Starting.{HasEntered}
 use Rattle.mpm_bdos.specs.Starting.{caller_of, entering as entering_here}
-use Rattle.mpm_bdos.specs.Turns.{KeepsUnsynced, labelled, told_images}
+use Rattle.mpm_bdos.specs.Turns.{KeepsUnsynced, labelled, images_of}
 use Rattle.mpm_base.specs.declared.kind.Kind.{Kind}
 use Rattle.mpm_mount.specs.Directories.{Directory}
 use Rattle.mpm_system.specs.declared.system.System.{System}
 use Rattle.mpm_system.specs.FileCalling.{change_of}
 use Rattle.mpm_machine.specs.Files.{StandsBetween, left_each, owes, all_left}
 use Rattle.mpm_machine.specs.Mounting.{HasNoDrive}
-use Rattle.mpm_machine.specs.After.{HasJob}
 use Rattle.mpm_machine.specs.Filed.{IsOutcome, left_if}
-use Rattle.mpm_machine.specs.FileCalls.{looked_at, entering, situation_of, outcome_by, outcome_in, told_by, told_of, ComesWithoutJob, TellsAsKept, IsToldAsKept}
+use Rattle.mpm_machine.specs.FileCalls.{looked_at, entering, situation_of, outcome_by, outcome_in, told_by, told_of}
 
 row_by : {X : Type 0} (P : ℕ → X → Type 0) (row : ℕ × X) (rest : Option (ℕ × X)) (number : ℕ) (x : X) (b : Bool) → (row.0 == number) ≡ b → P row.0 row.1
     → (option_map (λ r. r.1) rest ≡ Some x → P number x) → option_map (λ r. r.1) (if b then Some row else rest) ≡ Some x → P number x
@@ -225,7 +222,7 @@ filing_stays filing p system none =
     let number = (call_of system.kernel.dispatcher.procs p).function in
     ap (λ (served : Option FileFunction). (outcome_by served (direct_of number) filing p system).filing) none ∙ same_filing (direct_of number) filing p system
 
-pub directly_is : (disks : Option Disks) (filing : Filing) (p : ℕ) (system : System) (kept : Kept) (call : Taken) (process : Process) (before answer : Answer) (extended : Option Extended)
+pub directly_is : (disks : Disks) (filing : Filing) (p : ℕ) (system : System) (kept : Kept) (call : Taken) (process : Process) (before answer : Answer) (extended : Option Extended)
     → call ≡ call_of system.kernel.dispatcher.procs p → process ≡ process_in system.kernel.dispatcher.procs p
     → function_of (call_of system.kernel.dispatcher.procs p).function ≡ None → StandsBetween kept disks filing → before ≡ answering 0
     → ((images : ℕ → List ℕ) (drives : List (Option Drive)) → StandEach images kept.mounted drives
@@ -238,14 +235,14 @@ directly_is disks filing p system kept call process before answer extended calls
     let A : Filing → Type 0 = λ f. IfSome (direct_of call.function) (λ function. answer ≡ (direct f process.drive call function).answer) in
     let E : Filing → Type 0 = λ f. IfSome (direct_of call.function) (λ function. extended ≡ (direct f process.drive call function).extended) in
     let so = directly_answered filing p system call process before answer extended calls lives none empty
-    (subst A stands.filing_is (a (told_images disks) filing.drives stands.stand)) (subst E stands.filing_is (e (told_images disks) filing.drives stands.stand)) other unanswered in
+    (subst A stands.filing_is (a (images_of disks) filing.drives stands.stand)) (subst E stands.filing_is (e (images_of disks) filing.drives stands.stand)) other unanswered in
     record { answer_is = so.0; extended_is = so.1; files = subst (StandsBetween kept disks) (sym (filing_stays filing p system none)) stands }
 
 -- a call that the disk serves
 
-comes_to : (disks : Option Disks) (filing : Filing) (p : ℕ) (system : System) (new : Kept) (s : Situation) (function : FileFunction) (answer : Answer) (extended : Option Extended)
+comes_to : (disks : Disks) (filing : Filing) (p : ℕ) (system : System) (new : Kept) (s : Situation) (function : FileFunction) (answer : Answer) (extended : Option Extended)
     → s ≡ situation_of filing function p system → function_of (call_of system.kernel.dispatcher.procs p).function ≡ Some function → new.service ≡ None
-    → ComesTo (told_images disks) s new answer extended → IsOutcome disks (outcome_in filing p system) new answer extended
+    → ComesTo (images_of disks) s new answer extended → IsOutcome disks (outcome_in filing p system) new answer extended
 unfolding outcome_in
 comes_to disks filing p system new s function answer extended is named idle comes =
     let P : Situation → Type 0 = λ t. IsOutcome disks (file_call t) new answer extended in
@@ -276,13 +273,13 @@ ok_by : {A E : Type 0} (P Q : A → Type 0) (r : Result A E) → ((a : A) → P 
 ok_by P Q (Ok a) so is = so a is
 ok_by P Q (Err e) so is = tt
 
-pub disk_is : {E : Type 0} (disks now : Option Disks) (filing : Filing) (p : ℕ) (system : System) (kept new : Kept) (caller process : Process) (call : Taken) (moment : Moment)
+pub disk_is : {E : Type 0} (disks now : Disks) (filing : Filing) (p : ℕ) (system : System) (kept new : Kept) (caller process : Process) (call : Taken) (moment : Moment)
     (answer : Answer) (result : Result (Option Extended) E)
     → caller ≡ looked_at process → process ≡ process_in system.kernel.dispatcher.procs p → call ≡ call_of system.kernel.dispatcher.procs p → moment ≡ moment_of system.kernel.clock
     → IsSome (function_of (call_of system.kernel.dispatcher.procs p).function) → StandsBetween kept disks filing
     → ((function : FileFunction) → function_of call.function ≡ Some function → new.service ≡ None)
-    → ((before : List (Option Drive)) (function : FileFunction) → function_of call.function ≡ Some function → StandEach (told_images disks) kept.mounted before
-    → IfOk result (ComesTo (told_images now) (entering_here kept before (caller_of p caller) function call (stamp moment)) new answer))
+    → ((before : List (Option Drive)) (function : FileFunction) → function_of call.function ≡ Some function → StandEach (images_of disks) kept.mounted before
+    → IfOk result (ComesTo (images_of now) (entering_here kept before (caller_of p caller) function call (stamp moment)) new answer))
     → IfOk result (IsOutcome now (outcome_in filing p system) new answer)
 disk_is disks now filing p system kept new caller process call moment answer result looks lives calls at some stands idle ok =
     let found = named_by (function_of (call_of system.kernel.dispatcher.procs p).function) some in
@@ -290,42 +287,9 @@ disk_is disks now filing p system kept new caller process call moment answer res
     let its : function_of call.function ≡ Some function = ap (λ (c : Taken). function_of c.function) calls ∙ found.1 in
     let s = entering_here kept filing.drives (caller_of p caller) function call (stamp moment) in
     let is = situation_is filing p system kept function caller process call moment stands.filing_is looks lives calls at in
-    ok_by (ComesTo (told_images now) s new answer) (IsOutcome now (outcome_in filing p system) new answer) result
+    ok_by (ComesTo (images_of now) s new answer) (IsOutcome now (outcome_in filing p system) new answer) result
     (λ extended comes. comes_to now filing p system new s function answer extended is found.1 (idle function its) comes)
     (ok filing.drives function its stands.stand)
-
--- one without a job comes to what its definition says, whatever the images are
-pub disk_as_kept : {E : Type 0} (p : ℕ) (system : System) (kept new : Kept) (caller process : Process) (call : Taken) (moment : Moment) (answer : Answer) (result : Result (Option Extended) E)
-    → caller ≡ looked_at process → process ≡ process_in system.kernel.dispatcher.procs p → call ≡ call_of system.kernel.dispatcher.procs p → moment ≡ moment_of system.kernel.clock
-    → IsSome (function_of (call_of system.kernel.dispatcher.procs p).function)
-    → ((images : ℕ → List ℕ) (before : List (Option Drive)) (function : FileFunction) → function_of call.function ≡ Some function
-    → IsJobless images kept.mounted (entering_here kept before (caller_of p caller) function call (stamp moment))
-    → IfOk result (ComesTo images (entering_here kept before (caller_of p caller) function call (stamp moment)) new answer))
-    → IfOk result (IsToldAsKept kept new p system answer)
-unfolding IsToldAsKept
-disk_as_kept p system kept new caller process call moment answer (Err error) looks lives calls at some jobless = tt
-disk_as_kept p system kept new caller process call moment answer (Ok extended) looks lives calls at some jobless =
-    let found = named_by (function_of (call_of system.kernel.dispatcher.procs p).function) some in
-    let function = found.0 in
-    let its : function_of call.function ≡ Some function = ap (λ (c : Taken). function_of c.function) calls ∙ found.1 in
-    let here : List (Option Drive) → Situation = λ drives. entering_here kept drives (caller_of p caller) function call (stamp moment) in
-    let is : (drives : List (Option Drive)) → here drives ≡ situation_of (filing_of kept drives) function p system =
-    λ drives. situation_is (filing_of kept drives) p system kept function caller process call moment refl looks lives calls at in
-    let so : ComesWithoutJob function kept new p system answer extended =
-    λ images drives none. subst (λ (s : Situation). ComesTo images s new answer extended) (is drives)
-    (jobless images drives function its (subst (IsJobless images kept.mounted) (sym (is drives)) none)) in
-    subst (λ f. TellsAsKept f (direct_of (call_of system.kernel.dispatcher.procs p).function) kept new p system answer extended) (sym found.1) (λ once. so)
-
--- and where a drive fails, it has one
-pub disk_has_job : {E : Type 0} (p : ℕ) (system : System) (kept : Kept) (caller process : Process) (call : Taken) (moment : Moment) (result : Result (Option Extended) E)
-    → caller ≡ looked_at process → process ≡ process_in system.kernel.dispatcher.procs p → call ≡ call_of system.kernel.dispatcher.procs p → moment ≡ moment_of system.kernel.clock
-    → ((images : ℕ → List ℕ) (before : List (Option Drive)) (function : FileFunction) → function_of call.function ≡ Some function
-    → IsJobless images kept.mounted (entering_here kept before (caller_of p caller) function call (stamp moment)) → IsOk result)
-    → OnErr result (HasJob kept (Some p) system)
-disk_has_job p system kept caller process call moment (Ok extended) looks lives calls at ok = tt
-disk_has_job p system kept caller process call moment (Err error) looks lives calls at ok = λ function images drives its jobless.
-    let is = situation_is (filing_of kept drives) p system kept function caller process call moment refl looks lives calls at in
-    false≢true (ok images drives function (ap (λ (c : Taken). function_of c.function) calls ∙ its) (subst (IsJobless images kept.mounted) (sym is) jobless))
 
 -- behind it no call is in service
 pub at_once_idle : (call kept : Taken) {service : Option InService} → call ≡ kept → IsSome (function_of kept.function)

@@ -1,4 +1,4 @@
--- The command line interpreter goes on with the segment that it has reserved in every step, and in a run of them.
+-- The command line interpreter goes on with the segment that it has reserved in every step.
 -- what it begins with
 use Rattle.std.proofs.Common.{ℕ, zero, suc, ◌≡◌, ◌&&◌, not, Bool, true, Option, Some, None, IfSome, refl, sym, subst}
 use Rattle.std.specs.Prelude.{is_some}
@@ -6,9 +6,7 @@ use Rattle.std.proofs.lemmas.Bool.{and_parts}
 use Rattle.mpm_base.proofs.Choices.{either}
 use Rattle.mpm_directories.specs.Direct.{Directly}
 use Rattle.mpm_dispatcher.specs.Dispatch.{IsReady}
-use Rattle.mpm_output.specs.Outside.{Outside}
 use Rattle.mpm_procs.specs.Table.{Lives}
-use Rattle.mpm_bdos.specs.Serving.{Kept}
 use Rattle.mpm_system.specs.FileCalling.{call_made}
 use Rattle.mpm_system.specs.Whole.{Change, IsWhole}
 use Rattle.mpm_system.specs.Coming.{coming, counted}
@@ -20,13 +18,14 @@ use Rattle.mpm_machine.proofs.GoingDisk.{goes_all_paid, goes_entered_after}
 use Rattle.mpm_machine.proofs.GoingFiles.{files_made, goes_file_called}
 use Rattle.mpm_machine.proofs.GoingParts.{goes_same}
 use Rattle.mpm_machine.proofs.RestLaws.{whole_entered_after}
-use Rattle.mpm_machine.proofs.StepWithLaws.{whole_with}
 use Rattle.mpm_machine.proofs.WholeStepLaws.{coming_may, whole_counted}
-use Rattle.mpm_machine.specs.After.{AreSteps, HasRun, HasStepped}
+use Rattle.mpm_machine.proofs.NextLaws.{next_is, whole_after}
+use Rattle.mpm_machine.specs.State.{State}
+use Rattle.mpm_machine.specs.After.{after, IsOfSome}
 use Rattle.mpm_machine.specs.DiskStep.{all_paid}
 use Rattle.mpm_machine.specs.FileCalls.{calls_files, file_caller, file_caller_by}
 use Rattle.mpm_machine.specs.Interpreting.{Interprets}
-use Rattle.mpm_machine.specs.Stepping.{Telling, begun_as, begun_with, ended_after, entered_after, is_instruction, rest_of, step_with}
+use Rattle.mpm_machine.specs.Stepping.{Telling, begun_as, begun_with, ended_after, entered_after, is_instruction, rest_of, step_with, telling_of}
 
 pub goes_begun_with : (caller : Option ℕ) (told : Directly) (system : System) → IsWhole system → IfSome caller (λ p. Lives system.kernel.dispatcher.procs p)
     → IfSome caller (λ p. IsReady system.kernel.dispatcher p) → IfSome caller (λ p. calls_files p system ≡ true) → Interprets system
@@ -74,27 +73,14 @@ goes_in_step telling system w i =
     goes_rest (is_instruction (file_caller system) system) telling (begun_as telling.at_gate system) (whole_begun_as telling.at_gate system w)
     (goes_begun_as telling.at_gate system w i)
 
-pub interprets_stepped : {kept kept' : Kept} (before behind : Outside) (old new : System) → IsWhole old → HasStepped kept kept' before behind old new → Interprets old → Interprets new
-interprets_stepped before behind old new w stepped i =
-    subst (λ (c : Change). Interprets c.system) (sym stepped.is.made.step.is) (goes_in_step stepped.is.made.step.telling old w i)
+pub interprets_stepped : (old new : System) → IsWhole old → IsOfSome (λ telling. (step_with telling old).system) new → Interprets old → Interprets new
+interprets_stepped old new w made i = subst Interprets (sym made.1) (goes_in_step made.0 old w i)
 
--- a run of them
+-- n of them
 
-pub record HasGone (system : System) : Type 0 where
-  pub whole : IsWhole system
-  pub interprets : Interprets system
-
-pub goes_steps : (n : ℕ) (kept kept' : Kept) (old : System) (change : Change) → IsWhole old → Interprets old → AreSteps n kept kept' old change → HasGone change.system
-unfolding AreSteps
-goes_steps zero kept kept' old change w i are = subst (λ (c : Change). HasGone c.system) (sym are.1) (record { whole = w; interprets = i })
-goes_steps (suc n) kept kept' old change w i steps =
-    let P : Change → Type 0 = λ c. HasGone c.system in
-    let before = steps.1 in
-    let last = steps.4.made in
-    let gone = goes_steps n kept steps.0 old before w i steps.3 in
-    subst P (sym steps.5)
-    (subst P (sym last.step.is)
-    (record { whole = whole_with last.step.telling before.system gone.whole; interprets = goes_in_step last.step.telling before.system gone.whole gone.interprets }))
-
-pub interprets_run : {kept kept' : Kept} (n : ℕ) (before behind : Outside) (old new : System) → IsWhole old → HasRun n kept kept' before behind old new → Interprets old → Interprets new
-interprets_run {kept} {kept'} n before behind old new w run i = (goes_steps n kept kept' old (record { system = new; emitted = run.emitted }) w i run.steps).interprets
+pub interprets_after : (n : ℕ) (s : State) → IsWhole s.system → Interprets s.system → Interprets (after n s).system
+unfolding after
+interprets_after zero s w i = i
+interprets_after (suc n) s w i =
+    let before = after n s in
+    subst Interprets (sym (next_is before)) (goes_in_step (telling_of before.system before.files) before.system (whole_after n s w) (interprets_after n s w i))

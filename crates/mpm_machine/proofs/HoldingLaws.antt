@@ -12,7 +12,7 @@ use Rattle.mpm_kernel.specs.Kernel.{Kernel}
 use Rattle.mpm_kernel.specs.Disk.{waiting_for_disk}
 use Rattle.mpm_functions.specs.declared.functions.FileFunction.{FileFunction}
 use Rattle.mpm_functions.specs.Functions.{function_of}
-use Rattle.mpm_bdos.specs.Answering.{HasEntered}
+use Rattle.mpm_bdos.specs.Starting.{HasEntered}
 use Rattle.mpm_bdos.specs.Serving.{InService}
 use Rattle.mpm_system.specs.declared.system.System.{System}
 use Rattle.mpm_machine.specs.Holding.{IsOwn, OwnsService, AreFiled}

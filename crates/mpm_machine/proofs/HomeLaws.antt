@@ -4,7 +4,7 @@ use Rattle.std.proofs.lemmas.Bool.{false≢true}
 use Rattle.mpm_base.proofs.Choices.{either}
 use Rattle.mpm_banks.specs.Memory.{Memory, IsMemory}
 use Rattle.mpm_banks.specs.declared.segment.Allocation.TheVariants.{Free}
-use Rattle.mpm_banks.specs.Allocations.{released, all_released}
+use Rattle.mpm_banks.specs.Allocations.{all_released}
 use Rattle.mpm_procs.specs.Table.{Table, process_in}
 use Rattle.mpm_kernel.specs.Kernel.{Kernel}
 use Rattle.mpm_kernel.specs.Ending.{discharged}

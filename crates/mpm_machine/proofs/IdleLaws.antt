@@ -7,24 +7,22 @@ use Rattle.mpm_kernel.specs.Kernel.{Kernel}
 use Rattle.mpm_kernel.specs.Disk.{with_disk}
 use Rattle.mpm_kernel.proofs.DiskLaws.{sound_passed_by}
 use Rattle.mpm_kernel.proofs.HomeLaws.{homes_stay}
-use Rattle.mpm_directories.specs.Direct.{Directly}
-use Rattle.mpm_bdos.specs.Serving.{Kept, StandForSome}
 use Rattle.mpm_system.specs.declared.system.System.{System}
-use Rattle.mpm_system.specs.Whole.{Change, IsWhole, NoCompletions, NobodyAborted, silent}
+use Rattle.mpm_system.specs.Whole.{IsWhole, NoCompletions, NobodyAborted, silent}
 use Rattle.mpm_system.specs.Coming.{counted}
 use Rattle.mpm_system.specs.Idling.{IsIdle, later, CanPass}
 use Rattle.mpm_system.proofs.WholeLaws.{whole_kernel}
 use Rattle.mpm_machine.specs.State.{State}
 use Rattle.mpm_machine.specs.Files.{Files, AreWithin}
 use Rattle.mpm_machine.specs.Step.{acted_by, acted, running_segment, at_instruction, dispatched}
-use Rattle.mpm_machine.specs.Stepping.{Telling, begun_as, step_with}
-use Rattle.mpm_machine.specs.After.{next, after, AreSteps}
+use Rattle.mpm_machine.specs.Stepping.{Telling, step_with}
+use Rattle.mpm_machine.specs.After.{next, after}
 use Rattle.mpm_machine.specs.Moving.{Quiet}
 use Rattle.mpm_machine.proofs.WholeLaws.{whole_steps}
-use Rattle.mpm_machine.proofs.FileStepLaws.{nobody_calls, is_made_still}
+use Rattle.mpm_machine.proofs.FileStepLaws.{nobody_calls}
 use Rattle.mpm_machine.proofs.PlainLaws.{plain_next, files_still}
-use Rattle.mpm_machine.proofs.QuietLaws.{none_comes, begun_quiet, step_quiet, picked_same}
-use Rattle.mpm_machine.proofs.PassingLaws.{Passes, still_ahead, passes_on, fewer_pass, rest_still, none_before, within_on}
+use Rattle.mpm_machine.proofs.QuietLaws.{none_comes, step_quiet, picked_same}
+use Rattle.mpm_machine.proofs.PassingLaws.{still_ahead, passes_on, fewer_pass, rest_still, none_before, within_on}
 use Rattle.mpm_machine.proofs.PassedLaws.{later_none}
 
 nothing_acted : (system : System) → system.kernel.dispatcher.running ≡ None → acted system ≡ silent system
@@ -55,19 +53,6 @@ idle_step telling system n on =
     ∙ ap (λ (disk : DiskService). dispatched instruction (silent (record begun { kernel = record system.kernel { disk = disk } }))) (passes_on n system.kernel.disk on.passing)
     ∙ ap (λ (kernel : Kernel). silent (record begun { kernel = kernel })) (picked_same instruction passed (idle.nobody ∙ sym idle.running))
     ∙ ap (λ (steps : ℕ). silent (record system { steps = steps; kernel = passed })) (omega arith)
-
-passes_idle : (told : Directly) (system : System) (n : ℕ) → Idles system (n + 1) → Passes (begun_as told (later system n)).system
-passes_idle told system n on =
-    let begun = counted (later system n) in
-    let idle = on.idle (omega arith) in
-    subst (λ (c : Change). Passes c.system)
-    (sym (begun_quiet told (later system n) begun (nobody_calls (later system n) idle.running) (none_comes begun (on.quiet n (omega arith))) (nothing_acted begun idle.running) on.no_completions.answered))
-    (record {
-      paid = (handed_idle system (system.steps + n + 1) n on.no_completions).paid;
-      nobody = on.settled;
-      off = on.none_deferred;
-      still = still_ahead n system.kernel.disk on.passing;
-    })
 
 idle_within : (system : System) (files : Files) (n : ℕ) → AreWithin system.kernel.disk.served files → AreWithin (passed_by n system.kernel.disk).served files
 unfolding passed_by
@@ -116,20 +101,6 @@ whole_later : (system : System) (n : ℕ) → IsWhole system → IsWhole (later 
 whole_later system n w =
     whole_steps (record system { kernel = with_disk (passed_by n) system.kernel }) (system.steps + n)
     (whole_kernel system _ w (sound_passed_by system.kernel n w.sound) w.live (homes_stay system.kernel _ refl))
-
-steps_idle : (n : ℕ) (kept : Kept) (system : System) → StandForSome kept.mounted → IsWhole system → Idles system n → AreSteps n kept kept system (silent (later system n))
-unfolding AreSteps
-steps_idle zero kept system stand w on = (refl, ap silent (sym (later_none system)))
-steps_idle (suc n) kept system stand w on =
-    let on_more : Idles system (n + 1) = subst (Idles system) (sym (add-one n)) on in
-    let here = later system n in
-    let is = is_made_still kept here (silent (later system (n + 1))) stand (whole_later system n w) (handed_idle system (system.steps + n) n on.no_completions)
-    (nobody_calls here (on_more.idle (omega arith)).running) (λ told. passes_idle told system n on_more) (λ telling. sym (idle_step telling system n on_more)) in
-    (kept, silent here, silent (later system (n + 1)), steps_idle n kept system stand w (fewer system n on_more), is, ap (λ k. silent (later system k)) (sym (add-one n)))
-
--- and they are so many steps
-pub idle_steps : (n : ℕ) (kept : Kept) (old new : System) → StandForSome kept.mounted → IsWhole old → Idles old n → new ≡ later old n → AreSteps n kept kept old (silent new)
-idle_steps n kept old new stand w on is = subst (λ system. AreSteps n kept kept old (silent system)) (sym is) (steps_idle n kept old stand w on)
 
 pub idle_settled : (n : ℕ) (old new : System) → Idles old n → new ≡ later old n → NobodyAborted new.kernel
 idle_settled n old new on is = subst (λ (system : System). NobodyAborted system.kernel) (sym is) on.settled

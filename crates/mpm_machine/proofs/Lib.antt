@@ -32,13 +32,10 @@ pub mod InstructedLaws
 pub mod StepWithLaws
 pub mod FileStepLaws
 pub mod NextLaws
-pub mod ChainLaws
 pub mod PlainLaws
 pub mod StandingLaws
 pub mod FilingLaws
-pub mod ToldLaws
 pub mod TurnLaws
-pub mod TellingLaws
 pub mod PassingLaws
 pub mod DiskStepLaws
 pub mod RestLaws

@@ -1,14 +1,13 @@
 -- What of a program's file stands in the segment that the interpreter reserved, in every step and in a run of them: as a program begins,
 -- all of its code stands there.
 -- in a row that makes a call on files, or reads a command, nothing is handed over
-use Rattle.std.proofs.Common.{◌≡◌, ◌≢◌, ◌∙◌, ℕ, zero, suc, ◌+◌, ◌*◌, ◌<◌, ◌==◌, Bool, true, false, if◌then◌else◌, List, [], ◌∷◌, Option, Some, None, IfSome, refl, sym, ap, subst}
+use Rattle.std.proofs.Common.{◌≡◌, ◌≢◌, ◌∙◌, ℕ, zero, suc, ◌+◌, ◌*◌, ◌<◌, ◌==◌, Bool, true, false, if◌then◌else◌, List, [], ◌∷◌, Option, Some, None, IfSome, refl, sym, ap, subst, arith}
 use Rattle.std.specs.List.{range_with_len}
 use Rattle.std.proofs.lemmas.Bool.{false≢true}
 use Rattle.mpm_base.proofs.Choices.{either}
 use Rattle.mpm_base.specs.Calls.{Answer}
 use Rattle.mpm_banks.specs.Memory.{Memory, byte_at}
 use Rattle.mpm_directories.specs.Direct.{Directly, CallerChange, Resets, Selects, Stays}
-use Rattle.mpm_bdos.specs.Serving.{Kept}
 use Rattle.mpm_functions.specs.declared.refusals.Extended.{Extended}
 use Rattle.mpm_residents.specs.Interpreters.{Interpreter, call_at, next_call}
 use Rattle.mpm_residents.specs.Standing.{is_loading}
@@ -22,7 +21,6 @@ use Rattle.mpm_kernel.specs.Awaiting.{AwaitsIn}
 use Rattle.mpm_kernel.specs.Kernel.{Kernel}
 use Rattle.mpm_kernel.specs.Waiting.{completion_reply}
 use Rattle.mpm_loader.specs.Plans.{all_bytes}
-use Rattle.mpm_output.specs.Outside.{Outside}
 use Rattle.mpm_procs.specs.Table.{Lives, process_in, call_of}
 use Rattle.mpm_residents.specs.Natives.{native_in}
 use Rattle.mpm_residents.specs.declared.native.Native.{Native}
@@ -48,7 +46,7 @@ use Rattle.mpm_machine.proofs.GoingDisk.{files_over, goes_entered_after}
 use Rattle.mpm_machine.proofs.GoingFiles.{FilesAt, files_made, files_with_caller, goes_concluded, goes_told}
 use Rattle.mpm_machine.proofs.GoingOwn.{same_interpreter}
 use Rattle.mpm_machine.proofs.GoingParts.{goes_ended, goes_same}
-use Rattle.mpm_machine.proofs.GoingSteps.{caller_files, goes_begun_as, goes_begun_with, goes_steps}
+use Rattle.mpm_machine.proofs.GoingSteps.{caller_files, goes_begun_as, goes_begun_with, interprets_after}
 use Rattle.mpm_machine.proofs.LoadedLaws.{loaded_whole}
 use Rattle.mpm_machine.proofs.LoadedParts.{Rests, loads_begun, loads_still, loads_taking, rests_alike, rests_home, rests_loading, rests_took, took_so}
 use Rattle.mpm_machine.proofs.LoadedRows.{hands, unloaded}
@@ -56,7 +54,9 @@ use Rattle.mpm_machine.proofs.RestLaws.{whole_entered_after}
 use Rattle.mpm_machine.proofs.SendingLaws.{lets_in as lets_command_in}
 use Rattle.mpm_machine.proofs.WholeLaws.{whole_ended}
 use Rattle.mpm_machine.proofs.WholeStepLaws.{due_lives, lives_dequeued, lives_in_time, whole_counted, whole_dequeued, whole_first, whole_first_answered, whole_if_due}
-use Rattle.mpm_machine.specs.After.{AreSteps, HasRun}
+use Rattle.mpm_machine.specs.State.{State}
+use Rattle.mpm_machine.specs.After.{after}
+use Rattle.mpm_machine.proofs.NextLaws.{next_is, whole_after}
 use Rattle.mpm_machine.specs.DiskStep.{all_paid, call_entered, call_over, disk_served, entered_by, entered_unless, file_called, is_done_at_once, over_after, ready_again, served_by, step_passed}
 use Rattle.mpm_machine.specs.Due.{due_terminated, ended_if_due, is_due, with_ends}
 use Rattle.mpm_machine.specs.Ending.{ended}
@@ -65,7 +65,7 @@ use Rattle.mpm_machine.specs.Finishing.{all_answered, all_finished, answered_fro
 use Rattle.mpm_machine.specs.Interpreting.{Interprets, awaited, is_reading}
 use Rattle.mpm_machine.specs.Loaded.{HasCome, HasLoadedAt, IsLoading, IsReadIn, IsReading, code_byte}
 use Rattle.mpm_machine.specs.Serving.{fulfilling, reply_at_entry, with_entry}
-use Rattle.mpm_machine.specs.Stepping.{Telling, begun_as, begun_with, ended_after, entered_after, is_instruction, rest_of, step_with}
+use Rattle.mpm_machine.specs.Stepping.{Telling, begun_as, begun_with, ended_after, entered_after, is_instruction, rest_of, step_with, telling_of}
 
 files_ask : (row : Row) (cli : Interpreter) → is_of_files (call_at row cli).function ≡ true → hands row ≡ false
 unfolding is_of_files Rattle.mpm_functions.specs.Functions.function_of Rattle.mpm_functions.specs.Functions.direct_of
@@ -390,20 +390,16 @@ loads_step telling file system w i reads h =
     loads_rest (is_instruction (file_caller system) system) telling file (begun_as telling.at_gate system) (whole_begun_as telling.at_gate system w) (goes_begun_as telling.at_gate system w i)
     (loads_begun_as telling.at_gate file system w i reads h)
 
--- a run of them
+-- n of them
 
-loads_steps : (n : ℕ) (file : List ℕ) (kept kept' : Kept) (old : System) (change : Change) → IsWhole old → Interprets old → (steps : AreSteps n kept kept' old change)
-    → IsReadIn file n kept kept' old change steps
-    → IsLoading file old → IsLoading file change.system
-unfolding AreSteps IsReadIn
-loads_steps zero file kept kept' old change w i steps reads h = subst (λ (c : Change). IsLoading file c.system) (sym steps.1) h
-loads_steps (suc n) file kept kept' old change w i steps reads h =
-    let P : Change → Type 0 = λ c. IsLoading file c.system in
-    let before = steps.1 in
-    let last = steps.4.made in
-    let gone = goes_steps n kept steps.0 old before w i steps.3 in
-    let here = loads_steps n file kept steps.0 old before w i steps.3 reads.0 h in
-    subst P (sym steps.5) (subst P (sym last.step.is) (loads_step last.step.telling file before.system gone.whole gone.interprets reads.1 here))
+loads_steps : (n : ℕ) (file : List ℕ) (s : State) → IsWhole s.system → Interprets s.system → IsReadIn file n s → IsLoading file s.system → IsLoading file (after n s).system
+unfolding after
+loads_steps zero file s w i reads h = h
+loads_steps (suc n) file s w i reads h =
+    let before = after n s in
+    let here = loads_steps n file s w i (λ k less. reads k (omega (arith, less))) h in
+    subst (IsLoading file) (sym (next_is before))
+    (loads_step (telling_of before.system before.files) file before.system (whole_after n s w) (interprets_after n s w i) (reads n (omega arith)) here)
 
 -- as it reads a command, it has no segment
 pub loads_nothing : (file : List ℕ) (cli : Interpreter) (system : System) → native_in system.residents 0 ≡ Some (Cli cli) → cli.row ≡ ReadCommand → IsLoading file system
@@ -411,13 +407,13 @@ loads_nothing file cli system acts is =
     loads_still file cli system acts (unloaded cli file system.memory (ap is_loading is) (subst (λ (row : Row). HasCome row cli.load) (sym is) tt))
 
 -- as a program begins, all of its code stands behind the base page of its segment, as its file has it, each byte moved that is marked
-pub stands_as_it_begins : (n : ℕ) (file : List ℕ) (kept kept' : Kept) (before behind : Outside) (old new : System) → IsWhole old → Interprets old → (run : HasRun n kept kept' before behind old new)
-    → IsReadIn file n kept kept' old (record { system = new; emitted = run.emitted }) run.steps → IsLoading file old
-    → (cli : Interpreter) → native_in new.residents 0 ≡ Some (Cli cli) → cli.row ≡ Begin
+pub stands_as_it_begins : (n : ℕ) (file : List ℕ) (s : State) → IsWhole s.system → Interprets s.system → IsReadIn file n s → IsLoading file s.system
+    → (cli : Interpreter) → native_in (after n s).system.residents 0 ≡ Some (Cli cli) → cli.row ≡ Begin
     → (place : ℕ) → place < cli.load.plan.length
-    → byte_at new.memory cli.seg (256 * cli.spec.base + 256 + place) ≡ code_byte cli.load.plan file cli.spec.base (all_bytes cli.load.plan) place
-stands_as_it_begins n file kept kept' before behind old new w i run reads h cli acts is =
-    let here = loads_steps n file kept kept' old (record { system = new; emitted = run.emitted }) w i run.steps reads h cli acts in
-    let code : HasLoadedAt Begin cli file new.memory = subst (λ (row : Row). HasLoadedAt row cli file new.memory) is (here.code (ap is_loading is)) in
+    → byte_at (after n s).system.memory cli.seg (256 * cli.spec.base + 256 + place) ≡ code_byte cli.load.plan file cli.spec.base (all_bytes cli.load.plan) place
+stands_as_it_begins n file s w i reads h cli acts is =
+    let memory = (after n s).system.memory in
+    let here = loads_steps n file s w i reads h cli acts in
+    let code : HasLoadedAt Begin cli file memory = subst (λ (row : Row). HasLoadedAt row cli file memory) is (here.code (ap is_loading is)) in
     let came : HasCome Begin cli.load = subst (λ (row : Row). HasCome row cli.load) is here.came in
-    loaded_whole cli file new.memory came code
+    loaded_whole cli file memory came code

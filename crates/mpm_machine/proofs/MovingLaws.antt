@@ -23,15 +23,13 @@ use Rattle.mpm_banks.proofs.ActionLaws.{same_segments_after}
 use Rattle.mpm_gate.specs.Gates.{gate_of}
 use Rattle.mpm_gate.proofs.GateLaws.{page_stays}
 use Rattle.mpm_processor.specs.Moving.{View, instruction_in, moved, moves, CanMove}
-use Rattle.mpm_directories.specs.Direct.{Directly}
-use Rattle.mpm_bdos.specs.Serving.{Kept, StandForSome}
 use Rattle.mpm_service.specs.Disk.{DiskService}
 use Rattle.mpm_service.specs.Ahead.{passed_on, passed_by}
 use Rattle.mpm_kernel.proofs.DiskLaws.{sound_passed_by}
 use Rattle.mpm_interrupts.specs.Interrupts.{due}
 use Rattle.mpm_system.specs.declared.system.System.{System}
 use Rattle.mpm_system.specs.Procedures.{is_inside}
-use Rattle.mpm_system.specs.Whole.{Change, IsWhole, NobodyAborted, silent, NoCompletions}
+use Rattle.mpm_system.specs.Whole.{IsWhole, NobodyAborted, silent, NoCompletions}
 use Rattle.mpm_system.specs.Taking.{with_regs}
 use Rattle.mpm_system.specs.Coming.{coming, counted}
 use Rattle.mpm_system.specs.Idling.{CanPass}
@@ -43,15 +41,15 @@ use Rattle.mpm_machine.specs.State.{State}
 use Rattle.mpm_machine.specs.Step.{instructed, executed, instruction_at, acted_at, gate_before, acted_by, acted, running_segment, at_instruction, dispatched as step_dispatched}
 use Rattle.mpm_machine.specs.FileCalls.{file_caller}
 use Rattle.mpm_machine.specs.Files.{AreWithin}
-use Rattle.mpm_machine.specs.Stepping.{Telling, begun_as, step_with}
-use Rattle.mpm_machine.specs.After.{next, after, AreSteps}
+use Rattle.mpm_machine.specs.Stepping.{Telling, step_with}
+use Rattle.mpm_machine.specs.After.{next, after}
 use Rattle.mpm_machine.specs.Moving.{Moved, view_of, with_view, RunsOn, RunsAhead, Quiet}
 use Rattle.mpm_machine.proofs.InstructedLaws.{runs_listed}
 use Rattle.mpm_machine.proofs.WholeLaws.{same_regs, whole_steps}
-use Rattle.mpm_machine.proofs.FileStepLaws.{gateless, is_made_still}
+use Rattle.mpm_machine.proofs.FileStepLaws.{gateless}
 use Rattle.mpm_machine.proofs.PlainLaws.{plain_next, files_still}
-use Rattle.mpm_machine.proofs.QuietLaws.{none_comes, begun_quiet, step_quiet, picked_same}
-use Rattle.mpm_machine.proofs.PassingLaws.{Passes, still_ahead, passes_on, passes_nothing, fewer_pass, can_pass_on, rest_still, none_before, within_on}
+use Rattle.mpm_machine.proofs.QuietLaws.{none_comes, step_quiet, picked_same}
+use Rattle.mpm_machine.proofs.PassingLaws.{still_ahead, passes_on, passes_nothing, fewer_pass, can_pass_on, rest_still, none_before, within_on}
 
 view_itself : (system : System) (p : ℕ) → with_view system p (view_of system p) 0 ≡ system
 unfolding with_view
@@ -237,20 +235,6 @@ unpassed_within : (s : State) (p n : ℕ) (view : View) → AreWithin s.system.k
 unfolding passed_by
 unpassed_within s p n view within = within_on s.system.kernel.disk.served s.files n within
 
--- the disk's step only passes in one of them
-passes_view : (told : Directly) (system : System) (p seg n : ℕ) (view : View) → p < length system.kernel.dispatcher.procs.processes → RunsOn system p seg
-    → CanMove (is_inside system.kernel.dispatcher.procs p) seg view → due (system.steps + n + 1) system.interrupts ≡ None → CanPass (n + 1) system.kernel.disk
-    → file_caller (with_view system p view n) ≡ None → Passes (begun_as told (with_view system p view n)).system
-passes_view told system p seg n view below on can quiet passing alone =
-    subst (λ (c : Change). Passes c.system)
-    (sym (begun_quiet told (with_view system p view n) (unpassed system p (moved seg view) n) alone (quiet_view system p n view quiet) (acted_view system p seg n view below on can) on.no_completions.answered))
-    (record {
-      paid = (handed_unpassed system p n (moved seg view) on.no_completions).paid;
-      nobody = nobody_view system.kernel (moved seg view).devices (passed_by n system.kernel.disk) p (moved seg view).regs below on.settled;
-      off = on.none_deferred;
-      still = still_ahead n system.kernel.disk passing;
-    })
-
 next_view : (s : State) (p seg n : ℕ) (view : View) → p < length s.system.kernel.dispatcher.procs.processes → RunsOn s.system p seg
     → CanMove (is_inside s.system.kernel.dispatcher.procs p) seg view
     → due (s.system.steps + n + 1) s.system.interrupts ≡ None → CanPass (n + 1) s.system.kernel.disk → AreWithin s.system.kernel.disk.served s.files
@@ -278,23 +262,6 @@ after_moves (suc n) s p seg below on each quiet passing within =
     ∙ next_view s p seg n view below on (each n (omega arith)) (quiet n (omega arith)) more within
     ∙ ap (λ count. record s { system = with_view s.system p (moved seg view) count }) (add-one n)
 
-steps_moves : (n : ℕ) (kept : Kept) (system : System) (p seg : ℕ) → StandForSome kept.mounted → IsWhole system → Lives system.kernel.dispatcher.procs p → p < length system.kernel.dispatcher.procs.processes
-    → RunsOn system p seg → ((k : ℕ) → k < n → CanMove (is_inside system.kernel.dispatcher.procs p) seg (moves k seg (view_of system p))) → Quiet n system
-    → CanPass n system.kernel.disk → AreSteps n kept kept system (silent (with_view system p (moves n seg (view_of system p)) n))
-unfolding moves AreSteps
-steps_moves zero kept system p seg stand w h below on each quiet passing = (refl, ap silent (view_itself system p))
-steps_moves (suc n) kept system p seg stand w h below on each quiet passing =
-    let view = moves n seg (view_of system p) in
-    let here = with_view system p view n in
-    let one = with_view system p (moved seg view) (n + 1) in
-    let can = each n (omega arith) in
-    let more : CanPass (n + 1) system.kernel.disk = subst (λ (k : ℕ). CanPass k system.kernel.disk) (sym (add-one n)) passing in
-    let first = steps_moves n kept system p seg stand w h below on (λ k less. each k (omega (arith, less))) (λ k less. quiet k (omega (arith, less))) (fewer_pass n system.kernel.disk more) in
-    let alone = alone_view system p seg n view below on can in
-    let is = is_made_still kept here (silent one) stand (whole_view system p n view w h (keeps_moved n seg (view_of system p)))
-    (handed_view system p n view on.no_completions) alone (λ told. passes_view told system p seg n view below on can (quiet n (omega arith)) more alone) (λ telling. sym (step_view telling system p seg n view below on can (quiet n (omega arith)) more alone)) in
-    (kept, silent here, silent one, first, is, ap (λ count. silent (with_view system p (moved seg view) count)) (sym (add-one n)))
-
 pub runs_on : (system : System) (p seg : ℕ) → IsWhole system → system.kernel.dispatcher.running ≡ Some p → first_of (list_at system.kernel.dispatcher.lists ready) ≡ Some p
     → (process_in system.kernel.dispatcher.procs p).seg ≡ Some seg → NoCompletions system → system.abort_deferred ≡ false → RunsOn system p seg
 runs_on system p seg w running first home no_completions off =
@@ -317,15 +284,6 @@ moved_state n p seg old new s w on moved quiet passing within is =
     let whole : with_view s.system p (moves n seg (view_of s.system p)) n ≡ new =
     ap (λ system. with_view system p (moves n seg (view_of system p)) n) is ∙ sym (moved.is ∙ ap (λ v. with_view old p v n) moved.moves.is) in
     after_moves n s p seg facts.0 facts.1 facts.2 facts.3 facts.4 facts.5 ∙ ap (λ system. record s { system = system }) whole
-
--- and they are so many steps
-pub moved_steps : (n p seg : ℕ) (kept : Kept) (old new : System) → StandForSome kept.mounted → IsWhole old → RunsOn old p seg → Moved n p seg old new → Quiet n old → CanPass n old.kernel.disk
-    → AreSteps n kept kept old (silent new)
-moved_steps n p seg kept old new stand w on moved quiet passing =
-    let lives = runner_lives old.kernel p w.sound on.running in
-    let below : p < length old.kernel.dispatcher.procs.processes = omega (arith, w.sound.slots.processes, lives_below old.kernel.dispatcher.procs p w.sound.slots lives) in
-    subst (λ system. AreSteps n kept kept old (silent system)) (sym (moved.is ∙ ap (λ v. with_view old p v n) moved.moves.is))
-    (steps_moves n kept old p seg stand w lives below on moved.moves.each quiet passing)
 
 -- the disk's steps passed in them
 pub moved_disk : (n p seg : ℕ) (old new : System) → Moved n p seg old new → new.kernel.disk ≡ passed_by n old.kernel.disk

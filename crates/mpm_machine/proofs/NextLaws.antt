@@ -1,29 +1,26 @@
--- Laws of n steps of a state, and of n steps of a system whatever is on the drives.
--- what a step that is made with files makes of the system
-use Rattle.std.proofs.Common.{◌≡◌, ◌∙◌, ℕ, zero, suc, ◌+◌, ◌-◌, ◌<◌, ◌≤◌, Bool, List, [], ◌++◌, Option, refl, ap, sym, subst, append_assoc, arith, add-one}
-use Rattle.std.proofs.lemmas.List.{append-nil}
+-- Laws of the steps of a state.
+-- what a step makes of the system
+use Rattle.std.proofs.Common.{◌≡◌, ◌∙◌, ℕ, zero, suc, ◌+◌, ◌-◌, ◌<◌, ◌≤◌, Bool, List, refl, ap, sym, subst, arith, add-one}
 use Rattle.mpm_render.specs.Outputs.{rendered}
-use Rattle.mpm_output.specs.Outside.{Outside}
-use Rattle.mpm_output.proofs.WritingLaws.{wrote_nothing, wrote_after}
-use Rattle.mpm_bdos.specs.Serving.{Kept}
 use Rattle.mpm_system.specs.declared.system.System.{System}
-use Rattle.mpm_system.specs.Whole.{Change, IsWhole, NoCompletions, silent}
+use Rattle.mpm_system.specs.Whole.{IsWhole, NoCompletions}
 use Rattle.mpm_machine.specs.declared.machine.StepFault.{StepFault}
 use Rattle.mpm_machine.specs.State.{State}
 use Rattle.mpm_machine.specs.Faults.{EndsBy}
-use Rattle.mpm_machine.specs.Stepping.{step_with, telling_of, stepped}
-use Rattle.mpm_machine.specs.After.{next, after, IsStep, IsMadeUpon, IsNextOf, followed, AreSteps, HasRun, HasStepped, HasStopped, HasStoppedIn, EndsInStep}
-use Rattle.mpm_machine.proofs.StepWithLaws.{whole_with, no_completions_with}
-use Rattle.mpm_machine.proofs.FileStepLaws.{steps_with, is_step}
-use Rattle.mpm_machine.proofs.TellingLaws.{first_of_call, later_of_call}
+use Rattle.mpm_machine.specs.Stepping.{paid_after, before_disk, step_with, telling_of, stepped}
+use Rattle.mpm_machine.specs.After.{next, after, IsStepOf, made_in, EndsInStep}
+use Rattle.mpm_machine.specs.FileCalls.{file_caller}
+use Rattle.mpm_machine.specs.DiskStep.{process_over}
+use Rattle.mpm_machine.specs.Contained.{IsContainedBy, OnlyInstructed, ServedByValue, ResidedByValue}
+use Rattle.mpm_machine.proofs.FiledLaws.{contained_by}
+use Rattle.mpm_machine.proofs.ValueLaws.{resided_with}
+use Rattle.mpm_machine.proofs.FiledValue.{filed_by_value, over_by_value, enters_by_value}
+use Rattle.mpm_machine.proofs.StepWithLaws.{whole_with, no_completions_with, instructed_with, served_with}
+use Rattle.mpm_machine.proofs.FileStepLaws.{steps_with}
 
-next_is : (s : State) → (next s).system ≡ (step_with (telling_of s.system s.files) s.system).system
+pub next_is : (s : State) → (next s).system ≡ (step_with (telling_of s.system s.files) s.system).system
 unfolding next stepped
 next_is s = refl
-
-next_outputs : (s : State) → (next s).outputs ≡ (step_with (telling_of s.system s.files) s.system).emitted ++ s.outputs
-unfolding next stepped
-next_outputs s = refl
 
 -- n steps
 
@@ -65,27 +62,34 @@ handed_after zero s no_completions = no_completions
 handed_after (suc n) s no_completions =
     subst NoCompletions (sym (next_is (after n s))) (no_completions_with (telling_of (after n s).system (after n s).files) (after n s).system)
 
--- each is a step of the system
-next_of : (s : State) → IsWhole s.system → NoCompletions s.system → IsNextOf s (next s)
-next_of s w handed =
+-- and what is so of each
+
+step_of : (s : State) → IsWhole s.system → NoCompletions s.system → IsStepOf s
+unfolding before_disk
+step_of s w handed =
     let telling = telling_of s.system s.files in
-    let change = step_with telling s.system in
-    let P : System → Type 0 = λ system. IsStep s.system (record { system = system; emitted = change.emitted }) in
+    let old = s.system in
+    let is = sym (next_is s) in
+    let begun = (before_disk old s.files).system in
     record {
-      emitted = change.emitted;
-      is = subst P (sym (next_is s)) (is_step telling s.system change w handed (first_of_call s.files s.system) (later_of_call s.files s.system) refl);
-      outputs = next_outputs s;
+      contained = subst (IsContainedBy telling old) is (contained_by telling old w);
+      instruction = λ p seg i. subst (OnlyInstructed telling p old) is (instructed_with telling p seg old handed i);
+      calls = λ p seg i none. subst (ServedByValue telling p seg old) is (served_with telling p seg old i none);
+      resides = λ p native i none. subst (ResidedByValue telling p native old) is (resided_with telling p native old i none);
+      filed = filed_by_value (file_caller old) (made_in (file_caller old) old);
+      over = over_by_value (process_over begun) begun;
+      enters = enters_by_value (paid_after telling.at_disk begun);
     }
 
-pub next_in_run : (k : ℕ) (s : State) (old : System) → s.system ≡ old → IsWhole old → NoCompletions old
-    → IsNextOf (after k s) (after (k + 1) s)
-next_in_run k s old is w handed =
-    let whole : IsWhole s.system = subst IsWhole (sym is) w in
-    let none : NoCompletions s.system = subst NoCompletions (sym is) handed in
-    subst (IsNextOf (after k s)) (sym (after_more k s)) (next_of (after k s) (whole_after k s whole) (handed_after k s none))
+pub step_by : (s : State) (old : System) → s.system ≡ old → IsWhole old → NoCompletions old → IsStepOf s
+step_by s old is w handed = step_of s (subst IsWhole (sym is) w) (subst NoCompletions (sym is) handed)
+
+pub step_in_run : (k : ℕ) (s : State) (old : System) → s.system ≡ old → IsWhole old → NoCompletions old → IsStepOf (after k s)
+step_in_run k s old is w handed =
+    step_of (after k s) (whole_after k s (subst IsWhole (sym is) w)) (handed_after k s (subst NoCompletions (sym is) handed))
 
 -- a stop in the step after the first done ones
-pub ends_in_step : (fault : StepFault) (trace : Bool) (written first : Option (List ℕ)) (s : State) (n done step : ℕ) → done < n → step ≡ s.system.steps + done + 1
+pub ends_in_step : (fault : StepFault) (trace : Bool) (written first : List ℕ) (s : State) (n done step : ℕ) → done < n → step ≡ s.system.steps + done + 1
     → EndsBy fault written first (rendered trace (after done s).outputs) (rendered trace (next (after done s)).outputs)
     → EndsInStep fault trace written first s n step
 ends_in_step fault trace written first s n done step below e ends =
@@ -101,7 +105,7 @@ ends_in_step fault trace written first s n done step below e ends =
     }
 
 -- a stop in one of the later steps is one of all
-pub ends_later : (fault : StepFault) (trace : Bool) (written first : Option (List ℕ)) (s : State) (n done step : ℕ) → done ≤ n
+pub ends_later : (fault : StepFault) (trace : Bool) (written first : List ℕ) (s : State) (n done step : ℕ) → done ≤ n
     → EndsInStep fault trace written first (after done s) (n - done) step → EndsInStep fault trace written first s n step
 ends_later fault trace written first s n done step few ends =
     let steps = steps_after done s in
@@ -132,89 +136,8 @@ so_later P s done step below so =
     sym (after_both done (step - 1 - (after done s).system.steps) s) ∙ ap (λ k. after k s) (omega (arith, steps, below)) in
     subst P before so
 
--- n steps of a system, and more behind them
-
-followed_again : (one two three : Change) → followed one (followed two three) ≡ followed (followed one two) three
-followed_again one two three =
-    ap (λ emitted. let c : Change = record { system = three.system; emitted = emitted } in c) (append_assoc three.emitted two.emitted one.emitted)
-
-pub are_steps_both : (m n : ℕ) (kept between kept' : Kept) (old : System) (one two : Change) → AreSteps m kept between old one → AreSteps n between kept' one.system two
-    → AreSteps (m + n) kept kept' old (followed one two)
-unfolding AreSteps
-are_steps_both m zero kept between kept' old one two first more =
-    let count : m + zero ≡ m = omega arith in
-    let same : followed one two ≡ one = ap (followed one) more.1 in
-    subst (λ k. AreSteps k kept kept' old (followed one two)) (sym count)
-    (subst (AreSteps m kept kept' old) (sym same) (subst (λ (k : Kept). AreSteps m kept k old one) (sym more.0) first))
-are_steps_both m (suc n) kept between kept' old one two first more =
-    let count : m + suc n ≡ suc (m + n) = omega arith in
-    let before = more.1 in
-    let last = more.2 in
-    subst (λ k. AreSteps k kept kept' old (followed one two)) (sym count)
-    (more.0, followed one before, last, are_steps_both m n kept between more.0 old one before first more.3, more.4, ap (followed one) more.5 ∙ followed_again one before last)
-
-are_steps_one : (kept kept' : Kept) (old : System) (change : Change) → IsMadeUpon kept kept' old change → AreSteps 1 kept kept' old change
-unfolding AreSteps
-are_steps_one kept kept' old change is =
-    (kept, silent old, change, (refl, refl), is, ap (λ emitted. let c : Change = record { system = change.system; emitted = emitted } in c) (sym (append-nil change.emitted)))
-
 -- nothing was done
 
 pub still_state : (system : System) (s : State) → s.system ≡ system → after 0 s ≡ record s { system = system }
 unfolding after
 still_state system s is = ap (λ (x : System). record s { system = x }) is
-
-pub still_steps : (kept : Kept) (system : System) → AreSteps 0 kept kept system (silent system)
-unfolding AreSteps
-still_steps kept system = (refl, refl)
-
-pub run_nothing : (kept : Kept) (o : Outside) (old : System) → HasRun 0 kept kept o o old old
-unfolding AreSteps
-run_nothing kept o old = record { emitted = []; steps = (refl, refl); wrote = wrote_nothing o }
-
-pub run_both : {kept between kept' : Kept} (m n : ℕ) (o p q : Outside) (old middle new : System) → HasRun m kept between o p old middle → HasRun n between kept' p q middle new
-    → HasRun (m + n) kept kept' o q old new
-run_both {kept} {between} {kept'} m n o p q old middle new one two = record {
-  emitted = two.emitted ++ one.emitted;
-  steps = are_steps_both m n kept between kept' old (record { system = middle; emitted = one.emitted }) (record { system = new; emitted = two.emitted }) one.steps two.steps;
-  wrote = wrote_after o p q one.emitted two.emitted one.wrote two.wrote;
-}
-
-pub run_silent : {kept kept' : Kept} (n : ℕ) (o : Outside) (old new : System) → AreSteps n kept kept' old (silent new) → HasRun n kept kept' o o old new
-run_silent n o old new are = record { emitted = []; steps = are; wrote = wrote_nothing o }
-
-pub run_step : {kept kept' : Kept} (o p : Outside) (old new : System) → HasStepped kept kept' o p old new → HasRun 1 kept kept' o p old new
-run_step {kept} {kept'} o p old new one =
-    record { emitted = one.emitted; steps = are_steps_one kept kept' old (record { system = new; emitted = one.emitted }) one.is; wrote = one.wrote }
-
--- some, and one more
-pub run_and_step : {kept between kept' : Kept} (n : ℕ) (o p q : Outside) (old middle new : System) → HasRun n kept between o p old middle
-    → HasStepped between kept' p q middle new → HasRun (n + 1) kept kept' o q old new
-run_and_step n o p q old middle new ran one = run_both n 1 o p q old middle new ran (run_step p q middle new one)
-
--- some, and one that stopped; and some before these
-pub stopped_in_step : {kept : Kept} (n done : ℕ) (fault : StepFault) (step : ℕ) (between : Kept) (o p q : Outside) (old middle : System) → done < n → step ≡ old.steps + done + 1
-    → HasRun done kept between o p old middle → HasStopped fault between p q middle → HasStoppedIn n fault step kept o q old
-stopped_in_step n done fault step between o p q old middle few is ran stops = record {
-  done = done;
-  few = few;
-  is = is;
-  middle = middle;
-  kept_then = between;
-  between = p;
-  ran = ran;
-  stops = stops;
-}
-
-pub stopped_later : {kept between : Kept} (n done : ℕ) (fault : StepFault) (step : ℕ) (o p q : Outside) (old middle : System) → done ≤ n → middle.steps ≡ old.steps + done
-    → HasRun done kept between o p old middle → HasStoppedIn (n - done) fault step between p q middle → HasStoppedIn n fault step kept o q old
-stopped_later n done fault step o p q old middle few steps ran stops = record {
-  done = done + stops.done;
-  few = omega (arith, few, stops.few);
-  is = omega (arith, steps, stops.is);
-  middle = stops.middle;
-  kept_then = stops.kept_then;
-  between = stops.between;
-  ran = run_both done stops.done o p stops.between old middle stops.middle ran stops.ran;
-  stops = stops.stops;
-}

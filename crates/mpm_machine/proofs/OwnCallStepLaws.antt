@@ -2,7 +2,6 @@
 -- the disk, where no call is at it
 use Rattle.std.proofs.Common.{◌≡◌, ◌∙◌, ℕ, ◌+◌, ◌-◌, ◌*◌, ◌<◌, true, false, not, ◌&&◌, if◌then◌else◌, List, [], ◌∷◌, ◌++◌, Option, Some, None, IfSome, is_some, option_map, refl, sym, ap, subst, arith, Bool}
 use Rattle.mpm_port.specs.Disks.{Disks}
-use Rattle.mpm_port.specs.Texts.{appended}
 use Rattle.mpm_base.specs.Calls.{answering, Taken, Answer}
 use Rattle.mpm_ready.specs.Order.{first_of}
 use Rattle.mpm_ready.specs.Tables.{list_at}
@@ -28,7 +27,7 @@ use Rattle.mpm_render.proofs.Laws.{pending_completed, rendered_unasked}
 use Rattle.mpm_output.specs.Outside.{Outside}
 use Rattle.mpm_output.specs.Writing.{Wrote}
 use Rattle.mpm_directories.specs.Direct.{Directly}
-use Rattle.mpm_bdos.specs.Serving.{Kept, StandForSome}
+use Rattle.mpm_bdos.specs.Serving.{Kept}
 use Rattle.mpm_procs.specs.declared.process.Process.{Process}
 use Rattle.mpm_procs.proofs.MapLaws.{lives_changed}
 use Rattle.mpm_system.specs.Procedures.{is_inside}
@@ -45,25 +44,25 @@ use Rattle.mpm_system.proofs.IdlingLaws.{fewer_can}
 use Rattle.mpm_system.proofs.OwnCallLaws.{placed_in_memory}
 use Rattle.mpm_machine.specs.declared.ahead.Ahead.{Ahead}
 use Rattle.mpm_machine.specs.Files.{Files, AreWithin, StandsForFiles}
-use Rattle.mpm_machine.specs.Holding.{HoldsDrives}
+use Rattle.mpm_machine.specs.Holding.{HoldsKept}
 use Rattle.mpm_machine.specs.Serving.{gate_step}
 use Rattle.mpm_machine.specs.Finishing.{all_answered}
 use Rattle.mpm_machine.specs.FileCalls.{is_file_number, at_gate, called_next, calls_files, file_caller_by, file_caller}
 use Rattle.mpm_machine.specs.Step.{acted, begun_by, instruction_unless, then_also, dispatched as step_dispatched}
 use Rattle.mpm_machine.specs.DiskStep.{step_passed}
-use Rattle.mpm_machine.specs.Stepping.{Telling, begun_with, begun_alone, begun_as, is_instruction, rest_of, step_with, told_first, telling_of, before_disk, files_begun_by, files_begun, files_rest, stepped}
+use Rattle.mpm_machine.specs.Stepping.{Telling, nothing_told, begun_with, begun_alone, begun_as, is_instruction, rest_of, step_with, told_first, telling_of, before_disk, files_begun_by, files_begun, files_rest, stepped}
 use Rattle.mpm_machine.specs.Contained.{Calls}
 use Rattle.mpm_machine.specs.Moving.{RunsAhead, is_still}
 use Rattle.mpm_machine.specs.OwnCalls.{MakesOwnCall, IsRecord, with_own_call}
-use Rattle.mpm_machine.specs.After.{IsMadeUpon, HasStepped, HasSteppedTo}
+use Rattle.mpm_machine.specs.After.{HasSteppedTo}
 use Rattle.mpm_machine.proofs.ActedLaws.{whole_gate_step}
 use Rattle.mpm_machine.proofs.WholeStepLaws.{whole_counted}
 use Rattle.mpm_machine.proofs.FinishLaws.{answered_nobody}
 use Rattle.mpm_machine.proofs.QuietLaws.{none_comes, picked_same}
-use Rattle.mpm_machine.proofs.PassingLaws.{Passes, still_ahead, passes_on, passes_nothing, rest_recorded}
+use Rattle.mpm_machine.proofs.MadeLaws.{IsMade}
+use Rattle.mpm_machine.proofs.PassingLaws.{IsPaid, still_ahead, passes_on, passes_nothing, rest_recorded}
 use Rattle.mpm_machine.proofs.PlainLaws.{rest_leaves}
 use Rattle.mpm_machine.proofs.ServedLaws.{calls_at_gate, no_instruction}
-use Rattle.mpm_machine.proofs.FileStepLaws.{is_made_still}
 use Rattle.mpm_machine.proofs.StandingLaws.{stands_within}
 use Rattle.mpm_machine.proofs.BegunLaws.{keeps_alone, holds_kept}
 use Rattle.mpm_machine.proofs.OwnCallLaws.{OwnRow, own_row, no_file_function, asks_own, own_changed, own_at_gate}
@@ -161,6 +160,12 @@ whole_behind p seg system w makes =
     subst (λ (c : Change). IsWhole c.system) (own_steps_gate p seg system w makes)
     (whole_gate_step p seg (counted system) (whole_counted system w) (runner_lives system.kernel p w.sound makes.on.running) (w.sound.runs p makes.on.running))
 
+record Passes (system : System) : Type 0 where
+  pub paid : IsPaid system
+  pub nobody : NobodyAborted system.kernel
+  pub off : system.abort_deferred ≡ false
+  pub still : is_still (turn_answer system.kernel.disk) ≡ true
+
 own_passes : (p seg : ℕ) (system : System) → IsWhole system → (makes : MakesOwnCall p seg system) → Passes (behind_gate p seg system makes)
 unfolding answering_call recorded replied popped keeping
 own_passes p seg system w makes = record {
@@ -202,11 +207,11 @@ own_step telling p seg system w makes =
 
 -- so it is one that the machine makes
 
-pub own_made : (kept : Kept) (p seg : ℕ) (system : System) → StandForSome kept.mounted → IsWhole system → (makes : MakesOwnCall p seg system) → IsMadeUpon kept kept system (with_own_call p seg system)
-own_made kept p seg system stand w makes =
-    is_made_still kept system (with_own_call p seg system) stand w makes.on.no_completions (own_alone p seg system makes)
-    (λ told. subst (λ (c : Change). Passes c.system) (sym (own_begun told p seg system w makes)) (own_passes p seg system w makes))
-    (λ telling. sym (own_step telling p seg system w makes))
+-- so it is one that the machine makes
+pub own_made : (p seg : ℕ) (old new : System) → IsWhole old → MakesOwnCall p seg old → new ≡ (with_own_call p seg old).system → IsMade old new
+own_made p seg old new w makes is =
+    let telling : Telling = record { at_gate = nothing_told; at_disk = nothing_told; turns = 1 } in
+    (telling, is ∙ ap (λ (c : Change). c.system) (sym (own_step telling p seg old w makes)))
 
 -- where no record is asked for, that of a call comes out as nothing is written
 
@@ -216,17 +221,11 @@ own_wrote o emitted off is =
     subst (Wrote o o) (sym is.1) (record {
       shown = λ outputs first shows. record {
         lines = λ place there. shows.lines place there ∙ sym (pending_completed place call outputs);
-        written_is = shows.written_is ∙ ap (appended first) (sym (rendered_unasked o.kept.trace call outputs off));
+        written_is = shows.written_is ∙ ap (λ (text : List ℕ). first ++ text) (sym (rendered_unasked o.kept.trace call outputs off));
       };
       faults = refl;
       trace = refl;
     })
-
-pub own_stepped : (kept : Kept) (o n : Outside) (p seg : ℕ) (old new : System) → StandForSome kept.mounted → IsWhole old → (makes : MakesOwnCall p seg old) → new ≡ (with_own_call p seg old).system
-    → Wrote o n (with_own_call p seg old).emitted → HasStepped kept kept o n old new
-own_stepped kept o n p seg old new stand w makes is wrote =
-    subst (λ (s : System). HasStepped kept kept o n old s) (sym is)
-    (record { emitted = (with_own_call p seg old).emitted; is = own_made kept p seg old stand w makes; wrote = wrote })
 
 -- by what is on the drives, which it leaves
 
@@ -263,7 +262,7 @@ disk_still : (p seg : ℕ) (old : System) → IsWhole old → (makes : MakesOwnC
 disk_still p seg old w makes =
     ap (λ (c : Change). c.system.kernel.disk) (gate_out p seg old w makes) ∙ disk_so (row_of p seg old makes).value (row_of p seg old makes).changed p seg old
 
-pub own_stepped_to : (files : Files) (o n : Outside) (p seg : ℕ) (old new : System) (kept : Kept) (disks : Option Disks) → IsWhole old → MakesOwnCall p seg old
+pub own_stepped_to : (files : Files) (o n : Outside) (p seg : ℕ) (old new : System) (kept : Kept) (disks : Disks) → IsWhole old → MakesOwnCall p seg old
     → new ≡ (with_own_call p seg old).system → Wrote o n (with_own_call p seg old).emitted → StandsForFiles old.kernel.disk kept disks files
     → HasSteppedTo files o n old new kept disks
 own_stepped_to files o n p seg old new kept disks w makes is wrote stands =
@@ -281,14 +280,14 @@ own_stepped_to files o n p seg old new kept disks w makes is wrote stands =
 kernel_still : (p seg : ℕ) (old : System) → IsWhole old → (makes : MakesOwnCall p seg old) → (behind_gate p seg old makes).kernel ≡ (with_own_call p seg old).system.kernel
 kernel_still p seg old w makes = sym (ap (λ (c : Change). c.system.kernel) (gate_out p seg old w makes))
 
-pub own_holds : {D : Type 0} (attached : D → ℕ → Option ℕ) (disks : D → Option Disks) (p seg : ℕ) (old new : System) (kept : Kept) (drives : D) → IsWhole old
-    → (makes : MakesOwnCall p seg old) → new ≡ (with_own_call p seg old).system → HoldsDrives attached disks old.kernel kept drives → HoldsDrives attached disks new.kernel kept drives
-own_holds attached disks p seg old new kept drives w makes is holds =
+pub own_holds : {D : Type 0} (disks : D → Disks) (p seg : ℕ) (old new : System) (kept : Kept) (drives : D) → IsWhole old
+    → (makes : MakesOwnCall p seg old) → new ≡ (with_own_call p seg old).system → HoldsKept disks old.kernel kept drives → HoldsKept disks new.kernel kept drives
+own_holds disks p seg old new kept drives w makes is holds =
     let begins : behind_gate p seg old makes ≡ all_answered (begun_alone old).system =
     sym (own_answered p seg old makes) ∙ sym (ap (λ (c : Change). all_answered c.system) (own_begins p seg old w makes)) in
-    subst (λ (s : System). HoldsDrives attached disks s.kernel kept drives) (sym is)
-    (subst (λ (kernel : Kernel). HoldsDrives attached disks kernel kept drives) (kernel_still p seg old w makes)
-    (holds_kept attached disks old (behind_gate p seg old makes) kept drives (keeps_alone old (behind_gate p seg old makes) w holds.filed begins) holds))
+    subst (λ (s : System). HoldsKept disks s.kernel kept drives) (sym is)
+    (subst (λ (kernel : Kernel). HoldsKept disks kernel kept drives) (kernel_still p seg old w makes)
+    (holds_kept disks old (behind_gate p seg old makes) kept drives (keeps_alone old (behind_gate p seg old makes) w holds.filed begins) holds))
 
 pub own_turn_steps : (p seg : ℕ) (old new : System) → IsWhole old → MakesOwnCall p seg old → new ≡ (with_own_call p seg old).system
     → new.kernel.disk.turn_steps ≡ old.kernel.disk.turn_steps

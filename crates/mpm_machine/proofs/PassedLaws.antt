@@ -14,13 +14,13 @@ use Rattle.mpm_service.proofs.PlaceLaws.{at_passed}
 use Rattle.mpm_kernel.specs.Kernel.{Kernel}
 use Rattle.mpm_kernel.specs.Disk.{with_disk}
 use Rattle.mpm_kernel.proofs.Beside.{field_kept}
-use Rattle.mpm_bdos.specs.Answering.{HasEntered}
+use Rattle.mpm_bdos.specs.Starting.{HasEntered}
 use Rattle.mpm_functions.specs.Functions.{function_of}
 use Rattle.mpm_bdos.specs.Serving.{Kept, InService}
 use Rattle.mpm_system.specs.declared.system.System.{System}
 use Rattle.mpm_system.specs.Idling.{later}
 use Rattle.mpm_machine.proofs.PassingLaws.{passes_nothing}
-use Rattle.mpm_machine.specs.Holding.{IsOwn, HoldsDrives, CallsAlike}
+use Rattle.mpm_machine.specs.Holding.{IsOwn, HoldsKept, CallsAlike}
 use Rattle.mpm_machine.specs.Moving.{Moved, with_view}
 
 -- how many steps a turn has stays
@@ -75,10 +75,10 @@ begun_on : (n : ℕ) (served : Option Served) → IfSome served (λ call. 0 < ca
 begun_on n None begun = tt
 begun_on n (Some call) begun = begun
 
-holds_by : {D : Type 0} (attached : D → ℕ → Option ℕ) (disks : D → Option Disks) (n : ℕ) (old : Kernel) (kept : Kept) (drives : D)
-    → HoldsDrives attached disks old kept drives → HoldsDrives attached disks (record old { disk = passed_by n old.disk }) kept drives
+holds_by : {D : Type 0} (disks : D → Disks) (n : ℕ) (old : Kernel) (kept : Kept) (drives : D)
+    → HoldsKept disks old kept drives → HoldsKept disks (record old { disk = passed_by n old.disk }) kept drives
 unfolding passed_by
-holds_by attached disks n old kept drives h = record {
+holds_by disks n old kept drives h = record {
   filed = λ p some. h.filed p (omega (arith, at_passed old.disk n p, some));
   own = own_passed n old.disk.served old.dispatcher.procs old.dispatcher.procs kept.service (alike_itself old.dispatcher.procs) h.own;
   begun = begun_on n old.disk.served h.begun;
@@ -91,12 +91,12 @@ own_by : (served : Option Served) (old new : Table) (service : Option InService)
 own_by None old new service alike own = tt
 own_by (Some call) old new service alike own = own_alike old new call.p service alike own
 
-pub holds_passed : {D : Type 0} (attached : D → ℕ → Option ℕ) (disks : D → Option Disks) (n : ℕ) (old new : Kernel) (before kept : Kept) (drives : D)
+pub holds_passed : {D : Type 0} (disks : D → Disks) (n : ℕ) (old new : Kernel) (before kept : Kept) (drives : D)
     → new.disk ≡ passed_by n old.disk → CallsAlike old.dispatcher.procs new.dispatcher.procs → kept ≡ before
-    → HoldsDrives attached disks old before drives → HoldsDrives attached disks new kept drives
-holds_passed attached disks n old new before kept drives is alike same h =
-    let passed = holds_by attached disks n old before drives h in
-    let here : HoldsDrives attached disks new before drives = record {
+    → HoldsKept disks old before drives → HoldsKept disks new kept drives
+holds_passed disks n old new before kept drives is alike same h =
+    let passed = holds_by disks n old before drives h in
+    let here : HoldsKept disks new before drives = record {
       filed = λ p some.
           ap (λ (call : Taken). is_some (function_of call.function)) (alike.calls p)
           ∙ passed.filed p (subst (λ (disk : DiskService). 0 < at_disk disk p) is some);
@@ -106,4 +106,4 @@ holds_passed attached disks n old new before kept drives is alike same h =
       fits = passed.fits;
       workless = passed.workless;
     } in
-    subst (λ (k : Kept). HoldsDrives attached disks new k drives) (sym same) here
+    subst (λ (k : Kept). HoldsKept disks new k drives) (sym same) here

@@ -2,16 +2,12 @@
 use Rattle.std.proofs.Common.{◌≡◌, ◌∙◌, ℕ, ◌+◌, ◌-◌, ◌<◌, ◌==◌, Bool, true, false, List, [], ◌++◌, Option, Some, None, IfSome, if◌then◌else◌, option_map, refl, sym, ap, arith}
 use Rattle.std.proofs.lemmas.Bool.{false≢true}
 use Rattle.std.proofs.lemmas.Bool.Decides.{nat_tests}
-use Rattle.std.proofs.lemmas.Option.{none-some}
-use Rattle.std.specs.Prelude.{option_and_then}
 use Rattle.mpm_ready.specs.Order.{Member, first_of}
 use Rattle.mpm_service.specs.Disk.{DiskService, served_process, is_last_step, after_step, step_answer, answer_by, served_after, waiting_after, starting, turned, turn_answer}
 use Rattle.mpm_service.specs.Ahead.{passed_on, passed_by}
 use Rattle.mpm_service.specs.declared.service.Served.{Served}
-use Rattle.mpm_service.specs.declared.service.Turn.{Turn}
-use Rattle.mpm_service.specs.declared.service.Turn.TheVariants.{Idle, Passing, Work, Starts}
+use Rattle.mpm_service.specs.declared.service.Turn.TheVariants.{Passing, Work}
 use Rattle.mpm_render.specs.Outputs.{Output}
-use Rattle.mpm_functions.specs.declared.functions.FileFunction.{FileFunction}
 use Rattle.mpm_directories.specs.Direct.{Directly}
 use Rattle.mpm_system.specs.declared.system.System.{System}
 use Rattle.mpm_system.specs.Owing.{nobody_owes}
@@ -21,9 +17,8 @@ use Rattle.mpm_system.specs.Idling.{CanPass}
 use Rattle.mpm_machine.specs.Due.{with_ends}
 use Rattle.mpm_machine.specs.Files.{Files, Between, Within, AreWithin}
 use Rattle.mpm_machine.specs.Step.{dispatched}
-use Rattle.mpm_machine.specs.DiskStep.{step_passed, disk_served, over_by, process_over, owed_then, all_paid, call_entered}
-use Rattle.mpm_machine.specs.Stepping.{Telling, paid_after, entered_after, ended_after, rest_of}
-use Rattle.mpm_machine.specs.After.{EntersService}
+use Rattle.mpm_machine.specs.DiskStep.{step_passed, disk_served, owed_then, all_paid, call_entered}
+use Rattle.mpm_machine.specs.Stepping.{Telling, entered_after, ended_after, rest_of}
 use Rattle.mpm_machine.specs.Moving.{is_still}
 use Rattle.mpm_machine.proofs.DueLaws.{no_ends, nothing_out}
 use Rattle.mpm_machine.proofs.QuietLaws.{served_still, served_nobody, entered_nobody, entered_served}
@@ -116,13 +111,6 @@ paid_passed system paid still =
 pub paid_already : (system : System) → IsPaid system → all_paid system ≡ system
 paid_already system paid = paid_now system system.kernel.disk.served refl paid
 
--- a system in which the disk's step only passes, and nothing but records is left to be done
-pub record Passes (system : System) : Type 0 where
-  pub paid : IsPaid system
-  pub nobody : NobodyAborted system.kernel
-  pub off : system.abort_deferred ≡ false
-  pub still : is_still (turn_answer system.kernel.disk) ≡ true
-
 -- whose call is served then
 serves_on : (served : Option Served) (first : Option ℕ) (turn_steps p : ℕ) → is_still (answer_by turn_steps served first) ≡ true → option_map (λ call. call.p) served ≡ Some p
     → option_map (λ call. call.p) (served_after turn_steps served first) ≡ Some p
@@ -154,38 +142,6 @@ entered_by_whom (Some p) telling system paid is still =
 pub entered_still : (telling : Telling) (system : System) → IsPaid system → is_still (turn_answer system.kernel.disk) ≡ true
     → entered_after telling system ≡ step_passed system
 entered_still telling system paid still = entered_by_whom (served_process system.kernel.disk) telling system paid refl still
-
--- no call is over then
-over_nobody : (turn : Turn) → is_still turn ≡ true → over_by turn ≡ None
-over_nobody Idle still = refl
-over_nobody Passing still = refl
-over_nobody (Work p last) still = absurd (false≢true still)
-over_nobody (Starts p) still = absurd (false≢true still)
-
-over_by_whom : (whom : Option ℕ) (turn : Turn) → is_still turn ≡ true → option_and_then (λ p. over_by turn) whom ≡ None
-over_by_whom None turn still = refl
-over_by_whom (Some p) turn still = over_nobody turn still
-
-pub nobody_over : (system : System) → is_still (turn_answer system.kernel.disk) ≡ true → process_over system ≡ None
-unfolding process_over
-nobody_over system still = over_by_whom (served_process system.kernel.disk) (turn_answer system.kernel.disk) still
-
--- and none enters service
-starts_nobody : (turn : Turn) (p : ℕ) → is_still turn ≡ true → turn ≡ Starts p → ⊥
-starts_nobody turn p still is = false≢true (sym (ap is_still is) ∙ still)
-
-starts_by_whom : (whom : Option ℕ) (told : Directly) (system : System) (function : FileFunction) (p : ℕ) → served_process system.kernel.disk ≡ whom
-    → is_still (turn_answer system.kernel.disk) ≡ true → EntersService function p (paid_after told system) → ⊥
-unfolding served_process all_paid
-starts_by_whom None told system function p is still enters =
-    starts_nobody (turn_answer system.kernel.disk) p still (ap (λ (c : Change). turn_answer c.system.kernel.disk) (sym (served_nobody told system is)) ∙ enters.starts)
-starts_by_whom (Some q) told system function p is still enters =
-    none-some q (sym (ap (option_map (λ (call : Served). call.p)) enters.idle)
-    ∙ ap (λ (c : Change). served_process c.system.kernel.disk) (served_still told q system is still) ∙ still_serves system.kernel.disk q still is)
-
-pub nobody_starts : (told : Directly) (system : System) (function : FileFunction) (p : ℕ) → is_still (turn_answer system.kernel.disk) ≡ true
-    → EntersService function p (paid_after told system) → ⊥
-nobody_starts told system function p still enters = starts_by_whom (served_process system.kernel.disk) told system function p refl still enters
 
 says_by_whom : (whom : Option ℕ) (told : Directly) (system : System) → served_process system.kernel.disk ≡ whom → is_still (turn_answer system.kernel.disk) ≡ true
     → (disk_served told system).emitted ≡ []

@@ -1,15 +1,13 @@
 -- A step in which no file call is made, nothing is given back and the disk only passes leaves files and drives as they are.
-use Rattle.std.proofs.Common.{◌≡◌, ◌∙◌, ℕ, zero, suc, Bool, true, false, List, [], ◌∷◌, ◌++◌, Option, Some, None, slice_index_or, replicate, if◌then◌else◌, refl, sym, ap}
+use Rattle.std.proofs.Common.{◌≡◌, ◌∙◌, ℕ, zero, suc, Bool, true, false, List, [], ◌∷◌, ◌++◌, Option, Some, None, slice_index_or, replicate, if◌then◌else◌, refl, ap}
 use Rattle.std.proofs.lemmas.Bool.{false≢true}
 use Rattle.std.specs.List.{range_with_len}
-use Rattle.mpm_ready.specs.Order.{first_of}
-use Rattle.mpm_service.specs.Disk.{served_process, turned, turn_answer}
+use Rattle.mpm_service.specs.Disk.{served_process, turn_answer}
 use Rattle.mpm_service.specs.declared.service.Served.{Served}
 use Rattle.mpm_service.specs.declared.service.Turn.{Turn}
 use Rattle.mpm_service.specs.declared.service.Turn.TheVariants.{Idle, Passing, Work, Starts}
 use Rattle.mpm_requests.specs.Filing.{Filing}
 use Rattle.mpm_bdos.specs.Outcomes.{left_by, without_search}
-use Rattle.mpm_bdos.specs.Serving.{Kept, filing_of}
 use Rattle.mpm_directories.specs.Direct.{Directly}
 use Rattle.mpm_system.specs.declared.system.System.{System}
 use Rattle.mpm_system.specs.Owing.{nobody_owes}
@@ -19,13 +17,12 @@ use Rattle.mpm_machine.specs.State.{State}
 use Rattle.mpm_machine.specs.Step.{acted}
 use Rattle.mpm_machine.specs.Files.{Files, Between, Within, AreWithin, left_each, owes, all_left, given_back}
 use Rattle.mpm_machine.specs.FileCalls.{file_caller}
-use Rattle.mpm_machine.specs.Filed.{left_unless, kept_paid}
 use Rattle.mpm_machine.specs.DiskStep.{disk_served, all_paid, files_over, files_served_by, files_served, files_entered_by, files_entered_unless, files_entered, step_passed}
 use Rattle.mpm_machine.specs.Moving.{is_still}
-use Rattle.mpm_machine.specs.Stepping.{Telling, nothing_told, told_first, files_begun_by, files_begun, before_disk, told_within, paid_after, ended_after, files_paid, files_then, telling_then, telling_of, step_with, stepped, files_rest}
-use Rattle.mpm_machine.specs.After.{LeavesKept, next}
+use Rattle.mpm_machine.specs.Stepping.{Telling, nothing_told, told_first, files_begun_by, files_begun, before_disk, told_within, paid_after, files_paid, files_then, telling_then, telling_of, step_with, stepped, files_rest}
+use Rattle.mpm_machine.specs.After.{next}
 use Rattle.mpm_machine.proofs.QuietLaws.{begun_quiet, served_still, served_nobody}
-use Rattle.mpm_machine.proofs.PassingLaws.{IsPaid, still_served, paid_passed, paid_already, still_serves, ended_still}
+use Rattle.mpm_machine.proofs.PassingLaws.{IsPaid, paid_passed, paid_already, still_serves, ended_still}
 
 none_leaves : (gone : ℕ → Bool) (ps : List ℕ) (filing : Filing) → ((p : ℕ) → gone p ≡ false) → left_each gone ps filing ≡ filing
 unfolding left_each
@@ -120,37 +117,6 @@ rest_leaves system files paid nobody off still within =
     ∙ ap (λ f. given_back system.owed (files_entered (paid_after (told_within files system) system) f)) (paid_still system files paid still within)
     ∙ ap (given_back system.owed) (enters_by_whom (served_process system.kernel.disk) (told_within files system) system files paid refl still)
     ∙ given_nothing system.owed system.kernel.disk.served files within paid
-
--- and what is kept
-
-kept_unowed : (served : Option Served) (owed : List Bool) (kept : Kept) → (served ≡ None → owed ≡ nobody_owes) → left_unless served owed kept ≡ kept
-kept_unowed None owed kept nobody =
-    ap (λ (left : Filing). record kept { opens = left.opens; marks = left.marks; searches = left.searches }) (nobody_leaves owed (filing_of kept []) (nobody refl))
-kept_unowed (Some call) owed kept nobody = refl
-
-kept_passed : (system : System) (kept : Kept) → IsPaid system → is_still (turn_answer system.kernel.disk) ≡ true → kept_paid (step_passed system) kept ≡ kept
-unfolding kept_paid turn_answer turned
-kept_passed system kept paid still =
-    kept_unowed (step_passed system).kernel.disk.served system.owed kept (λ idle.
-    paid (still_served system.kernel.disk.served (first_of system.kernel.disk.waiting) system.kernel.disk.turn_steps still idle))
-
-kept_by_whom : (whom : Option ℕ) (told : Directly) (system : System) (kept : Kept) → IsPaid system → served_process system.kernel.disk ≡ whom
-    → is_still (turn_answer system.kernel.disk) ≡ true → kept_paid (disk_served told system).system kept ≡ kept
-unfolding kept_paid
-kept_by_whom None told system kept paid is still =
-    ap (λ (c : Change). kept_paid c.system kept) (served_nobody told system is) ∙ kept_unowed system.kernel.disk.served system.owed kept paid
-kept_by_whom (Some p) told system kept paid is still =
-    ap (λ (c : Change). kept_paid c.system kept) (served_still told p system is still) ∙ kept_passed system kept paid still
-
-pub rest_keeps : (telling : Telling) (system : System) (kept : Kept) → IsPaid system → NobodyAborted system.kernel → system.abort_deferred ≡ false
-    → is_still (turn_answer system.kernel.disk) ≡ true → LeavesKept telling kept kept system
-rest_keeps telling system kept paid nobody off still = record {
-  is = sym (ap (λ (k : Kept). kept_paid (ended_after telling system) (record k { service = kept.service }))
-      (kept_by_whom (served_process system.kernel.disk) telling.at_disk system kept paid refl still)
-      ∙ ap (λ (s : System). kept_paid s kept) (ended_still telling system paid nobody off still)
-      ∙ kept_passed system kept paid still);
-  service = λ _. refl;
-}
 
 pub files_still : (s : State) (later : System) → file_caller s.system ≡ None → coming (counted s.system) ≡ None → acted (counted s.system) ≡ silent later
     → NoCompletions later → NobodyAborted later.kernel → later.abort_deferred ≡ false → is_still (turn_answer later.kernel.disk) ≡ true

@@ -1,11 +1,10 @@
 -- The disk's step as the code makes it: a call that is over, and a step of the turn of the one in service.
 -- a call that is over: what is told of it is what it came to
 use Rattle.std.proofs.Common.{◌≡◌, ◌∙◌, ℕ, Bool, true, false, List, [], Option, Some, None, Result, Ok, Err, IfErr, IfSome, option_map, is_some, if◌then◌else◌, ◌==◌, inl, inr, length, arith, ◌+◌, ◌-◌, refl, sym, ap, subst}
-use Rattle.std.proofs.lemmas.Option.{none-some}
 use Rattle.std.specs.Prelude.{◌⊎◌, OnOk, OnErr, option_and_then}
 use Rattle.std.proofs.lemmas.Bool.{false≢true}
-use Rattle.std.proofs.lemmas.Result.{on_err_weaker, on_ok_weaker}
-use Rattle.mpm_base.specs.Calls.{Taken, Answer}
+use Rattle.std.proofs.lemmas.Result.{on_ok_weaker}
+use Rattle.mpm_base.specs.Calls.{Answer}
 use Rattle.mpm_port.specs.Disks.{Disks}
 use Rattle.mpm_port.specs.declared.Failed.{Failed}
 use Rattle.mpm_procs.specs.Table.{Lives, call_of}
@@ -23,33 +22,27 @@ use Rattle.mpm_output.specs.Writing.{Wrote, Stopped, Fails, Emits}
 use Rattle.mpm_output.proofs.WritingLaws.{wrote_nothing, wrote_cause, stopped_cause}
 use Rattle.mpm_port.specs.Causes.{HasCause}
 use Rattle.mpm_render.specs.Outputs.{Output}
-use Rattle.mpm_requests.specs.declared.caller.Caller.{Caller}
-use Rattle.mpm_functions.specs.declared.functions.FileFunction.{FileFunction}
 use Rattle.mpm_functions.specs.declared.refusals.Extended.{Extended}
-use Rattle.mpm_bdos.specs.Answering.{HasEntered, MayAnswer}
-use Rattle.mpm_functions.specs.declared.functions.DirectFunction.{DirectFunction}
-use Rattle.mpm_functions.specs.Functions.{function_of, direct_of}
 use Rattle.mpm_directories.specs.Direct.{Directly}
 use Rattle.mpm_requests.specs.Filing.{Filing, Situation}
 use Rattle.mpm_bdos.specs.Finishing.{ComesTo}
 use Rattle.mpm_bdos.specs.Jobs.{call_turns}
 use Rattle.mpm_bdos.specs.Outcomes.{file_call}
 use Rattle.mpm_bdos.specs.Serving.{Kept, InService, Serves}
-use Rattle.mpm_bdos.specs.Turns.{told_images}
+use Rattle.mpm_bdos.specs.Turns.{images_of}
 use Rattle.mpm_system.specs.declared.system.System.{System}
 use Rattle.mpm_system.specs.Whole.{Change, HasRoomForAll, IsWhole, silent}
 use Rattle.mpm_machine.specs.Files.{Files, Between, Within, StandsBetween, StandsServed, StandsForFiles, StandsWorkedBy, StandsWorked}
-use Rattle.mpm_machine.specs.FileCalls.{MayTell, IsToldOf, EndsWithoutJob, told_of, concluded}
+use Rattle.mpm_machine.specs.FileCalls.{told_of, concluded}
 use Rattle.mpm_machine.specs.DiskStep.{ready_again, step_passed, call_over, over_after, served_by, disk_served, over_by, process_over, files_over, files_served_by, files_served, told_of_call}
 use Rattle.mpm_machine.specs.Stepping.{nothing_told, told_by_process, told_within}
 use Rattle.mpm_machine.specs.Holding.{IsOwn}
-use Rattle.mpm_machine.specs.After.{IsOfCall, IsToldIn, IsOverAsKept, HasAnswered, HasStoppedAnswering, HasPassed, HasStoppedServing}
+use Rattle.mpm_machine.specs.After.{IsOfSome}
 use Rattle.mpm_machine.proofs.FinishLaws.{no_completions_finished}
 use Rattle.mpm_machine.proofs.FileLaws.{whole_concluded}
 use Rattle.mpm_machine.proofs.FileStepLaws.{concluded_more}
 use Rattle.mpm_machine.proofs.DiskStepLaws.{whole_ready_again, whole_call_over}
 use Rattle.mpm_machine.proofs.KeepingLaws.{ServesSame, same_then, concluded_serves, finishing_serves}
-use Rattle.mpm_machine.proofs.ToldLaws.{own_told}
 use Rattle.mpm_machine.proofs.TurnLaws.{passing_stands, turn_stands, last_turn_serves, whose_turn}
 
 abbrev told_here : ℕ → System → Answer → Option Extended → Directly
@@ -61,57 +54,25 @@ told_is_its images s p system kept answer extended comes =
     let call = call_of system.kernel.dispatcher.procs p in
     ap (λ (a : Answer). told_of call a extended) comes.answer_is ∙ ap (λ (e : Option Extended). told_of call (file_call s).answer e) comes.extended_is
 
-pub answered_ok : {A E : Type 0} (r : Result A E) (p : ℕ) (old new : System) (o n : Outside) (s : Situation) (kept : Kept) (disks : Option Disks) (answer : Answer) (extended : Option Extended)
-    → ComesTo (told_images disks) s kept answer extended → kept.service ≡ None
+pub answered_ok : {A E : Type 0} (r : Result A E) (p : ℕ) (old new : System) (o n : Outside) (s : Situation) (kept : Kept) (disks : Disks) (answer : Answer) (extended : Option Extended)
+    → ComesTo (images_of disks) s kept answer extended → kept.service ≡ None
     → OnOk r (new ≡ (call_over (told_here p old answer extended) p old).system) → OnOk r (Wrote o n (call_over (told_here p old answer extended) p old).emitted)
     → OnOk r ((new ≡ (call_over (told_of_call s p old) p old).system) × Wrote o n (call_over (told_of_call s p old) p old).emitted × StandsBetween kept disks (file_call s).filing)
 answered_ok (Ok a) p old new o n s kept disks answer extended comes idle system wrote =
-    let same = told_is_its (told_images disks) s p old kept answer extended comes in (
+    let same = told_is_its (images_of disks) s p old kept answer extended comes in (
       subst (λ (told : Directly). new ≡ (call_over told p old).system) same system,
       subst (λ (told : Directly). Wrote o n (call_over told p old).emitted) same wrote,
       record { idle = idle; filing_is = comes.filing_is; stand = comes.stand },
     )
 answered_ok (Err e) p old new o n s kept disks answer extended comes idle system wrote = tt
 
-pub answered_err : {A : Type 0} (r : Result A Failed) (p : ℕ) (old : System) (o n : Outside) (s : Situation) (kept : Kept) (disks : Option Disks) (answer : Answer) (extended : Option Extended)
-    → ComesTo (told_images disks) s kept answer extended
+pub answered_err : {A : Type 0} (r : Result A Failed) (p : ℕ) (old : System) (o n : Outside) (s : Situation) (kept : Kept) (disks : Disks) (answer : Answer) (extended : Option Extended)
+    → ComesTo (images_of disks) s kept answer extended
     → IfErr r (λ error. Fails (by_sink error) o n (call_over (told_here p old answer extended) p old).emitted)
     → OnErr r (Stopped o n (call_over (told_of_call s p old) p old).emitted)
 answered_err (Ok a) p old o n s kept disks answer extended comes failed = tt
 answered_err (Err e) p old o n s kept disks answer extended comes failed =
-    subst (λ (told : Directly). Stopped o n (call_over told p old).emitted) (told_is_its (told_images disks) s p old kept answer extended comes) failed
-
-pub answered_told : {A E : Type 0} (r : Result A E) (p : ℕ) (old new : System) (o n : Outside) (kept left : Kept) (answer : Answer) (extended : Option Extended)
-    → IsOwn old.kernel.dispatcher.procs p kept.service
-    → ((caller : Caller) (function : FileFunction) (call : Taken) → HasEntered caller function call kept.service → MayAnswer caller.multi function call answer extended)
-    → EndsWithoutJob kept left answer extended
-    → OnOk r (new ≡ (call_over (told_here p old answer extended) p old).system) → OnOk r (Wrote o n (call_over (told_here p old answer extended) p old).emitted)
-    → OnOk r (HasAnswered kept left p o n old new)
-answered_told (Ok a) p old new o n kept left answer extended own may ends system wrote = record {
-  told = told_here p old answer extended;
-  of_call = refl;
-  tells = own_told p old kept.service answer extended own may;
-  as_kept = ends;
-  system = system;
-  wrote = wrote;
-}
-answered_told (Err e) p old new o n kept left answer extended own may ends system wrote = tt
-
-pub answered_stops : {A : Type 0} (r : Result A Failed) (p : ℕ) (old : System) (o n : Outside) (kept left : Kept) (answer : Answer) (extended : Option Extended)
-    → IsOwn old.kernel.dispatcher.procs p kept.service
-    → ((caller : Caller) (function : FileFunction) (call : Taken) → HasEntered caller function call kept.service → MayAnswer caller.multi function call answer extended)
-    → EndsWithoutJob kept left answer extended
-    → IfErr r (λ error. Fails (by_sink error) o n (call_over (told_here p old answer extended) p old).emitted)
-    → OnErr r (HasStoppedAnswering kept p o n old)
-answered_stops (Ok a) p old o n kept left answer extended own may ends failed = tt
-answered_stops (Err e) p old o n kept left answer extended own may ends failed = record {
-  told = told_here p old answer extended;
-  of_call = refl;
-  tells = own_told p old kept.service answer extended own may;
-  left = left;
-  as_kept = ends;
-  stops = failed;
-}
+    subst (λ (told : Directly). Stopped o n (call_over told p old).emitted) (told_is_its (images_of disks) s p old kept answer extended comes) failed
 
 pub answered_whole : {A E : Type 0} (r : Result A E) (told : Directly) (p : ℕ) (old new : System) → IsWhole old → IsOver p old.kernel
     → OnOk r (new ≡ (call_over told p old).system) → OnOk r (IsWhole new)
@@ -182,13 +143,13 @@ over_within : (system : System) (s : Situation) (p : ℕ) → turn_answer system
 unfolding told_within
 over_within system s p works = ap (λ (over : Option ℕ). told_by_process over (Within s) system) (over_process system p works)
 
-pub works_within : (turn_steps : ℕ) (served : Option Served) (first : Option ℕ) (p : ℕ) (last : Bool) (kept : Kept) (disks : Option Disks) (filing : Filing)
+pub works_within : (turn_steps : ℕ) (served : Option Served) (first : Option ℕ) (p : ℕ) (last : Bool) (kept : Kept) (disks : Disks) (filing : Filing)
     → answer_by turn_steps served first ≡ Work p last → StandsWorkedBy turn_steps served kept disks (Between filing) → ⊥
 works_within turn_steps None None p last kept disks filing works stands = absurd (cc)
 works_within turn_steps None (Some q) p last kept disks filing works stands = absurd (cc)
 works_within turn_steps (Some call) first p last kept disks filing works stands = stands
 
-abbrev Passed : Files → Outside → Outside → System → System → Kept → Option Disks → Type 0
+abbrev Passed : Files → Outside → Outside → System → System → Kept → Disks → Type 0
 Passed files o n old new kept disks =
     (new ≡ (disk_served (told_within files old) old).system) × Wrote o n (disk_served (told_within files old) old).emitted × StandsForFiles new.kernel.disk kept disks (files_served old files)
 
@@ -197,7 +158,7 @@ over_so : (system : System) (s : Situation) (p : ℕ) → turn_answer system.ker
 over_so system s p works =
     ap (λ (told : Directly). disk_served told system) (over_within system s p works) ∙ over_served (told_of_call s p (step_passed system)) system p works
 
-over_stands : (s : Situation) (p : ℕ) (o n : Outside) (old new : System) (kept : Kept) (disks : Option Disks) → turn_answer old.kernel.disk ≡ Work p true → (turned old.kernel.disk).served ≡ None
+over_stands : (s : Situation) (p : ℕ) (o n : Outside) (old new : System) (kept : Kept) (disks : Disks) → turn_answer old.kernel.disk ≡ Work p true → (turned old.kernel.disk).served ≡ None
     → (new ≡ (call_over (told_of_call s p (step_passed old)) p (step_passed old)).system)
     × Wrote o n (call_over (told_of_call s p (step_passed old)) p (step_passed old)).emitted × StandsBetween kept disks (file_call s).filing
     → Passed (Within s) o n old new kept disks
@@ -214,9 +175,9 @@ over_stands s p o n old new kept disks works none so =
       },
     )
 
-pub pass_over : {A E : Type 0} (r : Result A E) (files : Files) (p : ℕ) (o n : Outside) (old new : System) (before kept : Kept) (disks : Option Disks)
+pub pass_over : {A E : Type 0} (r : Result A E) (files : Files) (p : ℕ) (o n : Outside) (old new : System) (before kept : Kept) (disks : Disks)
     → turn_answer old.kernel.disk ≡ Work p true → (turned old.kernel.disk).served ≡ None → StandsWorked old.kernel.disk before disks files
-    → ((s : Situation) → Serves (told_images disks) before s (call_turns s) → s.caller.process ≡ p
+    → ((s : Situation) → Serves (images_of disks) before s (call_turns s) → s.caller.process ≡ p
     → OnOk r ((new ≡ (call_over (told_of_call s p (step_passed old)) p (step_passed old)).system)
     × Wrote o n (call_over (told_of_call s p (step_passed old)) p (step_passed old)).emitted × StandsBetween kept disks (file_call s).filing))
     → OnOk r (Passed files o n old new kept disks)
@@ -228,9 +189,9 @@ pass_over r (Within s) p o n old new before kept disks works none stands over =
     (over s (last_turn_serves old.kernel.disk before disks s p works stands) (whose_turn old.kernel.disk before disks s p true works stands))
 
 -- or the sink failed in it
-pub pass_stops : {A E : Type 0} (r : Result A E) (files : Files) (p : ℕ) (o n : Outside) (old : System) (before : Kept) (disks : Option Disks)
+pub pass_stops : {A E : Type 0} (r : Result A E) (files : Files) (p : ℕ) (o n : Outside) (old : System) (before : Kept) (disks : Disks)
     → turn_answer old.kernel.disk ≡ Work p true → StandsWorked old.kernel.disk before disks files
-    → ((s : Situation) → Serves (told_images disks) before s (call_turns s) → s.caller.process ≡ p
+    → ((s : Situation) → Serves (images_of disks) before s (call_turns s) → s.caller.process ≡ p
     → OnErr r (Stopped o n (call_over (told_of_call s p (step_passed old)) p (step_passed old)).emitted))
     → OnErr r (Stopped o n (disk_served (told_within files old) old).emitted)
 unfolding turn_answer
@@ -240,45 +201,17 @@ pass_stops r (Within s) p o n old before disks works stands over =
     subst (λ (c : Change). OnErr r (Stopped o n c.emitted)) (sym (over_so old s p works))
     (over s (last_turn_serves old.kernel.disk before disks s p works stands) (whose_turn old.kernel.disk before disks s p true works stands))
 
--- the told of a call is of the process, whose call the disk's step leaves
+-- whatever it comes to
+abbrev pub IsServedBy : System → System → Type 0
+IsServedBy old new = IsOfSome (λ (told : Directly). (disk_served told old).system) new
 
-tells_passed : (function : Option FileFunction) (other : Option DirectFunction) (p : ℕ) (system : System) (answer : Answer) (extended : Option Extended)
-    → MayTell function other p (step_passed system) answer extended → MayTell function other p system answer extended
-tells_passed (Some function) other p system answer extended tells = tells
-tells_passed None (Some function) p system answer extended tells = tells
-tells_passed None None p system answer extended tells = tells
+abbrev pub IsOverFrom : ℕ → System → System → Type 0
+IsOverFrom p old new = IsOfSome (λ (told : Directly). (call_over told p old).system) new
 
-told_passed : (p : ℕ) (system : System) (answer : Answer) (extended : Option Extended) → IsToldOf p (step_passed system) answer extended → IsToldOf p system answer extended
-unfolding IsToldOf
-told_passed p system answer extended tells =
-    let number = (call_of system.kernel.dispatcher.procs p).function in
-    tells_passed (function_of number) (direct_of number) p system answer extended tells
-
-pub has_passed_over : {A E : Type 0} (r : Result A E) (kept left : Kept) (p : ℕ) (o n : Outside) (old new : System) → turn_answer old.kernel.disk ≡ Work p true
-    → OnOk r (HasAnswered kept left p o n (step_passed old) new) → OnOk r (HasPassed kept left o n old new)
-has_passed_over r kept left p o n old new works =
-    on_ok_weaker r (λ (answered : HasAnswered kept left p o n (step_passed old) new). record {
-      told = answered.told;
-      of_call = subst (λ (over : Option ℕ). IsOfCall over answered.told old) (sym (over_process old p works)) answered.of_call;
-      tells = subst (λ (over : Option ℕ). IsToldIn over answered.told old) (sym (over_process old p works))
-          (told_passed p old answered.told.answer answered.told.extended answered.tells);
-      as_kept = subst (λ (over : Option ℕ). IsOverAsKept kept left over answered.told) (sym (over_process old p works)) answered.as_kept;
-      system = answered.system ∙ sym (ap (λ (c : Change). c.system) (over_served answered.told old p works));
-      wrote = subst (λ (c : Change). Wrote o n c.emitted) (sym (over_served answered.told old p works)) answered.wrote;
-    })
-
-pub has_stopped_over : {A E : Type 0} (r : Result A E) (kept : Kept) (p : ℕ) (o n : Outside) (old : System) → turn_answer old.kernel.disk ≡ Work p true
-    → OnErr r (HasStoppedAnswering kept p o n (step_passed old)) → OnErr r (HasStoppedServing kept o n old)
-has_stopped_over r kept p o n old works =
-    on_err_weaker r (λ (stopped : HasStoppedAnswering kept p o n (step_passed old)). record {
-      told = stopped.told;
-      of_call = subst (λ (over : Option ℕ). IsOfCall over stopped.told old) (sym (over_process old p works)) stopped.of_call;
-      tells = subst (λ (over : Option ℕ). IsToldIn over stopped.told old) (sym (over_process old p works))
-          (told_passed p old stopped.told.answer stopped.told.extended stopped.tells);
-      left = stopped.left;
-      as_kept = subst (λ (over : Option ℕ). IsOverAsKept kept stopped.left over stopped.told) (sym (over_process old p works)) stopped.as_kept;
-      stops = subst (λ (c : Change). Stopped o n c.emitted) (sym (over_served stopped.told old p works)) stopped.stops;
-    })
+pub over_made : {A E : Type 0} (r : Result A E) (p : ℕ) (old new : System) → turn_answer old.kernel.disk ≡ Work p true
+    → OnOk r (IsOverFrom p (step_passed old) new) → OnOk r (IsServedBy old new)
+over_made r p old new works =
+    on_ok_weaker r (λ (over : IsOverFrom p (step_passed old) new). (over.0, over.1 ∙ sym (ap (λ (c : Change). c.system) (over_served over.0 old p works))))
 
 -- of one that isn't a call's last
 
@@ -321,47 +254,6 @@ unfolding files_served
 same_served system s some more =
     ap (λ (served : Option ℕ). files_served_by served system (Within s)) (somebody system.kernel.disk some).1 ∙ same_files (turn_answer system.kernel.disk) s more
 
-nobody_over_by : (served : Option ℕ) (turn : Turn) → IsNotLast turn → option_and_then (λ (q : ℕ). over_by turn) served ≡ None
-unfolding IsNotLast
-nobody_over_by None turn more = refl
-nobody_over_by (Some q) Idle more = refl
-nobody_over_by (Some q) Passing more = refl
-nobody_over_by (Some q) (Starts p) more = refl
-nobody_over_by (Some q) (Work p true) more = absurd (more p refl)
-nobody_over_by (Some q) (Work p false) more = refl
-
-none_over : (system : System) → IsNotLast (turn_answer system.kernel.disk) → process_over system ≡ None
-unfolding process_over
-none_over system more = nobody_over_by (served_process system.kernel.disk) (turn_answer system.kernel.disk) more
-
--- a call in service that isn't over stays there
-pub last_is_over : (old : System) (p : ℕ) → turn_answer old.kernel.disk ≡ Work p true → process_over old ≡ None → ⊥
-last_is_over old p works none = none-some p (sym none ∙ over_process old p works)
-
-never_last : (system : System) → process_over system ≡ None → IsNotLast (turn_answer system.kernel.disk)
-unfolding IsNotLast
-never_last system none = λ p works. last_is_over system p works none
-
-still_by : (turn_steps : ℕ) (served : Option Served) (first : Option ℕ) → is_some served ≡ true → IsNotLast (answer_by turn_steps served first)
-    → is_some (served_after turn_steps served first) ≡ true
-unfolding IsNotLast step_answer after_step
-still_by turn_steps None first some more = absurd (false≢true some)
-still_by turn_steps (Some call) first some more = by_step (is_last_step turn_steps call) (call.left == 1) more
-  where
-    by_step : (ends last : Bool) → ((p : ℕ) → (if ends then Work call.p last else Passing) ≡ Work p true → ⊥)
-        → is_some (if ends then (if last then None else (Some (record call { left = call.left - 1; passed = 0 }))) else (Some (record call { passed = call.passed + 1 }))) ≡ true
-    by_step true true more = absurd (more call.p refl)
-    by_step true false more = refl
-    by_step false last more = refl
-
-pub still_served : (told : Directly) (system : System) → is_some system.kernel.disk.served ≡ true → process_over system ≡ None
-    → is_some (disk_served told system).system.kernel.disk.served ≡ true
-unfolding turn_answer turned
-still_served told system some none =
-    let disk = system.kernel.disk in
-    subst (λ (c : Change). is_some c.system.kernel.disk.served ≡ true) (sym (silent_served told system some (never_last system none)))
-    (still_by disk.turn_steps disk.served (first_of disk.waiting) some (never_last system none))
-
 -- what stands goes on by the turn
 served_still : (served : Option Served) (turn : Turn) (turn_steps : ℕ) (first : Option ℕ) → answer_by turn_steps served first ≡ turn → is_some served ≡ true
     → ((turn ≡ Passing) ⊎ ((p : ℕ) × (last : Bool) × (turn ≡ Work p last)))
@@ -373,13 +265,13 @@ served_still (Some call) turn turn_steps first is some = by_step (is_last_step t
     by_step true works = inr (call.p, (call.left == 1), sym works)
     by_step false passes = inl (sym passes)
 
-more_stands : (disk : DiskService) (kept : Kept) (disks : Option Disks) (s : Situation) (p : ℕ) (last : Bool) → turn_answer disk ≡ Work p last → IsNotLast (turn_answer disk)
+more_stands : (disk : DiskService) (kept : Kept) (disks : Disks) (s : Situation) (p : ℕ) (last : Bool) → turn_answer disk ≡ Work p last → IsNotLast (turn_answer disk)
     → StandsWorked disk kept disks (Within s) → StandsForFiles (turned disk) kept disks (Within s)
 unfolding IsNotLast
 more_stands disk kept disks s p true works more stands = absurd (more p works)
 more_stands disk kept disks s p false works more stands = turn_stands disk kept disks s p works stands
 
-pub turn_goes_on : (disk : DiskService) (kept : Kept) (disks : Option Disks) (s : Situation) → is_some disk.served ≡ true → IsNotLast (turn_answer disk)
+pub turn_goes_on : (disk : DiskService) (kept : Kept) (disks : Disks) (s : Situation) → is_some disk.served ≡ true → IsNotLast (turn_answer disk)
     → StandsWorked disk kept disks (Within s) → StandsForFiles (turned disk) kept disks (Within s)
 unfolding turn_answer
 turn_goes_on disk kept disks s some more stands =
@@ -388,12 +280,12 @@ turn_goes_on disk kept disks s some more stands =
       | inr works ↦ more_stands disk kept disks s works.0 works.1 works.2 more stands
     ]
 
-pub not_between : (turn_steps : ℕ) (served : Option Served) (kept : Kept) (disks : Option Disks) (filing : Filing) → is_some served ≡ true
+pub not_between : (turn_steps : ℕ) (served : Option Served) (kept : Kept) (disks : Disks) (filing : Filing) → is_some served ≡ true
     → StandsWorkedBy turn_steps served kept disks (Between filing) → ⊥
 not_between turn_steps None kept disks filing some stands = false≢true some
 not_between turn_steps (Some call) kept disks filing some stands = stands
 
-pub pass_on : (files : Files) (o : Outside) (old : System) (kept : Kept) (disks : Option Disks) → is_some old.kernel.disk.served ≡ true → IsNotLast (turn_answer old.kernel.disk)
+pub pass_on : (files : Files) (o : Outside) (old : System) (kept : Kept) (disks : Disks) → is_some old.kernel.disk.served ≡ true → IsNotLast (turn_answer old.kernel.disk)
     → StandsWorked old.kernel.disk kept disks files → Passed files o o old (step_passed old) kept disks
 pass_on (Between filing) o old kept disks some more stands = absurd (not_between old.kernel.disk.turn_steps old.kernel.disk.served kept disks filing some stands.stands)
 pass_on (Within s) o old kept disks some more stands =
@@ -403,17 +295,10 @@ pass_on (Within s) o old kept disks some more stands =
       subst (λ (files : Files). StandsForFiles (turned old.kernel.disk) kept disks files) (sym (same_served old s some more)) (turn_goes_on old.kernel.disk kept disks s some more stands),
     )
 
-pub has_passed_on : (kept : Kept) (o : Outside) (old : System) → is_some old.kernel.disk.served ≡ true → IsNotLast (turn_answer old.kernel.disk) → HasPassed kept kept o o old (step_passed old)
-has_passed_on kept o old some more =
-    let is = silent_served nothing_told old some more in
-    record {
-      told = nothing_told;
-      of_call = subst (λ (over : Option ℕ). IsOfCall over nothing_told old) (sym (none_over old more)) tt;
-      tells = subst (λ (over : Option ℕ). IsToldIn over nothing_told old) (sym (none_over old more)) tt;
-      as_kept = subst (λ (over : Option ℕ). IsOverAsKept kept kept over nothing_told) (sym (none_over old more)) tt;
-      system = sym (ap (λ (c : Change). c.system) is);
-      wrote = subst (λ (c : Change). Wrote o o c.emitted) (sym is) (wrote_nothing o);
-    }
+pub passed_made : (old : System) (kernel : Kernel) → kernel ≡ with_disk turned old.kernel → is_some old.kernel.disk.served ≡ true
+    → IsNotLast (turn_answer old.kernel.disk) → IsServedBy old (record old { kernel = kernel })
+passed_made old kernel is some more =
+    (nothing_told, ap (λ (k : Kernel). record old { kernel = k }) is ∙ sym (ap (λ (c : Change). c.system) (silent_served nothing_told old some more)))
 
 -- the other answers of the disk are none of a last turn
 pub not_last : (turn : Turn) (p : ℕ) → turn ≡ Work p false → IsNotLast turn
@@ -438,15 +323,11 @@ unfolding IsNotLast
 never_on disk answer is never = λ p works. never p true (is ∙ works)
 
 -- so it goes on
-pub passes_so : (files : Files) (o : Outside) (old : System) (kernel : Kernel) (kept : Kept) (disks : Option Disks) → kernel ≡ with_disk turned old.kernel
+pub passes_so : (files : Files) (o : Outside) (old : System) (kernel : Kernel) (kept : Kept) (disks : Disks) → kernel ≡ with_disk turned old.kernel
     → is_some old.kernel.disk.served ≡ true → IsNotLast (turn_answer old.kernel.disk) → StandsWorked old.kernel.disk kept disks files
     → Passed files o o old (record old { kernel = kernel }) kept disks
 passes_so files o old kernel kept disks is some more stands =
     subst (λ (new : System). Passed files o o old new kept disks) (sym (passed_is old kernel is)) (pass_on files o old kept disks some more stands)
-
-pub has_passed_so : (kept : Kept) (o : Outside) (old : System) (kernel : Kernel) → kernel ≡ with_disk turned old.kernel → is_some old.kernel.disk.served ≡ true
-    → IsNotLast (turn_answer old.kernel.disk) → HasPassed kept kept o o old (record old { kernel = kernel })
-has_passed_so kept o old kernel is some more = subst (HasPassed kept kept o o old) (sym (passed_is old kernel is)) (has_passed_on kept o old some more)
 
 pub begun_so : (disk after : DiskService) (answer : Turn) → is_some disk.served ≡ true → answer ≡ turn_answer disk → IsAfter answer after → HasBegun after
 unfolding turn_answer
@@ -467,12 +348,12 @@ pub none_behind : (disk : DiskService) (p : ℕ) → turn_answer disk ≡ Work p
 unfolding turn_answer turned
 none_behind disk p works = none_by disk.turn_steps disk.served (first_of disk.waiting) p works
 
-pub nobody_behind : {A E : Type 0} (r : Result A E) (kept left : Kept) (p : ℕ) (o n : Outside) (old new : System) → turn_answer old.kernel.disk ≡ Work p true
-    → OnOk r (HasAnswered kept left p o n (step_passed old) new) → OnOk r (new.kernel.disk.served ≡ None)
-nobody_behind r kept left p o n old new works =
-    on_ok_weaker r (λ (answered : HasAnswered kept left p o n (step_passed old) new).
+pub nobody_behind : {A E : Type 0} (r : Result A E) (p : ℕ) (old new : System) → turn_answer old.kernel.disk ≡ Work p true
+    → OnOk r (IsOverFrom p (step_passed old) new) → OnOk r (new.kernel.disk.served ≡ None)
+nobody_behind r p old new works =
+    on_ok_weaker r (λ (over : IsOverFrom p (step_passed old) new).
     let none = none_behind old.kernel.disk p works in
-    ap (λ (system : System). system.kernel.disk.served) answered.system ∙ (over_serves answered.told p (step_passed old) none).served ∙ none)
+    ap (λ (system : System). system.kernel.disk.served) over.1 ∙ (over_serves over.0 p (step_passed old) none).served ∙ none)
 
 pub none_holds : {A E : Type 0} (r : Result A E) (P : Served → Type 0) (disk : DiskService) → OnOk r (disk.served ≡ None) → OnOk r (IfSome disk.served P)
 none_holds r P disk = on_ok_weaker r (λ (none : disk.served ≡ None). subst (λ (served : Option Served). IfSome served P) (sym none) tt)
@@ -496,14 +377,6 @@ unfolding turned
 own_so old kernel service is some own =
     subst (λ (k : Kernel). IfSome k.disk.served (λ (call : Served). IsOwn k.dispatcher.procs call.p service)) (sym is)
     (own_turned old.disk.turn_steps old.disk.served (first_of old.disk.waiting) (λ p. IsOwn old.dispatcher.procs p service) some own)
-
-own_by : (served : Option Served) (P : ℕ → Type 0) (p : ℕ) → option_map (λ (call : Served). call.p) served ≡ Some p → IfSome served (λ call. P call.p) → P p
-own_by None P p is own = absurd (cc)
-own_by (Some call) P p is own = let same : call.p ≡ p = cc in subst P same own
-
-pub own_last : (disk : DiskService) (P : ℕ → Type 0) (p : ℕ) → turn_answer disk ≡ Work p true → IfSome disk.served (λ call. P call.p) → P p
-unfolding served_process
-own_last disk P p works own = own_by disk.served P p (working_process disk p true works) own
 
 -- a call that is over, whose process is ready again, and what it comes to
 pub again_whole : (p : ℕ) (old : System) (kernel : Kernel) → IsWhole old → IsOver p old.kernel → kernel ≡ made_ready_again p old.kernel → IsWhole (record old { kernel = kernel })

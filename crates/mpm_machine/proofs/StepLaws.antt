@@ -19,7 +19,7 @@ use Rattle.mpm_machine.specs.Finishing.{all_answered}
 use Rattle.mpm_machine.specs.Step.{acted, interrupted_by, begun_by, then_also}
 use Rattle.mpm_machine.specs.FileCalls.{file_caller}
 use Rattle.mpm_machine.specs.Stepping.{begun_alone, begun_with, begun_as, is_instruction, nothing_told, files_begun_by, files_begun, before_disk}
-use Rattle.mpm_machine.specs.After.{IsOfCall, made_in, IsToldIn, IsAsKept, StopsBy, HasBegunStep, HasBegunTo, HasBegunToStop}
+use Rattle.mpm_machine.specs.After.{IsOfSome, StopsBy, HasBegunTo}
 use Rattle.mpm_machine.proofs.TallyLaws.{begun_more}
 use Rattle.mpm_machine.proofs.TurnLaws.{worked_on}
 use Rattle.mpm_machine.proofs.KeepingLaws.{ServesSame}
@@ -49,7 +49,7 @@ files_stay old files is = ap (λ caller. files_begun_by caller old files) is
 
 -- by what is on the drives
 
-pub alone_begun_to : (files : Files) (o n : Outside) (old new : System) (kept : Kept) (disks : Option Disks) → file_caller old ≡ None → ServesSame old new
+pub alone_begun_to : (files : Files) (o n : Outside) (old new : System) (kept : Kept) (disks : Disks) → file_caller old ≡ None → ServesSame old new
     → new ≡ all_answered (begun_alone old).system → Wrote o n (begun_alone old).emitted → StandsWorked old.kernel.disk kept disks files → HasBegunTo files o n old new kept disks
 alone_begun_to files o n old new kept disks none serves is wrote stands =
     let so = sym (before_is old files none) in
@@ -59,47 +59,19 @@ alone_begun_to files o n old new kept disks none serves is wrote stands =
       stands = subst (StandsWorked new.kernel.disk kept disks) (sym (files_stay old files none)) (worked_on old.kernel.disk new.kernel.disk kept disks files serves.served serves.steps stands);
     }
 
--- and whatever is on them
+-- whatever is told of no call
+pub alone_made : (old new : System) → file_caller old ≡ None → new ≡ all_answered (begun_alone old).system → IsOfSome (λ (told : Directly). (begun_as told old).system) new
+alone_made old new none is = (nothing_told, is ∙ ap (λ (c : Change). c.system) (sym (begun_is nothing_told old none)))
 
-of_nobody : (old : System) → file_caller old ≡ None → IsOfCall (file_caller old) nothing_told (made_in (file_caller old) old)
-of_nobody old none = subst (λ (o : Option ℕ). IsOfCall o nothing_told (made_in o old)) (sym none) tt
-
-tells_nobody : (old : System) → file_caller old ≡ None → IsToldIn (file_caller old) nothing_told (made_in (file_caller old) old)
-tells_nobody old none = subst (λ (o : Option ℕ). IsToldIn o nothing_told (made_in o old)) (sym none) tt
-
-kept_nobody : (kept : Kept) (old : System) → file_caller old ≡ None → IsAsKept kept kept (file_caller old) nothing_told (made_in (file_caller old) old)
-kept_nobody kept old none = subst (λ (o : Option ℕ). IsAsKept kept kept o nothing_told (made_in o old)) (sym none) tt
-
-pub alone_begun : {kept : Kept} (instruction : Bool) (o n : Outside) (old new : System) → file_caller old ≡ None → instruction ≡ is_instruction None old
-    → new ≡ all_answered (begun_alone old).system → Wrote o n (begun_alone old).emitted → HasBegunStep kept kept instruction o n old new
-alone_begun {kept} instruction o n old new none i is wrote =
-    let so = sym (begun_is nothing_told old none) in
-    record {
-      told = nothing_told;
-      of_call = of_nobody old none;
-      tells = tells_nobody old none;
-      as_kept = kept_nobody kept old none;
-      instruction_is = i ∙ ap (λ (o : Option ℕ). is_instruction o old) (sym none);
-      system = is ∙ ap (λ (c : Change). c.system) so;
-      wrote = subst (λ (c : Change). Wrote o n c.emitted) so wrote;
-    }
+pub alone_instruction : (instruction : Bool) (old : System) → file_caller old ≡ None → instruction ≡ is_instruction None old → instruction ≡ is_instruction (file_caller old) old
+alone_instruction instruction old none i = i ∙ ap (λ (o : Option ℕ). is_instruction o old) (sym none)
 
 -- where the sink failed
-
-pub alone_stops : (kept : Kept) (o n : Outside) (old : System) → file_caller old ≡ None → Stopped o n (begun_alone old).emitted → HasBegunToStop WriteFault kept o n old
-alone_stops kept o n old none stopped = record {
-  told = nothing_told;
-  of_call = of_nobody old none;
-  tells = tells_nobody old none;
-  left = kept;
-  as_kept = kept_nobody kept old none;
-  stops = subst (λ (c : Change). Stopped o n c.emitted) (sym (begun_is nothing_told old none)) stopped;
-}
 
 pub alone_err : (files : Files) (o n : Outside) (old : System) → file_caller old ≡ None → Stopped o n (begun_alone old).emitted → StopsBy WriteFault o n (before_disk old files).emitted
 alone_err files o n old none stopped = subst (λ (c : Change). Stopped o n c.emitted) (sym (before_is old files none)) stopped
 
-pub alone_still : (old : System) (kept : Kept) (disks : Option Disks) (files : Files) → file_caller old ≡ None → StandsWorked old.kernel.disk kept disks files
+pub alone_still : (old : System) (kept : Kept) (disks : Disks) (files : Files) → file_caller old ≡ None → StandsWorked old.kernel.disk kept disks files
     → StandsWorked old.kernel.disk kept disks (files_begun old files)
 alone_still old kept disks files none stands = subst (StandsWorked old.kernel.disk kept disks) (sym (files_stay old files none)) stands
 

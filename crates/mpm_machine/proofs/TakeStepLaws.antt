@@ -3,7 +3,7 @@
 -- a step that works on no drive does in no part of it
 use Rattle.std.proofs.Common.{◌≡◌, ◌∙◌, ℕ, ◌+◌, ◌*◌, ◌<◌, ◌≤◌, ◌==◌, ◌&&◌, ◌||◌, Bool, true, false, List, Option, Some, None, Result, Ok, Err, refl, sym, ap, subst, arith}
 use Rattle.std.specs.Prelude.{is_some, is_none}
-use Rattle.std.proofs.lemmas.Bool.{and_parts, false≢true, or_parts, or_left, or_right, true_from_ne_false, false_from_ne_true}
+use Rattle.std.proofs.lemmas.Bool.{and_parts, false≢true, or_parts, true_from_ne_false}
 use Rattle.std.proofs.lemmas.Bool.Decides.{nat_tests}
 use Rattle.std.proofs.lemmas.Option.{none-some}
 use Rattle.mpm_port.specs.Disks.{Disks}
@@ -27,7 +27,7 @@ use Rattle.mpm_machine.specs.Faults.{Counts, HasFailed, HaveCause, itself, OnDis
 use Rattle.mpm_machine.specs.Files.{Files, Between, Within, StandsServed, StandsForFiles, StandsWorked, drives_in}
 use Rattle.mpm_machine.specs.FileCalls.{file_caller}
 use Rattle.mpm_machine.specs.Stepping.{is_instruction, nothing_told, told_first, before_disk, files_begun, telling_then, files_rest, rest_of}
-use Rattle.mpm_machine.specs.Holding.{AreFiled, OwnsService, HoldsDrives}
+use Rattle.mpm_machine.specs.Holding.{AreFiled, OwnsService, HoldsKept}
 use Rattle.mpm_machine.specs.Mounting.{HasNoDrive}
 use Rattle.mpm_machine.specs.Failing.{HaveImages, HaveImagesOf, FailsWithin, StopsOn, is_work, turns_done, working_turn, working_in, working_turn_of, works_at_once, works_in_turn, does_work}
 use Rattle.mpm_machine.specs.After.{EndKeeps}
@@ -47,27 +47,10 @@ no_turn system none = ap (λ (call : Option Served). is_some call && is_work (tu
 
 -- and one that fails does
 
-pub turn_worked : (system : System) → (works_in_turn system ≡ false → ⊥) → (works_in_turn system ≡ true) × (does_work system ≡ true)
-unfolding does_work
-turn_worked system never =
-    let works = true_from_ne_false (works_in_turn system) never in (works, or_right (works_at_once (file_caller system) system) (works_in_turn system) works)
-
 no_sink : DiskFault ≡ WriteFault → ⊥
 no_sink is = absurd (cc)
 
-pub begun_worked : (fault : StepFault) (system : System) → (works_at_once (file_caller system) system ≡ false → fault ≡ WriteFault) → OnDiskFault fault ((works_at_once (file_caller system) system ≡ true) × (does_work system ≡ true))
-unfolding does_work
-begun_worked WriteFault system idle = tt
-begun_worked DiskFault system idle =
-    let works = true_from_ne_false (works_at_once (file_caller system) system) (λ none. no_sink (idle none)) in
-    (works, or_left (works_at_once (file_caller system) system) (works_in_turn system) works)
-
 -- what it begins with fails only where the disk has no work
-
-pub begun_apart : (fault : StepFault) (system : System) → (is_some system.kernel.disk.served ≡ true → fault ≡ WriteFault) → OnDiskFault fault (works_in_turn system ≡ false)
-begun_apart WriteFault system sink = tt
-begun_apart DiskFault system sink =
-    false_from_ne_true (works_in_turn system) (λ works. no_sink (sink (and_parts (is_some system.kernel.disk.served) (is_work (turn_answer system.kernel.disk)) works).0))
 
 -- where turns have steps no call is done on a drive as it is made
 
@@ -93,7 +76,7 @@ not_at_once system some = waits_by (file_caller system) system some
 pub in_service : (system : System) → works_in_turn system ≡ true → is_some system.kernel.disk.served ≡ true
 in_service system works = (and_parts (is_some system.kernel.disk.served) _ works).0
 
-done_by : (served : Option Served) (system : System) (kept : Kept) (disks : Option Disks) (files : Files) → system.kernel.disk.served ≡ served → is_some served ≡ true
+done_by : (served : Option Served) (system : System) (kept : Kept) (disks : Disks) (files : Files) → system.kernel.disk.served ≡ served → is_some served ≡ true
     → is_work (turn_answer system.kernel.disk) ≡ true → StandsServed served kept disks files → turns_done (working_in system files) ≡ 1
 unfolding working_in
 done_by None system kept disks files is some works stands = absurd (false≢true some)
@@ -102,7 +85,7 @@ done_by (Some call) system kept disks (Within s) is some works stands =
     ap (λ (served : Option Served). turns_done (working_turn served (turn_answer system.kernel.disk) s)) is
     ∙ ap turns_done (its_working call (turn_answer system.kernel.disk) s works)
 
-pub turn_done : (system : System) (kept : Kept) (disks : Option Disks) (files : Files) → StandsForFiles system.kernel.disk kept disks files → works_in_turn system ≡ true
+pub turn_done : (system : System) (kept : Kept) (disks : Disks) (files : Files) → StandsForFiles system.kernel.disk kept disks files → works_in_turn system ≡ true
     → turns_done (working_in system files) ≡ 1
 turn_done system kept disks files stands works =
     let both = and_parts (is_some system.kernel.disk.served) _ works in done_by system.kernel.disk.served system kept disks files refl both.0 both.1 stands.stands
@@ -114,7 +97,7 @@ calls_by : (b : Bool) (before middle behind done : ℕ) → (b ≡ true → done
 calls_by true before middle behind done one few same apart bound = omega (arith, one refl, few, apart refl)
 calls_by false before middle behind done one few same apart bound = omega (arith, same refl, bound)
 
-pub step_calls : (system : System) (kept : Kept) (disks : Option Disks) (files : Files) (before middle behind : ℕ) → StandsForFiles system.kernel.disk kept disks files
+pub step_calls : (system : System) (kept : Kept) (disks : Disks) (files : Files) (before middle behind : ℕ) → StandsForFiles system.kernel.disk kept disks files
     → middle ≤ before + 20 → (works_in_turn system ≡ false → middle ≡ before) → (is_some system.kernel.disk.served ≡ true → behind ≡ middle)
     → behind ≤ middle + 20 * turns_done (working_in system files) → behind ≤ before + 20 * turns_done (working_in system files)
 step_calls system kept disks files before middle behind stands few same apart bound =
@@ -122,12 +105,12 @@ step_calls system kept disks files before middle behind stands few same apart bo
     (λ works. apart (in_service system works)) bound
 
 -- a turn that failed
-pub turn_calls : (system : System) (kept : Kept) (disks : Option Disks) (files : Files) (before behind : ℕ) → StandsForFiles system.kernel.disk kept disks files
+pub turn_calls : (system : System) (kept : Kept) (disks : Disks) (files : Files) (before behind : ℕ) → StandsForFiles system.kernel.disk kept disks files
     → (works_in_turn system ≡ false → ⊥) → behind ≤ before + 20 → behind ≤ before + 20 * turns_done (working_in system files)
 turn_calls system kept disks files before behind stands never few =
     let one = turn_done system kept disks files stands (true_from_ne_false (works_in_turn system) never) in omega (arith, one, few)
 
-pub turn_fails_so : (system : System) (disks : Option Disks) (files : Files) (mounted : List (Option Directory))
+pub turn_fails_so : (system : System) (disks : Disks) (files : Files) (mounted : List (Option Directory))
     → HaveImagesOf (FailsWithin (working_turn_of system files)) disks mounted → HaveImagesOf (FailsWithin (working_in system files)) disks mounted
 unfolding working_in
 turn_fails_so system disks (Within s) mounted have = have
@@ -135,7 +118,7 @@ turn_fails_so system disks (Between filing) mounted have = absurd (none-some hav
 
 -- for which drives the images stand where the sink failed: in what the step begins with, or behind it
 
-pub write_stops : (instruction : Bool) (files : Files) (old middle : System) (disks : Option Disks) (mounted : List (Option Directory))
+pub write_stops : (instruction : Bool) (files : Files) (old middle : System) (disks : Disks) (mounted : List (Option Directory))
     → instruction ≡ is_instruction (file_caller old) old → middle ≡ (before_disk old files).system
     → HaveImages disks mounted
     (drives_in (rest_of instruction (telling_then nothing_told middle (files_begun old files)) (silent middle)).system.kernel.disk.served (files_rest middle (files_begun old files)))
@@ -148,7 +131,7 @@ before_is : (old : System) (files : Files) → IsWhole old → AreFiled old.kern
 unfolding before_disk
 before_is old files w filed = let same = begun_as_serves (told_first old files) old w filed in (same.served, same.steps)
 
-begun_images : (old : System) (kept : Kept) (disks : Option Disks) (files : Files) → IsWhole old → AreFiled old.kernel
+begun_images : (old : System) (kept : Kept) (disks : Disks) (files : Files) → IsWhole old → AreFiled old.kernel
     → StandsWorked old.kernel.disk kept disks (files_begun old files) → HaveImagesOf (StopsOn WriteFault old files) disks kept.mounted
 begun_images old kept disks files w filed stands =
     let middle = (before_disk old files).system in
@@ -158,7 +141,7 @@ begun_images old kept disks files w filed stands =
     (rest_images i middle kept kept disks (files_begun old files) refl
     (worked_on old.kernel.disk middle.kernel.disk kept disks (files_begun old files) same.0 same.1 stands))
 
-pub begun_stops_on : (fault : StepFault) (old : System) (kept : Kept) (disks : Option Disks) (files : Files) → IsWhole old → AreFiled old.kernel
+pub begun_stops_on : (fault : StepFault) (old : System) (kept : Kept) (disks : Disks) (files : Files) → IsWhole old → AreFiled old.kernel
     → OnDiskFault fault (HaveImagesOf (FailsWithin (working_in old files)) disks kept.mounted)
     → OnWriteFault fault (StandsWorked old.kernel.disk kept disks (files_begun old files)) → HaveImagesOf (StopsOn fault old files) disks kept.mounted
 begun_stops_on DiskFault old kept disks files w filed images stands = images
@@ -202,18 +185,18 @@ ended_stays x y z one two three before behind first cause = record {
 
 -- what holds of drives behind the rest of a step
 
-pub holds_ended : {D : Type 0} (attached : D → ℕ → Option ℕ) (disks : D → Option Disks) (old new : Kernel) (kept kept' : Kept) (drives : D) → HoldsDrives attached disks old kept drives
+pub holds_ended : {D : Type 0} (disks : D → Disks) (old new : Kernel) (kept kept' : Kept) (drives : D) → HoldsKept disks old kept drives
     → AreFiled new → OwnsService new kept'.service → HasBegun new.disk → EndKeeps kept kept'
-    → (HasNoDrive kept.mounted → has_work kept.service ≡ false → has_work kept'.service ≡ false) → HoldsDrives attached disks new kept' drives
-holds_ended attached disks old new kept kept' drives holds filed own begun keeps workless =
+    → (HasNoDrive kept.mounted → has_work kept.service ≡ false → has_work kept'.service ≡ false) → HoldsKept disks new kept' drives
+holds_ended disks old new kept kept' drives holds filed own begun keeps workless =
     let mounted = ap (λ (k : Kept). k.mounted) keeps in
     let cached = ap (λ (k : Kept). k.cached) keeps in
     record {
       filed = filed;
       own = own;
       begun = begun;
-      fits = subst (λ (m : List (Option Directory)). FitsDrives attached disks m kept'.cached drives) (sym mounted)
-          (subst (λ cache. FitsDrives attached disks kept.mounted cache drives) (sym cached) holds.fits);
+      fits = subst (λ (m : List (Option Directory)). FitsDrives disks m kept'.cached drives) (sym mounted)
+          (subst (λ cache. FitsDrives disks kept.mounted cache drives) (sym cached) holds.fits);
       workless = λ none.
           let bare : HasNoDrive kept.mounted = λ number. ap (λ (m : List (Option Directory)). directory_at m number) (sym mounted) ∙ none number in
           workless bare (holds.workless bare);

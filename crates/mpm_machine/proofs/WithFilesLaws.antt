@@ -12,7 +12,7 @@ use Rattle.mpm_mount.specs.Directories.{Directory}
 use Rattle.mpm_residents.specs.declared.native.Native.{Native}
 use Rattle.mpm_residents.specs.Natives.{native_in}
 use Rattle.mpm_output.specs.Outside.{Outside}
-use Rattle.mpm_output.specs.Writing.{Wrote, Stopped}
+use Rattle.mpm_output.specs.Writing.{Wrote}
 use Rattle.mpm_directories.specs.Direct.{Directly}
 use Rattle.mpm_requests.specs.Filing.{Filing, Situation}
 use Rattle.mpm_functions.specs.Functions.{function_of}
@@ -33,9 +33,9 @@ use Rattle.mpm_machine.specs.Finishing.{all_answered}
 use Rattle.mpm_machine.specs.Step.{then_also}
 use Rattle.mpm_machine.specs.FileCalls.{file_caller}
 use Rattle.mpm_machine.specs.DiskStep.{is_done_at_once, file_called, files_called, told_at_gate}
-use Rattle.mpm_machine.specs.Stepping.{begun_with, begun_as, is_instruction, told_first_by, told_first, files_begun_by, files_begun, before_disk}
+use Rattle.mpm_machine.specs.Stepping.{begun_with, begun_as, told_first_by, told_first, files_begun_by, files_begun, before_disk}
 use Rattle.mpm_machine.specs.Failing.{HaveImagesOf, FailsWithin, working_if, working_by, working_in, turns_done, works_at_once}
-use Rattle.mpm_machine.specs.After.{IsOfCall, made_in, IsToldIn, IsAsKept, HasJob, StopsBy, HasCalled, HasToldAtGate, HasStoppedAtGate, HasBegunStep, HasBegunTo, HasBegunToStop}
+use Rattle.mpm_machine.specs.After.{IsOfSome, StopsBy, HasCalled, HasBegunTo}
 use Rattle.mpm_machine.proofs.FileLaws.{Made, makes}
 use Rattle.mpm_machine.proofs.DiskStepLaws.{whole_file_called}
 use Rattle.mpm_machine.proofs.FiledLaws.{caller_lives, caller_ready}
@@ -91,42 +91,46 @@ before_here p old made files caller is =
     ap (λ (t : Directly). begun_as t old) (told_is_first p old files caller ∙ ap (λ (s : System). told_at_gate p s files) (sym is))
     ∙ begun_here (told_at_gate p made files) p old made caller is
 
+-- it is done at once, or waits, by something that it comes to
+abbrev pub IsCalledFrom : ℕ → System → System → Type 0
+IsCalledFrom p made called = IsOfSome (λ (told : Directly). (file_called told p made).system) called
+
 -- the disk serves the same call, and the system stays whole
 
-pub gate_stands : (p : ℕ) (old made : System) (kept : Kept) (disks : Option Disks) (files : Files) → made ≡ call_made p old → StandsWorked old.kernel.disk kept disks files
+pub gate_stands : (p : ℕ) (old made : System) (kept : Kept) (disks : Disks) (files : Files) → made ≡ call_made p old → StandsWorked old.kernel.disk kept disks files
     → StandsWorked made.kernel.disk kept disks files
 gate_stands p old made kept disks files is stands =
     subst (λ (s : System). StandsWorked s.kernel.disk kept disks files) (sym is)
     (worked_on old.kernel.disk (call_made p old).kernel.disk kept disks files (made_serves p old).served (made_serves p old).steps stands)
 
-pub gate_whole : {kept left : Kept} (p : ℕ) (o n : Outside) (old made called : System) → Made p old made → IsReady old.kernel.dispatcher p → HasToldAtGate kept left p o n made called → IsWhole called
-gate_whole p o n old made called m is_ready has =
-    subst IsWhole (sym has.called.system) (whole_file_called has.told p made m.whole m.lives (m.ready is_ready))
+pub gate_whole : (p : ℕ) (old made called : System) → Made p old made → IsReady old.kernel.dispatcher p → IsCalledFrom p made called → IsWhole called
+gate_whole p old made called m is_ready has =
+    subst IsWhole (sym has.1) (whole_file_called has.0 p made m.whole m.lives (m.ready is_ready))
 
-answered_serves : {kept left : Kept} (p : ℕ) (o n : Outside) (old made called new : System) → Made p old made → IsReady old.kernel.dispatcher p → AreFiled made.kernel
-    → HasToldAtGate kept left p o n made called → new ≡ all_answered called → ServesSame called new
-answered_serves p o n old made called new m is_ready filed has is =
+answered_serves : (p : ℕ) (old made called new : System) → Made p old made → IsReady old.kernel.dispatcher p → AreFiled made.kernel
+    → IsCalledFrom p made called → new ≡ all_answered called → ServesSame called new
+answered_serves p old made called new m is_ready filed has is =
     let behind : AreFiled called.kernel =
-    subst (λ (s : System). AreFiled s.kernel) (sym has.called.system) (filed_called has.told p made m.whole m.lives filed) in
-    subst (ServesSame called) (sym is) (keeps_answered called (gate_whole p o n old made called m is_ready has) behind).serves
+    subst (λ (s : System). AreFiled s.kernel) (sym has.1) (filed_called has.0 p made m.whole m.lives filed) in
+    subst (ServesSame called) (sym is) (keeps_answered called (gate_whole p old made called m is_ready has) behind).serves
 
-pub gate_serves : {kept left : Kept} (p : ℕ) (o n : Outside) (old made called new : System) → made ≡ call_made p old → Made p old made → IsReady old.kernel.dispatcher p → AreFiled made.kernel
-    → HasToldAtGate kept left p o n made called → new ≡ all_answered called → ServesSame old new
-gate_serves p o n old made called new is m is_ready filed has was =
+pub gate_serves : (p : ℕ) (old made called new : System) → made ≡ call_made p old → Made p old made → IsReady old.kernel.dispatcher p → AreFiled made.kernel
+    → IsCalledFrom p made called → new ≡ all_answered called → ServesSame old new
+gate_serves p old made called new is m is_ready filed has was =
     let first : ServesSame old made = subst (ServesSame old) (sym is) (made_serves p old) in
-    let second : ServesSame made called = subst (ServesSame made) (sym has.called.system) (called_serves has.told p made m.whole.sound (m.ready is_ready)) in
+    let second : ServesSame made called = subst (ServesSame made) (sym has.1) (called_serves has.0 p made m.whole.sound (m.ready is_ready)) in
     same_then old.kernel.disk made.kernel.disk new.kernel.disk first
-    (same_then made.kernel.disk called.kernel.disk new.kernel.disk second (answered_serves p o n old made called new m is_ready filed has was))
+    (same_then made.kernel.disk called.kernel.disk new.kernel.disk second (answered_serves p old made called new m is_ready filed has was))
 
 -- by what is on the drives
 
-pub gate_begun_to : {first left : Kept} (p : ℕ) (files : Files) (o n : Outside) (old made called new : System) (kept : Kept) (disks : Option Disks) → file_caller old ≡ Some p → made ≡ call_made p old
-    → Made p old made → IsReady old.kernel.dispatcher p → AreFiled made.kernel → HasToldAtGate first left p o n made called → new ≡ all_answered called
+pub gate_begun_to : (p : ℕ) (files : Files) (o n : Outside) (old made called new : System) (kept : Kept) (disks : Disks) → file_caller old ≡ Some p → made ≡ call_made p old
+    → Made p old made → IsReady old.kernel.dispatcher p → AreFiled made.kernel → IsCalledFrom p made called → new ≡ all_answered called
     → HasCalled (told_at_gate p made files) p o n made called × StandsWorked called.kernel.disk kept disks (files_called p made files)
     → HasBegunTo files o n old new kept disks
 gate_begun_to p files o n old made called new kept disks caller is m is_ready filed has was both =
     let so = sym (before_here p old made files caller is) in
-    let serves = answered_serves p o n old made called new m is_ready filed has was in
+    let serves = answered_serves p old made called new m is_ready filed has was in
     record {
       system = was ∙ ap all_answered both.0.system ∙ ap (λ (c : Change). c.system) so;
       wrote = subst (λ (c : Change). Wrote o n c.emitted) so both.0.wrote;
@@ -134,59 +138,19 @@ gate_begun_to p files o n old made called new kept disks caller is m is_ready fi
           (worked_on called.kernel.disk new.kernel.disk kept disks (files_called p made files) serves.served serves.steps both.1);
     }
 
--- and whatever is on them
-
-of_call_here : (told : Directly) (p : ℕ) (old made : System) → file_caller old ≡ Some p → made ≡ call_made p old → IsOfCall (Some p) told made
-    → IsOfCall (file_caller old) told (made_in (file_caller old) old)
-of_call_here told p old made caller is of_call =
-    subst (λ (o : Option ℕ). IsOfCall o told (made_in o old)) (sym caller) (subst (λ (s : System). IsOfCall (Some p) told s) is of_call)
-
-tells_here : (told : Directly) (p : ℕ) (old made : System) → file_caller old ≡ Some p → made ≡ call_made p old → IsToldIn (Some p) told made
-    → IsToldIn (file_caller old) told (made_in (file_caller old) old)
-tells_here told p old made caller is tells =
-    subst (λ (o : Option ℕ). IsToldIn o told (made_in o old)) (sym caller) (subst (λ (s : System). IsToldIn (Some p) told s) is tells)
-
-kept_here : (kept left : Kept) (told : Directly) (p : ℕ) (old made : System) → file_caller old ≡ Some p → made ≡ call_made p old → IsAsKept kept left (Some p) told made
-    → IsAsKept kept left (file_caller old) told (made_in (file_caller old) old)
-kept_here kept left told p old made caller is as_kept =
-    subst (λ (o : Option ℕ). IsAsKept kept left o told (made_in o old)) (sym caller) (subst (λ (s : System). IsAsKept kept left (Some p) told s) is as_kept)
-
-pub gate_begun : {kept left : Kept} (p : ℕ) (o n : Outside) (old made called new : System) → file_caller old ≡ Some p → made ≡ call_made p old → HasToldAtGate kept left p o n made called
-    → new ≡ all_answered called → HasBegunStep kept left false o n old new
-gate_begun {kept} {left} p o n old made called new caller is has was =
-    let so = sym (begun_here has.told p old made caller is) in
-    record {
-      told = has.told;
-      of_call = of_call_here has.told p old made caller is has.of_call;
-      tells = tells_here has.told p old made caller is has.tells;
-      as_kept = kept_here kept left has.told p old made caller is has.as_kept;
-      instruction_is = sym (ap (λ (o : Option ℕ). is_instruction o old) caller);
-      system = was ∙ ap all_answered has.called.system ∙ ap (λ (c : Change). c.system) so;
-      wrote = subst (λ (c : Change). Wrote o n c.emitted) so has.called.wrote;
-    }
+-- whatever the call comes to
+pub gate_made : (p : ℕ) (old made called new : System) → file_caller old ≡ Some p → made ≡ call_made p old → IsCalledFrom p made called → new ≡ all_answered called
+    → IsOfSome (λ (told : Directly). (begun_as told old).system) new
+gate_made p old made called new caller is has was =
+    (has.0, was ∙ ap all_answered has.1 ∙ ap (λ (c : Change). c.system) (sym (begun_here has.0 p old made caller is)))
 
 -- where it stopped
-
-pub gate_stops : (fault : StepFault) (kept : Kept) (p : ℕ) (o n : Outside) (old made : System) → file_caller old ≡ Some p → made ≡ call_made p old
-    → HasStoppedAtGate fault kept p o n made → HasBegunToStop fault kept o n old
-gate_stops WriteFault kept p o n old made caller is has = record {
-  told = has.told;
-  of_call = of_call_here has.told p old made caller is has.of_call;
-  tells = tells_here has.told p old made caller is has.tells;
-  left = has.left;
-  as_kept = kept_here kept has.left has.told p old made caller is has.as_kept;
-  stops = subst (λ (c : Change). Stopped o n c.emitted) (sym (begun_here has.told p old made caller is)) has.stops;
-}
-gate_stops DiskFault kept p o n old made caller is has = record {
-  still = has.still;
-  job = subst (λ (whose : Option ℕ). HasJob kept whose (made_in whose old)) (sym caller) (subst (λ (s : System). HasJob kept (Some p) s) is has.job);
-}
 
 pub gate_err : (fault : StepFault) (p : ℕ) (files : Files) (o n : Outside) (old made : System) → file_caller old ≡ Some p → made ≡ call_made p old
     → StopsBy fault o n (file_called (told_at_gate p made files) p made).emitted → StopsBy fault o n (before_disk old files).emitted
 gate_err fault p files o n old made caller is stops = subst (λ (c : Change). StopsBy fault o n c.emitted) (sym (before_here p old made files caller is)) stops
 
-pub gate_still : (fault : StepFault) (p : ℕ) (old made : System) (kept : Kept) (disks : Option Disks) (files : Files) → file_caller old ≡ Some p → made ≡ call_made p old
+pub gate_still : (fault : StepFault) (p : ℕ) (old made : System) (kept : Kept) (disks : Disks) (files : Files) → file_caller old ≡ Some p → made ≡ call_made p old
     → OnWriteFault fault (StandsWorked made.kernel.disk kept disks (files_called p made files)) → OnWriteFault fault (StandsWorked old.kernel.disk kept disks (files_begun old files))
 gate_still DiskFault p old made kept disks files caller is stands = tt
 gate_still WriteFault p old made kept disks files caller is stands =
@@ -206,12 +170,12 @@ unfolding working_in
 working_here p old made filing caller is =
     ap (λ (o : Option ℕ). working_by o filing old) caller ∙ ap (λ (s : System). working_if (is_done_at_once p s) filing p s) (sym is)
 
-in_service : (turn_steps : ℕ) (served : Option Served) (kept : Kept) (disks : Option Disks) (s : Situation) → StandsWorkedBy turn_steps served kept disks (Within s)
+in_service : (turn_steps : ℕ) (served : Option Served) (kept : Kept) (disks : Disks) (s : Situation) → StandsWorkedBy turn_steps served kept disks (Within s)
     → is_some served ≡ true
 in_service turn_steps None kept disks s stands = absurd stands
 in_service turn_steps (Some call) kept disks s stands = refl
 
-pub gate_images : (fault : StepFault) (p : ℕ) (old made : System) (kept : Kept) (disks disks' : Option Disks) (mounted : List (Option Directory)) (files : Files)
+pub gate_images : (fault : StepFault) (p : ℕ) (old made : System) (kept : Kept) (disks disks' : Disks) (mounted : List (Option Directory)) (files : Files)
     → file_caller old ≡ Some p → made ≡ call_made p old → StandsWorked old.kernel.disk kept disks files
     → ((filing : Filing) → StandsWorked made.kernel.disk kept disks (Between filing)
     → OnDiskFault fault (HaveImagesOf (FailsWithin (working_if (is_done_at_once p made) filing p made)) disks' mounted))
@@ -222,7 +186,7 @@ gate_images fault p old made kept disks disks' mounted (Between filing) caller i
 gate_images fault p old made kept disks disks' mounted (Within s) caller is stands images apart =
     no_disk_fault fault _ (apart (gate_apart p old made is (in_service old.kernel.disk.turn_steps old.kernel.disk.served kept disks s stands.stands)))
 
-pub gate_calls : (p : ℕ) (old made : System) (kept : Kept) (disks : Option Disks) (files : Files) (before behind : ℕ) → file_caller old ≡ Some p → made ≡ call_made p old
+pub gate_calls : (p : ℕ) (old made : System) (kept : Kept) (disks : Disks) (files : Files) (before behind : ℕ) → file_caller old ≡ Some p → made ≡ call_made p old
     → StandsWorked old.kernel.disk kept disks files
     → ((filing : Filing) → StandsWorked made.kernel.disk kept disks (Between filing) → behind ≤ before + 20 * turns_done (working_if (is_done_at_once p made) filing p made))
     → (is_some made.kernel.disk.served ≡ true → behind ≡ before) → behind ≤ before + 20 * turns_done (working_in old files)

@@ -1,11 +1,15 @@
 -- What the disk's work is in a step, where it failed, and what those who ended give back.
 -- whether a call is in service, as it is asked
-use Rattle.std.proofs.Common.{◌≡◌, ◌∙◌, ℕ, ◌<◌, Bool, true, false, not, ◌&&◌, ◌==◌, if◌then◌else◌, List, Option, Some, None, is_some, option_map, IfSome, refl, sym, ap, subst, arith}
+use Rattle.std.proofs.Common.{◌≡◌, ◌∙◌, ℕ, ◌<◌, Bool, true, false, not, ◌&&◌, List, Option, Some, None, is_some, option_map, IfSome, refl, sym, ap, subst, arith}
 use Rattle.std.proofs.lemmas.Bool.{false≢true}
-use Rattle.std.proofs.lemmas.Bool.Decides.{nat_tests}
+use Rattle.mpm_base.specs.Calls.{Taken}
+use Rattle.mpm_functions.specs.declared.functions.FileFunction.{FileFunction}
+use Rattle.mpm_requests.specs.declared.caller.Caller.{Caller}
+use Rattle.mpm_bdos.specs.Starting.{IsEntered, HasEntered}
+use Rattle.std.proofs.lemmas.Option.{none-some, same_Some}
 use Rattle.mpm_port.specs.Disks.{Disks}
 use Rattle.mpm_ready.specs.Order.{first_of}
-use Rattle.mpm_service.specs.Disk.{DiskService, is_last_step, step_answer, answer_by, turn_answer, served_process}
+use Rattle.mpm_service.specs.Disk.{DiskService, answer_by, turn_answer, served_process}
 use Rattle.mpm_service.specs.declared.service.Served.{Served}
 use Rattle.mpm_service.specs.declared.service.Turn.{Turn}
 use Rattle.mpm_service.specs.declared.service.Turn.TheVariants.{Idle, Passing, Work, Starts}
@@ -17,13 +21,12 @@ use Rattle.mpm_directories.specs.Places.{directory_at}
 use Rattle.mpm_base.proofs.Options.{none_there}
 use Rattle.mpm_procs.specs.Table.{Table, call_of}
 use Rattle.mpm_kernel.specs.Kernel.{Kernel}
-use Rattle.mpm_bdos.specs.Turns.{FitsDrives, KeepsImages, StopsWithin, TurnKeeps, IsIdle, drive_served, has_work, labelled, told_images, without_work}
-use Rattle.mpm_bdos.proofs.Answerable.{still_entered}
+use Rattle.mpm_bdos.specs.Turns.{FitsDrives, KeepsImages, StopsWithin, TurnKeeps, drive_served, has_work, labelled, images_of, without_work}
 use Rattle.mpm_bdos.proofs.ServedLaws.{none_before}
 use Rattle.mpm_system.specs.declared.system.System.{System}
 use Rattle.mpm_system.specs.Owing.{nobody_owes}
 use Rattle.mpm_machine.specs.Files.{Files, Between, Within, turns_ended, StandsServed, StandsForFiles}
-use Rattle.mpm_machine.specs.Holding.{IsOwn, HoldsDrives}
+use Rattle.mpm_machine.specs.Holding.{IsOwn, HoldsKept}
 use Rattle.mpm_machine.specs.DiskStep.{owed_then, all_paid}
 use Rattle.mpm_machine.specs.Failing.{Working, is_work, working_turn, working_turn_of, works_in_turn, HaveImagesOf, FailsWithin}
 use Rattle.mpm_machine.proofs.FailingLaws.{turn_fails}
@@ -91,21 +94,6 @@ pub no_work_here : (disk : DiskService) (answer : Turn) → answer ≡ turn_answ
     → is_work (turn_answer disk) ≡ false
 no_work_here disk answer is never = ap is_work (sym is) ∙ idle_answer answer never
 
--- where turns have no steps none has
-
-no_last_step : (turn_steps : ℕ) (call : Served) → (turn_steps == 0) ≡ true → is_last_step turn_steps call ≡ false
-no_last_step turn_steps call none = grind (arith, nat_tests, none)
-
-never_turns_by : (turn_steps : ℕ) (served : Option Served) (first : Option ℕ) → (turn_steps == 0) ≡ true → (is_some served && is_work (answer_by turn_steps served first)) ≡ false
-unfolding step_answer
-never_turns_by turn_steps None first none = refl
-never_turns_by turn_steps (Some call) first none =
-    ap (λ (b : Bool). is_work (if b then Work call.p (call.left == 1) else Passing)) (no_last_step turn_steps call none)
-
-pub never_turns : (system : System) → (system.kernel.disk.turn_steps == 0) ≡ true → works_in_turn system ≡ false
-unfolding turn_answer
-never_turns system none = never_turns_by system.kernel.disk.turn_steps system.kernel.disk.served (first_of system.kernel.disk.waiting) none
-
 -- where a drive failed in it
 
 pub its_working : (call : Served) (turn : Turn) (s : Situation) → is_work turn ≡ true → working_turn (Some call) turn s ≡ Some (record { call = s; ended = turns_ended call s; most = 1 })
@@ -114,9 +102,9 @@ its_working call Passing s some = absurd (false≢true some)
 its_working call (Starts p) s some = absurd (false≢true some)
 its_working call (Work p last) s some = refl
 
-failed_by : (turn_steps : ℕ) (served : Option Served) (first : Option ℕ) (disks now : Option Disks) (old : Kept) (new : List (Option Directory)) (s : Situation)
+failed_by : (turn_steps : ℕ) (served : Option Served) (first : Option ℕ) (disks now : Disks) (old : Kept) (new : List (Option Directory)) (s : Situation)
     → is_work (answer_by turn_steps served first) ≡ true → StandsServed served old disks (Within s)
-    → ((j : ℕ) → Serves (told_images disks) old s j → j < call_turns s → StopsWithin now s j)
+    → ((j : ℕ) → Serves (images_of disks) old s j → j < call_turns s → StopsWithin now s j)
     → KeepsImages (drive_served old.service) old.mounted disks now
     → ((number : ℕ) → option_map labelled (directory_at new number) ≡ option_map labelled (directory_at old.mounted number))
     → HaveImagesOf (FailsWithin (working_turn served (answer_by turn_steps served first) s)) now new
@@ -128,14 +116,14 @@ failed_by turn_steps (Some call) first disks now old new s some stands stops ima
     (subst (λ (n : ℕ). HaveImagesOf (FailsWithin (Some (record { call = s; ended = n; most = 1 }))) now new) ended
     (turn_fails disks now old new s stands.turns stands.serves below (stops stands.turns stands.serves below) images labels))
 
-never_between : (turn_steps : ℕ) (served : Option Served) (first : Option ℕ) (disks : Option Disks) (old : Kept) (filing : Filing) → is_work (answer_by turn_steps served first) ≡ true
+never_between : (turn_steps : ℕ) (served : Option Served) (first : Option ℕ) (disks : Disks) (old : Kept) (filing : Filing) → is_work (answer_by turn_steps served first) ≡ true
     → StandsServed served old disks (Between filing) → ⊥
 never_between turn_steps None first disks old filing some stands = none_works first turn_steps some
 never_between turn_steps (Some call) first disks old filing some stands = stands
 
-pub turn_failed : (disks now : Option Disks) (system : System) (old : Kept) (new : List (Option Directory)) (files : Files) → is_work (turn_answer system.kernel.disk) ≡ true
+pub turn_failed : (disks now : Disks) (system : System) (old : Kept) (new : List (Option Directory)) (files : Files) → is_work (turn_answer system.kernel.disk) ≡ true
     → StandsForFiles system.kernel.disk old disks files
-    → ((s : Situation) (j : ℕ) → Serves (told_images disks) old s j → j < call_turns s → StopsWithin now s j)
+    → ((s : Situation) (j : ℕ) → Serves (images_of disks) old s j → j < call_turns s → StopsWithin now s j)
     → KeepsImages (drive_served old.service) old.mounted disks now
     → ((number : ℕ) → option_map labelled (directory_at new number) ≡ option_map labelled (directory_at old.mounted number))
     → HaveImagesOf (FailsWithin (working_turn_of system files)) now new
@@ -160,6 +148,20 @@ works_in system some = ap (λ b. b && is_work (turn_answer system.kernel.disk)) 
 
 -- what holds of drives does so as a turn's work is done
 
+same_entered : (caller : Caller) (function : FileFunction) (call : Taken) (one other : InService) → without_work other ≡ without_work one → IsEntered caller function call one
+    → IsEntered caller function call other
+same_entered caller function call one other same is = record {
+  caller_is = ap (λ (s : InService). s.caller) same ∙ is.caller_is;
+  function_is = ap (λ (s : InService). s.function) same ∙ is.function_is;
+  call_is = ap (λ (s : InService). s.call) same ∙ is.call_is;
+}
+
+still_entered : (caller : Caller) (function : FileFunction) (call : Taken) (one other : Option InService) → option_map without_work other ≡ option_map without_work one
+    → HasEntered caller function call one → HasEntered caller function call other
+still_entered caller function call None other same is = absurd is
+still_entered caller function call (Some one) None same is = absurd (none-some (without_work one) same)
+still_entered caller function call (Some one) (Some other) same is = same_entered caller function call one other (same_Some (without_work other) (without_work one) same) is
+
 own_still : (served : Option Served) (procs : Table) (old new : Option InService) → option_map without_work new ≡ option_map without_work old
     → IfSome served (λ (call : Served). IsOwn procs call.p old) → IfSome served (λ (call : Served). IsOwn procs call.p new)
 own_still None procs old new is own = tt
@@ -171,16 +173,10 @@ own_still (Some call) procs old new is own = record {
   entered = still_entered own.caller own.function (call_of procs call.p) old new is own.entered;
 }
 
--- a turn of a call that has no work changes nothing that is kept
-pub rests : {D : Type 0} (old new : Kept) (before behind : D) (steps later : ℕ) → TurnKeeps old new
-    → IsIdle old.service new.service old.mounted new.mounted old.cached new.cached before behind steps later → new ≡ old
-rests old new before behind steps later keeps idle =
-    keeps.rest ∙ (λ i. record old { mounted = idle.directories i; cached = idle.cache i; service = idle.call i })
-
-pub holds_worked : {D : Type 0} (attached : D → ℕ → Option ℕ) (disks : D → Option Disks) (kernel : Kernel) (old new : Kept) (before behind : D)
-    → HoldsDrives attached disks kernel old before → TurnKeeps old new → has_work new.service ≡ has_work old.service
-    → FitsDrives attached disks new.mounted new.cached behind → HoldsDrives attached disks kernel new behind
-holds_worked attached disks kernel old new before behind holds keeps still fits = record {
+pub holds_worked : {D : Type 0} (disks : D → Disks) (kernel : Kernel) (old new : Kept) (before behind : D)
+    → HoldsKept disks kernel old before → TurnKeeps old new → has_work new.service ≡ has_work old.service
+    → FitsDrives disks new.mounted new.cached behind → HoldsKept disks kernel new behind
+holds_worked disks kernel old new before behind holds keeps still fits = record {
   filed = holds.filed;
   own = own_still kernel.disk.served kernel.dispatcher.procs old.service new.service keeps.service holds.own;
   begun = holds.begun;

@@ -16,7 +16,7 @@ use Rattle.mpm_requests.specs.Subjects.{drive_number, drive_at}
 use Rattle.mpm_bdos.specs.Jobs.{call_turns, job_of}
 use Rattle.mpm_bdos.specs.Serving.{StandEach}
 use Rattle.mpm_directories.specs.Places.{directory_at}
-use Rattle.mpm_bdos.specs.Turns.{labelled, told_images}
+use Rattle.mpm_bdos.specs.Turns.{labelled, images_of}
 use Rattle.mpm_service.specs.Disk.{turn_answer}
 use Rattle.mpm_service.specs.declared.service.Served.{Served}
 use Rattle.mpm_service.specs.declared.service.Turn.{Turn}
@@ -89,13 +89,13 @@ unfoldable pub does_work : System → Bool
 does_work system = works_at_once (file_caller system) system || works_in_turn system
 
 -- each image stands, with a directory of the drive and the kind of the one that is mounted, for what is on its drive
-pub record HaveImages (disks : Option Disks) (mounted : List (Option Directory)) (drives : List (Option Drive)) : Type 0 where
+pub record HaveImages (disks : Disks) (mounted : List (Option Directory)) (drives : List (Option Drive)) : Type 0 where
   pub directories : List (Option Directory)
   pub labels : (number : ℕ) → option_map labelled (directory_at directories number) ≡ option_map labelled (directory_at mounted number)
-  pub stand : StandEach (told_images disks) directories drives
+  pub stand : StandEach (images_of disks) directories drives
 
 -- some drives are so, and each image stands for what is on its drive
-pub record HaveImagesOf (Are : List (Option Drive) → Type 0) (disks : Option Disks) (mounted : List (Option Directory)) : Type 0 where
+pub record HaveImagesOf (Are : List (Option Drive) → Type 0) (disks : Disks) (mounted : List (Option Directory)) : Type 0 where
   pub drives : List (Option Drive)
   pub are : Are drives
   pub images : HaveImages disks mounted drives
@@ -125,5 +125,5 @@ StopsOn WriteFault system files drives = let step = stepped system files in driv
 StopsOn DiskFault system files drives = FailsWithin (working_in system files) drives
 
 -- a step of a state stopped: each image stands for what is then on its drive
-abbrev pub StopsWithImages : StepFault → Option Disks → List (Option Directory) → State → Type 0
+abbrev pub StopsWithImages : StepFault → Disks → List (Option Directory) → State → Type 0
 StopsWithImages fault disks mounted s = HaveImagesOf (StopsOn fault s.system s.files) disks mounted

@@ -1,7 +1,6 @@
 -- The faults of a machine's devices: the counts, and what was written.
-use Rattle.std.specs.Prelude.{◌≡◌, ℕ, List, Option, Result, OnOk, IfErr, ⊤}
+use Rattle.std.specs.Prelude.{◌≡◌, ℕ, List, ◌++◌, Result, OnOk, IfErr, ⊤}
 use Rattle.mpm_port.specs.Causes.{Rose}
-use Rattle.mpm_port.specs.Texts.{appended}
 use Rattle.mpm_render.specs.Shown.{EndsBetween}
 use Rattle.mpm_machine.specs.declared.machine.StepFault.{StepFault}
 use Rattle.mpm_machine.specs.declared.machine.StepFault.TheVariants.{DiskFault, WriteFault}
@@ -32,9 +31,9 @@ abbrev pub of_run : RunFault → StepFault
 of_run error = error.fault
 
 -- what was written between two texts: where the sink failed a first part of what the second adds, and where a drive did nothing
-abbrev pub EndsBy : StepFault → Option (List ℕ) → Option (List ℕ) → List ℕ → List ℕ → Type 0
+abbrev pub EndsBy : StepFault → List ℕ → List ℕ → List ℕ → List ℕ → Type 0
 EndsBy WriteFault written first from to = EndsBetween written first from to
-EndsBy DiskFault written first from to = written ≡ appended first from
+EndsBy DiskFault written first from to = written ≡ first ++ from
 
 -- what is so where a drive failed
 abbrev pub OnDiskFault : StepFault → Type 0 → Type 0

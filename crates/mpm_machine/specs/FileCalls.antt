@@ -1,9 +1,8 @@
 -- File calls: which process makes one in a step, what it comes to, and how it is answered. (MP/M II Programmer's Guide, "BDOS
 -- Function Calls", "BDOS Error Handling"; functions 13, "Reset Disk System", and 14, "Select Disk".)
-use Rattle.std.specs.Prelude.{◌≡◌, ℕ, ◌%◌, Bool, true, false, not, List, Option, Some, None, ⊤, is_some, option_map, ◌==◌, ◌&&◌, ◌||◌, if◌then◌else◌}
+use Rattle.std.specs.Prelude.{ℕ, ◌%◌, Bool, false, not, Option, Some, None, is_some, option_map, ◌==◌, ◌&&◌, ◌||◌, if◌then◌else◌}
 use Rattle.mpm_base.specs.Calls.{Taken, Answer, answering}
 use Rattle.mpm_procs.specs.Table.{process_in, call_of}
-use Rattle.mpm_mount.specs.Drives.{Drive}
 use Rattle.mpm_procs.specs.declared.process.Process.{Process}
 use Rattle.mpm_clock.specs.declared.moment.Moment.{Moment}
 use Rattle.mpm_clock.specs.Times.{moment_of}
@@ -18,15 +17,9 @@ use Rattle.mpm_functions.specs.declared.refusals.Extended.{Extended}
 use Rattle.mpm_functions.specs.Functions.{function_of, direct_of}
 use Rattle.mpm_requests.specs.Filing.{Filing, Situation}
 use Rattle.mpm_bdos.specs.Starting.{caller_of}
-use Rattle.mpm_directories.specs.Direct.{Stays, Directly, IsToldDirectly, ComesDirectly, is_protected}
+use Rattle.mpm_directories.specs.Direct.{Stays, Directly}
 use Rattle.mpm_bdos.specs.Outcomes.{Outcome, file_call}
-use Rattle.mpm_bdos.specs.Finishing.{ComesTo}
-use Rattle.mpm_bdos.specs.Jobs.{job_of}
-use Rattle.mpm_bdos.specs.Serving.{Kept, Serves, filing_of}
-use Rattle.mpm_directories.specs.Places.{kind_at}
-use Rattle.mpm_bdos.specs.AtOnce.{IsJobless}
 use Rattle.mpm_bdos.specs.Direct.{direct}
-use Rattle.mpm_bdos.specs.Answering.{MayAnswer}
 use Rattle.mpm_system.specs.declared.system.System.{System}
 use Rattle.mpm_system.specs.Whole.{Change, silent}
 use Rattle.mpm_system.specs.Coming.{coming, counted}
@@ -101,44 +94,6 @@ told_by outcome = record { caller = outcome.caller; answer = outcome.answer; ext
 
 abbrev pub told_of : Taken → Answer → Option Extended → Directly
 told_of call reply error = record { caller = change_of call error; answer = reply; extended = error }
-
--- whatever is on the drives: what the call that a process keeps may be answered, by its function
-abbrev pub MayTell : Option FileFunction → Option DirectFunction → ℕ → System → Answer → Option Extended → Type 0
-MayTell (Some function) other p system answer extended =
-    MayAnswer (process_in system.kernel.dispatcher.procs p).multi function (call_of system.kernel.dispatcher.procs p) answer extended
-MayTell None (Some function) p system answer extended =
-    IsToldDirectly (process_in system.kernel.dispatcher.procs p).drive function (call_of system.kernel.dispatcher.procs p) answer extended
-MayTell None None p system answer extended = (answer ≡ answering 0) × (extended ≡ None)
-
-unfoldable pub IsToldOf : ℕ → System → Answer → Option Extended → Type 0
-IsToldOf p system answer extended =
-    let number = (call_of system.kernel.dispatcher.procs p).function in
-    MayTell (function_of number) (direct_of number) p system answer extended
-
--- one that is done at once and has no job, as one that is refused, comes to its whole outcome, for whatever images and drives the
--- directories stand for: it is answered, and of what was kept it leaves, as its definition says
-abbrev pub ComesWithoutJob : FileFunction → Kept → Kept → ℕ → System → Answer → Option Extended → Type 0
-ComesWithoutJob function kept left p system answer extended =
-    (images : ℕ → List ℕ) (drives : List (Option Drive)) → IsJobless images kept.mounted (situation_of (filing_of kept drives) function p system)
-    → ComesTo images (situation_of (filing_of kept drives) function p system) left answer extended
-
--- so does one in service that is over and has no job, in the situation in which it entered
-abbrev pub EndsWithoutJob : Kept → Kept → Answer → Option Extended → Type 0
-EndsWithoutJob kept left answer extended = (images : ℕ → List ℕ) (s : Situation) → Serves images kept s 0 → job_of s ≡ None → ComesTo images s left answer extended
-
--- a call comes to what it does as what is kept has it: one that the disk serves, where calls are done at once; and one that no disk
--- serves is answered by which drives are mounted, of which kinds, and which are protected
-abbrev pub TellsAsKept : Option FileFunction → Option DirectFunction → Kept → Kept → ℕ → System → Answer → Option Extended → Type 0
-TellsAsKept (Some function) other kept left p system answer extended =
-    (system.kernel.disk.turn_steps == 0) ≡ true → ComesWithoutJob function kept left p system answer extended
-TellsAsKept None (Some function) kept left p system answer extended =
-    ComesDirectly (kind_at kept.mounted) (is_protected kept.protected) (process_in system.kernel.dispatcher.procs p).drive function (call_of system.kernel.dispatcher.procs p) answer extended
-TellsAsKept None None kept left p system answer extended = ⊤
-
-unfoldable pub IsToldAsKept : Kept → Kept → ℕ → System → Answer → Option Extended → Type 0
-IsToldAsKept kept left p system answer extended =
-    let number = (call_of system.kernel.dispatcher.procs p).function in
-    TellsAsKept (function_of number) (direct_of number) kept left p system answer extended
 
 -- by its process's error mode an extended error is answered, or told and answered, or told, and ends the process
 abbrev pub answered_or_ended : Bool → Answer → ℕ → System → System

@@ -11,7 +11,7 @@ use Rattle.mpm_requests.specs.Filing.{Filing, Situation}
 use Rattle.mpm_bdos.specs.Jobs.{call_turns}
 use Rattle.mpm_bdos.specs.Outcomes.{drives_after, left_by, without_search}
 use Rattle.mpm_bdos.specs.Serving.{Kept, StandEach, Serves, filing_of}
-use Rattle.mpm_bdos.specs.Turns.{told_images}
+use Rattle.mpm_bdos.specs.Turns.{images_of}
 
 -- no call is in service, or one is, in the situation in which it entered: of what it found nothing changes until its last turn is over
 pub data Files : Type 0 where
@@ -33,21 +33,21 @@ drives_in (Some call) (Within s) = drives_after s (turns_ended call s)
 
 -- between two calls what is kept, and the directory in memory of each mounted drive and its image, as it is told, stand for what file
 -- calls find
-pub record StandsBetween (kept : Kept) (disks : Option Disks) (filing : Filing) : Type 0 where
+pub record StandsBetween (kept : Kept) (disks : Disks) (filing : Filing) : Type 0 where
   pub idle : kept.service ≡ None
   pub filing_is : filing_of kept filing.drives ≡ filing
-  pub stand : StandEach (told_images disks) kept.mounted filing.drives
+  pub stand : StandEach (images_of disks) kept.mounted filing.drives
 
 -- within a call with so many turns ended they stand for its drives behind these, and its work is that of its job, with the others left
-pub record StandsWithin (call : Served) (kept : Kept) (disks : Option Disks) (s : Situation) : Type 0 where
+pub record StandsWithin (call : Served) (kept : Kept) (disks : Disks) (s : Situation) : Type 0 where
   pub turns : ℕ
   pub left : turns + call.left ≡ call_turns s
   pub some : 0 < call.left
   pub whose : call.p ≡ s.caller.process
-  pub serves : Serves (told_images disks) kept s turns
+  pub serves : Serves (images_of disks) kept s turns
 
 -- so they stand by the call that the disk serves, if it serves one
-abbrev pub StandsServed : Option Served → Kept → Option Disks → Files → Type 0
+abbrev pub StandsServed : Option Served → Kept → Disks → Files → Type 0
 StandsServed None kept disks (Between filing) = StandsBetween kept disks filing
 StandsServed None kept disks (Within s) = ⊥
 StandsServed (Some call) kept disks (Between filing) = ⊥
@@ -61,27 +61,27 @@ AreWithin (Some call) (Between filing) = ⊥
 AreWithin (Some call) (Within s) = ⊤
 
 -- of the disk this looks at the call in service alone: whoever comes to wait or leaves, it stays
-pub record StandsForFiles (disk : DiskService) (kept : Kept) (disks : Option Disks) (files : Files) : Type 0 where
+pub record StandsForFiles (disk : DiskService) (kept : Kept) (disks : Disks) (files : Files) : Type 0 where
   pub stands : StandsServed disk.served kept disks files
 
 -- so they stand within a step as the turn's work was done whose last step this is: of one turn more
 abbrev pub one_more : Bool → ℕ → ℕ
 one_more more turns = if more then suc turns else turns
 
-pub record HasWorked (turn_steps : ℕ) (call : Served) (kept : Kept) (disks : Option Disks) (s : Situation) : Type 0 where
+pub record HasWorked (turn_steps : ℕ) (call : Served) (kept : Kept) (disks : Disks) (s : Situation) : Type 0 where
   pub turns : ℕ
   pub left : turns + call.left ≡ call_turns s
   pub some : 0 < call.left
   pub whose : call.p ≡ s.caller.process
-  pub serves : Serves (told_images disks) kept s (one_more (is_last_step turn_steps call) turns)
+  pub serves : Serves (images_of disks) kept s (one_more (is_last_step turn_steps call) turns)
 
-abbrev pub StandsWorkedBy : ℕ → Option Served → Kept → Option Disks → Files → Type 0
+abbrev pub StandsWorkedBy : ℕ → Option Served → Kept → Disks → Files → Type 0
 StandsWorkedBy turn_steps None kept disks (Between filing) = StandsBetween kept disks filing
 StandsWorkedBy turn_steps None kept disks (Within s) = ⊥
 StandsWorkedBy turn_steps (Some call) kept disks (Between filing) = ⊥
 StandsWorkedBy turn_steps (Some call) kept disks (Within s) = HasWorked turn_steps call kept disks s
 
-pub record StandsWorked (disk : DiskService) (kept : Kept) (disks : Option Disks) (files : Files) : Type 0 where
+pub record StandsWorked (disk : DiskService) (kept : Kept) (disks : Disks) (files : Files) : Type 0 where
   pub stands : StandsWorkedBy disk.turn_steps disk.served kept disks files
 
 -- the processes of slots that ended give back what they had open and marked, and their searches end

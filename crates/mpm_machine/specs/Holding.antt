@@ -1,4 +1,4 @@
--- What holds between steps of drives, of what is kept of file calls, and of those at the disk, whatever is told of the images.
+-- What holds between steps of drives, of what is kept of file calls, and of those at the disk.
 use Rattle.std.specs.Prelude.{◌≡◌, ℕ, ◌<◌, true, false, Option, Some, None, IfSome, is_some}
 use Rattle.mpm_port.specs.Disks.{Disks}
 use Rattle.mpm_procs.specs.Table.{Table, process_in, call_of}
@@ -8,10 +8,11 @@ use Rattle.mpm_kernel.specs.Kernel.{Kernel}
 use Rattle.mpm_requests.specs.declared.caller.Caller.{Caller}
 use Rattle.mpm_functions.specs.declared.functions.FileFunction.{FileFunction}
 use Rattle.mpm_functions.specs.Functions.{function_of}
-use Rattle.mpm_bdos.specs.Answering.{HasEntered}
+use Rattle.mpm_bdos.specs.Starting.{HasEntered}
 use Rattle.mpm_bdos.specs.Serving.{Kept, InService}
 use Rattle.mpm_directories.specs.Places.{directory_at}
 use Rattle.mpm_bdos.specs.Turns.{FitsDrives, has_work}
+use Rattle.mpm_machine.specs.Files.{Files, StandsForFiles}
 
 -- the call in service is that which its process keeps, with the multi-sector count with which it entered: neither changes while it is
 -- at the disk
@@ -30,15 +31,21 @@ OwnsService kernel service = IfSome kernel.disk.served (λ call. IsOwn kernel.di
 abbrev pub AreFiled : Kernel → Type 0
 AreFiled kernel = (p : ℕ) → 0 < at_disk kernel.disk p → is_some (function_of (call_of kernel.dispatcher.procs p).function) ≡ true
 
--- who waits for the disk, or is served, keeps a call that the disk serves; the one in service has turns left; each mounted drive is
--- attached to an image of its kind's size, and what is cached is what the images have; and where no drive is mounted no call in
--- service has work
-pub record HoldsDrives {D : Type 0} (attached : D → ℕ → Option ℕ) (disks : D → Option Disks) (kernel : Kernel) (kept : Kept) (drives : D) : Type 0 where
+-- what holds at each moment of a step: who waits for the disk, or is served, keeps a call that the disk serves; the one in service has
+-- turns left; each mounted drive has an image of its kind's size, and what is cached is what the images have; and where no drive is
+-- mounted no call in service has work
+pub record HoldsKept {D : Type 0} (disks : D → Disks) (kernel : Kernel) (kept : Kept) (drives : D) : Type 0 where
   pub filed : AreFiled kernel
   pub own : OwnsService kernel kept.service
   pub begun : HasBegun kernel.disk
-  pub fits : FitsDrives attached disks kept.mounted kept.cached drives
+  pub fits : FitsDrives disks kept.mounted kept.cached drives
   pub workless : ((number : ℕ) → directory_at kept.mounted number ≡ None) → has_work kept.service ≡ false
+
+-- between steps, what is kept and the images stand for some files too
+pub record HoldsDrives {D : Type 0} (disks : D → Disks) (kernel : Kernel) (kept : Kept) (drives : D) : Type 0 where
+  pub calls : HoldsKept disks kernel kept drives
+  pub files : Files
+  pub stands : StandsForFiles kernel.disk kept (disks drives) files
 
 -- each process keeps the same call, and its multi-sector count
 pub record CallsAlike (old new : Table) : Type 0 where

@@ -21,6 +21,6 @@ pub mod Filed
 pub mod Failing
 pub mod Contained
 pub mod After
+pub mod OneStep
 pub mod Quietly
-pub mod Chain
 pub mod Settling

@@ -1,6 +1,6 @@
 -- What of a program's file stands in the segment that the interpreter reserved, as the file comes in: its code, behind the base page, moved
 -- to the segment's first page as far as its marks were gone through. (MP/M II System Guide, "Page Relocatable Programs".)
-use Rattle.std.specs.Prelude.{◌≡◌, ℕ, zero, suc, ◌+◌, ◌*◌, ◌/◌, ◌<◌, nat_lt, if◌then◌else◌, true, List, length, min, drop, slice_index, Some, ⊤}
+use Rattle.std.specs.Prelude.{◌≡◌, ℕ, ◌+◌, ◌*◌, ◌/◌, ◌<◌, nat_lt, if◌then◌else◌, true, List, length, min, drop, slice_index, Some, ⊤}
 use Rattle.mpm_banks.specs.Memory.{Memory, byte_at}
 use Rattle.mpm_prl.specs.Relocation.{relocated_byte}
 use Rattle.mpm_loader.specs.Pieces.{Loading, has_all}
@@ -12,10 +12,9 @@ use Rattle.mpm_residents.specs.declared.cli.table.Row.TheVariants.{Reserve, Plac
 use Rattle.mpm_residents.specs.Standing.{is_loading}
 use Rattle.mpm_residents.specs.Natives.{native_in}
 use Rattle.mpm_residents.specs.declared.native.Native.TheVariants.{Cli}
-use Rattle.mpm_bdos.specs.Serving.{Kept}
-use Rattle.mpm_system.specs.Whole.{Change}
 use Rattle.mpm_system.specs.declared.system.System.{System}
-use Rattle.mpm_machine.specs.After.{AreSteps}
+use Rattle.mpm_machine.specs.State.{State}
+use Rattle.mpm_machine.specs.After.{after}
 
 -- a piece of a file, before which so many bytes of it stand
 abbrev pub IsPiece : List ℕ → ℕ → List ℕ → Type 0
@@ -71,8 +70,6 @@ IsReading file system =
     (cli : Interpreter) → native_in system.residents 0 ≡ Some (Cli cli) → is_loading cli.row ≡ true
     → IsPiece file cli.load.before cli.load.piece
 
--- so it is before each of some steps
-unfoldable pub IsReadIn : (file : List ℕ) (n : ℕ) (kept kept' : Kept) (old : System) (change : Change) → AreSteps n kept kept' old change → Type 0
-unfolding AreSteps
-IsReadIn file zero kept kept' old change steps = ⊤
-IsReadIn file (suc n) kept kept' old change steps = IsReadIn file n kept steps.0 old steps.1 steps.3 × IsReading file steps.1.system
+-- so it is before each of n steps of a state
+abbrev pub IsReadIn : List ℕ → ℕ → State → Type 0
+IsReadIn file n s = (k : ℕ) → k < n → IsReading file (after k s).system

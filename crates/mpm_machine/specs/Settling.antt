@@ -1,13 +1,11 @@
 -- The end of a run: the call in service is carried to its end without further steps, as if in the last one; who waits for the disk has
 -- no effect, and nobody enters service. (This project's own.)
-use Rattle.std.specs.Prelude.{◌≡◌, ℕ, ◌+◌, ◌*◌, ◌≤◌, ◌⊎◌, Bool, List, ◌++◌, Option, Some, None, IsSome}
+use Rattle.std.specs.Prelude.{◌≡◌, ℕ, ◌+◌, ◌*◌, ◌≤◌, ◌⊎◌, Bool, List, Option, Some, None, IsSome}
 use Rattle.mpm_port.specs.Disks.{Disks}
-use Rattle.mpm_port.specs.Texts.{appended}
 use Rattle.mpm_mount.specs.Directories.{Directory}
-use Rattle.mpm_render.specs.Outputs.{Output, rendered, closed}
+use Rattle.mpm_render.specs.Outputs.{rendered, closed}
 use Rattle.mpm_render.specs.Shown.{Kept, Shows, EndsBetween}
 use Rattle.mpm_service.specs.Ahead.{turns_left, unserved}
-use Rattle.mpm_service.specs.Disk.{served_process}
 use Rattle.mpm_service.specs.declared.service.Served.{Served}
 use Rattle.mpm_kernel.specs.Disk.{with_disk}
 use Rattle.mpm_directories.specs.Direct.{Directly}
@@ -30,7 +28,7 @@ use Rattle.mpm_machine.specs.Due.{with_ends}
 use Rattle.mpm_machine.specs.DiskStep.{with_kernel, call_over, told_of_call, all_paid}
 use Rattle.mpm_machine.specs.Stepping.{Stepped}
 use Rattle.mpm_machine.specs.Failing.{Working, FailsWithin, HaveImages, HaveImagesOf}
-use Rattle.mpm_machine.specs.After.{IsOfCall, IsToldIn, IsOverAsKept, having}
+use Rattle.mpm_machine.specs.After.{having}
 
 -- the turns that are left pass
 abbrev pub turns_passed : System → System
@@ -68,7 +66,7 @@ unfoldable pub carried : State → State
 carried s = having (at_end s.files s.system) s.outputs
 
 -- that was done, and written
-pub record HasCarried (files : Files) (before behind : Outside) (old new : System) (kept : Filed) (disks : Option Disks) : Type 0 where
+pub record HasCarried (files : Files) (before behind : Outside) (old new : System) (kept : Filed) (disks : Disks) : Type 0 where
   pub system : new ≡ (at_end files old).change.system
   pub wrote : Wrote before behind (at_end files old).change.emitted
   pub stands : StandsForFiles new.kernel.disk kept disks (at_end files old).files
@@ -80,7 +78,7 @@ left_of (Within call) None = None
 left_of (Between filing) served = None
 
 -- or it stopped: where a drive failed nothing of it was written
-abbrev pub StopsCarrying : StepFault → Files → Outside → Outside → System → List (Option Directory) → Option Disks → Type 0
+abbrev pub StopsCarrying : StepFault → Files → Outside → Outside → System → List (Option Directory) → Disks → Type 0
 StopsCarrying WriteFault files before behind old mounted disks =
     Stopped before behind (at_end files old).change.emitted × HaveImages disks mounted (filing_in (at_end files old).files).drives
 StopsCarrying DiskFault files before behind old mounted disks =
@@ -88,76 +86,19 @@ StopsCarrying DiskFault files before behind old mounted disks =
 
 -- the end of a run stopped: a drive failed in a turn of the call in service, and nothing of the end was written, or as it was synced,
 -- behind all that the call brings about
-pub record StopsInTurn (kept : Kept) (written : Option (List ℕ)) (disks : Option Disks) (mounted : List (Option Directory)) (s : State) (first : Option (List ℕ)) : Type 0 where
+pub record StopsInTurn (kept : Kept) (written : List ℕ) (disks : Disks) (mounted : List (Option Directory)) (s : State) (first : List ℕ) : Type 0 where
   pub shown : Shows kept written s.outputs first
   pub images : HaveImagesOf (FailsWithin (left_of s.files s.system.kernel.disk.served)) disks mounted
 
-pub record StopsInSync (kept : Kept) (written : Option (List ℕ)) (disks : Option Disks) (mounted : List (Option Directory)) (s : State) (first : Option (List ℕ)) : Type 0 where
+pub record StopsInSync (kept : Kept) (written : List ℕ) (disks : Disks) (mounted : List (Option Directory)) (s : State) (first : List ℕ) : Type 0 where
   pub shown : Shows kept written (carried s).outputs first
   pub images : HaveImages disks mounted (filing_in (carried s).files).drives
 
 -- where the sink failed, a first part of what the end adds was written
-abbrev pub StopsAtEnd : StepFault → Kept → Option (List ℕ) → Option Disks → List (Option Directory) → State → Option (List ℕ) → Type 0
+abbrev pub StopsAtEnd : StepFault → Kept → List ℕ → Disks → List (Option Directory) → State → List ℕ → Type 0
 StopsAtEnd WriteFault kept written disks mounted s first =
     EndsBetween written first (rendered kept.trace s.outputs) (closed kept.trace (carried s).outputs) × HaveImages disks mounted (filing_in (carried s).files).drives
 StopsAtEnd DiskFault kept written disks mounted s first = StopsInTurn kept written disks mounted s first ⊎ StopsInSync kept written disks mounted s first
-
--- whatever is on the drives: the end makes this of a system, by what the call in service may tell, and, where that has no job, upon what
--- is kept of file calls
-pub record IsEndOf (kept : Filed) (p : ℕ) (old : System) (change : Change) : Type 0 where
-  pub told : Directly
-  pub of_call : IsOfCall (Some p) told (turns_passed old)
-  pub tells : IsToldIn (Some p) told (turns_passed old)
-  pub left : Filed
-  pub as_kept : IsOverAsKept kept left (Some p) told
-  pub is : change ≡ ended_with told p old
-
-abbrev pub IsEndBy : Filed → Option ℕ → System → Change → Type 0
-IsEndBy kept None old change = change ≡ silent old
-IsEndBy kept (Some p) old change = IsEndOf kept p old change
-
-abbrev pub IsEnd : Filed → System → Change → Type 0
-IsEnd kept old change = IsEndBy kept (served_process old.kernel.disk) old change
-
--- that was done and written, or a first part of it was written, as it is of a call or of none
-pub record WritesEndOf (kept : Filed) (call : Option ℕ) (before behind : Outside) (old new : System) : Type 0 where
-  pub change : Change
-  pub is : IsEndBy kept call old change
-  pub system : new ≡ change.system
-  pub wrote : Wrote before behind change.emitted
-
-pub record StopsEndOf (kept : Filed) (call : Option ℕ) (before behind : Outside) (old : System) : Type 0 where
-  pub change : Change
-  pub is : IsEndBy kept call old change
-  pub stops : Stopped before behind change.emitted
-
-abbrev pub WritesEnd : Filed → Outside → Outside → System → System → Type 0
-WritesEnd kept before behind old new = WritesEndOf kept (served_process old.kernel.disk) before behind old new
-
--- where a drive failed nothing of it was
-abbrev pub StopsEnd : StepFault → Filed → Outside → Outside → System → Type 0
-StopsEnd WriteFault kept before behind old = StopsEndOf kept (served_process old.kernel.disk) before behind old
-StopsEnd DiskFault kept before behind old = behind ≡ before
-
--- behind it unfinished lines were closed
-pub record ClosesEnd (kept : Filed) (before : Outside) (written : Option (List ℕ)) (old new : System) : Type 0 where
-  pub change : Change
-  pub is : IsEnd kept old change
-  pub system : new ≡ change.system
-  pub closes : (said : List Output) (first : Option (List ℕ)) → Shows before.kept before.written said first
-      → written ≡ appended first (closed before.kept.trace (change.emitted ++ said))
-
--- or, behind all that the end says, a first part of the closed lines was, where the sink failed; where a drive did nothing of them
-pub record StopsInLines (kept : Filed) (before : Outside) (written : Option (List ℕ)) (old new : System) : Type 0 where
-  pub change : Change
-  pub is : IsEnd kept old change
-  pub system : new ≡ change.system
-  pub stops : (said : List Output) (first : Option (List ℕ)) → Shows before.kept before.written said first
-      → EndsBetween written first (rendered before.kept.trace (change.emitted ++ said)) (closed before.kept.trace (change.emitted ++ said))
-
-abbrev pub StopsClosing : StepFault → Filed → Outside → Outside → System → System → Type 0
-StopsClosing WriteFault kept before behind old new = StopsInLines kept before behind.written old new
-StopsClosing DiskFault kept before behind old new = WritesEnd kept before behind old new
 
 -- of the drives: which aren't synced, and how often one was called
 pub record Called : Type 0 where
@@ -196,16 +137,7 @@ pub record BehindTurns (system : System) (kept : Filed) (Syncs : Called → Call
   pub turns : TurnsCall system kept before between
   pub syncs : Syncs between behind
 
--- the end of a run stopped as the call in service was carried to its end, and no drive was synced, or behind that
-pub record StopsInCall (fault : StepFault) (kept : Filed) (before behind : Outside) (drives now : Called) (old : System) : Type 0 where
-  pub serves : IsSome old.kernel.disk.served
-  pub text : StopsEnd fault kept before behind old
-  pub called : TurnsCall old kept drives now
-
-pub record StopsBehindCall (fault : StepFault) (kept : Filed) (mounted : List (Option Directory)) (before behind : Outside) (drives now : Called) (old new : System) : Type 0 where
-  pub text : StopsClosing fault kept before behind old new
-  pub called : BehindTurns old kept (SyncsTo fault mounted) drives now
-
-abbrev pub StopsSettling : StepFault → Filed → List (Option Directory) → Outside → Outside → Called → Called → System → System → Type 0
-StopsSettling fault kept mounted before behind drives now old new =
-    StopsInCall fault kept before behind drives now old ⊎ StopsBehindCall fault kept mounted before behind drives now old new
+-- the end of a run stopped in a turn of the call in service, and no drive was synced, or after the turns
+abbrev pub StopsSettling : StepFault → List (Option Directory) → Filed → Called → Called → System → Type 0
+StopsSettling fault mounted kept before behind system =
+    (IsSome system.kernel.disk.served × TurnsCall system kept before behind) ⊎ BehindTurns system kept (SyncsTo fault mounted) before behind

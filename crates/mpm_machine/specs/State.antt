@@ -1,5 +1,5 @@
 -- The machine as a kernel model: its state, and when a machine stands for a state.
-use Rattle.std.specs.Prelude.{◌≡◌, ℕ, List, Option}
+use Rattle.std.specs.Prelude.{◌≡◌, ℕ, List}
 use Rattle.mpm_render.specs.Outputs.{Output}
 use Rattle.mpm_render.specs.Shown.{Kept, Shows}
 use Rattle.mpm_port.specs.Disks.{Disks}
@@ -14,11 +14,16 @@ pub record State : Type 0 where
   pub files : Files
 
 -- a system, what its renderer keeps and what its sink was told stand for a state's system and outputs, behind a first text
-pub record StandsFor (system : System) (kept : Kept) (written : Option (List ℕ)) (s : State) (first : Option (List ℕ)) : Type 0 where
+pub record StandsFor (system : System) (kept : Kept) (written : List ℕ) (s : State) (first : List ℕ) : Type 0 where
   pub parts : system ≡ s.system
   pub shown : Shows kept written s.outputs first
 
+-- a machine and its drives are at a state, whatever was written
+pub record IsAt (machine : Machine) (disks : Disks) (s : State) : Type 0 where
+  pub system : machine.system ≡ s.system
+  pub files : StandsForFiles machine.system.kernel.disk machine.bdos disks s.files
+
 -- a machine, its renderer, its sink and its drives stand for a state
-pub record StandsWithDrives (machine : Machine) (kept : Kept) (written : Option (List ℕ)) (disks : Option Disks) (s : State) (first : Option (List ℕ)) : Type 0 where
+pub record StandsWithDrives (machine : Machine) (kept : Kept) (written : List ℕ) (disks : Disks) (s : State) (first : List ℕ) : Type 0 where
   pub system : StandsFor machine.system kept written s first
   pub files : StandsForFiles machine.system.kernel.disk machine.bdos disks s.files

@@ -38,11 +38,10 @@ impl Machine {
         requires whole { IsWhole self.old.system }
         requires no_completions { NoCompletions self.old.system }
         requires room { self.old.system.steps + most ≤ GREATEST_STEP }
-        requires holds { HoldsDrives D.attached D.disks self.old.system.kernel self.old.bdos drives.now }
+        requires holds { HoldsDrives D.disks self.old.system.kernel self.old.bdos drives.now }
         ensures count { result ≤ most }
-        ensures went { WentOn D.attached D.disks drives.now (seen S.written S.faults render.now sink.now) result self.old self.new }
+        ensures went { WentOn D.disks drives.now (seen S.written S.faults render.now sink.now) result self.old self.new }
     {
-        self.bdos.tell_sound();
         let ahead = look_ahead(&self.system, render.is_tracing());
         let Some(here) = &ahead else {
             return idle(&mut self.system, most);

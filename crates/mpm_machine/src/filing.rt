@@ -10,16 +10,15 @@ ghost use Rattle.mpm_bdos.specs.Jobs.{call_turns};
 ghost use Rattle.mpm_bdos.specs.Serving.{IsCaller, StandEach, Serves, filing_of, nothing_kept};
 ghost use Rattle.mpm_directories.specs.Places.{in_places as in_their_places};
 ghost use Rattle.mpm_bdos.specs.Starting.{caller_of};
-ghost use Rattle.mpm_bdos.specs.Answering.{HasEntered};
-ghost use Rattle.mpm_bdos.specs.Turns.{FitsDrives, TurnKeeps, has_work};
+ghost use Rattle.mpm_bdos.specs.Starting.{HasEntered};
+ghost use Rattle.mpm_bdos.specs.Turns.{FitsDrives, has_work};
 ghost use Rattle.mpm_system.specs.Whole.{IsWhole};
 ghost use Rattle.mpm_machine.specs.Files.{Files, StandsBetween, StandsForFiles, StandsWorked, all_left};
-ghost use Rattle.mpm_machine.specs.Holding.{HoldsDrives};
-ghost use Rattle.mpm_machine.specs.FileCalls.{IsToldOf, IsToldAsKept, outcome_in, situation_of, looked_at as as_looked_at};
+ghost use Rattle.mpm_machine.specs.Holding.{HoldsKept};
+ghost use Rattle.mpm_machine.specs.FileCalls.{outcome_in, situation_of, looked_at as as_looked_at};
 ghost use Rattle.mpm_machine.specs.Mounting.{HasNoDrive, KeepsMounted};
 ghost use Rattle.mpm_machine.specs.Failing.{HaveImagesOf, FailsWithin, working_if, working_turn_of, works_in_turn, turns_done};
 ghost use Rattle.mpm_machine.specs.Filed.{IsOutcome, left_if};
-ghost use Rattle.mpm_machine.specs.After.{HasJob};
 
 use mpm_base::{Pid, Reply, Steps};
 use mpm_bdos::{Bdos, Extended, FileFunction, in_places};
@@ -77,18 +76,15 @@ pub(crate) fn call_files<D: Drives, L: Ledger>(
 ) -> Result<Option<Extended>, Failed>
     requires whole { IsWhole system.now }
     requires lives { Lives system.now.kernel.dispatcher.procs p }
-    requires fits { FitsDrives D.attached D.disks bdos.old.mounted bdos.old.cached drives.old }
+    requires fits { FitsDrives D.disks bdos.old.mounted bdos.old.cached drives.old }
     ensures ok { (filing : Filing) → StandsBetween bdos.old (D.disks drives.old) filing
         → IfOk result (IsOutcome (D.disks drives.new) (outcome_in filing p system.now) bdos.new reply.new) }
-    ensures told { IfOk result (IsToldOf p system.now reply.new) }
-    ensures as_kept { IfOk result (IsToldAsKept bdos.old bdos.new p system.now reply.new) }
     ensures err { (filing : Filing) → StandsBetween bdos.old (D.disks drives.old) filing
         → OnErr result (HaveImagesOf (FailsWithin (working_if true filing p system.now)) (D.disks drives.new) bdos.new.mounted) }
     ensures calls { (filing : Filing) → StandsBetween bdos.old (D.disks drives.old) filing → steps.new ≤ steps.old + 20 * turns_done (working_if true filing p system.now) }
-    ensures keeps { KeepsMounted (D.disks drives.old) (D.disks drives.new) bdos.old.mounted bdos.new.mounted }
-    ensures fits { FitsDrives D.attached D.disks bdos.new.mounted bdos.new.cached drives.new }
+    ensures keeps { KeepsMounted (D.told drives.old) (D.told drives.new) (D.disks drives.old) (D.disks drives.new) bdos.old.mounted bdos.new.mounted }
+    ensures fits { FitsDrives D.disks bdos.new.mounted bdos.new.cached drives.new }
     ensures names { D.failed_names drives.new ≡ D.failed_names drives.old }
-    ensures attached { (number : ℕ) → D.attached drives.new number ≡ D.attached drives.old number }
     ensures unsynced { (number : ℕ) → D.unsynced drives.old number ≡ true → D.unsynced drives.new number ≡ true }
     ensures bare { HasNoDrive bdos.old.mounted → HasNoDrive bdos.new.mounted }
     ensures none { HasNoDrive bdos.old.mounted → drives.new ≡ drives.old }
@@ -99,7 +95,6 @@ pub(crate) fn call_files<D: Drives, L: Ledger>(
     ensures direct { function_of (call_of system.now.kernel.dispatcher.procs p).function ≡ None
         → IsOk result × (bdos.new ≡ bdos.old) × (drives.new ≡ drives.old) × (steps.new ≡ steps.old) }
     ensures service { IsSome (function_of (call_of system.now.kernel.dispatcher.procs p).function) → bdos.new.service ≡ None }
-    ensures job { OnErr result (HasJob bdos.old (Some p) system.now) }
 {
     let call = system.kernel.kept_call(p);
     match FileFunction::of(call.function) {
@@ -119,26 +114,22 @@ fn call_disk<D: Drives, L: Ledger>(
 ) -> Result<Option<Extended>, Failed>
     requires whole { IsWhole system.now }
     requires lives { Lives system.now.kernel.dispatcher.procs p }
-    requires fits { FitsDrives D.attached D.disks bdos.old.mounted bdos.old.cached drives.old }
+    requires fits { FitsDrives D.disks bdos.old.mounted bdos.old.cached drives.old }
     requires function { IsSome (function_of (call_of system.now.kernel.dispatcher.procs p).function) }
     ensures ok { (filing : Filing) → StandsBetween bdos.old (D.disks drives.old) filing
         → IfOk result (IsOutcome (D.disks drives.new) (outcome_in filing p system.now) bdos.new reply.new) }
-    ensures told { IfOk result (IsToldOf p system.now reply.new) }
-    ensures as_kept { IfOk result (IsToldAsKept bdos.old bdos.new p system.now reply.new) }
     ensures err { (filing : Filing) → StandsBetween bdos.old (D.disks drives.old) filing
         → OnErr result (HaveImagesOf (FailsWithin (working_if true filing p system.now)) (D.disks drives.new) bdos.new.mounted) }
     ensures calls { (filing : Filing) → StandsBetween bdos.old (D.disks drives.old) filing → steps.new ≤ steps.old + 20 * turns_done (working_if true filing p system.now) }
-    ensures keeps { KeepsMounted (D.disks drives.old) (D.disks drives.new) bdos.old.mounted bdos.new.mounted }
-    ensures fits { FitsDrives D.attached D.disks bdos.new.mounted bdos.new.cached drives.new }
+    ensures keeps { KeepsMounted (D.told drives.old) (D.told drives.new) (D.disks drives.old) (D.disks drives.new) bdos.old.mounted bdos.new.mounted }
+    ensures fits { FitsDrives D.disks bdos.new.mounted bdos.new.cached drives.new }
     ensures names { D.failed_names drives.new ≡ D.failed_names drives.old }
-    ensures attached { (number : ℕ) → D.attached drives.new number ≡ D.attached drives.old number }
     ensures unsynced { (number : ℕ) → D.unsynced drives.old number ≡ true → D.unsynced drives.new number ≡ true }
     ensures bare { HasNoDrive bdos.old.mounted → HasNoDrive bdos.new.mounted }
     ensures none { HasNoDrive bdos.old.mounted → drives.new ≡ drives.old }
     ensures unfailing { HasNoDrive bdos.old.mounted → OnErr result ⊥ }
     ensures cause { HasCause (D.faults drives.old) (D.faults drives.new) result }
     ensures service { bdos.new.service ≡ None }
-    ensures job { OnErr result (HasJob bdos.old (Some p) system.now) }
 {
     let caller = looked_at(system.kernel.living(p));
     let now = system.kernel.now();
@@ -157,9 +148,7 @@ fn call_disk<D: Drives, L: Ledger>(
 fn call_directly(system: &System, bdos: &Bdos, p: Pid, reply: &mut Reply) -> Option<Extended>
     requires lives { Lives system.now.kernel.dispatcher.procs p }
     requires function { function_of (call_of system.now.kernel.dispatcher.procs p).function ≡ None }
-    ensures told { IsToldOf p system.now reply.new result }
-    ensures as_kept { IsToldAsKept bdos.now bdos.now p system.now reply.new result }
-    ensures outcome { (disks : Option Disks) (filing : Filing) → StandsBetween bdos.now disks filing
+    ensures outcome { (disks : Disks) (filing : Filing) → StandsBetween bdos.now disks filing
         → IsOutcome disks (outcome_in filing p system.now) bdos.now reply.new result }
     ensures within { (images : ℕ → List ℕ) (s : Situation) (j : ℕ) → Serves images bdos.now s j
         → (reply.new ≡ (outcome_in s.filing p system.now).answer) × (result ≡ (outcome_in s.filing p system.now).extended) }
@@ -177,8 +166,6 @@ pub(crate) fn start_call(system: &System, bdos: &mut Bdos, p: Pid) -> u32
     requires function { IsSome (function_of (call_of system.now.kernel.dispatcher.procs p).function) }
     ensures turns { (images : ℕ → List ℕ) (drives : List (Option Drive)) (function : FileFunction) → function_of (call_of system.now.kernel.dispatcher.procs p).function ≡ Some function
         → StandEach images bdos.old.mounted drives → result ≡ call_turns (situation_of (filing_of bdos.old drives) function p system.now) }
-    ensures takes { (function : FileFunction) → function_of (call_of system.now.kernel.dispatcher.procs p).function ≡ Some function
-        → (filing : Filing) × (result ≡ call_turns (situation_of filing function p system.now)) }
     ensures serves { (images : ℕ → List ℕ) (drives : List (Option Drive)) (function : FileFunction) → function_of (call_of system.now.kernel.dispatcher.procs p).function ≡ Some function
         → StandEach images bdos.old.mounted drives → Serves images bdos.new (situation_of (filing_of bdos.old drives) function p system.now) 0 }
     ensures entered { (function : FileFunction) → function_of (call_of system.now.kernel.dispatcher.procs p).function ≡ Some function
@@ -198,23 +185,20 @@ pub(crate) fn work<D: Drives, L: Ledger>(
     drives: &mut D,
     steps: &mut Steps<L>,
 ) -> Result<(), Failed>
-    requires holds { HoldsDrives D.attached D.disks system.now.kernel bdos.old drives.old }
+    requires holds { HoldsKept D.disks system.now.kernel bdos.old drives.old }
     ensures ok { (files : Files) → StandsForFiles system.now.kernel.disk bdos.old (D.disks drives.old) files
         → OnOk result (StandsWorked system.now.kernel.disk bdos.new (D.disks drives.new) files) }
     ensures err { (files : Files) → StandsForFiles system.now.kernel.disk bdos.old (D.disks drives.old) files
         → OnErr result (HaveImagesOf (FailsWithin (working_turn_of system.now files)) (D.disks drives.new) bdos.new.mounted) }
-    ensures keeps { KeepsMounted (D.disks drives.old) (D.disks drives.new) bdos.old.mounted bdos.new.mounted }
+    ensures keeps { KeepsMounted (D.told drives.old) (D.told drives.new) (D.disks drives.old) (D.disks drives.new) bdos.old.mounted bdos.new.mounted }
     ensures names { D.failed_names drives.new ≡ D.failed_names drives.old }
-    ensures attached { (number : ℕ) → D.attached drives.new number ≡ D.attached drives.old number }
     ensures unsynced { (number : ℕ) → D.unsynced drives.old number ≡ true → D.unsynced drives.new number ≡ true }
     ensures bare { HasNoDrive bdos.old.mounted → HasNoDrive bdos.new.mounted }
     ensures none { HasNoDrive bdos.old.mounted → drives.new ≡ drives.old }
-    ensures holds { HoldsDrives D.attached D.disks system.now.kernel bdos.new drives.new }
-    ensures kept { TurnKeeps bdos.old bdos.new }
-    ensures at_rest { has_work bdos.old.service ≡ false → bdos.new ≡ bdos.old }
+    ensures holds { HoldsKept D.disks system.now.kernel bdos.new drives.new }
     ensures unfailing { HasNoDrive bdos.old.mounted → IsOk result }
     ensures workless { has_work bdos.old.service ≡ false → IsOk result }
-    ensures idle { works_in_turn system.now ≡ false → IsOk result × (drives.new ≡ drives.old) × (steps.new ≡ steps.old) × (bdos.new ≡ bdos.old) }
+    ensures idle { works_in_turn system.now ≡ false → IsOk result × (drives.new ≡ drives.old) × (steps.new ≡ steps.old) }
     ensures few { steps.new ≤ steps.old + 20 }
     ensures cause { HasCause (D.faults drives.old) (D.faults drives.new) result }
 {

@@ -46,9 +46,7 @@ impl Machine {
     ghost use Rattle.mpm_procs.specs.Table.{process_at, lowest_free};
     ghost use Rattle.mpm_kernel.specs.Kernel.{HasConsole};
     ghost use Rattle.mpm_consoles.specs.Consoles.{console_at};
-    ghost use Rattle.mpm_render.specs.Outputs.{rendered};
     ghost use Rattle.mpm_machine_file.specs.MachineFiles.{IsMachine};
-    ghost use Rattle.mpm_drives.specs.Images.{image_named};
     ghost use Rattle.mpm_drives.specs.Mounted.{SameBeside, number_of, placed};
     ghost use Rattle.mpm_port.specs.Disks.{Disks};
     ghost use Rattle.mpm_drives.specs.Stopping.{Stops};
@@ -58,20 +56,20 @@ impl Machine {
     ghost use Rattle.mpm_bdos.specs.Syncing.{AreSynced};
     ghost use Rattle.mpm_output.specs.Outside.{seen};
     ghost use Rattle.mpm_system.specs.Whole.{IsWhole, NoCompletions};
-    ghost use Rattle.mpm_machine.specs.State.{State, StandsWithDrives};
+    ghost use Rattle.mpm_machine.specs.State.{State, IsAt, StandsWithDrives};
     ghost use Rattle.mpm_machine.specs.Files.{Files, Between, StandsForFiles};
     ghost use Rattle.mpm_machine.specs.Holding.{HoldsDrives};
-    ghost use Rattle.mpm_machine.specs.Stepping.{stepped};
+    ghost use Rattle.mpm_machine.specs.Stepping.{Telling, step_with, stepped};
     ghost use Rattle.mpm_service.specs.Disk.{no_service};
-    ghost use Rattle.mpm_machine.specs.Faults.{counts, HaveCause, itself, of_run, EndsBy};
+    ghost use Rattle.mpm_machine.specs.Faults.{counts, HaveCause, itself, of_run};
     ghost use Rattle.mpm_machine.specs.Due.{NobodyDue};
     ghost use Rattle.mpm_machine.specs.Slots.{HasResidents};
     ghost use Rattle.mpm_machine.specs.Interpreting.{Interprets};
     ghost use Rattle.mpm_system.specs.Opening.{booted, opened, IsBare, MayPlace, with_placed, opening_system, command_queue, with_residents};
     ghost use Rattle.mpm_kernel.specs.Queueing.{OnlySystems};
     ghost use Rattle.mpm_queues.specs.Queues.{make_error};
-    ghost use Rattle.mpm_machine.specs.After.{next, after, IsNextOf, HasRun, HasStepped, HasSteppedTo, HasStopped, HasStoppedIn, StopsBy, ShowsBefore, EndsInStep};
-    ghost use Rattle.mpm_machine.specs.Chain.{IsChain};
+    ghost use Rattle.mpm_machine.specs.OneStep.{LeavesMachine, StopsStep, LeavesDrives};
+    ghost use Rattle.mpm_machine.specs.After.{next, after, IsOfSome, IsStepOf, HasSteppedTo, StopsBy, ShowsBefore, EndsInStep};
     ghost use Rattle.mpm_machine.specs.Mounting.{HasMounted, HasNoDrive, HasDrives, KeepsMounted, OpensOn, untouched};
     ghost use Rattle.mpm_machine.specs.Failing.{HaveImagesOf, StopsOn, StopsWithImages, does_work, turns_done, working_in};
 
@@ -96,17 +94,17 @@ impl Machine {
         ensures whole { IfOk result (λ machine. IsWhole machine.system) }
         ensures no_completions { IfOk result (λ machine. NoCompletions machine.system) }
         ensures disk { IfOk result (λ machine. machine.system.kernel.disk ≡ no_service file.now.disk_turn) }
-        ensures mounted { IfOk result (λ machine. HasMounted (D.attached drives.new) (D.disks drives.new) (image_named (D.disks drives.old)) file.now.drives machine.bdos) }
+        ensures mounted { IfOk result (λ machine. HasMounted (D.disks drives.new) (D.told drives.old) file.now.drives machine.bdos) }
         ensures drives { IfOk result (λ machine. HasDrives (D.disks drives.new) file.now.drives machine.bdos.mounted) }
-        ensures files { IfOk result (λ machine. OpensOn (image_named (D.disks drives.old)) file.now.drives machine.system.kernel.disk machine.bdos (D.disks drives.new)) }
-        ensures holds { IfOk result (λ machine. HoldsDrives D.attached D.disks machine.system.kernel machine.bdos drives.new) }
+        ensures files { IfOk result (λ machine. OpensOn (D.told drives.old) file.now.drives machine.system.kernel.disk machine.bdos (D.disks drives.new)) }
+        ensures holds { IfOk result (λ machine. HoldsDrives D.disks machine.system.kernel machine.bdos drives.new) }
         ensures count { OnOk result (D.faults drives.new ≡ D.faults drives.old) }
         ensures names { OnOk result (D.failed_names drives.new ≡ D.failed_names drives.old) }
-        ensures err { IfErr result (λ error. Stops (image_named (D.disks drives.old)) file.now.drives
+        ensures err { IfErr result (λ error. Stops (D.told drives.old) file.now.drives
             (record { faults = D.faults drives.old; names = D.failed_names drives.old })
             (record { faults = D.faults drives.new; names = D.failed_names drives.new }) error) }
-        ensures images { (name : List ℕ) → image_named (D.disks drives.new) name ≡ image_named (D.disks drives.old) name }
-        ensures beside { SameBeside file.now.drives (D.attached drives.old) (D.attached drives.new) (D.disks drives.old) (D.disks drives.new) }
+        ensures told { D.told drives.new ≡ D.told drives.old }
+        ensures beside { SameBeside file.now.drives (D.disks drives.old) (D.disks drives.new) }
         ensures fresh { IfOk result (λ machine. AreSynced (D.unsynced drives.new) machine.bdos.mounted) }
         ensures unsynced { (number : ℕ) → All (λ spec. number_of spec ≢ number) file.now.drives → D.unsynced drives.new number ≡ D.unsynced drives.old number }
         ensures none { file.now.drives ≡ [] → drives.new ≡ drives.old }
@@ -152,17 +150,17 @@ impl Machine {
         ensures booted { IfOk result (λ machine. machine.system ≡ booted file.now script) }
         ensures bare { IfOk result (λ machine. IsBare machine.system) }
         ensures disk { IfOk result (λ machine. machine.system.kernel.disk ≡ no_service file.now.disk_turn) }
-        ensures mounted { IfOk result (λ machine. HasMounted (D.attached drives.new) (D.disks drives.new) (image_named (D.disks drives.old)) file.now.drives machine.bdos) }
+        ensures mounted { IfOk result (λ machine. HasMounted (D.disks drives.new) (D.told drives.old) file.now.drives machine.bdos) }
         ensures drives { IfOk result (λ machine. HasDrives (D.disks drives.new) file.now.drives machine.bdos.mounted) }
-        ensures files { IfOk result (λ machine. OpensOn (image_named (D.disks drives.old)) file.now.drives machine.system.kernel.disk machine.bdos (D.disks drives.new)) }
-        ensures holds { IfOk result (λ machine. HoldsDrives D.attached D.disks machine.system.kernel machine.bdos drives.new) }
+        ensures files { IfOk result (λ machine. OpensOn (D.told drives.old) file.now.drives machine.system.kernel.disk machine.bdos (D.disks drives.new)) }
+        ensures holds { IfOk result (λ machine. HoldsDrives D.disks machine.system.kernel machine.bdos drives.new) }
         ensures count { OnOk result (D.faults drives.new ≡ D.faults drives.old) }
         ensures names { OnOk result (D.failed_names drives.new ≡ D.failed_names drives.old) }
-        ensures err { IfErr result (λ error. Stops (image_named (D.disks drives.old)) file.now.drives
+        ensures err { IfErr result (λ error. Stops (D.told drives.old) file.now.drives
             (record { faults = D.faults drives.old; names = D.failed_names drives.old })
             (record { faults = D.faults drives.new; names = D.failed_names drives.new }) error) }
-        ensures images { (name : List ℕ) → image_named (D.disks drives.new) name ≡ image_named (D.disks drives.old) name }
-        ensures beside { SameBeside file.now.drives (D.attached drives.old) (D.attached drives.new) (D.disks drives.old) (D.disks drives.new) }
+        ensures told { D.told drives.new ≡ D.told drives.old }
+        ensures beside { SameBeside file.now.drives (D.disks drives.old) (D.disks drives.new) }
         ensures fresh { IfOk result (λ machine. AreSynced (D.unsynced drives.new) machine.bdos.mounted) }
         ensures unsynced { (number : ℕ) → All (λ spec. number_of spec ≢ number) file.now.drives → D.unsynced drives.new number ≡ D.unsynced drives.old number }
         ensures none { file.now.drives ≡ [] → drives.new ≡ drives.old }
@@ -217,7 +215,7 @@ impl Machine {
         ensures no_completions { IfOk result (λ machine. NoCompletions machine.system) }
         ensures disk { IfOk result (λ machine. machine.system.kernel.disk ≡ no_service 0) }
         ensures bdos { IfOk result (λ machine. machine.bdos ≡ nothing_kept (in_places [])) }
-        ensures files { (disks : Option Disks) → IfOk result (λ machine. StandsForFiles machine.system.kernel.disk machine.bdos disks (Between (untouched (placed [])))) }
+        ensures files { (disks : Disks) → IfOk result (λ machine. StandsForFiles machine.system.kernel.disk machine.bdos disks (Between (untouched (placed [])))) }
         ensures memory { IfErr result (λ error. error ≡ BootError.OutOfMemory) }
     {
         let file = match program_file(alloc) {
@@ -288,7 +286,6 @@ impl Machine {
     /// One step. After an error the machine isn't stepped again. A function on files is done in the step in which it is called where
     /// turns have no steps; else it waits for the disk, which serves one at a time in turns, and is done behind its last one. No
     /// drive is synced.
-    /// What the images hold is told by `ok`; the other clauses are so whether they are told or not.
     #[inline(always)]
     pub fn step<D: Drives, S: Sink, L: Ledger>(
         &mut self,
@@ -300,44 +297,26 @@ impl Machine {
         requires most { self.old.system.steps < GREATEST_STEP }
         requires whole { IsWhole self.old.system }
         requires no_completions { NoCompletions self.old.system }
-        requires holds { HoldsDrives D.attached D.disks self.old.system.kernel self.old.bdos drives.old }
-        ensures ok { (s : State) (first : Option (List ℕ)) → StandsWithDrives self.old render.old (S.written sink.old) (D.disks drives.old) s first
+        requires holds { HoldsDrives D.disks self.old.system.kernel self.old.bdos drives.old }
+        ensures ok { (s : State) (first : List ℕ) → StandsWithDrives self.old render.old (S.written sink.old) (D.disks drives.old) s first
             → OnOk result (StandsWithDrives self.new render.new (S.written sink.new) (D.disks drives.new) (next s) first) }
-        ensures err { (s : State) (first : Option (List ℕ)) → StandsWithDrives self.old render.old (S.written sink.old) (D.disks drives.old) s first
-            → IfErr result (λ fault. EndsBy fault (S.written sink.new) first (rendered render.old.trace s.outputs) (rendered render.old.trace (next s).outputs)) }
-        ensures shown { (s : State) (first : Option (List ℕ)) → StandsWithDrives self.old render.old (S.written sink.old) (D.disks drives.old) s first
-            → IfErr result (λ fault. ShowsBefore fault render.new (S.written sink.new) s first) }
-        ensures images { (s : State) (first : Option (List ℕ)) → StandsWithDrives self.old render.old (S.written sink.old) (D.disks drives.old) s first
-            → IfErr result (λ fault. StopsWithImages fault (D.disks drives.new) self.new.bdos.mounted s) }
-        ensures step { OnOk result (HasStepped self.old.bdos self.new.bdos (seen S.written S.faults render.old sink.old) (seen S.written S.faults render.new sink.new) self.old.system self.new.system) }
-        ensures stops { IfErr result (λ fault. HasStopped fault self.old.bdos (seen S.written S.faults render.old sink.old) (seen S.written S.faults render.new sink.new) self.old.system) }
-        ensures due { OnOk result (NobodyDue self.new.system.kernel) }
-        ensures interprets { Interprets self.old.system → OnOk result (Interprets self.new.system) }
-        ensures locks { OnOk result (AreOpen self.new.bdos.opens) }
-        ensures whole { OnOk result (IsWhole self.new.system) }
-        ensures no_completions { OnOk result (NoCompletions self.new.system) }
-        ensures count { OnOk result (self.new.system.steps ≡ self.old.system.steps + 1) }
+        ensures model { (s : State) → IsAt self.old (D.disks drives.old) s → OnOk result (IsAt self.new (D.disks drives.new) (next s)) }
+        ensures stops { (s : State) (first : List ℕ) → StandsWithDrives self.old render.old (S.written sink.old) (D.disks drives.old) s first
+            → IfErr result (λ fault. StopsStep fault render.old.trace render.new (S.written sink.new) (D.disks drives.new) self.new.bdos.mounted s first) }
+        ensures law { (s : State) → s.system ≡ self.old.system → IsStepOf s }
+        ensures leaves { OnOk result (LeavesMachine self.old self.new) }
+        ensures holds { OnOk result (HoldsDrives D.disks self.new.system.kernel self.new.bdos drives.new) }
+        ensures drives { LeavesDrives D.disks D.told D.failed_names D.unsynced self.old.bdos.mounted self.new.bdos.mounted drives.old drives.new }
         ensures trace { render.new.trace ≡ render.old.trace }
         ensures cause { HaveCause itself (counts S.faults D.faults sink.old drives.old) (counts S.faults D.faults sink.new drives.new) result }
-        ensures keeps { KeepsMounted (D.disks drives.old) (D.disks drives.new) self.old.bdos.mounted self.new.bdos.mounted }
-        ensures holds { OnOk result (HoldsDrives D.attached D.disks self.new.system.kernel self.new.bdos drives.new) }
-        ensures names { D.failed_names drives.new ≡ D.failed_names drives.old }
-        ensures attached { (number : ℕ) → D.attached drives.new number ≡ D.attached drives.old number }
-        ensures unsynced { (number : ℕ) → D.unsynced drives.old number ≡ true → D.unsynced drives.new number ≡ true }
-        ensures bare { HasNoDrive self.old.bdos.mounted → HasNoDrive self.new.bdos.mounted }
-        ensures none { HasNoDrive self.old.bdos.mounted → drives.new ≡ drives.old }
-        ensures unfailing { HasNoDrive self.old.bdos.mounted → IfErr result (λ fault. fault ≡ StepFault.WriteFault) }
 
-        // A step that works on no drive calls none.
-        ensures sink { does_work self.old.system ≡ false → IfErr result (λ fault. fault ≡ StepFault.WriteFault) }
-        ensures drives { does_work self.old.system ≡ false → drives.new ≡ drives.old }
-        ensures device_calls { does_work self.old.system ≡ false → steps.new ≡ steps.old }
-
-        // One that does calls it at most 20 times a turn: where turns have steps, one turn is done in a step.
+        // A step that works on no drive calls none. One that does calls it at most 20 times a turn: where turns have steps, one turn is
+        // done in a step.
+        ensures rests { does_work self.old.system ≡ false → IfErr result (λ fault. fault ≡ StepFault.WriteFault) × (drives.new ≡ drives.old) × (steps.new ≡ steps.old) }
+        ensures none { HasNoDrive self.old.bdos.mounted → IfErr result (λ fault. fault ≡ StepFault.WriteFault) × (drives.new ≡ drives.old) × HasNoDrive self.new.bdos.mounted }
         ensures calls { (files : Files) → StandsForFiles self.old.system.kernel.disk self.old.bdos (D.disks drives.old) files
             → steps.new ≤ steps.old + 20 * turns_done (working_in self.old.system files) }
         ensures few { 0 < self.old.system.kernel.disk.turn_steps → steps.new ≤ steps.old + 20 }
-        ensures turn_steps { OnOk result (self.new.system.kernel.disk.turn_steps ≡ self.old.system.kernel.disk.turn_steps) }
     {
         match self.take_step(drives, render, sink, steps) {
             Ok(()) => {
@@ -360,21 +339,19 @@ impl Machine {
         requires most { self.old.system.steps < GREATEST_STEP }
         requires whole { IsWhole self.old.system }
         requires no_completions { NoCompletions self.old.system }
-        requires holds { HoldsDrives D.attached D.disks self.old.system.kernel self.old.bdos drives.old }
+        requires holds { HoldsDrives D.disks self.old.system.kernel self.old.bdos drives.old }
         ensures ok { (files : Files) → StandsForFiles self.old.system.kernel.disk self.old.bdos (D.disks drives.old) files
             → OnOk result (HasSteppedTo files (seen S.written S.faults render.old sink.old) (seen S.written S.faults render.new sink.new) self.old.system self.new.system self.new.bdos (D.disks drives.new)) }
         ensures err { (files : Files) → StandsForFiles self.old.system.kernel.disk self.old.bdos (D.disks drives.old) files
             → IfErr result (λ fault. StopsBy fault (seen S.written S.faults render.old sink.old) (seen S.written S.faults render.new sink.new) (stepped self.old.system files).change.emitted) }
         ensures images { (files : Files) → StandsForFiles self.old.system.kernel.disk self.old.bdos (D.disks drives.old) files
             → IfErr result (λ fault. HaveImagesOf (StopsOn fault self.old.system files) (D.disks drives.new) self.new.bdos.mounted) }
-        ensures step { OnOk result (HasStepped self.old.bdos self.new.bdos (seen S.written S.faults render.old sink.old) (seen S.written S.faults render.new sink.new) self.old.system self.new.system) }
-        ensures stops { IfErr result (λ fault. HasStopped fault self.old.bdos (seen S.written S.faults render.old sink.old) (seen S.written S.faults render.new sink.new) self.old.system) }
+        ensures made { OnOk result (IsOfSome (λ (telling : Telling). (step_with telling self.old.system).system) self.new.system) }
         ensures trace { render.new.trace ≡ render.old.trace }
         ensures cause { HaveCause itself (counts S.faults D.faults sink.old drives.old) (counts S.faults D.faults sink.new drives.new) result }
-        ensures keeps { KeepsMounted (D.disks drives.old) (D.disks drives.new) self.old.bdos.mounted self.new.bdos.mounted }
-        ensures holds { OnOk result (HoldsDrives D.attached D.disks self.new.system.kernel self.new.bdos drives.new) }
+        ensures keeps { KeepsMounted (D.told drives.old) (D.told drives.new) (D.disks drives.old) (D.disks drives.new) self.old.bdos.mounted self.new.bdos.mounted }
+        ensures holds { OnOk result (HoldsDrives D.disks self.new.system.kernel self.new.bdos drives.new) }
         ensures names { D.failed_names drives.new ≡ D.failed_names drives.old }
-        ensures attached { (number : ℕ) → D.attached drives.new number ≡ D.attached drives.old number }
         ensures unsynced { (number : ℕ) → D.unsynced drives.old number ≡ true → D.unsynced drives.new number ≡ true }
         ensures bare { HasNoDrive self.old.bdos.mounted → HasNoDrive self.new.bdos.mounted }
         ensures none { HasNoDrive self.old.bdos.mounted → drives.new ≡ drives.old }
@@ -387,7 +364,6 @@ impl Machine {
         ensures few { 0 < self.old.system.kernel.disk.turn_steps → steps.new ≤ steps.old + 20 }
         ensures turn_steps { OnOk result (self.new.system.kernel.disk.turn_steps ≡ self.old.system.kernel.disk.turn_steps) }
     {
-        self.bdos.tell_sound();
         if let Err(Failed) = work(&self.system, &mut self.bdos, drives, steps) {
             return Err(StepFault::DiskFault);
         }
@@ -402,7 +378,7 @@ impl Machine {
     }
 
     /// Does `n` steps; no step is done past the 4,000,000,000th. What `step` says of memory, of an instruction and of a call
-    /// is so of each of them.
+    /// is so of each of them (`each`).
     pub fn run<D: Drives, S: Sink, L: Ledger>(
         &mut self,
         n: u64,
@@ -414,19 +390,17 @@ impl Machine {
         requires most { self.old.system.steps + n ≤ GREATEST_STEP }
         requires whole { IsWhole self.old.system }
         requires no_completions { NoCompletions self.old.system }
-        requires holds { HoldsDrives D.attached D.disks self.old.system.kernel self.old.bdos drives.old }
-        ensures ok { (s : State) (first : Option (List ℕ)) → StandsWithDrives self.old render.old (S.written sink.old) (D.disks drives.old) s first
+        requires holds { HoldsDrives D.disks self.old.system.kernel self.old.bdos drives.old }
+        ensures ok { (s : State) (first : List ℕ) → StandsWithDrives self.old render.old (S.written sink.old) (D.disks drives.old) s first
             → OnOk result (StandsWithDrives self.new render.new (S.written sink.new) (D.disks drives.new) (after n s) first) }
-        ensures err { (s : State) (first : Option (List ℕ)) → StandsWithDrives self.old render.old (S.written sink.old) (D.disks drives.old) s first
+        ensures model { (s : State) → IsAt self.old (D.disks drives.old) s → OnOk result (IsAt self.new (D.disks drives.new) (after n s)) }
+        ensures err { (s : State) (first : List ℕ) → StandsWithDrives self.old render.old (S.written sink.old) (D.disks drives.old) s first
             → IfErr result (λ error. EndsInStep error.fault render.old.trace (S.written sink.new) first s n error.step) }
-        ensures shown { (s : State) (first : Option (List ℕ)) → StandsWithDrives self.old render.old (S.written sink.old) (D.disks drives.old) s first
+        ensures shown { (s : State) (first : List ℕ) → StandsWithDrives self.old render.old (S.written sink.old) (D.disks drives.old) s first
             → IfErr result (λ error. ShowsBefore error.fault render.new (S.written sink.new) (after (error.step - 1 - s.system.steps) s) first) }
-        ensures images { (s : State) (first : Option (List ℕ)) → StandsWithDrives self.old render.old (S.written sink.old) (D.disks drives.old) s first
+        ensures images { (s : State) (first : List ℕ) → StandsWithDrives self.old render.old (S.written sink.old) (D.disks drives.old) s first
             → IfErr result (λ error. StopsWithImages error.fault (D.disks drives.new) self.new.bdos.mounted (after (error.step - 1 - s.system.steps) s)) }
-        ensures steps { OnOk result (HasRun n self.old.bdos self.new.bdos (seen S.written S.faults render.old sink.old) (seen S.written S.faults render.new sink.new) self.old.system self.new.system) }
-        ensures stops { IfErr result (λ error. HasStoppedIn n error.fault error.step self.old.bdos (seen S.written S.faults render.old sink.old) (seen S.written S.faults render.new sink.new) self.old.system) }
-        ensures chain { OnOk result (IsChain n self.old.bdos self.new.bdos self.old.system self.new.system) }
-        ensures each { (s : State) → s.system ≡ self.old.system → (k : ℕ) → k < n → IsNextOf (after k s) (after (k + 1) s) }
+        ensures each { (s : State) → s.system ≡ self.old.system → (k : ℕ) → k < n → IsStepOf (after k s) }
         ensures due { 0 < n → OnOk result (NobodyDue self.new.system.kernel) }
         ensures interprets { Interprets self.old.system → OnOk result (Interprets self.new.system) }
         ensures locks { OnOk result (AreOpen self.new.bdos.opens) }
@@ -435,10 +409,9 @@ impl Machine {
         ensures count { OnOk result (self.new.system.steps ≡ self.old.system.steps + n) }
         ensures trace { render.new.trace ≡ render.old.trace }
         ensures cause { HaveCause of_run (counts S.faults D.faults sink.old drives.old) (counts S.faults D.faults sink.new drives.new) result }
-        ensures keeps { KeepsMounted (D.disks drives.old) (D.disks drives.new) self.old.bdos.mounted self.new.bdos.mounted }
-        ensures holds { OnOk result (HoldsDrives D.attached D.disks self.new.system.kernel self.new.bdos drives.new) }
+        ensures keeps { KeepsMounted (D.told drives.old) (D.told drives.new) (D.disks drives.old) (D.disks drives.new) self.old.bdos.mounted self.new.bdos.mounted }
+        ensures holds { OnOk result (HoldsDrives D.disks self.new.system.kernel self.new.bdos drives.new) }
         ensures names { D.failed_names drives.new ≡ D.failed_names drives.old }
-        ensures attached { (number : ℕ) → D.attached drives.new number ≡ D.attached drives.old number }
         ensures unsynced { (number : ℕ) → D.unsynced drives.old number ≡ true → D.unsynced drives.new number ≡ true }
         ensures bare { HasNoDrive self.old.bdos.mounted → HasNoDrive self.new.bdos.mounted }
         ensures still { n ≡ 0 → drives.new ≡ drives.old }
@@ -474,17 +447,17 @@ impl Machine {
         requires room { self.old.system.steps + most ≤ GREATEST_STEP }
         requires whole { IsWhole self.old.system }
         requires no_completions { NoCompletions self.old.system }
-        requires holds { HoldsDrives D.attached D.disks self.old.system.kernel self.old.bdos drives.old }
-        ensures ok { (s : State) (first : Option (List ℕ)) → StandsWithDrives self.old render.old (S.written sink.old) (D.disks drives.old) s first
+        requires holds { HoldsDrives D.disks self.old.system.kernel self.old.bdos drives.old }
+        ensures ok { (s : State) (first : List ℕ) → StandsWithDrives self.old render.old (S.written sink.old) (D.disks drives.old) s first
             → IfOk result (λ more. StandsWithDrives self.new render.new (S.written sink.new) (D.disks drives.new) (after more s) first) }
-        ensures err { (s : State) (first : Option (List ℕ)) → StandsWithDrives self.old render.old (S.written sink.old) (D.disks drives.old) s first
+        ensures model { (s : State) → IsAt self.old (D.disks drives.old) s → IfOk result (λ more. IsAt self.new (D.disks drives.new) (after more s)) }
+        ensures err { (s : State) (first : List ℕ) → StandsWithDrives self.old render.old (S.written sink.old) (D.disks drives.old) s first
             → IfErr result (λ error. EndsInStep error.fault render.old.trace (S.written sink.new) first s most error.step) }
-        ensures shown { (s : State) (first : Option (List ℕ)) → StandsWithDrives self.old render.old (S.written sink.old) (D.disks drives.old) s first
+        ensures shown { (s : State) (first : List ℕ) → StandsWithDrives self.old render.old (S.written sink.old) (D.disks drives.old) s first
             → IfErr result (λ error. ShowsBefore error.fault render.new (S.written sink.new) (after (error.step - 1 - s.system.steps) s) first) }
-        ensures images { (s : State) (first : Option (List ℕ)) → StandsWithDrives self.old render.old (S.written sink.old) (D.disks drives.old) s first
+        ensures images { (s : State) (first : List ℕ) → StandsWithDrives self.old render.old (S.written sink.old) (D.disks drives.old) s first
             → IfErr result (λ error. StopsWithImages error.fault (D.disks drives.new) self.new.bdos.mounted (after (error.step - 1 - s.system.steps) s)) }
-        ensures steps { IfOk result (λ more. HasRun more self.old.bdos self.new.bdos (seen S.written S.faults render.old sink.old) (seen S.written S.faults render.new sink.new) self.old.system self.new.system) }
-        ensures stops { IfErr result (λ error. HasStoppedIn most error.fault error.step self.old.bdos (seen S.written S.faults render.old sink.old) (seen S.written S.faults render.new sink.new) self.old.system) }
+        ensures interprets { Interprets self.old.system → OnOk result (Interprets self.new.system) }
         ensures due { OnOk result (NobodyDue self.new.system.kernel) }
         ensures some { IfOk result (λ more. 0 < more) }
         ensures few { IfOk result (λ more. more ≤ most) }
@@ -493,10 +466,9 @@ impl Machine {
         ensures count { IfOk result (λ more. self.new.system.steps ≡ self.old.system.steps + more) }
         ensures trace { render.new.trace ≡ render.old.trace }
         ensures cause { HaveCause of_run (counts S.faults D.faults sink.old drives.old) (counts S.faults D.faults sink.new drives.new) result }
-        ensures keeps { KeepsMounted (D.disks drives.old) (D.disks drives.new) self.old.bdos.mounted self.new.bdos.mounted }
-        ensures holds { OnOk result (HoldsDrives D.attached D.disks self.new.system.kernel self.new.bdos drives.new) }
+        ensures keeps { KeepsMounted (D.told drives.old) (D.told drives.new) (D.disks drives.old) (D.disks drives.new) self.old.bdos.mounted self.new.bdos.mounted }
+        ensures holds { OnOk result (HoldsDrives D.disks self.new.system.kernel self.new.bdos drives.new) }
         ensures names { D.failed_names drives.new ≡ D.failed_names drives.old }
-        ensures attached { (number : ℕ) → D.attached drives.new number ≡ D.attached drives.old number }
         ensures unsynced { (number : ℕ) → D.unsynced drives.old number ≡ true → D.unsynced drives.new number ≡ true }
         ensures bare { HasNoDrive self.old.bdos.mounted → HasNoDrive self.new.bdos.mounted }
         ensures none { HasNoDrive self.old.bdos.mounted → drives.new ≡ drives.old }

@@ -1,6 +1,5 @@
 //! The end of a run: the call in service is carried to its end, the drives are synced, and unfinished lines are closed.
-ghost use Rattle.std.specs.Prelude.{◌≡◌, ℕ, ◌+◌, ◌*◌, ◌<◌, ◌≤◌, List, [], Option, Some, None, OnOk, OnErr, IfErr, IsSome};
-ghost use Rattle.mpm_port.specs.Texts.{appended};
+ghost use Rattle.std.specs.Prelude.{◌≡◌, ℕ, ◌++◌, ◌+◌, ◌*◌, ◌<◌, ◌≤◌, List, [], Some, None, OnOk, OnErr, IfErr, IsSome};
 
 use crate::due::end_all;
 use crate::machine::{Machine, StepFault};
@@ -22,19 +21,19 @@ impl Machine {
     ghost use Rattle.mpm_kernel.specs.Disk.{IsOver};
     ghost use Rattle.mpm_requests.specs.Filing.{Situation};
     ghost use Rattle.mpm_bdos.specs.Jobs.{call_turns};
-    ghost use Rattle.mpm_bdos.specs.Serving.{Serves, StandForSome};
+    ghost use Rattle.mpm_bdos.specs.Serving.{Serves};
     ghost use Rattle.mpm_bdos.specs.Syncing.{mounted_count};
-    ghost use Rattle.mpm_bdos.specs.Turns.{FitsDrives, told_images};
+    ghost use Rattle.mpm_bdos.specs.Turns.{FitsDrives, images_of};
     ghost use Rattle.mpm_system.specs.declared.system.System.{System};
     ghost use Rattle.mpm_system.specs.Whole.{IsWhole, NoCompletions};
     ghost use Rattle.mpm_machine.specs.State.{State, StandsWithDrives};
     ghost use Rattle.mpm_machine.specs.Files.{Files, Within, StandsForFiles, filing_in};
-    ghost use Rattle.mpm_machine.specs.Holding.{IsOwn, HoldsDrives};
+    ghost use Rattle.mpm_machine.specs.Holding.{HoldsKept, HoldsDrives};
     ghost use Rattle.mpm_machine.specs.Faults.{counts, HaveCause, itself, EndsBy, OnDiskFault};
     ghost use Rattle.mpm_machine.specs.Mounting.{HasNoDrive, KeepsMounted};
     ghost use Rattle.mpm_machine.specs.Failing.{HaveImages};
     ghost use Rattle.mpm_machine.specs.After.{EndKeeps};
-    ghost use Rattle.mpm_machine.specs.Settling.{carried, carried_out, turns_passed, HasCarried, StopsCarrying, StopsAtEnd, WritesEndOf, StopsEndOf, WritesEnd, StopsEnd, ClosesEnd, StopsSettling, called, TurnsCall, SyncsAll, SyncsTo, BehindTurns};
+    ghost use Rattle.mpm_machine.specs.Settling.{carried, carried_out, turns_passed, HasCarried, StopsCarrying, StopsAtEnd, StopsSettling, called, TurnsCall, SyncsAll, SyncsTo, BehindTurns};
 
     /// The end of a run: the call in service is carried to its end, each drive is synced, in order of the letters, and unfinished lines
     /// are closed. Where a drive fails nothing more is written, and the lines are left to `Render::finish`. Only `Render::finish` may
@@ -48,40 +47,33 @@ impl Machine {
     ) -> Result<(), StepFault>
         requires whole { IsWhole self.old.system }
         requires no_completions { NoCompletions self.old.system }
-        requires holds { HoldsDrives D.attached D.disks self.old.system.kernel self.old.bdos drives.old }
-        ensures ok { (s : State) (first : Option (List ℕ)) → StandsWithDrives self.old render.old (S.written sink.old) (D.disks drives.old) s first
-            → OnOk result (S.written sink.new ≡ appended first (closed render.old.trace (carried s).outputs)) }
-        ensures system { (s : State) (first : Option (List ℕ)) → StandsWithDrives self.old render.old (S.written sink.old) (D.disks drives.old) s first
+        requires holds { HoldsDrives D.disks self.old.system.kernel self.old.bdos drives.old }
+        ensures ok { (s : State) (first : List ℕ) → StandsWithDrives self.old render.old (S.written sink.old) (D.disks drives.old) s first
+            → OnOk result (S.written sink.new ≡ first ++ closed render.old.trace (carried s).outputs) }
+        ensures system { (s : State) (first : List ℕ) → StandsWithDrives self.old render.old (S.written sink.old) (D.disks drives.old) s first
             → OnOk result (self.new.system ≡ (carried s).system) }
         ensures whole { OnOk result (IsWhole self.new.system) }
-        ensures files { (s : State) (first : Option (List ℕ)) → StandsWithDrives self.old render.old (S.written sink.old) (D.disks drives.old) s first
+        ensures files { (s : State) (first : List ℕ) → StandsWithDrives self.old render.old (S.written sink.old) (D.disks drives.old) s first
             → OnOk result (StandsForFiles self.new.system.kernel.disk self.new.bdos (D.disks drives.new) (carried s).files) }
-        ensures err { (s : State) (first : Option (List ℕ)) → StandsWithDrives self.old render.old (S.written sink.old) (D.disks drives.old) s first
+        ensures err { (s : State) (first : List ℕ) → StandsWithDrives self.old render.old (S.written sink.old) (D.disks drives.old) s first
             → IfErr result (λ fault. StopsAtEnd fault render.new (S.written sink.new) (D.disks drives.new) self.new.bdos.mounted s first) }
 
-        // Whatever is on the drives: what the end does and writes is what the call in service may tell brings about.
-        ensures end { OnOk result (ClosesEnd self.old.bdos (seen S.written S.faults render.old sink.old) (S.written sink.new) self.old.system self.new.system) }
         ensures trace { render.new.trace ≡ render.old.trace }
         ensures cause { HaveCause itself (counts S.faults D.faults sink.old drives.old) (counts S.faults D.faults sink.new drives.new) result }
-        ensures keeps { KeepsMounted (D.disks drives.old) (D.disks drives.new) self.old.bdos.mounted self.new.bdos.mounted }
+        ensures keeps { KeepsMounted (D.told drives.old) (D.told drives.new) (D.disks drives.old) (D.disks drives.new) self.old.bdos.mounted self.new.bdos.mounted }
 
-        // The end stops as the call in service is carried to its end, with a first part of what it says, or nothing where its drive
-        // fails, and no drive is synced; or as the drives are synced, of which those before the one that fails are then; or, where all
-        // are, as lines are closed. Each turn that is left calls a drive at most 20 times, and each drive is synced by one call. Where
-        // no call is in service no image changes.
+        // The end stops as the call in service is carried to its end, and no drive is synced; or as the drives are synced, of which those
+        // before the one that fails are then; or, where all are, as lines are closed. Each turn that is left calls a drive at most 20
+        // times, and each drive is synced by one call. Where no call is in service no image changes.
         ensures synced { OnOk result (BehindTurns self.old.system self.old.bdos (SyncsAll self.new.bdos.mounted) (called D.unsynced drives.old steps.old) (called D.unsynced drives.new steps.new)) }
-        ensures stops { IfErr result (λ fault. StopsSettling fault self.old.bdos self.new.bdos.mounted
-            (seen S.written S.faults render.old sink.old) (seen S.written S.faults render.new sink.new)
-            (called D.unsynced drives.old steps.old) (called D.unsynced drives.new steps.new) self.old.system self.new.system) }
+        ensures stops { IfErr result (λ fault. StopsSettling fault self.new.bdos.mounted self.old.bdos
+            (called D.unsynced drives.old steps.old) (called D.unsynced drives.new steps.new) self.old.system) }
         ensures calls { steps.new ≤ steps.old + 20 * turns_left self.old.system.kernel.disk + mounted_count self.old.bdos.mounted }
-        ensures idle { self.old.system.kernel.disk.served ≡ None → SameDrives D.attached D.disks D.failed_names drives.old drives.new }
-        ensures stand { StandForSome self.old.bdos.mounted }
+        ensures idle { self.old.system.kernel.disk.served ≡ None → SameDrives D.disks D.told D.failed_names drives.old drives.new }
         ensures names { D.failed_names drives.new ≡ D.failed_names drives.old }
-        ensures attached { (number : ℕ) → D.attached drives.new number ≡ D.attached drives.old number }
         ensures none { HasNoDrive self.old.bdos.mounted → drives.new ≡ drives.old }
         ensures unfailing { HasNoDrive self.old.bdos.mounted → IfErr result (λ fault. fault ≡ StepFault.WriteFault) }
     {
-        self.bdos.tell_sound();
         match self.carry(drives, render, sink, steps) {
             Ok(()) => self.close(drives, render, sink, steps),
             Err(fault) => Err(fault),
@@ -96,10 +88,10 @@ impl Machine {
         sink: &mut S,
         steps: &mut Steps<L>,
     ) -> Result<(), StepFault>
-        requires { FitsDrives D.attached D.disks self.now.bdos.mounted self.now.bdos.cached drives.old }
-        ensures ok { (outputs : List Output) (first : Option (List ℕ)) → Shows render.old (S.written sink.old) outputs first
-            → OnOk result (S.written sink.new ≡ appended first (closed render.old.trace outputs)) }
-        ensures err { (outputs : List Output) (first : Option (List ℕ)) → Shows render.old (S.written sink.old) outputs first
+        requires { FitsDrives D.disks self.now.bdos.mounted self.now.bdos.cached drives.old }
+        ensures ok { (outputs : List Output) (first : List ℕ) → Shows render.old (S.written sink.old) outputs first
+            → OnOk result (S.written sink.new ≡ first ++ closed render.old.trace outputs) }
+        ensures err { (outputs : List Output) (first : List ℕ) → Shows render.old (S.written sink.old) outputs first
             → IfErr result (λ fault. EndsBy fault (S.written sink.new) first (rendered render.old.trace outputs) (closed render.old.trace outputs)) }
         ensures unwritten { IfErr result (λ fault. OnDiskFault fault ((render.new ≡ render.old) × (sink.new ≡ sink.old))) }
         ensures some { IfErr result (λ fault. OnDiskFault fault (0 < mounted_count self.now.bdos.mounted)) }
@@ -108,7 +100,7 @@ impl Machine {
         ensures calls { steps.new ≤ steps.old + mounted_count self.now.bdos.mounted }
         ensures synced { OnOk result (SyncsAll self.now.bdos.mounted (called D.unsynced drives.old steps.old) (called D.unsynced drives.new steps.new)) }
         ensures syncs { IfErr result (λ fault. SyncsTo fault self.now.bdos.mounted (called D.unsynced drives.old steps.old) (called D.unsynced drives.new steps.new)) }
-        ensures drives { SameDrives D.attached D.disks D.failed_names drives.old drives.new }
+        ensures drives { SameDrives D.disks D.told D.failed_names drives.old drives.new }
         ensures none { mounted_count self.now.bdos.mounted ≡ 0 → drives.new ≡ drives.old }
     {
         if let Err(Failed) = self.bdos.sync(drives, steps) {
@@ -130,25 +122,22 @@ impl Machine {
     ) -> Result<(), StepFault>
         requires whole { IsWhole self.old.system }
         requires no_completions { NoCompletions self.old.system }
-        requires holds { HoldsDrives D.attached D.disks self.old.system.kernel self.old.bdos drives.old }
+        requires holds { HoldsKept D.disks self.old.system.kernel self.old.bdos drives.old }
         ensures ok { (files : Files) → StandsForFiles self.old.system.kernel.disk self.old.bdos (D.disks drives.old) files
             → OnOk result (HasCarried files (seen S.written S.faults render.old sink.old) (seen S.written S.faults render.new sink.new) self.old.system self.new.system self.new.bdos (D.disks drives.new)) }
         ensures err { (files : Files) → StandsForFiles self.old.system.kernel.disk self.old.bdos (D.disks drives.old) files
             → IfErr result (λ fault. StopsCarrying fault files (seen S.written S.faults render.old sink.old) (seen S.written S.faults render.new sink.new) self.old.system self.new.bdos.mounted (D.disks drives.new)) }
         ensures whole { OnOk result (IsWhole self.new.system) }
-        ensures end { OnOk result (WritesEnd self.old.bdos (seen S.written S.faults render.old sink.old) (seen S.written S.faults render.new sink.new) self.old.system self.new.system) }
         ensures serves { OnErr result (IsSome self.old.system.kernel.disk.served) }
-        ensures stops { IfErr result (λ fault. StopsEnd fault self.old.bdos (seen S.written S.faults render.old sink.old) (seen S.written S.faults render.new sink.new) self.old.system) }
         ensures trace { render.new.trace ≡ render.old.trace }
         ensures cause { HaveCause itself (counts S.faults D.faults sink.old drives.old) (counts S.faults D.faults sink.new drives.new) result }
-        ensures keeps { KeepsMounted (D.disks drives.old) (D.disks drives.new) self.old.bdos.mounted self.new.bdos.mounted }
+        ensures keeps { KeepsMounted (D.told drives.old) (D.told drives.new) (D.disks drives.old) (D.disks drives.new) self.old.bdos.mounted self.new.bdos.mounted }
         ensures names { D.failed_names drives.new ≡ D.failed_names drives.old }
-        ensures attached { (number : ℕ) → D.attached drives.new number ≡ D.attached drives.old number }
         ensures called { TurnsCall self.old.system self.old.bdos (called D.unsynced drives.old steps.old) (called D.unsynced drives.new steps.new) }
         ensures bare { HasNoDrive self.old.bdos.mounted → HasNoDrive self.new.bdos.mounted }
         ensures none { HasNoDrive self.old.bdos.mounted → drives.new ≡ drives.old }
         ensures unfailing { HasNoDrive self.old.bdos.mounted → IfErr result (λ fault. fault ≡ StepFault.WriteFault) }
-        ensures fits { FitsDrives D.attached D.disks self.new.bdos.mounted self.new.bdos.cached drives.new }
+        ensures fits { FitsDrives D.disks self.new.bdos.mounted self.new.bdos.cached drives.new }
         ensures idle { self.old.system.kernel.disk.served ≡ None → drives.new ≡ drives.old }
     {
         match self.system.kernel.disk().serving() {
@@ -169,24 +158,21 @@ impl Machine {
         requires whole { IsWhole self.old.system }
         requires no_completions { NoCompletions self.old.system }
         requires served { served_process self.old.system.kernel.disk ≡ Some p }
-        requires holds { HoldsDrives D.attached D.disks self.old.system.kernel self.old.bdos drives.old }
+        requires holds { HoldsKept D.disks self.old.system.kernel self.old.bdos drives.old }
         ensures ok { (files : Files) → StandsForFiles self.old.system.kernel.disk self.old.bdos (D.disks drives.old) files
             → OnOk result (HasCarried files (seen S.written S.faults render.old sink.old) (seen S.written S.faults render.new sink.new) self.old.system self.new.system self.new.bdos (D.disks drives.new)) }
         ensures err { (files : Files) → StandsForFiles self.old.system.kernel.disk self.old.bdos (D.disks drives.old) files
             → IfErr result (λ fault. StopsCarrying fault files (seen S.written S.faults render.old sink.old) (seen S.written S.faults render.new sink.new) self.old.system self.new.bdos.mounted (D.disks drives.new)) }
         ensures whole { OnOk result (IsWhole self.new.system) }
-        ensures end { OnOk result (WritesEnd self.old.bdos (seen S.written S.faults render.old sink.old) (seen S.written S.faults render.new sink.new) self.old.system self.new.system) }
-        ensures stops { IfErr result (λ fault. StopsEnd fault self.old.bdos (seen S.written S.faults render.old sink.old) (seen S.written S.faults render.new sink.new) self.old.system) }
         ensures trace { render.new.trace ≡ render.old.trace }
         ensures cause { HaveCause itself (counts S.faults D.faults sink.old drives.old) (counts S.faults D.faults sink.new drives.new) result }
-        ensures keeps { KeepsMounted (D.disks drives.old) (D.disks drives.new) self.old.bdos.mounted self.new.bdos.mounted }
+        ensures keeps { KeepsMounted (D.told drives.old) (D.told drives.new) (D.disks drives.old) (D.disks drives.new) self.old.bdos.mounted self.new.bdos.mounted }
         ensures names { D.failed_names drives.new ≡ D.failed_names drives.old }
-        ensures attached { (number : ℕ) → D.attached drives.new number ≡ D.attached drives.old number }
         ensures called { TurnsCall self.old.system self.old.bdos (called D.unsynced drives.old steps.old) (called D.unsynced drives.new steps.new) }
         ensures bare { HasNoDrive self.old.bdos.mounted → HasNoDrive self.new.bdos.mounted }
         ensures none { HasNoDrive self.old.bdos.mounted → drives.new ≡ drives.old }
         ensures unfailing { HasNoDrive self.old.bdos.mounted → IfErr result (λ fault. fault ≡ StepFault.WriteFault) }
-        ensures fits { FitsDrives D.attached D.disks self.new.bdos.mounted self.new.bdos.cached drives.new }
+        ensures fits { FitsDrives D.disks self.new.bdos.mounted self.new.bdos.cached drives.new }
     {
         let turns = self.system.kernel.finish_disk_call();
         if let Err(Failed) = self.bdos.do_turns(turns, drives, steps) {
@@ -202,16 +188,13 @@ impl Machine {
     fn end_call<S: Sink>(&mut self, p: Pid, render: &mut Render, sink: &mut S) -> Result<(), Failed>
         requires whole { IsWhole self.old.system }
         requires over { IsOver p self.old.system.kernel }
-        requires own { IsOwn self.old.system.kernel.dispatcher.procs p self.old.bdos.service }
         requires none { self.old.system.records ≡ [] }
         requires idle { self.old.system.kernel.disk.served ≡ None }
-        ensures ok { (disks : Option Disks) (s : Situation) (before : System) → Serves (told_images disks) self.old.bdos s (call_turns s) → s.caller.process ≡ p → self.old.system ≡ turns_passed before
+        ensures ok { (disks : Disks) (s : Situation) (before : System) → Serves (images_of disks) self.old.bdos s (call_turns s) → s.caller.process ≡ p → self.old.system ≡ turns_passed before
             → OnOk result (HasCarried (Within s) (seen S.written S.faults render.old sink.old) (seen S.written S.faults render.new sink.new) before self.new.system self.new.bdos disks) }
-        ensures err { (disks : Option Disks) (s : Situation) (before : System) → Serves (told_images disks) self.old.bdos s (call_turns s) → s.caller.process ≡ p → self.old.system ≡ turns_passed before
+        ensures err { (disks : Disks) (s : Situation) (before : System) → Serves (images_of disks) self.old.bdos s (call_turns s) → s.caller.process ≡ p → self.old.system ≡ turns_passed before
             → OnErr result (Stopped (seen S.written S.faults render.old sink.old) (seen S.written S.faults render.new sink.new) (carried_out s before).change.emitted × HaveImages disks self.new.bdos.mounted (filing_in (carried_out s before).files).drives) }
         ensures whole { OnOk result (IsWhole self.new.system) }
-        ensures end { (before : System) → self.old.system ≡ turns_passed before → OnOk result (WritesEndOf self.old.bdos (Some p) (seen S.written S.faults render.old sink.old) (seen S.written S.faults render.new sink.new) before self.new.system) }
-        ensures stops { (before : System) → self.old.system ≡ turns_passed before → OnErr result (StopsEndOf self.old.bdos (Some p) (seen S.written S.faults render.old sink.old) (seen S.written S.faults render.new sink.new) before) }
         ensures trace { render.new.trace ≡ render.old.trace }
         ensures cause { HasCause (S.faults sink.old) (S.faults sink.new) result }
         ensures kept { EndKeeps self.old.bdos self.new.bdos }

@@ -22,9 +22,9 @@ impl Machine {
     ghost use Rattle.mpm_output.specs.Writing.{Wrote, Stopped};
     ghost use Rattle.mpm_system.specs.Whole.{silent, IsWhole, NoCompletions, HasRoom, HasRoomForAll};
     ghost use Rattle.mpm_machine.specs.Files.{Files, Between, StandsBetween, StandsWorked, StandsForFiles, drives_in, all_left};
-    ghost use Rattle.mpm_machine.specs.Holding.{IsOwn, OwnsService, AreFiled, HoldsDrives};
-    ghost use Rattle.mpm_machine.specs.DiskStep.{is_done_at_once, file_called, files_called, told_at_gate, told_of_call, process_over, call_over, disk_served, files_served, all_paid, call_entered, files_entered, turns_within};
-    ghost use Rattle.mpm_machine.specs.Stepping.{rest_of, nothing_told, before_disk, files_begun, told_within, telling_then, files_rest};
+    ghost use Rattle.mpm_machine.specs.Holding.{OwnsService, AreFiled, HoldsKept};
+    ghost use Rattle.mpm_machine.specs.DiskStep.{is_done_at_once, file_called, files_called, told_at_gate, told_of_call, call_over, disk_served, files_served, all_paid, call_entered, files_entered, turns_within};
+    ghost use Rattle.mpm_machine.specs.Stepping.{Telling, begun_as, is_instruction, entered_after, rest_of, nothing_told, before_disk, files_begun, told_within, telling_then, files_rest};
     ghost use Rattle.mpm_service.specs.Disk.{HasBegun};
     ghost use Rattle.mpm_kernel.specs.Disk.{IsOver};
     ghost use Rattle.mpm_dispatcher.specs.Dispatch.{IsReady};
@@ -35,11 +35,12 @@ impl Machine {
     ghost use Rattle.mpm_functions.specs.Functions.{function_of};
     ghost use Rattle.mpm_bdos.specs.Jobs.{call_turns};
     ghost use Rattle.mpm_bdos.specs.Outcomes.{file_call};
-    ghost use Rattle.mpm_bdos.specs.Turns.{has_work, told_images};
+    ghost use Rattle.mpm_bdos.specs.Turns.{has_work, images_of};
     ghost use Rattle.mpm_machine.specs.Faults.{counts, HaveCause, itself, OnDiskFault, OnWriteFault};
     ghost use Rattle.mpm_machine.specs.Due.{NobodyDue};
     ghost use Rattle.mpm_machine.specs.FileCalls.{file_caller, told_of, concluded};
-    ghost use Rattle.mpm_machine.specs.After.{StopsBy, HasBegunStep, HasBegunTo, HasBegunToStop, HasEndedStep, HasEndedTo, HasEndedToStop, HasCalled, HasToldAtGate, HasStoppedAtGate, HasServedTo, HasPassed, HasStoppedServing, HasServed, HasAnswered, HasStoppedAnswering, HasEnteredCall, EndKeeps};
+    ghost use Rattle.mpm_machine.specs.After.{IsOfSome, StopsBy, HasBegunTo, HasEndedTo, HasCalled, HasServedTo, EndKeeps};
+    ghost use Rattle.mpm_directories.specs.Direct.{Directly};
     ghost use Rattle.mpm_machine.specs.Mounting.{HasNoDrive, KeepsMounted};
     ghost use Rattle.mpm_machine.specs.Failing.{FailsWithin, HaveImages, HaveImagesOf, turns_done, working_if, working_in, works_at_once};
 
@@ -56,7 +57,7 @@ impl Machine {
         requires most { self.old.system.steps < GREATEST_STEP }
         requires whole { IsWhole self.old.system }
         requires no_completions { NoCompletions self.old.system }
-        requires holds { HoldsDrives D.attached D.disks self.old.system.kernel self.old.bdos drives.old }
+        requires holds { HoldsKept D.disks self.old.system.kernel self.old.bdos drives.old }
         ensures ok { (files : Files) → StandsWorked self.old.system.kernel.disk self.old.bdos (D.disks drives.old) files
             → OnOk result (HasBegunTo files (seen S.written S.faults render.old sink.old) (seen S.written S.faults render.new sink.new) self.old.system self.new.system self.new.bdos (D.disks drives.new)) }
         ensures err { (files : Files) → StandsWorked self.old.system.kernel.disk self.old.bdos (D.disks drives.old) files
@@ -65,26 +66,23 @@ impl Machine {
             → IfErr result (λ fault. OnDiskFault fault (HaveImagesOf (FailsWithin (working_in self.old.system files)) (D.disks drives.new) self.new.bdos.mounted)) }
         ensures stands { (files : Files) → StandsWorked self.old.system.kernel.disk self.old.bdos (D.disks drives.old) files
             → IfErr result (λ fault. OnWriteFault fault (StandsWorked self.old.system.kernel.disk self.new.bdos (D.disks drives.new) (files_begun self.old.system files))) }
-        ensures step { IfOk result (λ instruction. HasBegunStep self.old.bdos self.new.bdos instruction (seen S.written S.faults render.old sink.old) (seen S.written S.faults render.new sink.new) self.old.system self.new.system) }
-        ensures stops { IfErr result (λ fault. HasBegunToStop fault self.old.bdos (seen S.written S.faults render.old sink.old) (seen S.written S.faults render.new sink.new) self.old.system) }
+        ensures instruction { IfOk result (λ instruction. instruction ≡ is_instruction (file_caller self.old.system) self.old.system) }
+        ensures made { OnOk result (IsOfSome (λ (told : Directly). (begun_as told self.old.system).system) self.new.system) }
         ensures served { OnOk result (self.new.system.kernel.disk.served ≡ self.old.system.kernel.disk.served) }
         ensures turn_steps { OnOk result (self.new.system.kernel.disk.turn_steps ≡ self.old.system.kernel.disk.turn_steps) }
         ensures whole { OnOk result (IsWhole self.new.system) }
         ensures completed { OnOk result (self.new.system.kernel.dispatcher.completed ≡ []) }
         ensures room { OnOk result (HasRoomForAll (length self.new.system.records + 1)) }
-        ensures keeps { KeepsMounted (D.disks drives.old) (D.disks drives.new) self.old.bdos.mounted self.new.bdos.mounted }
+        ensures keeps { KeepsMounted (D.told drives.old) (D.told drives.new) (D.disks drives.old) (D.disks drives.new) self.old.bdos.mounted self.new.bdos.mounted }
         ensures names { D.failed_names drives.new ≡ D.failed_names drives.old }
-        ensures attached { (number : ℕ) → D.attached drives.new number ≡ D.attached drives.old number }
         ensures unsynced { (number : ℕ) → D.unsynced drives.old number ≡ true → D.unsynced drives.new number ≡ true }
         ensures bare { HasNoDrive self.old.bdos.mounted → HasNoDrive self.new.bdos.mounted }
         ensures none { HasNoDrive self.old.bdos.mounted → drives.new ≡ drives.old }
-        ensures holds { OnOk result (HoldsDrives D.attached D.disks self.new.system.kernel self.new.bdos drives.new) }
+        ensures holds { OnOk result (HoldsKept D.disks self.new.system.kernel self.new.bdos drives.new) }
         ensures unfailing { HasNoDrive self.old.bdos.mounted → IfErr result (λ fault. fault ≡ StepFault.WriteFault) }
         ensures idle { works_at_once (file_caller self.old.system) self.old.system ≡ false
             → IfErr result (λ fault. fault ≡ StepFault.WriteFault) × (drives.new ≡ drives.old) × (steps.new ≡ steps.old) }
         ensures apart { IsSome self.old.system.kernel.disk.served → IfErr result (λ fault. fault ≡ StepFault.WriteFault) × (drives.new ≡ drives.old) × (steps.new ≡ steps.old) }
-        ensures kept { IsSome self.old.system.kernel.disk.served → self.new.bdos ≡ self.old.bdos }
-        ensures at_rest { works_at_once (file_caller self.old.system) self.old.system ≡ false → self.new.bdos ≡ self.old.bdos }
         ensures calls { (files : Files) → StandsWorked self.old.system.kernel.disk self.old.bdos (D.disks drives.old) files
             → steps.new ≤ steps.old + 20 * turns_done (working_in self.old.system files) }
         ensures trace { render.new.trace ≡ render.old.trace }
@@ -117,7 +115,7 @@ impl Machine {
         requires whole { IsWhole self.old.system }
         requires no_completions { NoCompletions self.old.system }
         requires caller { file_caller self.old.system ≡ Some p }
-        requires holds { HoldsDrives D.attached D.disks self.old.system.kernel self.old.bdos drives.old }
+        requires holds { HoldsKept D.disks self.old.system.kernel self.old.bdos drives.old }
         ensures ok { (files : Files) → StandsWorked self.old.system.kernel.disk self.old.bdos (D.disks drives.old) files
             → OnOk result (HasBegunTo files (seen S.written S.faults render.old sink.old) (seen S.written S.faults render.new sink.new) self.old.system self.new.system self.new.bdos (D.disks drives.new)) }
         ensures err { (files : Files) → StandsWorked self.old.system.kernel.disk self.old.bdos (D.disks drives.old) files
@@ -126,26 +124,22 @@ impl Machine {
             → IfErr result (λ fault. OnDiskFault fault (HaveImagesOf (FailsWithin (working_in self.old.system files)) (D.disks drives.new) self.new.bdos.mounted)) }
         ensures stands { (files : Files) → StandsWorked self.old.system.kernel.disk self.old.bdos (D.disks drives.old) files
             → IfErr result (λ fault. OnWriteFault fault (StandsWorked self.old.system.kernel.disk self.new.bdos (D.disks drives.new) (files_begun self.old.system files))) }
-        ensures step { OnOk result (HasBegunStep self.old.bdos self.new.bdos false (seen S.written S.faults render.old sink.old) (seen S.written S.faults render.new sink.new) self.old.system self.new.system) }
-        ensures stops { IfErr result (λ fault. HasBegunToStop fault self.old.bdos (seen S.written S.faults render.old sink.old) (seen S.written S.faults render.new sink.new) self.old.system) }
+        ensures made { OnOk result (IsOfSome (λ (told : Directly). (begun_as told self.old.system).system) self.new.system) }
         ensures served { OnOk result (self.new.system.kernel.disk.served ≡ self.old.system.kernel.disk.served) }
         ensures turn_steps { OnOk result (self.new.system.kernel.disk.turn_steps ≡ self.old.system.kernel.disk.turn_steps) }
         ensures whole { OnOk result (IsWhole self.new.system) }
         ensures completed { OnOk result (self.new.system.kernel.dispatcher.completed ≡ []) }
         ensures room { OnOk result (HasRoomForAll (length self.new.system.records + 1)) }
-        ensures keeps { KeepsMounted (D.disks drives.old) (D.disks drives.new) self.old.bdos.mounted self.new.bdos.mounted }
+        ensures keeps { KeepsMounted (D.told drives.old) (D.told drives.new) (D.disks drives.old) (D.disks drives.new) self.old.bdos.mounted self.new.bdos.mounted }
         ensures names { D.failed_names drives.new ≡ D.failed_names drives.old }
-        ensures attached { (number : ℕ) → D.attached drives.new number ≡ D.attached drives.old number }
         ensures unsynced { (number : ℕ) → D.unsynced drives.old number ≡ true → D.unsynced drives.new number ≡ true }
         ensures bare { HasNoDrive self.old.bdos.mounted → HasNoDrive self.new.bdos.mounted }
         ensures none { HasNoDrive self.old.bdos.mounted → drives.new ≡ drives.old }
-        ensures holds { OnOk result (HoldsDrives D.attached D.disks self.new.system.kernel self.new.bdos drives.new) }
+        ensures holds { OnOk result (HoldsKept D.disks self.new.system.kernel self.new.bdos drives.new) }
         ensures unfailing { HasNoDrive self.old.bdos.mounted → IfErr result (λ fault. fault ≡ StepFault.WriteFault) }
         ensures idle { works_at_once (file_caller self.old.system) self.old.system ≡ false
             → IfErr result (λ fault. fault ≡ StepFault.WriteFault) × (drives.new ≡ drives.old) × (steps.new ≡ steps.old) }
         ensures apart { IsSome self.old.system.kernel.disk.served → IfErr result (λ fault. fault ≡ StepFault.WriteFault) × (drives.new ≡ drives.old) × (steps.new ≡ steps.old) }
-        ensures kept { IsSome self.old.system.kernel.disk.served → self.new.bdos ≡ self.old.bdos }
-        ensures at_rest { works_at_once (file_caller self.old.system) self.old.system ≡ false → self.new.bdos ≡ self.old.bdos }
         ensures calls { (files : Files) → StandsWorked self.old.system.kernel.disk self.old.bdos (D.disks drives.old) files
             → steps.new ≤ steps.old + 20 * turns_done (working_in self.old.system files) }
         ensures trace { render.new.trace ≡ render.old.trace }
@@ -175,7 +169,7 @@ impl Machine {
         requires none { self.old.system.records ≡ [] }
         requires lives { Lives self.old.system.kernel.dispatcher.procs p }
         requires ready { IsReady self.old.system.kernel.dispatcher p }
-        requires holds { HoldsDrives D.attached D.disks self.old.system.kernel self.old.bdos drives.old }
+        requires holds { HoldsKept D.disks self.old.system.kernel self.old.bdos drives.old }
         ensures ok { (files : Files) → StandsWorked self.old.system.kernel.disk self.old.bdos (D.disks drives.old) files
             → OnOk result (HasCalled (told_at_gate p self.old.system files) p (seen S.written S.faults render.old sink.old) (seen S.written S.faults render.new sink.new) self.old.system self.new.system
             × StandsWorked self.new.system.kernel.disk self.new.bdos (D.disks drives.new) (files_called p self.old.system files)) }
@@ -185,21 +179,17 @@ impl Machine {
             → IfErr result (λ fault. OnDiskFault fault (HaveImagesOf (FailsWithin (working_if (is_done_at_once p self.old.system) filing p self.old.system)) (D.disks drives.new) self.new.bdos.mounted)) }
         ensures stands { (files : Files) → StandsWorked self.old.system.kernel.disk self.old.bdos (D.disks drives.old) files
             → IfErr result (λ fault. OnWriteFault fault (StandsWorked self.old.system.kernel.disk self.new.bdos (D.disks drives.new) (files_called p self.old.system files))) }
-        ensures called { OnOk result (HasToldAtGate self.old.bdos self.new.bdos p (seen S.written S.faults render.old sink.old) (seen S.written S.faults render.new sink.new) self.old.system self.new.system) }
-        ensures stops { IfErr result (λ fault. HasStoppedAtGate fault self.old.bdos p (seen S.written S.faults render.old sink.old) (seen S.written S.faults render.new sink.new) self.old.system) }
-        ensures keeps { KeepsMounted (D.disks drives.old) (D.disks drives.new) self.old.bdos.mounted self.new.bdos.mounted }
+        ensures made { OnOk result (IsOfSome (λ (told : Directly). (file_called told p self.old.system).system) self.new.system) }
+        ensures keeps { KeepsMounted (D.told drives.old) (D.told drives.new) (D.disks drives.old) (D.disks drives.new) self.old.bdos.mounted self.new.bdos.mounted }
         ensures names { D.failed_names drives.new ≡ D.failed_names drives.old }
-        ensures attached { (number : ℕ) → D.attached drives.new number ≡ D.attached drives.old number }
         ensures unsynced { (number : ℕ) → D.unsynced drives.old number ≡ true → D.unsynced drives.new number ≡ true }
         ensures bare { HasNoDrive self.old.bdos.mounted → HasNoDrive self.new.bdos.mounted }
         ensures none { HasNoDrive self.old.bdos.mounted → drives.new ≡ drives.old }
-        ensures holds { HoldsDrives D.attached D.disks self.old.system.kernel self.new.bdos drives.new }
+        ensures holds { HoldsKept D.disks self.old.system.kernel self.new.bdos drives.new }
         ensures unfailing { HasNoDrive self.old.bdos.mounted → IfErr result (λ fault. fault ≡ StepFault.WriteFault) }
         ensures idle { (is_some (function_of (call_of self.old.system.kernel.dispatcher.procs p).function) && is_done_at_once p self.old.system) ≡ false
             → IfErr result (λ fault. fault ≡ StepFault.WriteFault) × (drives.new ≡ drives.old) × (steps.new ≡ steps.old) }
         ensures apart { IsSome self.old.system.kernel.disk.served → IfErr result (λ fault. fault ≡ StepFault.WriteFault) × (drives.new ≡ drives.old) × (steps.new ≡ steps.old) }
-        ensures kept { IsSome self.old.system.kernel.disk.served → self.new.bdos ≡ self.old.bdos }
-        ensures at_rest { (is_some (function_of (call_of self.old.system.kernel.dispatcher.procs p).function) && is_done_at_once p self.old.system) ≡ false → self.new.bdos ≡ self.old.bdos }
         ensures calls { (filing : Filing) → StandsWorked self.old.system.kernel.disk self.old.bdos (D.disks drives.old) (Between filing)
             → steps.new ≤ steps.old + 20 * turns_done (working_if (is_done_at_once p self.old.system) filing p self.old.system) }
         ensures trace { render.new.trace ≡ render.old.trace }
@@ -259,14 +249,13 @@ impl Machine {
         requires begun { HasBegun self.old.system.kernel.disk }
         requires filed { AreFiled self.old.system.kernel }
         requires own { OwnsService self.old.system.kernel self.old.bdos.service }
-        ensures ok { (disks : Option Disks) (files : Files) → StandsWorked self.old.system.kernel.disk self.old.bdos disks files
+        ensures ok { (disks : Disks) (files : Files) → StandsWorked self.old.system.kernel.disk self.old.bdos disks files
             → OnOk result (HasEndedTo instruction files (seen S.written S.faults render.old sink.old) (seen S.written S.faults render.new sink.new) self.old.system self.new.system self.new.bdos disks) }
-        ensures err { (disks : Option Disks) (files : Files) → StandsWorked self.old.system.kernel.disk self.old.bdos disks files
+        ensures err { (disks : Disks) (files : Files) → StandsWorked self.old.system.kernel.disk self.old.bdos disks files
             → OnErr result (Stopped (seen S.written S.faults render.old sink.old) (seen S.written S.faults render.new sink.new) (rest_of instruction (telling_then nothing_told self.old.system files) (silent self.old.system)).emitted) }
-        ensures stands { (disks : Option Disks) (files : Files) → StandsWorked self.old.system.kernel.disk self.old.bdos disks files
+        ensures stands { (disks : Disks) (files : Files) → StandsWorked self.old.system.kernel.disk self.old.bdos disks files
             → OnErr result (HaveImages disks self.new.bdos.mounted (drives_in (rest_of instruction (telling_then nothing_told self.old.system files) (silent self.old.system)).system.kernel.disk.served (files_rest self.old.system files))) }
-        ensures step { OnOk result (HasEndedStep self.old.bdos self.new.bdos instruction (seen S.written S.faults render.old sink.old) (seen S.written S.faults render.new sink.new) self.old.system self.new.system) }
-        ensures stops { OnErr result (HasEndedToStop self.old.bdos instruction (seen S.written S.faults render.old sink.old) (seen S.written S.faults render.new sink.new) self.old.system) }
+        ensures made { OnOk result (IsOfSome (λ (telling : Telling). (rest_of instruction telling (silent self.old.system)).system) self.new.system) }
         ensures due { OnOk result (NobodyDue self.new.system.kernel) }
         ensures whole { OnOk result (IsWhole self.new.system) }
         ensures no_completions { OnOk result (NoCompletions self.new.system) }
@@ -276,7 +265,6 @@ impl Machine {
         ensures own { OnOk result (OwnsService self.new.system.kernel self.new.bdos.service) }
         ensures turn_steps { OnOk result (self.new.system.kernel.disk.turn_steps ≡ self.old.system.kernel.disk.turn_steps) }
         ensures kept { EndKeeps self.old.bdos self.new.bdos }
-        ensures stays { IsSome self.old.system.kernel.disk.served → process_over self.old.system ≡ None → self.new.bdos ≡ self.old.bdos }
         ensures workless { HasNoDrive self.old.bdos.mounted → has_work self.old.bdos.service ≡ false → has_work self.new.bdos.service ≡ false }
         ensures trace { render.new.trace ≡ render.old.trace }
         ensures cause { HasCause (S.faults sink.old) (S.faults sink.new) result }
@@ -302,19 +290,17 @@ impl Machine {
         requires begun { HasBegun self.old.system.kernel.disk }
         requires filed { AreFiled self.old.system.kernel }
         requires own { OwnsService self.old.system.kernel self.old.bdos.service }
-        ensures ok { (disks : Option Disks) (files : Files) → StandsWorked self.old.system.kernel.disk self.old.bdos disks files
+        ensures ok { (disks : Disks) (files : Files) → StandsWorked self.old.system.kernel.disk self.old.bdos disks files
             → OnOk result (HasServedTo files (seen S.written S.faults render.old sink.old) (seen S.written S.faults render.new sink.new) self.old.system self.new.system self.new.bdos disks) }
-        ensures err { (disks : Option Disks) (files : Files) → StandsWorked self.old.system.kernel.disk self.old.bdos disks files
+        ensures err { (disks : Disks) (files : Files) → StandsWorked self.old.system.kernel.disk self.old.bdos disks files
             → OnErr result (Stopped (seen S.written S.faults render.old sink.old) (seen S.written S.faults render.new sink.new) (disk_served (told_within files self.old.system) self.old.system).emitted) }
-        ensures step { OnOk result (HasServed self.old.bdos self.new.bdos (seen S.written S.faults render.old sink.old) (seen S.written S.faults render.new sink.new) self.old.system self.new.system) }
-        ensures stops { OnErr result (HasStoppedServing self.old.bdos (seen S.written S.faults render.old sink.old) (seen S.written S.faults render.new sink.new) self.old.system) }
+        ensures made { OnOk result (IsOfSome (λ (telling : Telling). entered_after telling self.old.system) self.new.system) }
         ensures begun { OnOk result (HasBegun self.new.system.kernel.disk) }
         ensures filed { OnOk result (AreFiled self.new.system.kernel) }
         ensures own { OnOk result (OwnsService self.new.system.kernel self.new.bdos.service) }
         ensures whole { OnOk result (IsWhole self.new.system) }
         ensures completed { OnOk result (self.new.system.kernel.dispatcher.completed ≡ []) }
         ensures kept { EndKeeps self.old.bdos self.new.bdos }
-        ensures stays { IsSome self.old.system.kernel.disk.served → process_over self.old.system ≡ None → self.new.bdos ≡ self.old.bdos }
         ensures workless { HasNoDrive self.old.bdos.mounted → has_work self.old.bdos.service ≡ false → has_work self.new.bdos.service ≡ false }
         ensures trace { render.new.trace ≡ render.old.trace }
         ensures cause { HasCause (S.faults sink.old) (S.faults sink.new) result }
@@ -335,21 +321,19 @@ impl Machine {
         requires begun { HasBegun self.old.system.kernel.disk }
         requires filed { AreFiled self.old.system.kernel }
         requires own { OwnsService self.old.system.kernel self.old.bdos.service }
-        ensures ok { (disks : Option Disks) (files : Files) → StandsWorked self.old.system.kernel.disk self.old.bdos disks files
+        ensures ok { (disks : Disks) (files : Files) → StandsWorked self.old.system.kernel.disk self.old.bdos disks files
             → OnOk result (self.new.system ≡ (disk_served (told_within files self.old.system) self.old.system).system
             × Wrote (seen S.written S.faults render.old sink.old) (seen S.written S.faults render.new sink.new) (disk_served (told_within files self.old.system) self.old.system).emitted
             × StandsForFiles self.new.system.kernel.disk self.new.bdos disks (files_served self.old.system files)) }
-        ensures err { (disks : Option Disks) (files : Files) → StandsWorked self.old.system.kernel.disk self.old.bdos disks files
+        ensures err { (disks : Disks) (files : Files) → StandsWorked self.old.system.kernel.disk self.old.bdos disks files
             → OnErr result (Stopped (seen S.written S.faults render.old sink.old) (seen S.written S.faults render.new sink.new) (disk_served (told_within files self.old.system) self.old.system).emitted) }
-        ensures step { OnOk result (HasPassed self.old.bdos self.new.bdos (seen S.written S.faults render.old sink.old) (seen S.written S.faults render.new sink.new) self.old.system self.new.system) }
-        ensures stops { OnErr result (HasStoppedServing self.old.bdos (seen S.written S.faults render.old sink.old) (seen S.written S.faults render.new sink.new) self.old.system) }
+        ensures made { OnOk result (IsOfSome (λ (told : Directly). (disk_served told self.old.system).system) self.new.system) }
         ensures begun { OnOk result (HasBegun self.new.system.kernel.disk) }
         ensures filed { OnOk result (AreFiled self.new.system.kernel) }
         ensures own { OnOk result (OwnsService self.new.system.kernel self.new.bdos.service) }
         ensures whole { OnOk result (IsWhole self.new.system) }
         ensures completed { OnOk result (self.new.system.kernel.dispatcher.completed ≡ []) }
         ensures kept { EndKeeps self.old.bdos self.new.bdos }
-        ensures stays { process_over self.old.system ≡ None → self.new.bdos ≡ self.old.bdos }
         ensures workless { HasNoDrive self.old.bdos.mounted → has_work self.old.bdos.service ≡ false → has_work self.new.bdos.service ≡ false }
         ensures trace { render.new.trace ≡ render.old.trace }
         ensures cause { HasCause (S.faults sink.old) (S.faults sink.new) result }
@@ -374,16 +358,14 @@ impl Machine {
     ) -> Result<(), Failed>
         requires whole { IsWhole self.old.system }
         requires over { IsOver p self.old.system.kernel }
-        requires own { IsOwn self.old.system.kernel.dispatcher.procs p self.old.bdos.service }
         requires room { HasRoomForAll (length self.old.system.records + 1) }
-        ensures ok { (disks : Option Disks) (s : Situation) → Serves (told_images disks) self.old.bdos s (call_turns s) → s.caller.process ≡ p
+        ensures ok { (disks : Disks) (s : Situation) → Serves (images_of disks) self.old.bdos s (call_turns s) → s.caller.process ≡ p
             → OnOk result ((self.new.system ≡ (call_over (told_of_call s p self.old.system) p self.old.system).system)
             × Wrote (seen S.written S.faults render.old sink.old) (seen S.written S.faults render.new sink.new) (call_over (told_of_call s p self.old.system) p self.old.system).emitted
             × StandsBetween self.new.bdos disks (file_call s).filing) }
-        ensures err { (disks : Option Disks) (s : Situation) → Serves (told_images disks) self.old.bdos s (call_turns s) → s.caller.process ≡ p
+        ensures err { (disks : Disks) (s : Situation) → Serves (images_of disks) self.old.bdos s (call_turns s) → s.caller.process ≡ p
             → OnErr result (Stopped (seen S.written S.faults render.old sink.old) (seen S.written S.faults render.new sink.new) (call_over (told_of_call s p self.old.system) p self.old.system).emitted) }
-        ensures told { OnOk result (HasAnswered self.old.bdos self.new.bdos p (seen S.written S.faults render.old sink.old) (seen S.written S.faults render.new sink.new) self.old.system self.new.system) }
-        ensures stops { OnErr result (HasStoppedAnswering self.old.bdos p (seen S.written S.faults render.old sink.old) (seen S.written S.faults render.new sink.new) self.old.system) }
+        ensures made { OnOk result (IsOfSome (λ (told : Directly). (call_over told p self.old.system).system) self.new.system) }
         ensures idle { self.new.bdos.service ≡ None }
         ensures whole { OnOk result (IsWhole self.new.system) }
         ensures completed { OnOk result (self.new.system.kernel.dispatcher.completed ≡ []) }
@@ -434,16 +416,15 @@ impl Machine {
         requires begun { HasBegun self.old.system.kernel.disk }
         requires filed { AreFiled self.old.system.kernel }
         requires own { OwnsService self.old.system.kernel self.old.bdos.service }
-        ensures ok { (disks : Option Disks) (files : Files) → StandsForFiles self.old.system.kernel.disk self.old.bdos disks files
+        ensures ok { (disks : Disks) (files : Files) → StandsForFiles self.old.system.kernel.disk self.old.bdos disks files
             → (self.new.system ≡ call_entered (turns_within (files_entered self.old.system files)) self.old.system)
             × StandsForFiles self.new.system.kernel.disk self.new.bdos disks (files_entered self.old.system files) }
         ensures served { IsSome self.old.system.kernel.disk.served → self.new ≡ self.old }
-        ensures entered { HasEnteredCall self.new.bdos self.old.system self.new.system }
+        ensures made { IsOfSome (λ (turns : ℕ). call_entered turns self.old.system) self.new.system }
         ensures whole { IsWhole self.new.system }
         ensures begun { HasBegun self.new.system.kernel.disk }
         ensures own { OwnsService self.new.system.kernel self.new.bdos.service }
         ensures kept { self.new.bdos ≡ record self.old.bdos { service = self.new.bdos.service } }
-        ensures idle { self.new.system.kernel.disk.served ≡ None → self.new.bdos ≡ self.old.bdos }
         ensures workless { HasNoDrive self.old.bdos.mounted → has_work self.old.bdos.service ≡ false → has_work self.new.bdos.service ≡ false }
         ensures reply { self.new.reply ≡ self.old.reply }
     {

@@ -1,8 +1,8 @@
 //! Scenes: runs of one or two programs, and what is seen of the machine after so many steps.
-ghost use Rattle.std.specs.Prelude.{ℕ, ◌≡◌, ◌<◌, ◌≤◌, ◌+◌, ◌*◌, Some, OnOk, length, get_or};
+ghost use Rattle.std.specs.Prelude.{ℕ, ◌≡◌, ◌<◌, ◌≤◌, ◌+◌, ◌*◌, OnOk, length, get_or};
 ghost use Rattle.std.specs.Bool.{OnTrue};
 ghost use Rattle.mpm_machine_file.specs.MachineFiles.{IsMachine};
-ghost use Rattle.mpm_port.specs.MemoryDisks.{size_of, disks_of};
+ghost use Rattle.mpm_port.specs.MemoryDisks.{disks_of};
 ghost use Rattle.mpm_system.specs.Whole.{IsWhole, NoCompletions};
 ghost use Rattle.mpm_machine.specs.Holding.{HoldsDrives};
 ghost use Rattle.mpm_system.specs.Opening.{IsBare, MayPlace};
@@ -197,7 +197,7 @@ impl Scene<'_> {
         requires whole { IsWhole machine.old.system }
         requires no_completions { NoCompletions machine.old.system }
         requires start { machine.old.system.steps ≡ 0 }
-        requires holds { HoldsDrives size_of (λ d. Some (disks_of d)) machine.old.system.kernel machine.old.bdos drives.old }
+        requires holds { HoldsDrives disks_of machine.old.system.kernel machine.old.bdos drives.old }
         requires name { blank.name ≡ L.name }
         requires parts { blank.parts ≡ L.parts }
         requires some { 0 < L.parts }
@@ -299,10 +299,10 @@ fn go<L: Ledger>(
     requires whole { IsWhole machine.old.system }
     requires no_completions { NoCompletions machine.old.system }
     requires start { machine.old.system.steps ≡ 0 }
-    requires holds { HoldsDrives size_of (λ d. Some (disks_of d)) machine.old.system.kernel machine.old.bdos drives.old }
+    requires holds { HoldsDrives disks_of machine.old.system.kernel machine.old.bdos drives.old }
     ensures whole { OnOk result (IsWhole machine.new.system) }
     ensures no_completions { OnOk result (NoCompletions machine.new.system) }
-    ensures holds { OnOk result (HoldsDrives size_of (λ d. Some (disks_of d)) machine.new.system.kernel machine.new.bdos drives.new) }
+    ensures holds { OnOk result (HoldsDrives disks_of machine.new.system.kernel machine.new.bdos drives.new) }
 {
     if 10000 < steps {
         return Err(Fail::from("there are too many steps"));

@@ -7,9 +7,8 @@ use Rattle.std.proofs.lemmas.List.FromFn.{map-range_with_len_more}
 use Rattle.mpm_base.specs.declared.kind.Kind.{Kind}
 use Rattle.mpm_base.specs.declared.kind.Kind.TheVariants.{Ibm3740, Hd4, Hd8}
 use Rattle.mpm_blocks.specs.Geometries.{geometry_of, place_of}
-use Rattle.mpm_blocks.specs.Sectors.{told_image, Sectors, sectors_of}
-use Rattle.mpm_blocks.proofs.ToldImages.{told_read}
-use Rattle.mpm_port.specs.Disks.{Disks, image_of, sector_of}
+use Rattle.mpm_blocks.specs.Sectors.{Sectors, sectors_of}
+use Rattle.mpm_port.specs.Disks.{sector_of}
 use Rattle.mpm_dirent.specs.declared.kinds.Entry.{Entry}
 use Rattle.mpm_dirent.specs.Entries.{part, entry_of}
 use Rattle.mpm_mount.specs.Images.{slot_entry, entries_to, entries_in}
@@ -60,25 +59,25 @@ entries_in_more bytes wide k before mid now entry was pushed is =
     ∙ ap (λ e. before ++ (map f (range_with_len 0 k) ++ (e ∷ []))) is
     ∙ ap (λ xs. before ++ xs) (sym (map-range_with_len_more f 0 k k (zero-add k)))
 
-pub told_none : (told : Option (List ℕ)) (kind : Kind) → IfSome told (λ image. [] ≡ entries_to (sectors_of image kind) (geometry_of kind).wide (4 * 0))
+pub nothing_read : (here : Option (List ℕ)) (kind : Kind) → IfSome here (λ image. [] ≡ entries_to (sectors_of image kind) (geometry_of kind).wide (4 * 0))
 unfolding entries_to
-told_none None kind = tt
-told_none (Some image) kind = refl
+nothing_read None kind = tt
+nothing_read (Some image) kind = refl
 
-more_told : (told : Option (List ℕ)) (kind : Kind) (n : ℕ) (mid now : List Entry)
-    → IfSome told (λ image. mid ≡ entries_to (sectors_of image kind) (geometry_of kind).wide (4 * n))
-    → IfSome told (λ image. now ≡ mid ++ entries_in (sectors_of image kind n) (geometry_of kind).wide 4)
-    → IfSome told (λ image. now ≡ entries_to (sectors_of image kind) (geometry_of kind).wide (4 * (n + 1)))
-more_told None kind n mid now was read = tt
-more_told (Some image) kind n mid now was read =
+read_more : (here : Option (List ℕ)) (kind : Kind) (n : ℕ) (mid now : List Entry)
+    → IfSome here (λ image. mid ≡ entries_to (sectors_of image kind) (geometry_of kind).wide (4 * n))
+    → IfSome here (λ image. now ≡ mid ++ entries_in (sectors_of image kind n) (geometry_of kind).wide 4)
+    → IfSome here (λ image. now ≡ entries_to (sectors_of image kind) (geometry_of kind).wide (4 * (n + 1)))
+read_more None kind n mid now was read = tt
+read_more (Some image) kind n mid now was read =
     read ∙ ap (λ es. es ++ entries_in (sectors_of image kind n) (geometry_of kind).wide 4) was ∙ sym (entries_to_more (sectors_of image kind) (geometry_of kind).wide n)
 
-pub told_more : (told before : Option (List ℕ)) (kind : Kind) (n : ℕ) (mid now : List Entry) → before ≡ told
-    → IfSome told (λ image. mid ≡ entries_to (sectors_of image kind) (geometry_of kind).wide (4 * n))
+pub more_read : (here before : Option (List ℕ)) (kind : Kind) (n : ℕ) (mid now : List Entry) → before ≡ here
+    → IfSome here (λ image. mid ≡ entries_to (sectors_of image kind) (geometry_of kind).wide (4 * n))
     → IfSome before (λ image. now ≡ mid ++ entries_in (sectors_of image kind n) (geometry_of kind).wide 4)
-    → IfSome told (λ image. now ≡ entries_to (sectors_of image kind) (geometry_of kind).wide (4 * (n + 1)))
-told_more told before kind n mid now same was read =
-    more_told told kind n mid now was
+    → IfSome here (λ image. now ≡ entries_to (sectors_of image kind) (geometry_of kind).wide (4 * (n + 1)))
+more_read here before kind n mid now same was read =
+    read_more here kind n mid now was
     (subst (λ (t : Option (List ℕ)). IfSome t (λ image. now ≡ mid ++ entries_in (sectors_of image kind n) (geometry_of kind).wide 4)) same read)
 
 pub whole_directory : (kind : Kind) (n : ℕ) → n ≡ ((geometry_of kind).drm + 1) / 4 → 4 * n ≡ (geometry_of kind).drm + 1
@@ -94,16 +93,10 @@ entries_in_size bytes wide = refl
 pub sized_more : (bytes : List ℕ) (wide : Bool) (old now : List Entry) → now ≡ old ++ entries_in bytes wide 4 → length now ≡ length old + 4
 sized_more bytes wide old now is = omega (arith, length-append old (entries_in bytes wide 4), entries_in_size bytes wide, ap length is)
 
-sector_read : (found : Option (List ℕ)) (kind : Kind) (sector place : ℕ) (bytes : List ℕ) (wide : Bool) (old now : List Entry) → place ≡ place_of kind sector
+pub sector_read : (found : Option (List ℕ)) (kind : Kind) (sector place : ℕ) (bytes : List ℕ) (wide : Bool) (old now : List Entry) → place ≡ place_of kind sector
     → IfSome found (λ image. bytes ≡ sector_of image place) → now ≡ old ++ entries_in bytes wide 4
     → IfSome found (λ image. now ≡ old ++ entries_in (sectors_of image kind sector) wide 4)
 unfolding sectors_of
 sector_read None kind sector place bytes wide old now at read is = tt
 sector_read (Some image) kind sector place bytes wide old now at read is =
     is ∙ ap (λ b. old ++ entries_in b wide 4) (read ∙ ap (λ (p : ℕ). sector_of image p) at)
-
-pub sector_told : (disks : Option Disks) (drive : ℕ) (kind : Kind) (sector place : ℕ) (bytes : List ℕ) (wide : Bool) (old now : List Entry) → place ≡ place_of kind sector
-    → IfSome disks (λ told. IfSome (image_of told drive) (λ image. bytes ≡ sector_of image place)) → now ≡ old ++ entries_in bytes wide 4
-    → IfSome (told_image disks drive) (λ image. now ≡ old ++ entries_in (sectors_of image kind sector) wide 4)
-sector_told disks drive kind sector place bytes wide old now at read is =
-    sector_read (told_image disks drive) kind sector place bytes wide old now at (told_read disks drive (λ image. bytes ≡ sector_of image place) read) is

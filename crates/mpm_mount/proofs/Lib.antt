@@ -27,8 +27,6 @@ pub mod InAll
 pub mod FreeEntries
 pub mod FreeRecords
 pub mod ImageWith
-pub mod FaultRange
-pub mod SomeFaults
 pub mod NextFound
 pub mod Taking
 pub mod Puts

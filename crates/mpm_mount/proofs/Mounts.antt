@@ -1,12 +1,10 @@
 -- An image that is mounted, and one that isn't.
 use Rattle.std.proofs.Common.{◌≡◌, ℕ, Bool, List, length, refl, sym, ap, subst, ◌∙◌, eq-eqb, ne_eqb}
-use Rattle.std.specs.Prelude.{Option, Some, None, Result, Ok, Err, IfOk, IfErr, OnOk, IfSome, IsSomeAnd, if◌then◌else◌}
+use Rattle.std.specs.Prelude.{Option, Some, None, Result, Ok, Err, IfOk, IfErr, OnOk, IfSome, option_map, unwrap_or, if◌then◌else◌}
 use Rattle.mpm_base.specs.declared.kind.Kind.{Kind}
 use Rattle.mpm_blocks.specs.Geometries.{geometry_of}
-use Rattle.mpm_blocks.specs.Sectors.{sectors_of, told_image}
-use Rattle.mpm_blocks.proofs.ToldImages.{told_size}
+use Rattle.mpm_blocks.specs.Sectors.{sectors_of}
 use Rattle.mpm_dirent.specs.declared.kinds.Entry.{Entry}
-use Rattle.mpm_port.specs.Disks.{Disks, image_of}
 use Rattle.mpm_mount.specs.declared.errors.ImageFault.{ImageFault}
 use Rattle.mpm_mount.specs.declared.errors.MountError.{MountError}
 use Rattle.mpm_mount.specs.declared.errors.MountError.TheVariants.{Image, DiskFault, OutOfMemory}
@@ -14,7 +12,7 @@ use Rattle.mpm_mount.specs.Drives.{Drive}
 use Rattle.mpm_mount.specs.Faults.{first_fault}
 use Rattle.mpm_mount.specs.Images.{entries_of, drive_of, unless, files_of}
 use Rattle.mpm_mount.specs.Directories.{Directory, Stands}
-use Rattle.mpm_mount.specs.Mounting.{drive_in, IsMounted, IsFault, IsImageFault, IsDevice}
+use Rattle.mpm_mount.specs.Mounting.{drive_in, IsMounted, IsFault, IsImageFault}
 
 -- what an image of its kind's size stands for
 sized : (image : List ℕ) (kind : Kind) → length image ≡ (geometry_of kind).bytes
@@ -58,52 +56,41 @@ fault_of_image image kind entries (Image cause place) size are fault =
 fault_of_image image kind entries DiskFault size are fault = tt
 fault_of_image image kind entries OutOfMemory size are fault = tt
 
-pub device_no_fault : (told : Option (List ℕ)) (kind : Kind) (error : MountError) → IsDevice error → IfSome told (λ image. IsImageFault image kind error)
-device_no_fault None kind error device = tt
-device_no_fault (Some image) kind (Image cause place) device = absurd device
-device_no_fault (Some image) kind DiskFault device = tt
-device_no_fault (Some image) kind OutOfMemory device = tt
-
--- two facts on a told image give a third
-pub told_both : (told : Option (List ℕ)) (P Q R : List ℕ → Type 0) → ((image : List ℕ) → P image → Q image → R image) → IfSome told P → IfSome told Q → IfSome told R
-told_both None P Q R law p q = tt
-told_both (Some image) P Q R law p q = law image p q
-
--- the directory in memory, behind its reading
-of_directory : (told : Option (List ℕ)) (kind : Kind) (drive : ℕ) (entries : List Entry) (d : Directory) → IfSome told (λ image. length image ≡ (geometry_of kind).bytes)
-    → IfSome told (λ image. entries ≡ entries_of (sectors_of image kind) kind) → d ≡ record { drive = drive; kind = kind; entries = entries } → first_fault kind entries ≡ None
-    → IfSome told (λ image. IsMounted image kind d)
+-- the directory in memory, after it was read
+of_directory : (here : Option (List ℕ)) (kind : Kind) (drive : ℕ) (entries : List Entry) (d : Directory) → IfSome here (λ image. length image ≡ (geometry_of kind).bytes)
+    → IfSome here (λ image. entries ≡ entries_of (sectors_of image kind) kind) → d ≡ record { drive = drive; kind = kind; entries = entries } → first_fault kind entries ≡ None
+    → IfSome here (λ image. IsMounted image kind d)
 of_directory None kind drive entries d size are is faultless = tt
 of_directory (Some image) kind drive entries d size are is faultless =
     subst (λ (e : Directory). IsMounted image kind e) (sym is) (mounted_if image kind drive entries size are faultless)
 
-pub mounted_so : (told before : Option (List ℕ)) (kind : Kind) (drive : ℕ) (entries : List Entry) (result : Result Directory MountError) → before ≡ told
-    → IfSome told (λ image. length image ≡ (geometry_of kind).bytes) → IfSome before (λ image. entries ≡ entries_of (sectors_of image kind) kind)
+pub mounted_so : (here before : Option (List ℕ)) (kind : Kind) (drive : ℕ) (entries : List Entry) (result : Result Directory MountError) → before ≡ here
+    → IfSome here (λ image. length image ≡ (geometry_of kind).bytes) → IfSome before (λ image. entries ≡ entries_of (sectors_of image kind) kind)
     → IfOk result (λ d. d ≡ record { drive = drive; kind = kind; entries = entries }) → OnOk result (first_fault kind entries ≡ None)
-    → IfOk result (λ d. IfSome told (λ image. IsMounted image kind d))
-mounted_so told before kind drive entries (Ok d) same size are is faultless =
-    of_directory told kind drive entries d size (subst (λ (t : Option (List ℕ)). IfSome t (λ image. entries ≡ entries_of (sectors_of image kind) kind)) same are) is faultless
-mounted_so told before kind drive entries (Err error) same size are is faultless = tt
+    → IfOk result (λ d. IfSome here (λ image. IsMounted image kind d))
+mounted_so here before kind drive entries (Ok d) same size are is faultless =
+    of_directory here kind drive entries d size (subst (λ (t : Option (List ℕ)). IfSome t (λ image. entries ≡ entries_of (sectors_of image kind) kind)) same are) is faultless
+mounted_so here before kind drive entries (Err error) same size are is faultless = tt
 
-of_fault : (told : Option (List ℕ)) (kind : Kind) (entries : List Entry) (error : MountError) → IfSome told (λ image. length image ≡ (geometry_of kind).bytes)
-    → IfSome told (λ image. entries ≡ entries_of (sectors_of image kind) kind) → IsFault kind entries error → IfSome told (λ image. IsImageFault image kind error)
+of_fault : (here : Option (List ℕ)) (kind : Kind) (entries : List Entry) (error : MountError) → IfSome here (λ image. length image ≡ (geometry_of kind).bytes)
+    → IfSome here (λ image. entries ≡ entries_of (sectors_of image kind) kind) → IsFault kind entries error → IfSome here (λ image. IsImageFault image kind error)
 of_fault None kind entries error size are fault = tt
 of_fault (Some image) kind entries error size are fault = fault_of_image image kind entries error size are fault
 
-pub refused_so : (told before : Option (List ℕ)) (kind : Kind) (entries : List Entry) (result : Result Directory MountError) → before ≡ told
-    → IfSome told (λ image. length image ≡ (geometry_of kind).bytes) → IfSome before (λ image. entries ≡ entries_of (sectors_of image kind) kind)
-    → IfErr result (λ error. IsFault kind entries error) → IfErr result (λ error. IfSome told (λ image. IsImageFault image kind error))
-refused_so told before kind entries (Ok d) same size are fault = tt
-refused_so told before kind entries (Err error) same size are fault =
-    of_fault told kind entries error size (subst (λ (t : Option (List ℕ)). IfSome t (λ image. entries ≡ entries_of (sectors_of image kind) kind)) same are) fault
+pub refused_so : (here before : Option (List ℕ)) (kind : Kind) (entries : List Entry) (result : Result Directory MountError) → before ≡ here
+    → IfSome here (λ image. length image ≡ (geometry_of kind).bytes) → IfSome before (λ image. entries ≡ entries_of (sectors_of image kind) kind)
+    → IfErr result (λ error. IsFault kind entries error) → IfErr result (λ error. IfSome here (λ image. IsImageFault image kind error))
+refused_so here before kind entries (Ok d) same size are fault = tt
+refused_so here before kind entries (Err error) same size are fault =
+    of_fault here kind entries error size (subst (λ (t : Option (List ℕ)). IfSome t (λ image. entries ≡ entries_of (sectors_of image kind) kind)) same are) fault
 
--- another size
-of_size : (told : Option (List ℕ)) (kind : Kind) (bytes : ℕ) → (bytes ≡ (geometry_of kind).bytes → ⊥) → IfSome told (λ image. length image ≡ bytes)
-    → IfSome told (λ image. IsImageFault image kind (Image 1 0))
-of_size None kind bytes other size = tt
-of_size (Some image) kind bytes other size = other_size image kind (λ same. other (sym size ∙ same))
+-- the image of a drive has its size
+pub image_sized : (image : Option (List ℕ)) (bytes : ℕ) → option_map length image ≡ Some bytes → IfSome image (λ i. length i ≡ bytes)
+image_sized None bytes size = tt
+image_sized (Some image) bytes size = ap (λ (o : Option ℕ). unwrap_or o 0) size
 
-pub wrong_size : (disks : Option Disks) (drive : ℕ) (kind : Kind) (bytes : ℕ) → (bytes ≡ (geometry_of kind).bytes → ⊥)
-    → ((told : Disks) → disks ≡ Some told → IsSomeAnd (image_of told drive) (λ image. length image ≡ bytes))
-    → IfSome (told_image disks drive) (λ image. IsImageFault image kind (Image 1 0))
-wrong_size disks drive kind bytes other law = of_size (told_image disks drive) kind bytes other (told_size disks drive bytes law)
+-- an image of another size than its kind's
+pub wrong_size : (here : Option (List ℕ)) (kind : Kind) (bytes : ℕ) → (bytes ≡ (geometry_of kind).bytes → ⊥) → option_map length here ≡ Some bytes
+    → IfSome here (λ image. IsImageFault image kind (Image 1 0))
+wrong_size None kind bytes other size = tt
+wrong_size (Some image) kind bytes other size = other_size image kind (λ same. other (sym (image_sized (Some image) bytes size) ∙ same))

@@ -1,11 +1,11 @@
 ghost use Rattle.std.specs.Prelude.{◌≡◌, ℕ, ◌+◌, None, Some, IsSome, IfOk, IfErr, IfSome, OnOk, length};
 ghost use Rattle.std.specs.List.{All};
 ghost use Rattle.mpm_blocks.specs.Geometries.{geometry_of};
-ghost use Rattle.mpm_blocks.specs.Sectors.{told_image};
+ghost use Rattle.mpm_port.specs.Disks.{size_of};
 ghost use Rattle.mpm_dirent.specs.Proper.{IsProper};
 ghost use Rattle.mpm_mount.specs.Directories.{IsDirectory, IsWhole};
 ghost use Rattle.mpm_mount.specs.Faults as faults;
-ghost use Rattle.mpm_mount.specs.Mounting.{SameDrives, Counts, IsFault, IsImageFault, IsErrorOfSome, IsOfOtherSize, IsMounted};
+ghost use Rattle.mpm_mount.specs.Mounting.{SameDrives, Counts, IsFault, IsImageFault, IsOfOtherSize, IsMounted};
 
 use crate::directory::Mounted;
 use crate::errors::MountError;
@@ -27,39 +27,37 @@ pub fn mount<D: Drives>(
     drive: u8,
     kind: Kind,
 ) -> Result<Mounted, MountError>
-    requires { IsSome (D.attached drives.old drive) }
-    ensures ok { IfOk result (λ mounted. IfSome (told_image (D.disks drives.old) drive) (λ image. IsMounted image kind mounted)) }
+    requires { IsSome (size_of (D.disks drives.old) drive) }
+    ensures ok { IfOk result (λ mounted. IfSome ((D.disks drives.old).image drive) (λ image. IsMounted image kind mounted)) }
     ensures drive { IfOk result (λ mounted. mounted.drive ≡ drive) }
     ensures kind { IfOk result (λ mounted. mounted.kind ≡ kind) }
     ensures directory { IfOk result (λ mounted. IsDirectory kind mounted.entries) }
-    ensures size { OnOk result (D.attached drives.old drive ≡ Some (geometry_of kind).bytes) }
-    ensures other_size { (D.attached drives.old drive ≡ Some (geometry_of kind).bytes → ⊥) → IfErr result IsOfOtherSize }
-    ensures err { IfErr result (λ error. IfSome (told_image (D.disks drives.old) drive) (λ image. IsImageFault image kind error)) }
-    ensures some { IfErr result (IsErrorOfSome (D.attached drives.old drive) kind) }
+    ensures size { OnOk result (size_of (D.disks drives.old) drive ≡ Some (geometry_of kind).bytes) }
+    ensures other_size { (size_of (D.disks drives.old) drive ≡ Some (geometry_of kind).bytes → ⊥) → IfErr result IsOfOtherSize }
+    ensures err { IfErr result (λ error. IfSome ((D.disks drives.old).image drive) (λ image. IsImageFault image kind error)) }
     ensures count { Counts (D.faults drives.old) (D.faults drives.new) result }
-    ensures same { SameDrives D.attached D.disks D.failed_names drives.old drives.new }
-    ensures unsynced { (other : ℕ) → D.unsynced drives.new other ≡ D.unsynced drives.old other }
+    ensures same { SameDrives D.disks D.told D.failed_names drives.old drives.new }
+    ensures unsynced { D.unsynced drives.new ≡ D.unsynced drives.old }
 {
     match check_size(drives, drive, kind) {
         Ok(()) => {}
         Err(error) => return Err(error),
     }
     match read_directory(alloc, drives, drive, kind) {
-        Ok(entries) => checked(alloc, drive, kind, entries),
+        Ok(entries) => mount_entries(alloc, drive, kind, entries),
         Err(error) => Err(error),
     }
 }
 
 /// Whether an attached drive has the size of its kind.
 fn check_size<D: Drives>(drives: &mut D, drive: u8, kind: Kind) -> Result<(), MountError>
-    requires { IsSome (D.attached drives.old drive) }
-    ensures size { OnOk result (D.attached drives.old drive ≡ Some (geometry_of kind).bytes) }
+    requires { IsSome (size_of (D.disks drives.old) drive) }
+    ensures size { OnOk result (size_of (D.disks drives.old) drive ≡ Some (geometry_of kind).bytes) }
     ensures other_size { IfErr result IsOfOtherSize }
-    ensures err { IfErr result (λ error. IfSome (told_image (D.disks drives.old) drive) (λ image. IsImageFault image kind error)) }
-    ensures some { IfErr result (IsErrorOfSome (D.attached drives.old drive) kind) }
+    ensures err { IfErr result (λ error. IfSome ((D.disks drives.old).image drive) (λ image. IsImageFault image kind error)) }
     ensures count { Counts (D.faults drives.old) (D.faults drives.new) result }
-    ensures same { SameDrives D.attached D.disks D.failed_names drives.old drives.new }
-    ensures unsynced { (other : ℕ) → D.unsynced drives.new other ≡ D.unsynced drives.old other }
+    ensures same { SameDrives D.disks D.told D.failed_names drives.old drives.new }
+    ensures unsynced { D.unsynced drives.new ≡ D.unsynced drives.old }
 {
     match drives.size(drive) {
         Err(_) => Err(MountError::DiskFault),
@@ -68,8 +66,13 @@ fn check_size<D: Drives>(drives: &mut D, drive: u8, kind: Kind) -> Result<(), Mo
     }
 }
 
-/// The directory of these entries, or its first fault.
-fn checked(alloc: Global, drive: u8, kind: Kind, entries: Vec<Entry>) -> Result<Mounted, MountError>
+/// The directory of these entries, by slot, or its first fault.
+pub fn mount_entries(
+    alloc: Global,
+    drive: u8,
+    kind: Kind,
+    entries: Vec<Entry>,
+) -> Result<Mounted, MountError>
     requires full { length entries.items ≡ (geometry_of kind).drm + 1 }
     requires proper { All (IsProper (geometry_of kind).wide) entries.items }
     requires whole { All IsWhole entries.items }

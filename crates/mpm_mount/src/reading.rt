@@ -1,7 +1,8 @@
 ghost use Rattle.std.specs.Prelude.{◌≡◌, ℕ, ◌+◌, ◌*◌, ◌≤◌, ◌++◌, Some, IfOk, IfErr, IfSome, OnOk, length};
 ghost use Rattle.std.specs.List.{All};
 ghost use Rattle.mpm_blocks.specs.Geometries.{geometry_of};
-ghost use Rattle.mpm_blocks.specs.Sectors.{sectors_of, told_image};
+ghost use Rattle.mpm_blocks.specs.Sectors.{sectors_of};
+ghost use Rattle.mpm_port.specs.Disks.{size_of};
 ghost use Rattle.mpm_dirent.specs.Entries.{part};
 ghost use Rattle.mpm_dirent.specs.Proper.{IsProper};
 ghost use Rattle.mpm_mount.specs.Directories.{IsWhole};
@@ -16,22 +17,24 @@ use mpm_dirent::{Entry, read_entry};
 use mpm_port::Drives;
 use std::alloc::Global;
 
-/// Reads the directory of an attached drive of this kind.
-pub(crate) fn read_directory<D: Drives>(
+/// Reads the directory of an attached drive whose image has the size of its kind: its entries by slot, as many as there are slots.
+///
+/// No fault is sought in them; `MountError::DiskFault` comes only where the device failed, and `MountError::Image` never.
+pub fn read_directory<D: Drives>(
     alloc: Global,
     drives: &mut D,
     drive: u8,
     kind: Kind,
 ) -> Result<Vec<Entry>, MountError>
-    requires { D.attached drives.old drive ≡ Some (geometry_of kind).bytes }
-    ensures entries { IfOk result (λ entries. IfSome (told_image (D.disks drives.old) drive) (λ image. entries.items ≡ entries_of (sectors_of image kind) kind)) }
+    requires { size_of (D.disks drives.old) drive ≡ Some (geometry_of kind).bytes }
+    ensures entries { IfOk result (λ entries. IfSome ((D.disks drives.old).image drive) (λ image. entries.items ≡ entries_of (sectors_of image kind) kind)) }
     ensures full { IfOk result (λ entries. length entries.items ≡ (geometry_of kind).drm + 1) }
     ensures proper { IfOk result (λ entries. All (IsProper (geometry_of kind).wide) entries.items) }
     ensures whole { IfOk result (λ entries. All IsWhole entries.items) }
     ensures device { IfErr result IsDevice }
     ensures count { Counts (D.faults drives.old) (D.faults drives.new) result }
-    ensures same { SameDrives D.attached D.disks D.failed_names drives.old drives.new }
-    ensures unsynced { (other : ℕ) → D.unsynced drives.new other ≡ D.unsynced drives.old other }
+    ensures same { SameDrives D.disks D.told D.failed_names drives.old drives.new }
+    ensures unsynced { D.unsynced drives.new ≡ D.unsynced drives.old }
 {
     let mut entries = Vec::new(alloc);
     for sector in 0..(u32::from(geometry(kind).drm) + 1) / 4 {
@@ -51,16 +54,16 @@ fn read_sector<D: Drives>(
     sector: u32,
     entries: &mut Vec<Entry>,
 ) -> Result<(), MountError>
-    requires { IsSectorOf kind (D.attached drives.old drive) sector }
-    ensures entries { OnOk result (IfSome (told_image (D.disks drives.old) drive) (λ image.
+    requires { IsSectorOf kind (size_of (D.disks drives.old) drive) sector }
+    ensures entries { OnOk result (IfSome ((D.disks drives.old).image drive) (λ image.
         entries.new.items ≡ entries.old.items ++ entries_in (sectors_of image kind sector) (geometry_of kind).wide 4)) }
     ensures size { OnOk result (length entries.new.items ≡ length entries.old.items + 4) }
     ensures proper { All (IsProper (geometry_of kind).wide) entries.old.items → OnOk result (All (IsProper (geometry_of kind).wide) entries.new.items) }
     ensures whole { All IsWhole entries.old.items → OnOk result (All IsWhole entries.new.items) }
     ensures device { IfErr result IsDevice }
     ensures count { Counts (D.faults drives.old) (D.faults drives.new) result }
-    ensures same { SameDrives D.attached D.disks D.failed_names drives.old drives.new }
-    ensures unsynced { (other : ℕ) → D.unsynced drives.new other ≡ D.unsynced drives.old other }
+    ensures same { SameDrives D.disks D.told D.failed_names drives.old drives.new }
+    ensures unsynced { D.unsynced drives.new ≡ D.unsynced drives.old }
 {
     let mut bytes = [0; 128];
     match drives.read(drive, place(kind, sector), &mut bytes) {

@@ -8,12 +8,15 @@ use mpm_base::Kind;
 use mpm_blocks::geometry;
 use mpm_dirent::{Entry, FileEntry, plain_name};
 
-/// An entry of a file: its user, its name without bit 7 and its entry number.
+/// An entry of a file, by what it is found by.
 #[derive(Clone, Copy, Debug, PartialEq, Eq, PartialOrd, Ord)]
-pub(crate) struct EntryName {
-    pub(crate) user: u8,
-    pub(crate) name: [u8; 11],
-    pub(crate) number: u16,
+pub struct EntryName {
+    /// The user, 0 to 15.
+    pub user: u8,
+    /// The name and the type, without bit 7.
+    pub name: [u8; 11],
+    /// The entry number: its extents divided by how many of them one entry has on this kind.
+    pub number: u16,
 }
 
 /// A place of a directory, which has at most 65,535, as the number of its slot.
@@ -27,8 +30,8 @@ fn as_slot(place: Option<usize>) -> Option<u16>
     }
 }
 
-/// How many blocks an entry has room for.
-pub(crate) fn places(kind: Kind) -> usize
+/// How many blocks an entry has room for: 8 where their numbers are of two bytes, else 16.
+pub fn places(kind: Kind) -> usize
     ensures places { result ≡ drives.places kind }
     ensures few { result ≤ 16 }
 {
@@ -49,8 +52,8 @@ pub fn last_extent(file: &FileEntry) -> u16
     32 * u16::from(file.s2) + u16::from(file.ex)
 }
 
-/// Which entry of which file it is.
-pub(crate) fn name_of(kind: Kind, file: &FileEntry) -> EntryName
+/// Which entry of which file it is, by its user, name and last extent.
+pub fn name_of(kind: Kind, file: &FileEntry) -> EntryName
     ensures { result ≡ spec.name_of kind file.now }
 {
     EntryName {
@@ -98,8 +101,8 @@ pub(crate) fn is_free(entry: &Entry) -> bool
     matches!(entry, Entry::Free)
 }
 
-/// The slot of an entry of a file.
-pub(crate) fn named_slot(kind: Kind, name: &EntryName, entries: &[Entry]) -> Option<u16>
+/// The lowest slot of an entry of a file, in a directory's entries by slot.
+pub fn named_slot(kind: Kind, name: &EntryName, entries: &[Entry]) -> Option<u16>
     requires { length entries.now ≤ 65535 }
     ensures { result ≡ position (spec.is_named kind name.now) entries.now }
 {
@@ -120,8 +123,8 @@ pub(crate) fn has_named(kind: Kind, name: &EntryName, entries: &[Entry]) -> bool
     entries.iter().any(|entry| is_named(kind, name, entry))
 }
 
-/// The slot of the label.
-pub(crate) fn label_slot(entries: &[Entry]) -> Option<u16>
+/// The lowest slot of a label, in a directory's entries by slot.
+pub fn label_slot(entries: &[Entry]) -> Option<u16>
     requires { length entries.now ≤ 65535 }
     ensures { result ≡ position spec.is_label entries.now }
 {
@@ -142,8 +145,8 @@ pub(crate) fn has_label(entries: &[Entry]) -> bool
     entries.iter().any(|entry| is_label(entry))
 }
 
-/// The slot of the XFCB of a file.
-pub(crate) fn xfcb_slot(user: u8, name: &[u8; 11], entries: &[Entry]) -> Option<u16>
+/// The lowest slot of an XFCB of a file, by its user and its name without bit 7, in a directory's entries by slot.
+pub fn xfcb_slot(user: u8, name: &[u8; 11], entries: &[Entry]) -> Option<u16>
     requires { length entries.now ≤ 65535 }
     ensures { result ≡ position (spec.is_xfcb user name.now) entries.now }
 {

@@ -1,5 +1,5 @@
 -- Laws of writing: nothing, one part behind another, and a failure in a later part.
-use Rattle.std.proofs.Common.{◌≡◌, ◌∙◌, ℕ, Bool, List, [], ◌∷◌, ◌++◌, ◌≤◌, Option, Result, Ok, Err, OnOk, OnErr, IsErr, inl, inr, refl, ap, sym, subst, append_assoc, arith}
+use Rattle.std.proofs.Common.{◌≡◌, ◌∙◌, ℕ, Bool, List, [], ◌∷◌, ◌++◌, ◌≤◌, Result, Ok, Err, OnOk, OnErr, IsErr, inl, inr, refl, ap, sym, subst, append_assoc, arith}
 use Rattle.std.proofs.lemmas.List.{append-nil}
 use Rattle.mpm_port.specs.Causes.{Rose, HasCause}
 use Rattle.mpm_port.specs.Texts.{Begins}
@@ -124,8 +124,8 @@ stopped_more n o m k a b rest whole e p q =
 -- one output, by what the renderer says of it
 
 pub emits_one : {A : Type 0} (r : Result A Failed) (o n : Outside) (output : Output) → HasCause o.faults.sink n.faults.sink r → n.kept.trace ≡ o.kept.trace
-    → ((os : List Output) (first : Option (List ℕ)) → Shows o.kept o.written os first → OnOk r (Shows n.kept n.written (output ∷ os) first))
-    → ((os : List Output) (first : Option (List ℕ)) → Shows o.kept o.written os first
+    → ((os : List Output) (first : List ℕ) → Shows o.kept o.written os first → OnOk r (Shows n.kept n.written (output ∷ os) first))
+    → ((os : List Output) (first : List ℕ) → Shows o.kept o.written os first
     → OnErr r (EndsBetween n.written first (rendered o.kept.trace os) (rendered o.kept.trace (output ∷ os))))
     → Emits by_sink o n (output ∷ []) r
 emits_one (Ok x) o n output cause same shown part = record {

@@ -1,5 +1,5 @@
 -- The outside as it is seen while something is written to it, and its devices, each of which may fail.
-use Rattle.std.specs.Prelude.{ℕ, List, Option}
+use Rattle.std.specs.Prelude.{ℕ, List}
 use Rattle.mpm_port.specs.declared.Failed.{Failed}
 use Rattle.mpm_render.specs.Shown.{Kept}
 
@@ -7,10 +7,10 @@ use Rattle.mpm_render.specs.Shown.{Kept}
 pub record Faults : Type 0 where
   pub sink : ℕ
 
--- what the renderer keeps, what the sink was told, and the counts of faults
+-- what the renderer keeps, what the sink was given, and the counts of faults
 pub record Outside : Type 0 where
   pub kept : Kept
-  pub written : Option (List ℕ)
+  pub written : List ℕ
   pub faults : Faults
 
 -- the device that failed
@@ -22,5 +22,5 @@ abbrev pub by_sink : Failed → Device
 by_sink failed = TheSink
 
 -- what is seen of a renderer and a sink, by what the sink tells of itself
-abbrev pub seen : {S : Type 0} → (S → Option (List ℕ)) → (S → ℕ) → Kept → S → Outside
+abbrev pub seen : {S : Type 0} → (S → List ℕ) → (S → ℕ) → Kept → S → Outside
 seen written faults kept sink = record { kept = kept; written = written sink; faults = record { sink = faults sink } }

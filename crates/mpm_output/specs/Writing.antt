@@ -1,5 +1,5 @@
 -- What writing brings about, whatever outputs came before.
-use Rattle.std.specs.Prelude.{◌≡◌, ℕ, List, [], ◌++◌, Option, Result, OnOk, IfErr}
+use Rattle.std.specs.Prelude.{◌≡◌, ℕ, List, [], ◌++◌, Result, OnOk, IfErr}
 use Rattle.mpm_port.specs.Causes.{Rose}
 use Rattle.mpm_port.specs.declared.Failed.{Failed}
 use Rattle.mpm_render.specs.declared.unit.Unit2.TheVariants.{Console}
@@ -14,7 +14,7 @@ spoken console bytes = said (Console console) bytes []
 -- the outputs came out, and nothing failed: what stood for some outputs stands for these before them; whether records are asked
 -- for stays
 pub record Wrote (before after : Outside) (emitted : List Output) : Type 0 where
-  pub shown : (outputs : List Output) (first : Option (List ℕ)) → Shows before.kept before.written outputs first
+  pub shown : (outputs : List Output) (first : List ℕ) → Shows before.kept before.written outputs first
       → Shows after.kept after.written (emitted ++ outputs) first
   pub faults : after.faults ≡ before.faults
   pub trace : after.kept.trace ≡ before.kept.trace
@@ -22,7 +22,7 @@ pub record Wrote (before after : Outside) (emitted : List Output) : Type 0 where
 -- the sink failed, whose count rose: writing stopped at a line that these outputs end, and a part of the text that they add was
 -- written
 pub record Stopped (before after : Outside) (emitted : List Output) : Type 0 where
-  pub part : (outputs : List Output) (first : Option (List ℕ)) → Shows before.kept before.written outputs first
+  pub part : (outputs : List Output) (first : List ℕ) → Shows before.kept before.written outputs first
       → EndsBetween after.written first (rendered before.kept.trace outputs) (rendered before.kept.trace (emitted ++ outputs))
   pub rose : Rose before.faults.sink after.faults.sink
   pub trace : after.kept.trace ≡ before.kept.trace
@@ -38,6 +38,6 @@ pub record Emits {A E : Type 0} (device : E → Device) (before after : Outside)
   pub err : IfErr result (λ error. Fails (device error) before after emitted)
 
 -- the same of a call that writes by a renderer to a sink alone
-abbrev pub Writes : {S A : Type 0} → (S → Option (List ℕ)) → (S → ℕ) → Kept → S → Kept → S → List Output → Result A Failed → Type 0
+abbrev pub Writes : {S A : Type 0} → (S → List ℕ) → (S → ℕ) → Kept → S → Kept → S → List Output → Result A Failed → Type 0
 Writes written faults kept sink kept' sink' emitted result =
     Emits by_sink (seen written faults kept sink) (seen written faults kept' sink') emitted result

@@ -1,4 +1,4 @@
 pub mod Faults
 pub mod Flags
-pub mod Images
 pub mod Shelves
+pub mod Attached

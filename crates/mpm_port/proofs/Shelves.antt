@@ -1,5 +1,5 @@
 -- What finding and replacing by a place says of the contents of a name and of the name of a drive.
-use Rattle.std.proofs.Common.{◌≡◌, ◌≢◌, ℕ, suc, ◌+◌, ◌*◌, take, drop, length-append, length-take, length-drop, ◌<◌, ◌≤◌, Bool, true, false, not, cond, List, [], ◌∷◌, ◌++◌, Option, Some, None, IfSome, IsSome, length, get_or, set, option_map, option_and_then, refl, ap, sym, subst, arith}
+use Rattle.std.proofs.Common.{◌≡◌, ◌≢◌, ℕ, suc, ◌+◌, ◌*◌, take, drop, length-append, length-take, length-drop, ◌<◌, ◌≤◌, Bool, true, false, not, cond, List, [], ◌∷◌, ◌++◌, Some, None, length, get_or, set, option_map, option_and_then, refl, ap, sym, subst, arith}
 use Rattle.std.specs.List.{find, position_or_len}
 use Rattle.std.specs.Str.{bytes_eq}
 use Rattle.std.proofs.lemmas.List.Quantifiers.{position-Some}
@@ -8,7 +8,7 @@ use Rattle.std.proofs.lemmas.List.Folds.{find_at}
 use Rattle.std.proofs.lemmas.Slice.Eq.{bytes_eq-Decides}
 use Rattle.std.proofs.lemmas.Bool.{false_from_ne_true}
 use Rattle.std.proofs.lemmas.Bool.Decides.{nat_tests}
-use Rattle.mpm_port.specs.Disks.{with_sector, Writes}
+use Rattle.mpm_port.specs.Disks.{with_sector}
 use Rattle.mpm_port.specs.Named.{with_item, is_named, contents_of, with_contents, is_of, name_of_drive, with_drive}
 use Rattle.mpm_port.specs.declared.named.Named.{Named}
 use Rattle.mpm_port.specs.declared.links.Link.{Link}
@@ -148,20 +148,3 @@ sizes_kept items links name image sector bytes drive h k inside =
       | None ↦ refl
       | Some n ↦ length_kept items name image (with_sector image sector bytes) n h (length_with_sector image sector bytes k inside)
     ]
-
-writes_image : (items new : List Named) (links : List Link) (drive : ℕ) (name : List ℕ) (sector : ℕ) (bytes : List ℕ) (image : List ℕ) → name_of_drive links drive ≡ Some name → contents_of items name ≡ Some image → new ≡ with_contents items name (with_sector image sector bytes) → Writes drive sector bytes (record { image = contents_of items; name_of = name_of_drive links }) (record { image = contents_of new; name_of = name_of_drive links })
-writes_image items new links drive name sector bytes image h k e = record {
-  names = λ other. refl;
-  here = rw (h, k, e) (contents_of_here items name (with_sector image sector bytes));
-  others = λ other ne. rw e (contents_of_other items name (with_sector image sector bytes) other (λ s. ne (rw s h)));
-}
-
-writes_found : (items new : List Named) (links : List Link) (drive : ℕ) (name : List ℕ) (sector : ℕ) (bytes : List ℕ) (found : Option (List ℕ)) → name_of_drive links drive ≡ Some name → contents_of items name ≡ found → IfSome found (λ image. new ≡ with_contents items name (with_sector image sector bytes)) → IsSome found → Writes drive sector bytes (record { image = contents_of items; name_of = name_of_drive links }) (record { image = contents_of new; name_of = name_of_drive links })
-writes_found items new links drive name sector bytes None h k e there = absurd (cc)
-writes_found items new links drive name sector bytes (Some image) h k e there =
-    writes_image items new links drive name sector bytes image h k e
-
--- what a write to a sector leaves
-pub writes_sector : (items new : List Named) (links : List Link) (drive : ℕ) (name : List ℕ) (sector : ℕ) (bytes : List ℕ) → name_of_drive links drive ≡ Some name → IfSome (contents_of items name) (λ image. new ≡ with_contents items name (with_sector image sector bytes)) → IsSome (contents_of items name) → Writes drive sector bytes (record { image = contents_of items; name_of = name_of_drive links }) (record { image = contents_of new; name_of = name_of_drive links })
-writes_sector items new links drive name sector bytes h e there =
-    writes_found items new links drive name sector bytes _ h refl e there

@@ -1,14 +1,26 @@
--- The images behind a set of drives, and what a sector of one is.
-use Rattle.std.specs.Prelude.{◌≡◌, ◌≢◌, ℕ, ◌+◌, ◌*◌, ◌≤◌, List, ◌++◌, take, drop, length, slice_range, Option, Some, None, IfSome, IsSomeAnd, option_and_then}
+-- The images of attached drives, what is told of images before they are attached, and what a sector of one is.
+use Rattle.std.specs.Prelude.{◌≡◌, ◌≢◌, ℕ, ◌+◌, ◌*◌, ◌≤◌, List, ◌++◌, take, drop, length, slice_range, Option, Some, IfSome, IsSomeAnd, option_map, ⊤}
 
--- the images by their names, and the name that each attached drive was attached by
+-- what is told of the image of a name before a drive is attached to it: nothing, that there is none, or its bytes
+pub data ToldImage : Type 0 where
+  Untold : ToldImage
+  Missing : ToldImage
+  Bytes : List ℕ → ToldImage
+
+-- an attach by that name may bring these bytes
+abbrev pub Brings : ToldImage → List ℕ → Type 0
+Brings Untold bytes = ⊤
+Brings Missing bytes = ⊥
+Brings (Bytes told) bytes = bytes ≡ told
+
+-- the image of each attached drive, and the name that it was attached by
 pub record Disks : Type 0 where
-  pub image : List ℕ → Option (List ℕ)
+  pub image : ℕ → Option (List ℕ)
   pub name_of : ℕ → Option (List ℕ)
 
--- the image of a drive
-abbrev pub image_of : Disks → ℕ → Option (List ℕ)
-image_of disks drive = option_and_then disks.image (disks.name_of drive)
+-- the size of an attached drive
+abbrev pub size_of : Disks → ℕ → Option ℕ
+size_of disks drive = option_map length (disks.image drive)
 
 -- sector s of an image is its bytes 128s to 128s + 127
 abbrev pub sector_of : List ℕ → ℕ → List ℕ
@@ -22,26 +34,21 @@ with_sector image sector bytes = take (128 * sector) image ++ (bytes ++ drop (12
 abbrev pub IsInside : Option ℕ → ℕ → Type 0
 IsInside size sector = IsSomeAnd size (λ bytes. 128 * sector + 128 ≤ bytes)
 
--- the same images, attached alike
-pub record SameDisks (old new : Disks) : Type 0 where
-  pub images : (name : List ℕ) → new.image name ≡ old.image name
-  pub names : (drive : ℕ) → new.name_of drive ≡ old.name_of drive
-
--- one drive is attached to the image of a name, which is there and has this size
-pub record Attaches (drive : ℕ) (name : List ℕ) (size : Option ℕ) (old new : Disks) : Type 0 where
-  pub images : (other : List ℕ) → new.image other ≡ old.image other
+-- one drive is attached by a name, and has an image that it may bring
+pub record Attaches (drive : ℕ) (name : List ℕ) (told : ToldImage) (old new : Disks) : Type 0 where
   pub here : new.name_of drive ≡ Some name
-  pub others : (other : ℕ) → other ≢ drive → new.name_of other ≡ old.name_of other
-  pub found : IsSomeAnd (old.image name) (λ bytes. size ≡ Some (length bytes))
+  pub image : IsSomeAnd (new.image drive) (Brings told)
+  pub names : (other : ℕ) → other ≢ drive → new.name_of other ≡ old.name_of other
+  pub others : (other : ℕ) → other ≢ drive → new.image other ≡ old.image other
 
--- a sector of one image has new bytes, and every other byte of every image is as it was
+-- a sector of a drive has new bytes; a drive that was attached by another name has its image as it was, and each its size
 pub record Writes (drive sector : ℕ) (bytes : List ℕ) (old new : Disks) : Type 0 where
   pub names : (other : ℕ) → new.name_of other ≡ old.name_of other
-  pub here : IfSome (old.name_of drive) (λ name.
-      IfSome (old.image name) (λ image. new.image name ≡ Some (with_sector image sector bytes)))
-  pub others : (other : List ℕ) → old.name_of drive ≢ Some other → new.image other ≡ old.image other
+  pub here : IfSome (old.image drive) (λ image. new.image drive ≡ Some (with_sector image sector bytes))
+  pub others : (other : ℕ) → old.name_of other ≢ old.name_of drive → new.image other ≡ old.image other
+  pub sizes : (other : ℕ) → size_of new other ≡ size_of old other
 
--- what is told before and after stands in a relation; what was not told is not told
-abbrev pub Told : (Disks → Disks → Type 0) → Option Disks → Option Disks → Type 0
-Told relation None new = new ≡ None
-Told relation (Some old) new = IsSomeAnd new (relation old)
+-- what is told of images but that of one name is as it was, and nothing that was told is untold
+pub record KeepsTold (name : Option (List ℕ)) (old new : List ℕ → ToldImage) : Type 0 where
+  pub others : (other : List ℕ) → name ≢ Some other → new other ≡ old other
+  pub still : (other : List ℕ) → new other ≡ Untold → old other ≡ Untold

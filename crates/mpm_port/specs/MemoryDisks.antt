@@ -1,9 +1,9 @@
 -- The drives over memory.
-use Rattle.std.specs.Prelude.{◌≡◌, ◌≢◌, ℕ, false, true, List, [], replicate, slice_set, slice_index_or, Option, Some, None, IsSomeAnd, option_map, unwrap_or, is_some, not, Bool, ◌||◌, if◌then◌else◌, length, Result, Ok, Err, IfSome}
-use Rattle.std.proofs.Common.{ap, subst}
+use Rattle.std.specs.Prelude.{◌≡◌, ◌≢◌, ℕ, false, true, List, [], replicate, slice_set, slice_index_or, Option, Some, None, option_and_then, unwrap_or, is_some, not, Bool, ◌||◌, if◌then◌else◌, Result, Ok, Err, IfSome}
+use Rattle.std.proofs.Common.{subst, sym, refl}
 use Rattle.mpm_port.specs.Calls.{Calls, one_more, next_is_listed, after_call, listing}
 use Rattle.mpm_port.specs.Causes.{names_with}
-use Rattle.mpm_port.specs.Disks.{Disks, image_of, with_sector}
+use Rattle.mpm_port.specs.Disks.{Disks, ToldImage, Missing, Bytes, Brings, with_sector}
 use Rattle.mpm_port.specs.Named.{contents_of, with_contents, name_of_drive, with_drive}
 use Rattle.mpm_port.specs.declared.named.Named.{Named}
 use Rattle.mpm_port.specs.declared.links.Link.{Link}
@@ -27,27 +27,38 @@ none_unsynced = replicate 256 false
 abbrev pub no_disks : MemoryDisks
 no_disks = record { images = []; links = []; failed = []; calls = record { done = 0; failing = [] }; faults = 0; unsynced = none_unsynced }
 
--- the images by their names, and the name that each attached drive was attached by
+-- the image of each attached drive, and the name that it was attached by
+abbrev pub shelved : List Named → List Link → Disks
+shelved images links = record { image = λ drive. option_and_then (contents_of images) (name_of_drive links drive); name_of = name_of_drive links }
+
 abbrev pub disks_of : MemoryDisks → Disks
-disks_of table = record { image = contents_of table.images; name_of = name_of_drive table.links }
+disks_of table = shelved table.images table.links
+
+-- what is told of an image that is there, or isn't
+abbrev pub found : Option (List ℕ) → ToldImage
+found None = Missing
+found (Some bytes) = Bytes bytes
+
+abbrev pub told_in : List Named → List ℕ → ToldImage
+told_in images name = found (contents_of images name)
+
+abbrev pub told_of : MemoryDisks → List ℕ → ToldImage
+told_of table = told_in table.images
 
 -- whether a write to a drive was asked for since it was last attached or synced
 abbrev pub is_unsynced : MemoryDisks → ℕ → Bool
 is_unsynced table drive = slice_index_or table.unsynced drive false
 
--- the size of an attached drive: attached images do not change their size
-abbrev pub size_of : MemoryDisks → ℕ → Option ℕ
-size_of table drive = option_map length (image_of (disks_of table) drive)
+agree : (images : List Named) (name : List ℕ) (found_there : Option (List ℕ)) → contents_of images name ≡ found_there → IfSome found_there (Brings (found (contents_of images name)))
+agree images name None there = tt
+agree images name (Some bytes) there = subst (λ (o : Option (List ℕ)). Brings (found o) bytes) (sym there) refl
 
-sizes_found : (found : Option (List ℕ)) (bytes : ℕ) → option_map length found ≡ Some bytes → IsSomeAnd found (λ image. length image ≡ bytes)
-sizes_found None bytes h = subst (λ (size : Option ℕ). IfSome size (λ n. ⊥)) h tt
-sizes_found (Some image) bytes h = ap (λ size. unwrap_or size 0) h
-
--- the size of an attached drive is that of its image
-pub sizes_told : (table : MemoryDisks) (told : Disks) (drive bytes : ℕ) → Some (disks_of table) ≡ Some told → size_of table drive ≡ Some bytes → IsSomeAnd (image_of told drive) (λ image. length image ≡ bytes)
-sizes_told table told drive bytes same size =
-    let P : Option Disks → Type 0 = λ t. IsSomeAnd t (λ disks. IsSomeAnd (image_of disks drive) (λ image. length image ≡ bytes)) in
-    subst P same (sizes_found (image_of (disks_of table) drive) bytes size)
+-- an attached drive has the image of its name
+pub memory_agrees : (table : MemoryDisks) (drive : ℕ) (name : List ℕ) → name_of_drive table.links drive ≡ Some name
+    → IfSome (option_and_then (contents_of table.images) (name_of_drive table.links drive)) (Brings (told_of table name))
+memory_agrees table drive name named =
+    subst (λ (o : Option (List ℕ)). IfSome (option_and_then (contents_of table.images) o) (Brings (told_of table name))) (sym named)
+    (agree table.images name (contents_of table.images name) refl)
 
 -- no drive is attached by this name
 abbrev pub IsFree : MemoryDisks → List ℕ → Type 0
@@ -82,7 +93,7 @@ after_access table = record table {
 -- the images with other bytes in a sector of an attached drive
 unfoldable pub images_with_sector : MemoryDisks → ℕ → ℕ → List ℕ → List Named
 images_with_sector table drive sector bytes =
-    with_contents table.images (unwrap_or (name_of_drive table.links drive) []) (with_sector (unwrap_or (image_of (disks_of table) drive) []) sector bytes)
+    with_contents table.images (unwrap_or (name_of_drive table.links drive) []) (with_sector (unwrap_or ((disks_of table).image drive) []) sector bytes)
 
 -- a write to a drive is asked for
 abbrev pub asking_write : MemoryDisks → ℕ → MemoryDisks

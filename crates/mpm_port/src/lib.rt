@@ -19,7 +19,7 @@ pub use files::{FetchError, Fetched, Files};
 pub use memory_drives::MemoryDrives;
 pub use memory_files::MemoryFiles;
 pub use memory_sink::MemorySink;
-pub use named::FailedNames;
+pub use named::{Bytes, FailedNames};
 pub use sink::Sink;
 
 /// No memory was found: the allocator's own error.

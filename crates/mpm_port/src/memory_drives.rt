@@ -1,8 +1,8 @@
 ghost use Rattle.std.specs.Prelude.{◌≡◌, ◌≢◌, ◌⊎◌, ◌↔◌, ◌≤◌, ℕ, true, false, List, Some, IsSome, IfSome, IfOk, OnOk, OnErr, Err, is_ok, IsErr, IsTrue, if◌then◌else◌};
 ghost use Rattle.mpm_port.specs.Calls.{next_is_listed};
 ghost use Rattle.mpm_port.specs.Causes.{HasCause, Rose, names_after};
-ghost use Rattle.mpm_port.specs.Disks.{IsInside, SameDisks, Attaches, Writes, Told, image_of, sector_of};
-ghost use Rattle.mpm_port.specs.MemoryDisks.{no_disks, disks_of, size_of, is_unsynced, IsFree, with_image, listing_call, attach_fails, after_attach, after_access, after_write, after_sync, sizes_told};
+ghost use Rattle.mpm_port.specs.Disks.{IsInside, Attaches, Writes, KeepsTold, size_of, sector_of};
+ghost use Rattle.mpm_port.specs.MemoryDisks.{no_disks, disks_of, told_of, is_unsynced, IsFree, with_image, listing_call, attach_fails, after_attach, after_access, after_write, after_sync, memory_agrees};
 ghost use Rattle.mpm_port.specs.Named.{contents_of};
 
 use crate::calls::Schedule;
@@ -58,7 +58,7 @@ impl MemoryDrives {
         ensures after { self.new ≡ (if is_ok result then with_image self.old name.now bytes.now else self.old) }
         ensures here { OnOk result (contents_of self.new.images name.now ≡ Some bytes.now) }
         ensures others { (other : List ℕ) → other ≢ name.now → contents_of self.new.images other ≡ contents_of self.old.images other }
-        ensures sizes { (drive : ℕ) → size_of self.new drive ≡ size_of self.old drive }
+        ensures sizes { (drive : ℕ) → size_of (disks_of self.new) drive ≡ size_of (disks_of self.old) drive }
     {
         self.images.set(name.as_bytes(), bytes)
     }
@@ -91,8 +91,8 @@ impl MemoryDrives {
 
     /// The image of an attached drive.
     fn image(&self, drive: u8) -> &[u8]
-        requires { IsSome (size_of self.now drive) }
-        ensures { image_of (disks_of self.now) drive ≡ Some result.now }
+        requires { IsSome (size_of (disks_of self.now) drive) }
+        ensures { (disks_of self.now).image drive ≡ Some result.now }
     {
         let Some(name) = self.links.name(drive) else {
             unreachable!();
@@ -105,9 +105,9 @@ impl MemoryDrives {
 }
 
 impl Drives for MemoryDrives {
-    ghost attached = { size_of };
+    ghost disks = { disks_of };
 
-    ghost disks = { λ d. Some (disks_of d) };
+    ghost told = { told_of };
 
     ghost unsynced = { is_unsynced };
 
@@ -115,20 +115,18 @@ impl Drives for MemoryDrives {
 
     ghost failed_names = { λ d. d.failed };
 
-    ghost sizes = { sizes_told };
+    ghost agrees = { memory_agrees };
 
-    #[tactic(auto, using(crate::proofs::Shelves::name_of_here, crate::proofs::Shelves::name_of_other, crate::proofs::Flags::flag_here, crate::proofs::Flags::flag_other), unfolding(crate::specs::MemoryDisks::after_attach, crate::specs::MemoryDisks::attach_fails))]
+    #[tactic(auto, using(crate::proofs::Attached::attaches, crate::proofs::Shelves::name_of_other, crate::proofs::Flags::flag_here, crate::proofs::Flags::flag_other), unfolding(crate::specs::MemoryDisks::after_attach, crate::specs::MemoryDisks::attach_fails))]
     fn attach(&mut self, drive: u8, name: &str) -> Result<(), FetchError>
         ensures after { self.new ≡ after_attach self.old drive name.now result }
         ensures failed { result ≡ Err FetchError.Failed → IsTrue (attach_fails self.old name.now) }
         ensures fails { IsTrue (attach_fails self.old name.now) → IsErr result }
+        ensures ok { OnOk result (Attaches drive name.now (told_of self.old name.now) (disks_of self.old) (disks_of self.new)) }
+        ensures err { OnErr result (disks_of self.new ≡ disks_of self.old) }
+        ensures told { told_of self.new ≡ told_of self.old }
         ensures names { self.new.failed ≡ names_after self.old.failed name.now result }
         ensures count { self.new.faults ≡ self.old.faults }
-        ensures here { OnOk result (IsSome (size_of self.new drive)) }
-        ensures others { (other : ℕ) → other ≢ drive → size_of self.new other ≡ size_of self.old other }
-        ensures disks { OnOk result (Told (Attaches drive name.now (size_of self.new drive)) (Some (disks_of self.old)) (Some (disks_of self.new))) }
-        ensures err { OnErr result (size_of self.new drive ≡ size_of self.old drive) }
-        ensures same { OnErr result (Told SameDisks (Some (disks_of self.old)) (Some (disks_of self.new))) }
         ensures fresh { OnOk result (is_unsynced self.new drive ≡ false) }
         ensures unsynced { OnErr result (is_unsynced self.new drive ≡ is_unsynced self.old drive) }
         ensures beside { (other : ℕ) → other ≢ drive → is_unsynced self.new other ≡ is_unsynced self.old other }
@@ -147,15 +145,15 @@ impl Drives for MemoryDrives {
     }
 
     fn size(&mut self, drive: u8) -> Result<u64, Failed>
-        requires { IsSome (size_of self.old drive) }
+        requires { IsSome (size_of (disks_of self.old) drive) }
         ensures after { self.new ≡ after_access self.old }
         ensures fails { IsErr result ↔ IsTrue (next_is_listed self.old.calls) }
-        ensures size { IfOk result (λ bytes. size_of self.old drive ≡ Some bytes) }
+        ensures size { IfOk result (λ bytes. size_of (disks_of self.old) drive ≡ Some bytes) }
         ensures cause { HasCause self.old.faults self.new.faults result }
         ensures names { self.new.failed ≡ self.old.failed }
-        ensures drives { (other : ℕ) → size_of self.new other ≡ size_of self.old other }
-        ensures disks { Told SameDisks (Some (disks_of self.old)) (Some (disks_of self.new)) }
-        ensures unsynced { (other : ℕ) → is_unsynced self.new other ≡ is_unsynced self.old other }
+        ensures disks { disks_of self.new ≡ disks_of self.old }
+        ensures told { told_of self.new ≡ told_of self.old }
+        ensures unsynced { is_unsynced self.new ≡ is_unsynced self.old }
     {
         if self.is_failing() {
             return Err(Failed);
@@ -164,17 +162,16 @@ impl Drives for MemoryDrives {
     }
 
     fn read(&mut self, drive: u8, sector: u32, out: &mut [u8; 128]) -> Result<(), Failed>
-        requires { IsInside (size_of self.old drive) sector }
+        requires { IsInside (size_of (disks_of self.old) drive) sector }
         ensures after { self.new ≡ after_access self.old }
         ensures fails { IsErr result ↔ IsTrue (next_is_listed self.old.calls) }
-        ensures bytes { OnOk result (IfSome (Some (disks_of self.old)) (λ told.
-            IfSome (image_of told drive) (λ image. out.new ≡ sector_of image sector))) }
+        ensures bytes { OnOk result (IfSome ((disks_of self.old).image drive) (λ image. out.new ≡ sector_of image sector)) }
         ensures err { OnErr result (out.new ≡ out.old) }
         ensures cause { HasCause self.old.faults self.new.faults result }
         ensures names { self.new.failed ≡ self.old.failed }
-        ensures drives { (other : ℕ) → size_of self.new other ≡ size_of self.old other }
-        ensures disks { Told SameDisks (Some (disks_of self.old)) (Some (disks_of self.new)) }
-        ensures unsynced { (other : ℕ) → is_unsynced self.new other ≡ is_unsynced self.old other }
+        ensures disks { disks_of self.new ≡ disks_of self.old }
+        ensures told { told_of self.new ≡ told_of self.old }
+        ensures unsynced { is_unsynced self.new ≡ is_unsynced self.old }
     {
         if self.is_failing() {
             return Err(Failed);
@@ -184,17 +181,16 @@ impl Drives for MemoryDrives {
         Ok(())
     }
 
-    #[tactic(auto, using(crate::proofs::Shelves::sizes_kept, crate::proofs::Flags::flag_here, crate::proofs::Flags::flag_other), unfolding(crate::specs::MemoryDisks::after_write, crate::specs::MemoryDisks::after_access, crate::specs::MemoryDisks::images_with_sector))]
+    #[tactic(auto, using(crate::proofs::Attached::told_same, crate::proofs::Flags::flag_here, crate::proofs::Flags::flag_other), unfolding(crate::specs::MemoryDisks::after_write, crate::specs::MemoryDisks::after_access, crate::specs::MemoryDisks::images_with_sector))]
     fn write(&mut self, drive: u8, sector: u32, bytes: &[u8; 128]) -> Result<(), Failed>
-        requires { IsInside (size_of self.old drive) sector }
+        requires { IsInside (size_of (disks_of self.old) drive) sector }
         ensures after { self.new ≡ after_write self.old drive sector bytes.now }
         ensures fails { IsErr result ↔ IsTrue (next_is_listed self.old.calls) }
-        ensures ok { OnOk result (Told (Writes drive sector bytes.now) (Some (disks_of self.old)) (Some (disks_of self.new))) }
-        ensures err { OnErr result (Told SameDisks (Some (disks_of self.old)) (Some (disks_of self.new))
-            ⊎ Told (Writes drive sector bytes.now) (Some (disks_of self.old)) (Some (disks_of self.new))) }
+        ensures ok { OnOk result (Writes drive sector bytes.now (disks_of self.old) (disks_of self.new)) }
+        ensures err { OnErr result ((disks_of self.new ≡ disks_of self.old) ⊎ Writes drive sector bytes.now (disks_of self.old) (disks_of self.new)) }
+        ensures told { KeepsTold ((disks_of self.old).name_of drive) (told_of self.old) (told_of self.new) }
         ensures cause { HasCause self.old.faults self.new.faults result }
         ensures names { self.new.failed ≡ self.old.failed }
-        ensures drives { (other : ℕ) → size_of self.new other ≡ size_of self.old other }
         ensures unsynced { is_unsynced self.new drive ≡ true }
         ensures beside { (other : ℕ) → other ≢ drive → is_unsynced self.new other ≡ is_unsynced self.old other }
     {
@@ -211,13 +207,13 @@ impl Drives for MemoryDrives {
 
     #[tactic(auto, using(crate::proofs::Flags::flag_here, crate::proofs::Flags::flag_other), unfolding(crate::specs::MemoryDisks::after_sync, crate::specs::MemoryDisks::after_access))]
     fn sync(&mut self, drive: u8) -> Result<(), Failed>
-        requires { IsSome (size_of self.old drive) }
+        requires { IsSome (size_of (disks_of self.old) drive) }
         ensures after { self.new ≡ after_sync self.old drive }
         ensures fails { IsErr result ↔ IsTrue (next_is_listed self.old.calls) }
         ensures cause { HasCause self.old.faults self.new.faults result }
         ensures names { self.new.failed ≡ self.old.failed }
-        ensures drives { (other : ℕ) → size_of self.new other ≡ size_of self.old other }
-        ensures disks { Told SameDisks (Some (disks_of self.old)) (Some (disks_of self.new)) }
+        ensures disks { disks_of self.new ≡ disks_of self.old }
+        ensures told { told_of self.new ≡ told_of self.old }
         ensures synced { OnOk result (is_unsynced self.new drive ≡ false) }
         ensures unsynced { OnErr result (is_unsynced self.new drive ≡ is_unsynced self.old drive) }
         ensures beside { (other : ℕ) → other ≢ drive → is_unsynced self.new other ≡ is_unsynced self.old other }

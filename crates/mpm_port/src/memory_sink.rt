@@ -1,6 +1,6 @@
-ghost use Rattle.std.specs.Prelude.{◌≡◌, ◌≤◌, ◌↔◌, Some, false, OnOk, OnErr, IfOk, IsErr, IsTrue, is_ok, if◌then◌else◌, vec_capacity};
+ghost use Rattle.std.specs.Prelude.{◌≡◌, ◌≤◌, ◌↔◌, ◌++◌, false, OnOk, OnErr, IfOk, IsErr, IsTrue, is_ok, if◌then◌else◌, vec_capacity};
 ghost use Rattle.mpm_port.specs.Causes.{HasCause};
-ghost use Rattle.mpm_port.specs.Texts.{appended, AppendsPart};
+ghost use Rattle.mpm_port.specs.Texts.{AppendsPart};
 ghost use Rattle.mpm_port.specs.MemoryText.{empty_text, put_fails, after_put, listing_put};
 
 use crate::calls::Schedule;
@@ -61,7 +61,7 @@ impl MemorySink {
 }
 
 impl Sink for MemorySink {
-    ghost written = { λ s. Some s.text };
+    ghost written = { λ s. s.text };
 
     ghost faults = { λ s. s.faults };
 
@@ -76,8 +76,8 @@ impl Sink for MemorySink {
         ensures took { OnOk result ((put_fails self.old bytes.now ≡ false) × (self.new ≡ after_put self.old bytes.now)) }
         ensures dropped { OnErr result (IsTrue (put_fails self.old bytes.now) × (self.new ≡ after_put self.old bytes.now)) }
         ensures cause { HasCause self.old.faults self.new.faults result }
-        ensures ok { OnOk result (Some self.new.text ≡ appended (Some self.old.text) bytes.now) }
-        ensures err { OnErr result (AppendsPart (Some self.old.text) bytes.now (Some self.new.text)) }
+        ensures ok { OnOk result (self.new.text ≡ self.old.text ++ bytes.now) }
+        ensures err { OnErr result (AppendsPart self.old.text bytes.now self.new.text) }
     {
         let listed = self.calls.begin();
         if listed || self.room - self.text.len() < bytes.len() {

@@ -8,7 +8,7 @@ use std::marker::Model;
 
 /// Bytes that are kept.
 #[derive(Drop)]
-pub(crate) struct Bytes {
+pub struct Bytes {
     items: Vec<u8>,
 }
 
@@ -21,8 +21,15 @@ impl Model for Bytes {
 }
 
 impl Bytes {
+    /// These bytes.
+    pub fn of(items: Vec<u8>) -> Bytes
+        ensures { result ≡ items.items }
+    {
+        Bytes { items }
+    }
+
     /// A copy of the bytes.
-    pub(crate) fn copy(alloc: Global, bytes: &[u8]) -> Result<Bytes, OutOfMemory>
+    pub fn copy(alloc: Global, bytes: &[u8]) -> Result<Bytes, OutOfMemory>
         ensures { IfOk result (λ copied. copied ≡ bytes.now) }
     {
         Ok(Bytes {
@@ -31,14 +38,14 @@ impl Bytes {
     }
 
     /// The bytes.
-    pub(crate) fn as_slice(&self) -> &[u8]
+    pub fn as_slice(&self) -> &[u8]
         ensures { result.now ≡ self.now }
     {
         self.items.as_slice()
     }
 
     /// Writes over a sector.
-    pub(crate) fn write_sector(&mut self, sector: u32, bytes: &[u8; 128])
+    pub fn write_sector(&mut self, sector: u32, bytes: &[u8; 128])
         requires { 128 * sector + 128 ≤ length self.old }
         ensures { self.new ≡ with_sector self.old sector bytes.now }
     {

@@ -1,13 +1,13 @@
-ghost use Rattle.std.specs.Prelude.{◌≡◌, ℕ, List, Option, OnOk, OnErr};
+ghost use Rattle.std.specs.Prelude.{◌≡◌, ◌++◌, ℕ, List, OnOk, OnErr};
 ghost use Rattle.mpm_port.specs.Causes.{HasCause};
-ghost use Rattle.mpm_port.specs.Texts.{appended, AppendsPart};
+ghost use Rattle.mpm_port.specs.Texts.{AppendsPart};
 
 use crate::Failed;
 
 /// Where the lines of consoles, printers and traces go.
 pub trait Sink {
-    /// All that was written, where it is told.
-    ghost written: { Self → Option (List ℕ) };
+    /// All that was written.
+    ghost written: { Self → List ℕ };
 
     /// The count of faults, at most 2^64 - 1.
     ghost faults: { Self → ℕ };
@@ -23,6 +23,6 @@ pub trait Sink {
         ensures took { OnOk result (took self.old bytes.now self.new) }
         ensures dropped { OnErr result (dropped self.old bytes.now self.new) }
         ensures cause { HasCause (faults self.old) (faults self.new) result }
-        ensures ok { OnOk result (written self.new ≡ appended (written self.old) bytes.now) }
+        ensures ok { OnOk result (written self.new ≡ written self.old ++ bytes.now) }
         ensures err { OnErr result (AppendsPart (written self.old) bytes.now (written self.new)) };
 }

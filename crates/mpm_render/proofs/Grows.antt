@@ -1,7 +1,7 @@
--- Laws on texts that grow, and on what is told of them.
-use Rattle.std.proofs.Common.{◌≡◌, ℕ, ◌<◌, ◌≤◌, List, [], ◌++◌, Option, Some, None, length, refl, sym, ap, ◌∙◌, append_assoc, length-append, arith}
+-- Laws on texts that grow.
+use Rattle.std.proofs.Common.{◌≡◌, ℕ, ◌<◌, ◌≤◌, List, [], ◌++◌, length, refl, sym, ap, ◌∙◌, append_assoc, length-append, arith}
 use Rattle.std.proofs.lemmas.List.{append-nil}
-use Rattle.mpm_port.specs.Texts.{Begins, appended, AppendsPart}
+use Rattle.mpm_port.specs.Texts.{Begins, AppendsPart}
 use Rattle.mpm_render.specs.Shown.{EndsBetween}
 
 pub begins_refl : (a : List ℕ) → Begins a a
@@ -26,27 +26,18 @@ begins_behind a b c p = record {
 pub begins_length : (a b : List ℕ) → Begins a b → length a ≤ length b
 begins_length a b p = omega (arith, ap length p.whole_is, length-append a p.rest)
 
--- nothing more is told of a text behind which nothing stands
-pub appended_nil : (written : Option (List ℕ)) → appended written [] ≡ written
-appended_nil None = refl
-appended_nil (Some text) = ap Some (append-nil text)
-
-pub appended_twice : (written : Option (List ℕ)) (a b : List ℕ) → appended (appended written a) b ≡ appended written (a ++ b)
-appended_twice None a b = refl
-appended_twice (Some text) a b = ap Some (append_assoc text a b)
-
 -- a failed write stops between the text before and the text with all that was to be written
-pub ends_within : (old new first : Option (List ℕ)) (from more : List ℕ) → old ≡ appended first from → AppendsPart old more new → 0 < length more → EndsBetween new first from (from ++ more)
+pub ends_within : (old new first from more : List ℕ) → old ≡ first ++ from → AppendsPart old more new → 0 < length more → EndsBetween new first from (from ++ more)
 ends_within old new first from more e p some = record {
   text = from ++ p.part;
-  written_is = p.new_is ∙ ap (λ written. appended written p.part) e ∙ appended_twice first from p.part;
+  written_is = p.new_is ∙ ap (λ written. written ++ p.part) e ∙ append_assoc first from p.part;
   all_before = begins_more from p.part;
   part = begins_behind from p.part more p.begins;
   more = omega (arith, length-append from more);
 }
 
 -- what ends between two texts ends between wider ones
-pub widened : (written first : Option (List ℕ)) (a from to b : List ℕ) → Begins a from → Begins to b → EndsBetween written first from to → EndsBetween written first a b
+pub widened : (written first a from to b : List ℕ) → Begins a from → Begins to b → EndsBetween written first from to → EndsBetween written first a b
 widened written first a from to b p q e = record {
   text = e.text;
   written_is = e.written_is;
@@ -56,9 +47,9 @@ widened written first a from to b p q e = record {
 }
 
 -- nothing is a part of all that was to be written
-pub appends_none : (written : Option (List ℕ)) (more : List ℕ) → AppendsPart written more written
+pub appends_none : (written more : List ℕ) → AppendsPart written more written
 appends_none written more = record {
   part = [];
   begins = record { rest = more; whole_is = refl };
-  new_is = sym (appended_nil written);
+  new_is = sym (append-nil written);
 }

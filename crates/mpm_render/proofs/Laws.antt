@@ -1,17 +1,17 @@
 -- Laws on outputs: their text grows, and a byte leaves its line, the other lines and the text as they are said.
-use Rattle.std.proofs.Common.{◌≡◌, ◌≢◌, ℕ, ◌%◌, ◌<◌, Bool, false, List, [], ◌∷◌, ◌++◌, Option, Result, OnOk, OnErr, Ok, Err, length, take, set, reverse, get_or, refl, sym, ap, ◌∙◌, inl, inr, suc, subst, arith}
+use Rattle.std.proofs.Common.{◌≡◌, ◌≢◌, ℕ, ◌%◌, ◌<◌, Bool, false, List, [], ◌∷◌, ◌++◌, Result, OnOk, OnErr, Ok, Err, length, take, set, append_assoc, reverse, get_or, refl, sym, ap, ◌∙◌, inl, inr, suc, subst, arith}
 use Rattle.std.proofs.lemmas.Grind.{reverse_onto}
 use Rattle.std.proofs.lemmas.List.{append-nil, length-reverse, length-take-le, get_or_default, get_or-set_same, get_or-set_other}
 use Rattle.std.proofs.lemmas.Bool.{cases_eq}
 use Rattle.std.proofs.lemmas.Bool.Decides.{nat_tests}
-use Rattle.mpm_port.specs.Texts.{Begins, appended, AppendsPart}
+use Rattle.mpm_port.specs.Texts.{Begins, AppendsPart}
 use Rattle.mpm_render.specs.declared.unit.Unit2.{Unit2}
 use Rattle.mpm_render.specs.declared.unit.Unit2.TheVariants.{Console, Printer}
 use Rattle.mpm_render.specs.Lines.{place_of, IsUnit, text_with, line_with}
 use Rattle.mpm_render.specs.Completions.{Completion}
 use Rattle.mpm_render.specs.Outputs.{Output, Said, Completed, said, since_end, pending, record_text, text_at, rendered}
 use Rattle.mpm_render.specs.Shown.{Kept, line_of, Shows, EndsBetween}
-use Rattle.mpm_render.proofs.Grows.{begins_refl, begins_more, begins_trans, appended_nil, appended_twice, ends_within}
+use Rattle.mpm_render.proofs.Grows.{begins_refl, begins_more, begins_trans, ends_within}
 
 pub rendered_grows : (trace : Bool) (o : Output) (os : List Output) → Begins (rendered trace os) (rendered trace (o ∷ os))
 unfolding rendered
@@ -123,14 +123,14 @@ unfolding rendered
 rendered_none trace = refl
 
 -- empty lines show that nothing was said
-pub shows_none : (kept : Kept) (written : Option (List ℕ)) → ((place : ℕ) → place < 12 → line_of kept place ≡ []) → Shows kept written [] written
+pub shows_none : (kept : Kept) (written : List ℕ) → ((place : ℕ) → place < 12 → line_of kept place ≡ []) → Shows kept written [] written
 shows_none kept written none = record {
   lines = λ place h. none place h ∙ sym (pending_none place);
-  written_is = sym (ap (appended written) (rendered_none kept.trace) ∙ appended_nil written);
+  written_is = sym (ap (λ t. written ++ t) (rendered_none kept.trace) ∙ append-nil written);
 }
 
 -- a byte that is put to its line, and the text that it writes, keep what is shown
-pub shows_said : (old new : Kept) (written now first : Option (List ℕ)) (unit : Unit2) (byte : ℕ) (os : List Output) → IsUnit unit → length old.lines ≡ 12 → new.trace ≡ old.trace → new.lines ≡ set old.lines (place_of unit) (line_with byte (line_of old (place_of unit))) → now ≡ appended written (text_with (place_of unit) byte (line_of old (place_of unit))) → Shows old written os first → Shows new now (Said unit byte ∷ os) first
+pub shows_said : (old new : Kept) (written now first : List ℕ) (unit : Unit2) (byte : ℕ) (os : List Output) → IsUnit unit → length old.lines ≡ 12 → new.trace ≡ old.trace → new.lines ≡ set old.lines (place_of unit) (line_with byte (line_of old (place_of unit))) → now ≡ written ++ text_with (place_of unit) byte (line_of old (place_of unit)) → Shows old written os first → Shows new now (Said unit byte ∷ os) first
 shows_said old new written now first unit byte os is twelve traces changed writes s =
     let here = place_of unit in
     let small : here < 12 = place_small unit is in
@@ -141,11 +141,11 @@ shows_said old new written now first unit byte os is twelve traces changed write
         | inl same ↦ ap (λ at. get_or (set old.lines here (line_with byte (line_of old here))) at []) same ∙ get_or-set_same old.lines here _ [] inside ∙ ap (line_with byte) line ∙ sym (pending_same unit byte os) ∙ ap (λ at. pending at (Said unit byte ∷ os)) (sym same)
         | inr other ↦ get_or-set_other old.lines here place _ [] other ∙ s.lines place h ∙ sym (pending_other place unit byte os (λ e. other (sym e)))
       ];
-      written_is = writes ∙ ap (λ line. appended written (text_with here byte line)) line ∙ ap (λ t. appended t (text_with here byte (pending here os))) s.written_is ∙ appended_twice first (rendered old.trace os) _ ∙ ap (appended first) (sym (rendered_said old.trace unit byte os)) ∙ ap (λ trace. appended first (rendered trace (Said unit byte ∷ os))) (sym traces);
+      written_is = writes ∙ ap (λ line. written ++ text_with here byte line) line ∙ ap (λ t. t ++ text_with here byte (pending here os)) s.written_is ∙ append_assoc first (rendered old.trace os) _ ∙ ap (λ t. first ++ t) (sym (rendered_said old.trace unit byte os)) ∙ ap (λ trace. first ++ rendered trace (Said unit byte ∷ os)) (sym traces);
     }
 
 -- a failed write of a byte's text stops between the texts before and after it
-pub ends_said : (old : Kept) (written now first : Option (List ℕ)) (unit : Unit2) (byte : ℕ) (os : List Output) → IsUnit unit → AppendsPart written (text_with (place_of unit) byte (line_of old (place_of unit))) now → 0 < length (text_with (place_of unit) byte (line_of old (place_of unit))) → Shows old written os first → EndsBetween now first (rendered old.trace os) (rendered old.trace (Said unit byte ∷ os))
+pub ends_said : (old : Kept) (written now first : List ℕ) (unit : Unit2) (byte : ℕ) (os : List Output) → IsUnit unit → AppendsPart written (text_with (place_of unit) byte (line_of old (place_of unit))) now → 0 < length (text_with (place_of unit) byte (line_of old (place_of unit))) → Shows old written os first → EndsBetween now first (rendered old.trace os) (rendered old.trace (Said unit byte ∷ os))
 ends_said old written now first unit byte os is part some s =
     let here = place_of unit in
     let line : line_of old here ≡ pending here os = s.lines here (place_small unit is) in
@@ -159,16 +159,16 @@ same_line lines unit place other is at twelve =
     let small = place_small unit is in
     get_or_default lines place other [] (omega arith) ∙ ap (λ p. get_or lines p []) at
 
-pub ok_said : {A E : Type 0} (result : Result A E) (old new : Kept) (written now first : Option (List ℕ)) (unit : Unit2) (byte place : ℕ) (other after : List ℕ) (os : List Output) → IsUnit unit → place ≡ place_of unit → length old.lines ≡ 12 → new.trace ≡ old.trace → OnOk result (after ≡ line_with byte (get_or old.lines place other)) → new.lines ≡ set old.lines place after → OnOk result (now ≡ appended written (text_with place byte (get_or old.lines place other))) → Shows old written os first → OnOk result (Shows new now (Said unit byte ∷ os) first)
+pub ok_said : {A E : Type 0} (result : Result A E) (old new : Kept) (written now first : List ℕ) (unit : Unit2) (byte place : ℕ) (other after : List ℕ) (os : List Output) → IsUnit unit → place ≡ place_of unit → length old.lines ≡ 12 → new.trace ≡ old.trace → OnOk result (after ≡ line_with byte (get_or old.lines place other)) → new.lines ≡ set old.lines place after → OnOk result (now ≡ written ++ text_with place byte (get_or old.lines place other)) → Shows old written os first → OnOk result (Shows new now (Said unit byte ∷ os) first)
 ok_said (Err e) old new written now first unit byte place other after os is at twelve traces kept changed writes s = tt
 ok_said (Ok x) old new written now first unit byte place other after os is at twelve traces kept changed writes s =
     let line = same_line old.lines unit place other is at twelve in
     shows_said old new written now first unit byte os is twelve traces
     (changed ∙ ap (λ p. set old.lines p after) at ∙ ap (set old.lines (place_of unit)) (kept ∙ ap (line_with byte) line))
-    (writes ∙ ap (λ p. appended written (text_with p byte (get_or old.lines place other))) at ∙ ap (λ l. appended written (text_with (place_of unit) byte l)) line)
+    (writes ∙ ap (λ p. written ++ text_with p byte (get_or old.lines place other)) at ∙ ap (λ l. written ++ text_with (place_of unit) byte l) line)
     s
 
-pub err_said : {A E : Type 0} (result : Result A E) (old : Kept) (written now first : Option (List ℕ)) (unit : Unit2) (byte place : ℕ) (other : List ℕ) (os : List Output) → IsUnit unit → place ≡ place_of unit → length old.lines ≡ 12 → OnErr result (AppendsPart written (text_with place byte (get_or old.lines place other)) now) → OnErr result (0 < length (text_with place byte (get_or old.lines place other))) → Shows old written os first → OnErr result (EndsBetween now first (rendered old.trace os) (rendered old.trace (Said unit byte ∷ os)))
+pub err_said : {A E : Type 0} (result : Result A E) (old : Kept) (written now first : List ℕ) (unit : Unit2) (byte place : ℕ) (other : List ℕ) (os : List Output) → IsUnit unit → place ≡ place_of unit → length old.lines ≡ 12 → OnErr result (AppendsPart written (text_with place byte (get_or old.lines place other)) now) → OnErr result (0 < length (text_with place byte (get_or old.lines place other))) → Shows old written os first → OnErr result (EndsBetween now first (rendered old.trace os) (rendered old.trace (Said unit byte ∷ os)))
 err_said (Ok x) old written now first unit byte place other os is at twelve part some s = tt
 err_said (Err e) old written now first unit byte place other os is at twelve part some s =
     let P : List ℕ → Type 0 = λ text. AppendsPart written text now in
@@ -177,17 +177,17 @@ err_said (Err e) old written now first unit byte place other os is at twelve par
     ends_said old written now first unit byte os is (subst P text part) (subst Q text some) s
 
 -- the record of a completed call, and the text that it writes, keep what is shown
-pub ok_completed : {A E : Type 0} (result : Result A E) (kept : Kept) (written now first : Option (List ℕ)) (call : Completion) (text : List ℕ) (os : List Output) → text ≡ record_text kept.trace call → OnOk result (now ≡ appended written text) → Shows kept written os first → OnOk result (Shows kept now (Completed call ∷ os) first)
+pub ok_completed : {A E : Type 0} (result : Result A E) (kept : Kept) (written now first : List ℕ) (call : Completion) (text : List ℕ) (os : List Output) → text ≡ record_text kept.trace call → OnOk result (now ≡ written ++ text) → Shows kept written os first → OnOk result (Shows kept now (Completed call ∷ os) first)
 ok_completed (Err e) kept written now first call text os is writes s = tt
 ok_completed (Ok x) kept written now first call text os is writes s =
     let before = rendered kept.trace os in
     record {
       lines = λ place h. s.lines place h ∙ sym (pending_completed place call os);
-      written_is = writes ∙ ap (λ t. appended t text) s.written_is ∙ appended_twice first before text ∙ ap (λ t. appended first (before ++ t)) is ∙ ap (appended first) (sym (rendered_completed kept.trace call os));
+      written_is = writes ∙ ap (λ t. t ++ text) s.written_is ∙ append_assoc first before text ∙ ap (λ t. first ++ (before ++ t)) is ∙ ap (λ t. first ++ t) (sym (rendered_completed kept.trace call os));
     }
 
 -- a failed write of a record's text stops between the texts before and after it
-pub err_completed : {A E : Type 0} (result : Result A E) (kept : Kept) (written now first : Option (List ℕ)) (call : Completion) (text : List ℕ) (os : List Output) → text ≡ record_text kept.trace call → OnErr result (AppendsPart written text now) → 0 < length text → Shows kept written os first → OnErr result (EndsBetween now first (rendered kept.trace os) (rendered kept.trace (Completed call ∷ os)))
+pub err_completed : {A E : Type 0} (result : Result A E) (kept : Kept) (written now first : List ℕ) (call : Completion) (text : List ℕ) (os : List Output) → text ≡ record_text kept.trace call → OnErr result (AppendsPart written text now) → 0 < length text → Shows kept written os first → OnErr result (EndsBetween now first (rendered kept.trace os) (rendered kept.trace (Completed call ∷ os)))
 err_completed (Ok x) kept written now first call text os is part some s = tt
 err_completed (Err e) kept written now first call text os is part some s =
     let before = rendered kept.trace os in

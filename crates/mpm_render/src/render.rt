@@ -1,6 +1,6 @@
-ghost use Rattle.std.specs.Prelude.{◌≡◌, ◌≢◌, ℕ, ◌<◌, List, [], ◌∷◌, Option, OnOk, OnErr, length};
+ghost use Rattle.std.specs.Prelude.{◌≡◌, ◌≢◌, ℕ, ◌<◌, List, [], ◌∷◌, ◌++◌, OnOk, OnErr, length};
 ghost use Rattle.mpm_port.specs.Causes.{HasCause};
-ghost use Rattle.mpm_port.specs.Texts.{appended, AppendsPart};
+ghost use Rattle.mpm_port.specs.Texts.{AppendsPart};
 ghost use Rattle.mpm_render.specs.Completions.{completion, trace_line};
 
 use crate::Unit2;
@@ -34,7 +34,7 @@ impl Render {
 
     /// Empty lines; `trace` says whether the records of completed calls are written.
     pub fn new(trace: bool) -> Render
-        ensures fresh { (written : Option (List ℕ)) → Shows result written [] written }
+        ensures fresh { (written : List ℕ) → Shows result written [] written }
         ensures trace { result.trace ≡ trace }
     {
         Render {
@@ -54,9 +54,9 @@ impl Render {
     /// writes the line with one `put`; any other byte puts nothing. If the `put` fails, the lines stay as they were.
     pub fn put<S: Sink>(&mut self, stream: Unit2, byte: u8, sink: &mut S) -> Result<(), Failed>
         requires { IsUnit stream }
-        ensures ok { (os : List Output) (first : Option (List ℕ)) → Shows self.old (S.written sink.old) os first
+        ensures ok { (os : List Output) (first : List ℕ) → Shows self.old (S.written sink.old) os first
             → OnOk result (Shows self.new (S.written sink.new) (Said stream byte ∷ os) first) }
-        ensures err { (os : List Output) (first : Option (List ℕ)) → Shows self.old (S.written sink.old) os first
+        ensures err { (os : List Output) (first : List ℕ) → Shows self.old (S.written sink.old) os first
             → OnErr result (EndsBetween (S.written sink.new) first (rendered self.old.trace os) (rendered self.old.trace (Said stream byte ∷ os))) }
         ensures puts { OnOk result (PutsLine S.took (text_put stream byte self.old) sink.old sink.new) }
         ensures drops { OnErr result (S.dropped sink.old (text_put stream byte self.old) sink.new) }
@@ -85,9 +85,9 @@ impl Render {
         hl: u16,
         sink: &mut S,
     ) -> Result<(), Failed>
-        ensures ok { (os : List Output) (first : Option (List ℕ)) → Shows self.old (S.written sink.old) os first
+        ensures ok { (os : List Output) (first : List ℕ) → Shows self.old (S.written sink.old) os first
             → OnOk result (Shows self.new (S.written sink.new) (Completed (completion step p function a bc de hl) ∷ os) first) }
-        ensures err { (os : List Output) (first : Option (List ℕ)) → Shows self.old (S.written sink.old) os first
+        ensures err { (os : List Output) (first : List ℕ) → Shows self.old (S.written sink.old) os first
             → OnErr result (EndsBetween (S.written sink.new) first (rendered self.old.trace os)
             (rendered self.old.trace (Completed (completion step p function a bc de hl) ∷ os))) }
         ensures puts { OnOk result (PutsLine S.took (text_traced (completion step p function a bc de hl) self.old) sink.old sink.new) }
@@ -105,9 +105,9 @@ impl Render {
     /// Writes each line that isn't empty, consoles first, by number, each with one `put`, up to the first that fails. Each line
     /// that was written is empty then; the one that failed and those behind it stay.
     pub fn finish<S: Sink>(&mut self, sink: &mut S) -> Result<(), Failed>
-        ensures ok { (os : List Output) (first : Option (List ℕ)) → Shows self.old (S.written sink.old) os first
-            → OnOk result (S.written sink.new ≡ appended first (closed self.old.trace os)) }
-        ensures err { (os : List Output) (first : Option (List ℕ)) → Shows self.old (S.written sink.old) os first
+        ensures ok { (os : List Output) (first : List ℕ) → Shows self.old (S.written sink.old) os first
+            → OnOk result (S.written sink.new ≡ first ++ closed self.old.trace os) }
+        ensures err { (os : List Output) (first : List ℕ) → Shows self.old (S.written sink.old) os first
             → OnErr result (EndsBetween (S.written sink.new) first (rendered self.old.trace os) (closed self.old.trace os)) }
         ensures puts { OnOk result (PutsEach S.took (texts_closed self.old) sink.old sink.new) }
         ensures stops { OnErr result (StopsClosing S.took S.dropped self.old self.new sink.old sink.new) }
@@ -139,7 +139,7 @@ fn write_record<S: Sink>(
     ensures took { OnOk result (S.took sink.old (trace_line (completion step p function a bc de hl)) sink.new) }
     ensures dropped { OnErr result (S.dropped sink.old (trace_line (completion step p function a bc de hl)) sink.new) }
     ensures cause { HasCause (S.faults sink.old) (S.faults sink.new) result }
-    ensures ok { OnOk result (S.written sink.new ≡ appended (S.written sink.old) (trace_line (completion step p function a bc de hl))) }
+    ensures ok { OnOk result (S.written sink.new ≡ S.written sink.old ++ trace_line (completion step p function a bc de hl)) }
     ensures err { OnErr result (AppendsPart (S.written sink.old) (trace_line (completion step p function a bc de hl)) (S.written sink.new)) }
 {
     let text = LineText::traced(step, p, function, a, bc, de, hl);

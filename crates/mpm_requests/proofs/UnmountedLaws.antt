@@ -1,15 +1,14 @@
 -- Why a call is refused whose drive isn't mounted, or that names none.
-use Rattle.std.proofs.Common.{◌≡◌, ◌∙◌, ℕ, Bool, true, false, not, cond, List, ◌∷◌, Option, Some, None, drop, sym, refl, ap, subst, inl, inr, IfSome}
+use Rattle.std.proofs.Common.{◌≡◌, ◌∙◌, ℕ, Bool, true, false, not, cond, List, ◌∷◌, Option, Some, None, drop, sym, refl, ap, subst}
 use Rattle.std.specs.Option.{option_or}
-use Rattle.std.specs.Prelude.{is_some, option_map, option_and_then, unwrap_or, find, if◌then◌else◌}
+use Rattle.std.specs.Prelude.{is_some, option_map, option_and_then, unwrap_or, find}
 use Rattle.mpm_functions.specs.declared.functions.FileFunction.{FileFunction}
 use Rattle.mpm_functions.specs.declared.functions.FileFunction.TheVariants.{ResetDisks, OpenFile, CloseFile, SearchFirst, SearchNext, DeleteFile, ReadSequential, WriteSequential, MakeFile, RenameFile, ProtectDisk, SetAttributes, ReadRandom, WriteRandom, FileSize, ResetDrives, AccessDrives, FreeDrives, TestAndWrite, LockRecord, UnlockRecord, FreeSpace, FlushBuffers, SetLabel, LabelData, ReadXfcb, WriteXfcb}
 use Rattle.mpm_functions.specs.declared.refusals.Refusal.{Refusal}
 use Rattle.mpm_functions.specs.declared.refusals.Refusal.TheVariants.{NotMounted, NotFound, Busy}
-use Rattle.mpm_functions.specs.Refusals.{refusals_of, IsOneOf, IsOfRow}
+use Rattle.mpm_functions.specs.Refusals.{refusals_of}
 use Rattle.mpm_mount.specs.Drives.{FileName, Drive}
 use Rattle.mpm_mount.specs.Directories.{Directory, Stands}
-use Rattle.mpm_fcb.specs.declared.block.ControlBlock.{ControlBlock}
 use Rattle.mpm_marks.specs.Busy.{are_busy}
 use Rattle.mpm_requests.specs.Filing.{LastSearch, Situation, block}
 use Rattle.mpm_requests.specs.Subjects.{last_search, drive_by, drive_named, drive_number, mounted, blank_drive, drive_at, open_key, subject, found_behind, found_by}
@@ -151,79 +150,3 @@ none_by s image (Some drive) at h = absurd h
 
 pub is_not_there : (s : Situation) (image : List ℕ) → StandsFor image None s → mounted s.filing (drive_number s) ≡ None
 is_not_there s image h = none_by s image (mounted s.filing (drive_number s)) refl h
-
--- a call that names a drive is refused where that isn't mounted
-named_in_row : (function : FileFunction) (search : Option LastSearch) (own word : ℕ) (b : ControlBlock) (drive : ℕ) → drive_by search own word b function ≡ Some drive
-    → IsOfRow function NotMounted
-unfolding drive_by refusals_of IsOneOf
-named_in_row ResetDisks search own word b drive is = absurd (cc)
-named_in_row OpenFile search own word b drive is = inl refl
-named_in_row CloseFile search own word b drive is = inl refl
-named_in_row SearchFirst search own word b drive is = inl refl
-named_in_row SearchNext search own word b drive is = inl refl
-named_in_row DeleteFile search own word b drive is = inl refl
-named_in_row ReadSequential search own word b drive is = inl refl
-named_in_row WriteSequential search own word b drive is = inl refl
-named_in_row MakeFile search own word b drive is = inl refl
-named_in_row RenameFile search own word b drive is = inl refl
-named_in_row ProtectDisk search own word b drive is = absurd (cc)
-named_in_row SetAttributes search own word b drive is = inl refl
-named_in_row ReadRandom search own word b drive is = inl refl
-named_in_row WriteRandom search own word b drive is = inl refl
-named_in_row FileSize search own word b drive is = inl refl
-named_in_row ResetDrives search own word b drive is = absurd (cc)
-named_in_row AccessDrives search own word b drive is = absurd (cc)
-named_in_row FreeDrives search own word b drive is = absurd (cc)
-named_in_row TestAndWrite search own word b drive is = inl refl
-named_in_row LockRecord search own word b drive is = inl refl
-named_in_row UnlockRecord search own word b drive is = inl refl
-named_in_row FreeSpace search own word b drive is = inl refl
-named_in_row FlushBuffers search own word b drive is = absurd (cc)
-named_in_row SetLabel search own word b drive is = inl refl
-named_in_row LabelData search own word b drive is = inl refl
-named_in_row ReadXfcb search own word b drive is = inl refl
-named_in_row WriteXfcb search own word b drive is = inl refl
-
--- and one that names none where drives are busy, or nothing is sought
-busy_where : (busy : Bool) (function : FileFunction) → IsOfRow function Busy → IfSome (if busy then Some Busy else None) (IsOfRow function)
-busy_where true function is = is
-busy_where false function is = tt
-
-unnamed_in_row : (busy : Bool) (function : FileFunction) → IfSome (unnamed_refusal busy function) (IsOfRow function)
-unfolding refusals_of IsOneOf
-unnamed_in_row busy ResetDisks = busy_where busy ResetDisks (inl refl)
-unnamed_in_row busy OpenFile = tt
-unnamed_in_row busy CloseFile = tt
-unnamed_in_row busy SearchFirst = tt
-unnamed_in_row busy SearchNext = inr (inl refl)
-unnamed_in_row busy DeleteFile = tt
-unnamed_in_row busy ReadSequential = tt
-unnamed_in_row busy WriteSequential = tt
-unnamed_in_row busy MakeFile = tt
-unnamed_in_row busy RenameFile = tt
-unnamed_in_row busy ProtectDisk = busy_where busy ProtectDisk (inl refl)
-unnamed_in_row busy SetAttributes = tt
-unnamed_in_row busy ReadRandom = tt
-unnamed_in_row busy WriteRandom = tt
-unnamed_in_row busy FileSize = tt
-unnamed_in_row busy ResetDrives = busy_where busy ResetDrives (inl refl)
-unnamed_in_row busy AccessDrives = tt
-unnamed_in_row busy FreeDrives = tt
-unnamed_in_row busy TestAndWrite = tt
-unnamed_in_row busy LockRecord = tt
-unnamed_in_row busy UnlockRecord = tt
-unnamed_in_row busy FreeSpace = tt
-unnamed_in_row busy FlushBuffers = tt
-unnamed_in_row busy SetLabel = tt
-unnamed_in_row busy LabelData = tt
-unnamed_in_row busy ReadXfcb = tt
-unnamed_in_row busy WriteXfcb = tt
-
-pub unmounted_in_row : (function : FileFunction) (search : Option LastSearch) (own word : ℕ) (b : ControlBlock) (busy : Bool) (result : Option Refusal)
-    → result ≡ unmounted_refusal (drive_by search own word b function) (unnamed_refusal busy function) → IfSome result (IsOfRow function)
-unmounted_in_row function search own word b busy result is =
-    subst (λ r. IfSome r (IsOfRow function)) (sym is) (by_drive (drive_by search own word b function) refl)
-  where
-    by_drive : (drive : Option ℕ) → drive_by search own word b function ≡ drive → IfSome (unmounted_refusal drive (unnamed_refusal busy function)) (IsOfRow function)
-    by_drive None none = unnamed_in_row busy function
-    by_drive (Some drive) some = named_in_row function search own word b drive some

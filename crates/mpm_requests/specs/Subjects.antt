@@ -1,11 +1,11 @@
 -- What a file call names: its drive, its file, its open file, its records, its password, the files of a pattern, the drives of a
 -- mask. (MP/M II Programmer's Guide, "File Control Block Definition", and the functions.)
-use Rattle.std.specs.Prelude.{ℕ, ◌%◌, ◌==◌, ◌&&◌, ◌||◌, not, Bool, true, false, List, [], Option, Some, None, is_some, option_map, option_and_then, unwrap_or, map, filter, find, slice_index_or, if◌then◌else◌, ◌≡◌}
+use Rattle.std.specs.Prelude.{ℕ, ◌%◌, ◌==◌, ◌&&◌, ◌||◌, not, Bool, true, false, List, [], Option, Some, None, is_some, option_map, option_and_then, unwrap_or, map, filter, find, slice_index_or, if◌then◌else◌}
 use Rattle.std.specs.Ordering.{is_lt}
 use Rattle.std.specs.FinMap.{get, empty}
 use Rattle.mpm_base.specs.declared.kind.Kind.{Kind}
 use Rattle.mpm_base.specs.declared.kind.Kind.TheVariants.{Ibm3740}
-use Rattle.mpm_base.specs.Calls.{word_at, eight_at, Taken}
+use Rattle.mpm_base.specs.Calls.{word_at, eight_at}
 use Rattle.mpm_dirent.specs.declared.kinds.XfcbEntry.{XfcbEntry}
 use Rattle.mpm_dirent.specs.Names.{plain}
 use Rattle.mpm_opens.specs.declared.kinds.FileKey.{FileKey}
@@ -23,7 +23,6 @@ use Rattle.mpm_fcb.specs.declared.block.ControlBlock.{ControlBlock}
 use Rattle.mpm_fcb.specs.Names.{drive_of, new_name_of}
 use Rattle.mpm_fcb.specs.Positions.{sequential_record, random_record}
 use Rattle.mpm_fcb.specs.Opening as fcb
-use Rattle.mpm_fcb.specs.Blocks.{block_of}
 use Rattle.mpm_marks.specs.Busy.{names}
 use Rattle.mpm_requests.specs.Filing.{LastSearch, Filing, Situation, block}
 
@@ -240,9 +239,3 @@ deleted_files s = deleted_in (drive_at s) s.caller.user (block s).name
 
 abbrev pub names_drive : Situation → FileFunction → ℕ → Bool
 names_drive s function drive = names function s.caller.drive s.call.word drive
-
--- the drive that a call names, as it is by its caller's own and last search where it names none itself
-pub record IsNamed (function : FileFunction) (call : Taken) (drive : ℕ) : Type 0 where
-  pub own : ℕ
-  pub search : Option LastSearch
-  pub is : drive ≡ unwrap_or (drive_by search own call.word (block_of call.fcb) function) own

@@ -1,15 +1,12 @@
-ghost use Rattle.std.specs.Prelude.{◌≡◌, ℕ, List, IfSome, option_map, find};
+ghost use Rattle.std.specs.Prelude.{◌≡◌, ℕ, List, option_map, find};
 ghost use Rattle.mpm_dirent.specs.Names.{plain};
 ghost use Rattle.mpm_mount.specs.Drives.{Drive};
 ghost use Rattle.mpm_mount.specs.Directories.{Stands};
 ghost use Rattle.mpm_requests.specs.Subjects.{is_there as file_is_there};
-ghost use Rattle.mpm_functions.specs.Refusals.{IsOneOf};
 ghost use Rattle.mpm_requests.specs.Refusals as spec;
-ghost use Rattle.mpm_functions.specs.Refusals as rows;
 ghost use Rattle.mpm_marks.specs.Busy as in_use;
 ghost use Rattle.mpm_requests.specs.Asking as asking;
 ghost use Rattle.mpm_opens.specs.declared.kinds.Mode.TheVariants.{ReadOnly};
-ghost use Rattle.mpm_functions.specs.declared.functions.FileFunction.TheVariants as functions;
 
 use crate::asking::Asked;
 use crate::deleting::{Deleter, deletion_refusal};
@@ -276,8 +273,7 @@ pub(crate) fn first_refusal(
     asked: &Asked,
     refusals: &[Refusal],
 ) -> Option<Refusal>
-    ensures row { IfSome result (λ refusal. IsOneOf refusal refusals.now) }
-    ensures all { (image : List ℕ) (drive : Drive) → Stands image mounted.now drive → result ≡ find (asking.asks drive opens.now marks.now asked.now) refusals.now }
+    ensures { (image : List ℕ) (drive : Drive) → Stands image mounted.now drive → result ≡ find (asking.asks drive opens.now marks.now asked.now) refusals.now }
 {
     for place in 0..refusals.len() {
         let refusal = refusals[place];
@@ -305,8 +301,7 @@ fn deleter(asked: &Asked) -> Deleter
 
 /// Why the files of a pattern aren't deleted, if one of them isn't.
 fn pattern_refusal(mounted: &Mounted, opens: &Opens, asked: &Asked) -> Option<Refusal>
-    ensures row { IfSome result (λ refusal. IsOneOf refusal (rows.refusals_of_each functions.DeleteFile)) }
-    ensures all { (image : List ℕ) (drive : Drive) → Stands image mounted.now drive
+    ensures { (image : List ℕ) (drive : Drive) → Stands image mounted.now drive
         → result ≡ spec.deletion_refusal drive opens.now (asking.deleter_asked asked.now) asked.now.block.name }
 {
     deletion_refusal(mounted, opens, &deleter(asked), &asked.block.name)
@@ -314,8 +309,7 @@ fn pattern_refusal(mounted: &Mounted, opens: &Opens, asked: &Asked) -> Option<Re
 
 /// The refusal of the files that a call names, of which a deletion alone has any.
 pub(crate) fn each_refusal(mounted: &Mounted, opens: &Opens, asked: &Asked) -> Option<Refusal>
-    ensures row { IfSome result (λ refusal. IsOneOf refusal (rows.refusals_of_each asked.now.function)) }
-    ensures all { (image : List ℕ) (drive : Drive) → Stands image mounted.now drive → result ≡ asking.each_asked drive opens.now asked.now }
+    ensures { (image : List ℕ) (drive : Drive) → Stands image mounted.now drive → result ≡ asking.each_asked drive opens.now asked.now }
 {
     match asked.function {
         FileFunction::DeleteFile => pattern_refusal(mounted, opens, asked),

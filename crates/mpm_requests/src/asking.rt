@@ -93,8 +93,6 @@ pub fn ask(
     call: &Call,
 ) -> Asked
     ensures caller { result.caller ≡ caller.now }
-    ensures function { result.function ≡ function }
-    ensures block { result.block ≡ block_of call.now.fcb }
     ensures owner { HaveUsers opens.now → caller.now.user < 16 → result.owner < 16 }
     ensures own { IfSome result.item (λ item. IsOwn opens.now caller.now.process item) }
     ensures asked { (image : List ℕ) (drives : List (Option Drive)) (marks moment : List ℕ)

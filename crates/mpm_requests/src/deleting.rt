@@ -1,11 +1,8 @@
-ghost use Rattle.std.specs.Prelude.{◌≡◌, ℕ, List, IfSome};
+ghost use Rattle.std.specs.Prelude.{◌≡◌, ℕ, List};
 ghost use Rattle.mpm_dirent.specs.Names.{plain};
 ghost use Rattle.mpm_mount.specs.Drives.{Drive};
 ghost use Rattle.mpm_mount.specs.Directories.{Stands};
-ghost use Rattle.mpm_functions.specs.declared.functions.FileFunction.TheVariants as functions;
-ghost use Rattle.mpm_functions.specs.Refusals.{IsOneOf};
 ghost use Rattle.mpm_requests.specs.Refusals as spec;
-ghost use Rattle.mpm_functions.specs.Refusals as rows;
 
 use crate::files::is_read_only;
 use crate::passwords::lacks_password;
@@ -31,10 +28,9 @@ pub struct Deleter {
 }
 
 /// Why a file of the user isn't deleted, if it isn't.
-#[tactic(auto, unfolding(crate::specs::Refusals::file_refusal, mpm_functions::specs::Refusals::refusals_of_each, mpm_functions::specs::Refusals::IsOneOf))]
+#[tactic(auto, unfolding(crate::specs::Refusals::file_refusal, mpm_functions::specs::Refusals::refusals_of_each))]
 fn file_refusal(mounted: &Mounted, opens: &Opens, by: &Deleter, name: &[u8; 11]) -> Option<Refusal>
-    ensures row { IfSome result (λ refusal. IsOneOf refusal (rows.refusals_of_each functions.DeleteFile)) }
-    ensures all { (image : List ℕ) (drive : Drive) → Stands image mounted.now drive
+    ensures { (image : List ℕ) (drive : Drive) → Stands image mounted.now drive
         → result ≡ spec.file_refusal drive opens.now by.now (record { user = by.now.user; name = plain name.now }) }
 {
     let key = FileKey {
@@ -70,8 +66,7 @@ pub(crate) fn deletion_refusal(
     by: &Deleter,
     pattern: &[u8; 11],
 ) -> Option<Refusal>
-    ensures row { IfSome result (λ refusal. IsOneOf refusal (rows.refusals_of_each functions.DeleteFile)) }
-    ensures all { (image : List ℕ) (drive : Drive) → Stands image mounted.now drive
+    ensures { (image : List ℕ) (drive : Drive) → Stands image mounted.now drive
         → result ≡ spec.deletion_refusal drive opens.now by.now pattern.now }
 {
     let mut last = None;

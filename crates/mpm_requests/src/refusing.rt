@@ -1,4 +1,4 @@
-ghost use Rattle.std.specs.Prelude.{◌≡◌, ℕ, List, Option, Some, None, IfSome, false, slice_index_or, if◌then◌else◌};
+ghost use Rattle.std.specs.Prelude.{◌≡◌, ℕ, List, Option, Some, None, false, slice_index_or, if◌then◌else◌};
 ghost use Rattle.std.specs.Option.{option_copied};
 ghost use Rattle.mpm_fcb.specs.Blocks.{block_of};
 ghost use Rattle.mpm_mount.specs.Drives.{Drive};
@@ -7,7 +7,6 @@ ghost use Rattle.mpm_functions.specs.declared.refusals.Refusal.TheVariants.{Busy
 ghost use Rattle.mpm_requests.specs.Subjects.{drive_named as named, drive_at, drive_by};
 ghost use Rattle.mpm_requests.specs.Refusals as spec;
 ghost use Rattle.mpm_marks.specs.Busy as in_use;
-ghost use Rattle.mpm_functions.specs.Refusals.{IsOfRow};
 ghost use Rattle.mpm_requests.specs.Asking as asking;
 ghost use Rattle.mpm_requests.specs.Asking.{called, StandsFor};
 
@@ -24,8 +23,7 @@ use mpm_opens::Opens;
 
 /// Why a call is refused by what it names on a drive that is mounted, if it is.
 fn refusal_asked(mounted: &Mounted, opens: &Opens, marks: &Marks, asked: &Asked) -> Option<Refusal>
-    ensures row { IfSome result (IsOfRow asked.now.function) }
-    ensures all { (image : List ℕ) (drive : Drive) → Stands image mounted.now drive → result ≡ asking.refused_asked drive opens.now marks.now asked.now }
+    ensures { (image : List ℕ) (drive : Drive) → Stands image mounted.now drive → result ≡ asking.refused_asked drive opens.now marks.now asked.now }
 {
     match first_refusal(mounted, opens, marks, asked, refusals_of(asked.function)) {
         Some(refusal) => Some(refusal),
@@ -44,8 +42,7 @@ fn mounted_refusal(
     function: FileFunction,
     call: &Call,
 ) -> Option<Refusal>
-    ensures row { IfSome result (IsOfRow function) }
-    ensures all { (image : List ℕ) (drives : List (Option Drive)) (moment : List ℕ)
+    ensures { (image : List ℕ) (drives : List (Option Drive)) (moment : List ℕ)
         → Stands image mounted.now (drive_at (called drives protected.now opens.now marks.now searches.now caller.now function call.now moment))
         → spec.is_unmounted (called drives protected.now opens.now marks.now searches.now caller.now function call.now moment) (named (called drives protected.now opens.now marks.now searches.now caller.now function call.now moment)) ≡ false
         → result ≡ spec.refusal_of (called drives protected.now opens.now marks.now searches.now caller.now function call.now moment) }
@@ -114,8 +111,7 @@ pub fn refusal_of(
     function: FileFunction,
     call: &Call,
 ) -> Option<Refusal>
-    ensures row { IfSome result (IsOfRow function) }
-    ensures all { (image : List ℕ) (drives : List (Option Drive)) (moment : List ℕ)
+    ensures { (image : List ℕ) (drives : List (Option Drive)) (moment : List ℕ)
         → StandsFor image (option_copied mounted.entry) (called drives protected.now opens.now marks.now searches.now caller.now function call.now moment)
         → result ≡ spec.refusal_of (called drives protected.now opens.now marks.now searches.now caller.now function call.now moment) }
 {

@@ -1,35 +1,34 @@
 -- What calls on one disk leave, one after the other.
-use Rattle.std.proofs.Common.{ℕ, Bool, List, Option, refl, ◌∙◌}
-use Rattle.mpm_port.specs.Disks.{Disks}
-use Rattle.mpm_port.proofs.Images.{same_told}
+use Rattle.std.proofs.Common.{ℕ, Bool, List, refl, ◌∙◌}
+use Rattle.mpm_port.specs.Disks.{Disks, ToldImage}
 use Rattle.mpm_cache.specs.declared.cache.Place.{Place}
 use Rattle.mpm_cache.specs.Coherent.{IsCoherent}
 use Rattle.mpm_cache.proofs.AliasLaws.{apart_same, apart_twice}
 use Rattle.mpm_sectors.specs.Disks.{Leaves}
-use Rattle.mpm_sectors.proofs.OtherImages.{elsewhere_itself, elsewhere_over}
+use Rattle.mpm_sectors.proofs.OtherImages.{elsewhere_itself, elsewhere_over, told_itself, told_over}
 
-pub leaves_itself : {D : Type 0} (attached : D → ℕ → Option ℕ) (disks : D → Option Disks) (failed : D → List (List ℕ)) (unsynced : D → ℕ → Bool) (drive : ℕ) (cached : List (Place × List ℕ)) (d : D)
-    → IsCoherent cached (disks d) → Leaves attached disks failed unsynced drive cached cached d d
-leaves_itself attached disks failed unsynced drive cached d coherent = record {
+pub leaves_itself : {D : Type 0} (disks : D → Disks) (told : D → List ℕ → ToldImage) (failed : D → List (List ℕ)) (unsynced : D → ℕ → Bool) (drive : ℕ) (cached : List (Place × List ℕ)) (d : D)
+    → IsCoherent cached (disks d) → Leaves disks told failed unsynced drive cached cached d d
+leaves_itself disks told failed unsynced drive cached d coherent = record {
   coherent = coherent;
-  apart = apart_same drive cached cached (disks d) (disks d) (λ other sector. refl) (same_told (disks d));
+  apart = apart_same drive cached cached (disks d) (λ other sector. refl);
   alone = λ alone. alone;
   others = elsewhere_itself drive (disks d);
+  told_are = told_itself ((disks d).name_of drive) (told d);
   names = refl;
-  drives = λ other. refl;
   beside = λ other apart. refl;
   owed = λ owed. owed;
 }
 
-pub leaves_over : {D : Type 0} (attached : D → ℕ → Option ℕ) (disks : D → Option Disks) (failed : D → List (List ℕ)) (unsynced : D → ℕ → Bool) (drive : ℕ) (first second third : List (Place × List ℕ)) (a b c : D)
-    → Leaves attached disks failed unsynced drive first second a b → Leaves attached disks failed unsynced drive second third b c → Leaves attached disks failed unsynced drive first third a c
-leaves_over attached disks failed unsynced drive first second third a b c one two = record {
+pub leaves_over : {D : Type 0} (disks : D → Disks) (told : D → List ℕ → ToldImage) (failed : D → List (List ℕ)) (unsynced : D → ℕ → Bool) (drive : ℕ) (first second third : List (Place × List ℕ)) (a b c : D)
+    → Leaves disks told failed unsynced drive first second a b → Leaves disks told failed unsynced drive second third b c → Leaves disks told failed unsynced drive first third a c
+leaves_over disks told failed unsynced drive first second third a b c one two = record {
   coherent = two.coherent;
   apart = apart_twice drive first second third (disks a) (disks b) (disks c) one.apart two.apart;
   alone = λ alone. two.alone (one.alone alone);
   others = elsewhere_over drive (disks a) (disks b) (disks c) one.others two.others;
+  told_are = told_over ((disks a).name_of drive) ((disks b).name_of drive) (told a) (told b) (told c) (one.others.names drive) one.told_are two.told_are;
   names = two.names ∙ one.names;
-  drives = λ other. two.drives other ∙ one.drives other;
   beside = λ other apart. two.beside other apart ∙ one.beside other apart;
   owed = λ owed. two.owed (one.owed owed);
 }

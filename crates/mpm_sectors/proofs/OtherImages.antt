@@ -1,38 +1,32 @@
--- What a call of a drive leaves of all other images.
-use Rattle.std.proofs.Common.{◌≡◌, ℕ, List, refl, sym, ap, ◌∙◌}
-use Rattle.std.specs.Prelude.{Option, Some, None, is_some}
-use Rattle.std.proofs.lemmas.Bool.{true≢false}
-use Rattle.mpm_port.specs.Disks.{Disks, SameDisks, Writes, Told}
+-- What a call of a drive leaves of all other images, and of what is known of images by their names.
+use Rattle.std.proofs.Common.{◌≡◌, ℕ, List, Option, refl, sym, subst, ◌∙◌}
+use Rattle.mpm_port.specs.Disks.{Disks, ToldImage, Writes, KeepsTold}
 use Rattle.mpm_sectors.specs.Writes.{Elsewhere}
 
-told_map : (R S : Disks → Disks → Type 0) (old new : Option Disks) → ((a b : Disks) → R a b → S a b) → Told R old new → Told S old new
-told_map R S None new each told = told
-told_map R S (Some old) None each told = absurd told
-told_map R S (Some old) (Some new) each told = each old new told
+pub elsewhere_itself : (drive : ℕ) (disks : Disks) → Elsewhere drive disks disks
+elsewhere_itself drive disks = record { names = λ other. refl; others = λ other apart. refl; sizes = λ other. refl }
 
-pub elsewhere_same : (drive : ℕ) (old new : Option Disks) → Told SameDisks old new → Told (Elsewhere drive) old new
-elsewhere_same drive old new told = told_map SameDisks (Elsewhere drive) old new (λ a b same. record { names = same.names; others = λ other apart. same.images other }) told
+pub elsewhere_same : (drive : ℕ) (old new : Disks) → new ≡ old → Elsewhere drive old new
+elsewhere_same drive old new same = subst (λ (d : Disks). Elsewhere drive old d) (sym same) (elsewhere_itself drive old)
 
-pub elsewhere_written : (drive sector : ℕ) (bytes : List ℕ) (old new : Option Disks) → Told (Writes drive sector bytes) old new → Told (Elsewhere drive) old new
-elsewhere_written drive sector bytes old new told =
-    told_map (Writes drive sector bytes) (Elsewhere drive) old new (λ a b writes. record { names = writes.names; others = writes.others }) told
+pub elsewhere_written : (drive sector : ℕ) (bytes : List ℕ) (old new : Disks) → Writes drive sector bytes old new → Elsewhere drive old new
+elsewhere_written drive sector bytes old new writes = record { names = writes.names; others = writes.others; sizes = writes.sizes }
 
-over : (drive : ℕ) (a b c : Disks) → Elsewhere drive a b → Elsewhere drive b c → Elsewhere drive a c
-over drive a b c one two = record {
+pub elsewhere_over : (drive : ℕ) (a b c : Disks) → Elsewhere drive a b → Elsewhere drive b c → Elsewhere drive a c
+elsewhere_over drive a b c one two = record {
   names = λ other. two.names other ∙ one.names other;
-  others = λ other apart. two.others other (λ same. apart (sym (one.names drive) ∙ same)) ∙ one.others other apart;
+  others = λ other apart. two.others other (λ same. apart (sym (one.names other) ∙ same ∙ one.names drive)) ∙ one.others other apart;
+  sizes = λ other. two.sizes other ∙ one.sizes other;
 }
 
-untold : (drive : ℕ) (b c : Option Disks) → b ≡ None → Told (Elsewhere drive) b c → c ≡ None
-untold drive None c none two = two
-untold drive (Some b) c none two = absurd (true≢false (ap is_some none))
+pub told_itself : (name : Option (List ℕ)) (told : List ℕ → ToldImage) → KeepsTold name told told
+told_itself name told = record { others = λ other apart. refl; still = λ other untold. untold }
 
-pub elsewhere_over : (drive : ℕ) (a b c : Option Disks) → Told (Elsewhere drive) a b → Told (Elsewhere drive) b c → Told (Elsewhere drive) a c
-elsewhere_over drive None b c one two = untold drive b c one two
-elsewhere_over drive (Some a) None c one two = absurd one
-elsewhere_over drive (Some a) (Some b) None one two = absurd two
-elsewhere_over drive (Some a) (Some b) (Some c) one two = over drive a b c one two
+pub told_same : (name : Option (List ℕ)) (old new : List ℕ → ToldImage) → new ≡ old → KeepsTold name old new
+told_same name old new same = subst (λ (t : List ℕ → ToldImage). KeepsTold name old t) (sym same) (told_itself name old)
 
-pub elsewhere_itself : (drive : ℕ) (disks : Option Disks) → Told (Elsewhere drive) disks disks
-elsewhere_itself drive None = refl
-elsewhere_itself drive (Some told) = record { names = λ other. refl; others = λ other apart. refl }
+pub told_over : (name later : Option (List ℕ)) (a b c : List ℕ → ToldImage) → later ≡ name → KeepsTold name a b → KeepsTold later b c → KeepsTold name a c
+told_over name later a b c same one two = record {
+  others = λ other apart. two.others other (λ is. apart (sym same ∙ is)) ∙ one.others other apart;
+  still = λ other untold. one.still other (two.still other untold);
+}

@@ -1,12 +1,12 @@
 ghost use Rattle.std.specs.Prelude.{◌≡◌, ℕ, ◌+◌, ◌/◌, ◌<◌, ◌≤◌, [], ◌∷◌, true, List, Some, IsSome, IsOk, OnOk, OnErr, is_some, length, if◌then◌else◌};
 ghost use Rattle.mpm_port.specs.Causes.{HasCause};
-ghost use Rattle.mpm_port.specs.Disks.{SameDisks, Told};
+ghost use Rattle.mpm_port.specs.Disks.{size_of};
 ghost use Rattle.mpm_blocks.specs.Geometries.{geometry_of, last_block, block_records, logical_sectors, place_of};
 ghost use Rattle.mpm_dirent.specs.Entries.{entry_of};
 ghost use Rattle.mpm_dirent.specs.Proper.{IsProper};
 ghost use Rattle.mpm_cache.specs.Cached.{cached_at};
 ghost use Rattle.mpm_cache.specs.Coherent.{IsCoherent, HasNoAlias};
-ghost use Rattle.mpm_blocks.specs.Sectors.{told_image, sectors_of};
+ghost use Rattle.mpm_blocks.specs.Sectors.{sectors_of};
 ghost use Rattle.mpm_sectors.specs.Writes.{Puts, zeros_from, block_writes, block_calls};
 ghost use Rattle.mpm_sectors.specs.Slots.{bytes_over, slot_write, slots_write};
 ghost use Rattle.mpm_sectors.specs.Disks.{Leaves};
@@ -35,7 +35,7 @@ pub struct Disk {
 
 impl Disk {
     /// Reads a sector, which costs no call of the drives where it is cached, and one where it isn't.
-    #[tactic(auto, using(crate::proofs::Bounds::sector_inside, crate::proofs::OtherImages::elsewhere_same, mpm_cache::proofs::AliasLaws::alone_after))]
+    #[tactic(auto, using(crate::proofs::Bounds::sector_inside, crate::proofs::OtherImages::elsewhere_same, crate::proofs::OtherImages::told_same, mpm_cache::proofs::AliasLaws::alone_after))]
     pub fn read<D: Drives, L: Ledger>(
         &self,
         cache: &mut Cache,
@@ -44,17 +44,18 @@ impl Disk {
         out: &mut [u8; 128],
         steps: &mut Steps<L>,
     ) -> Result<(), Failed>
-        requires size { D.attached drives.old self.now.drive ≡ Some (geometry_of self.now.kind).bytes }
+        requires size { size_of (D.disks drives.old) self.now.drive ≡ Some (geometry_of self.now.kind).bytes }
         requires within { sector < logical_sectors self.now.kind }
         requires coherent { IsCoherent cache.old (D.disks drives.old) }
-        ensures bytes { (image : List ℕ) → told_image (D.disks drives.old) self.now.drive ≡ Some image
+        ensures bytes { (image : List ℕ) → (D.disks drives.old).image self.now.drive ≡ Some image
             → OnOk result (out.new ≡ sectors_of image self.now.kind sector) }
         ensures calls { steps.new ≡ (if is_some (cached_at cache.old self.now.drive (place_of self.now.kind sector)) then steps.old else steps.old + 1) }
         ensures succeeds { IsSome (cached_at cache.old self.now.drive (place_of self.now.kind sector)) → IsOk result }
         ensures uncalled { IsSome (cached_at cache.old self.now.drive (place_of self.now.kind sector)) → drives.new ≡ drives.old }
-        ensures leaves { Leaves D.attached D.disks D.failed_names D.unsynced self.now.drive cache.old cache.new drives.old drives.new }
-        ensures disks { Told SameDisks (D.disks drives.old) (D.disks drives.new) }
-        ensures unsynced { (other : ℕ) → D.unsynced drives.new other ≡ D.unsynced drives.old other }
+        ensures leaves { Leaves D.disks D.told D.failed_names D.unsynced self.now.drive cache.old cache.new drives.old drives.new }
+        ensures disks { D.disks drives.new ≡ D.disks drives.old }
+        ensures told { D.told drives.new ≡ D.told drives.old }
+        ensures unsynced { D.unsynced drives.new ≡ D.unsynced drives.old }
         ensures cause { HasCause (D.faults drives.old) (D.faults drives.new) result }
     {
         cache.read(drives, self.drive, place(self.kind, sector), out, steps)
@@ -70,13 +71,13 @@ impl Disk {
         bytes: &[u8; 128],
         steps: &mut Steps<L>,
     ) -> Result<(), Failed>
-        requires size { D.attached drives.old self.now.drive ≡ Some (geometry_of self.now.kind).bytes }
+        requires size { size_of (D.disks drives.old) self.now.drive ≡ Some (geometry_of self.now.kind).bytes }
         requires within { sector < logical_sectors self.now.kind }
         requires coherent { IsCoherent cache.old (D.disks drives.old) }
         requires apart { HasNoAlias cache.old (D.disks drives.old) self.now.drive }
         ensures puts { Puts self.now.drive self.now.kind (record { sector = sector; bytes = bytes.now } ∷ []) (D.disks drives.old) (D.disks drives.new) result }
         ensures calls { steps.new ≡ steps.old + 1 }
-        ensures leaves { Leaves D.attached D.disks D.failed_names D.unsynced self.now.drive cache.old cache.new drives.old drives.new }
+        ensures leaves { Leaves D.disks D.told D.failed_names D.unsynced self.now.drive cache.old cache.new drives.old drives.new }
         ensures unsynced { D.unsynced drives.new self.now.drive ≡ true }
         ensures cause { HasCause (D.faults drives.old) (D.faults drives.new) result }
     {
@@ -92,14 +93,14 @@ impl Disk {
         count: u32,
         steps: &mut Steps<L>,
     ) -> Result<(), Failed>
-        requires size { D.attached drives.old self.now.drive ≡ Some (geometry_of self.now.kind).bytes }
+        requires size { size_of (D.disks drives.old) self.now.drive ≡ Some (geometry_of self.now.kind).bytes }
         requires within { first + count ≤ logical_sectors self.now.kind }
         requires coherent { IsCoherent cache.old (D.disks drives.old) }
         requires apart { HasNoAlias cache.old (D.disks drives.old) self.now.drive }
         ensures puts { Puts self.now.drive self.now.kind (zeros_from first count) (D.disks drives.old) (D.disks drives.new) result }
         ensures calls { OnOk result (steps.new ≡ steps.old + count) }
         ensures most { steps.new ≤ steps.old + count }
-        ensures leaves { Leaves D.attached D.disks D.failed_names D.unsynced self.now.drive cache.old cache.new drives.old drives.new }
+        ensures leaves { Leaves D.disks D.told D.failed_names D.unsynced self.now.drive cache.old cache.new drives.old drives.new }
         ensures unsynced { OnErr result (D.unsynced drives.new self.now.drive ≡ true) }
         ensures owed { 0 < count → D.unsynced drives.new self.now.drive ≡ true }
         ensures cause { HasCause (D.faults drives.old) (D.faults drives.new) result }
@@ -125,7 +126,7 @@ impl Disk {
         bytes: &[u8; 128],
         steps: &mut Steps<L>,
     ) -> Result<(), Failed>
-        requires size { D.attached drives.old self.now.drive ≡ Some (geometry_of self.now.kind).bytes }
+        requires size { size_of (D.disks drives.old) self.now.drive ≡ Some (geometry_of self.now.kind).bytes }
         requires block { block ≤ last_block self.now.kind }
         requires clear { clear ≤ block_records self.now.kind }
         requires index { index < block_records self.now.kind }
@@ -134,7 +135,7 @@ impl Disk {
         ensures puts { Puts self.now.drive self.now.kind (block_writes self.now.kind block clear index bytes.now) (D.disks drives.old) (D.disks drives.new) result }
         ensures calls { OnOk result (steps.new ≡ steps.old + block_calls self.now.kind clear index) }
         ensures most { steps.new ≤ steps.old + block_calls self.now.kind clear index }
-        ensures leaves { Leaves D.attached D.disks D.failed_names D.unsynced self.now.drive cache.old cache.new drives.old drives.new }
+        ensures leaves { Leaves D.disks D.told D.failed_names D.unsynced self.now.drive cache.old cache.new drives.old drives.new }
         ensures unsynced { D.unsynced drives.new self.now.drive ≡ true }
         ensures cause { HasCause (D.faults drives.old) (D.faults drives.new) result }
     {
@@ -170,19 +171,19 @@ impl Disk {
         entry: &Entry,
         steps: &mut Steps<L>,
     ) -> Result<(), Failed>
-        requires size { D.attached drives.old self.now.drive ≡ Some (geometry_of self.now.kind).bytes }
+        requires size { size_of (D.disks drives.old) self.now.drive ≡ Some (geometry_of self.now.kind).bytes }
         requires within { slot ≤ (geometry_of self.now.kind).drm }
         requires proper { IsProper (geometry_of self.now.kind).wide entry.now }
         requires coherent { IsCoherent cache.old (D.disks drives.old) }
         requires apart { HasNoAlias cache.old (D.disks drives.old) self.now.drive }
-        ensures puts { (image : List ℕ) → told_image (D.disks drives.old) self.now.drive ≡ Some image
+        ensures puts { (image : List ℕ) → (D.disks drives.old).image self.now.drive ≡ Some image
             → Puts self.now.drive self.now.kind (slot_write self.now.kind image slot entry.now ∷ []) (D.disks drives.old) (D.disks drives.new) result }
         ensures back { (old : List ℕ) → length old ≡ 32
             → entry_of (bytes_over (geometry_of self.now.kind).wide old entry.now) (geometry_of self.now.kind).wide ≡ entry.now }
         ensures long { (old : List ℕ) → length old ≡ 32 → length (bytes_over (geometry_of self.now.kind).wide old entry.now) ≡ 32 }
         ensures calls { OnOk result (steps.new ≡ (if is_some (cached_at cache.old self.now.drive (place_of self.now.kind (slot / 4))) then steps.old else steps.old + 1) + 1) }
         ensures most { steps.new ≤ steps.old + 2 }
-        ensures leaves { Leaves D.attached D.disks D.failed_names D.unsynced self.now.drive cache.old cache.new drives.old drives.new }
+        ensures leaves { Leaves D.disks D.told D.failed_names D.unsynced self.now.drive cache.old cache.new drives.old drives.new }
         ensures unsynced { OnOk result (D.unsynced drives.new self.now.drive ≡ true) }
         ensures cause { HasCause (D.faults drives.old) (D.faults drives.new) result }
     {
@@ -208,14 +209,14 @@ impl Disk {
         other: &Entry,
         steps: &mut Steps<L>,
     ) -> Result<(), Failed>
-        requires size { D.attached drives.old self.now.drive ≡ Some (geometry_of self.now.kind).bytes }
+        requires size { size_of (D.disks drives.old) self.now.drive ≡ Some (geometry_of self.now.kind).bytes }
         requires within { slot ≤ (geometry_of self.now.kind).drm }
         requires same { other_slot / 4 ≡ slot / 4 }
         requires proper { IsProper (geometry_of self.now.kind).wide entry.now }
         requires other { IsProper (geometry_of self.now.kind).wide other.now }
         requires coherent { IsCoherent cache.old (D.disks drives.old) }
         requires apart { HasNoAlias cache.old (D.disks drives.old) self.now.drive }
-        ensures puts { (image : List ℕ) → told_image (D.disks drives.old) self.now.drive ≡ Some image
+        ensures puts { (image : List ℕ) → (D.disks drives.old).image self.now.drive ≡ Some image
             → Puts self.now.drive self.now.kind (slots_write self.now.kind image slot entry.now other_slot other.now ∷ []) (D.disks drives.old) (D.disks drives.new) result }
         ensures back { (old : List ℕ) → length old ≡ 32
             → entry_of (bytes_over (geometry_of self.now.kind).wide old entry.now) (geometry_of self.now.kind).wide ≡ entry.now }
@@ -225,7 +226,7 @@ impl Disk {
         ensures other_long { (old : List ℕ) → length old ≡ 32 → length (bytes_over (geometry_of self.now.kind).wide old other.now) ≡ 32 }
         ensures calls { OnOk result (steps.new ≡ (if is_some (cached_at cache.old self.now.drive (place_of self.now.kind (slot / 4))) then steps.old else steps.old + 1) + 1) }
         ensures most { steps.new ≤ steps.old + 2 }
-        ensures leaves { Leaves D.attached D.disks D.failed_names D.unsynced self.now.drive cache.old cache.new drives.old drives.new }
+        ensures leaves { Leaves D.disks D.told D.failed_names D.unsynced self.now.drive cache.old cache.new drives.old drives.new }
         ensures unsynced { OnOk result (D.unsynced drives.new self.now.drive ≡ true) }
         ensures cause { HasCause (D.faults drives.old) (D.faults drives.new) result }
     {

@@ -18,7 +18,7 @@ use Rattle.mpm_drives.specs.declared.error.BootError.{BootError}
 use Rattle.mpm_drives.specs.declared.error.BootError.TheVariants.{Image, DiskFault as DriveFailed, OutOfMemory as NoMemory}
 use Rattle.mpm_drives.specs.Images.{Images}
 use Rattle.mpm_mount.specs.Directories.{Directory}
-use Rattle.mpm_drives.specs.Mounted.{NumberedDrive, AreDrivesOf, AreTold, placed}
+use Rattle.mpm_drives.specs.Mounted.{NumberedDrive, AreDrivesOf, placed}
 use Rattle.mpm_bdos.specs.Serving.{Kept as Filed, nothing_kept}
 use Rattle.mpm_directories.specs.Places.{in_places}
 use Rattle.mpm_machine.specs.State.{State}
@@ -27,7 +27,9 @@ use Rattle.mpm_machine.specs.Mounting.{HasDrives, HasNoDrive, OpensOn, untouched
 use Rattle.mpm_machine.proofs.MountedLaws.{none_mounted}
 use Rattle.mpm_machine.proofs.DriveLaws.{nothing_mounted}
 use Rattle.mpm_drives.specs.Stopping.{Failures, StopsAt, IsFirst, Stops}
-use Rattle.mpm_top.specs.Runs.{Host, Failed, system_of, script_name, drives_listed, begun, input_of, Holds, Scripted, Starts, KeepsAtFirst, StartsOf, Begins, BeginsOf, Unread, LacksScript, LacksDrive, Ends, EndsAfter, IsNoMachine, IsRefusal, IsEarly, status_of, UnlessDiskFault}
+use Rattle.mpm_top.proofs.StatusLaws.{always_disk}
+use Rattle.mpm_top.specs.Beginnings.{Host, Failed, system_of, script_name, drives_listed, begun, input_of, Holds, Scripted, Starts, StartsOf, Begins, BeginsOf}
+use Rattle.mpm_top.specs.Endings.{Unread, LacksScript, LacksDrive, Ends, EndsAfter, IsNoMachine, IsRefusal, IsEarly, status_of, UnlessDiskFault}
 
 pub no_system : (bytes : List ℕ) (events : List Timed) → machine_of_text bytes ≡ None → system_of Run bytes events ≡ None
 unfolding system_of
@@ -73,23 +75,22 @@ begins_of_file host bytes file events system drives is scripted was are = record
 }
 
 -- its machine, with its drives mounted
-no_drive : (x : Option Disks) (images : Images) (specs : List DriveSpec) (drives : List NumberedDrive) (mounted : List (Option Directory)) → AreDrivesOf images specs drives
+no_drive : (x : Disks) (images : Images) (specs : List DriveSpec) (drives : List NumberedDrive) (mounted : List (Option Directory)) → AreDrivesOf images specs drives
     → HasDrives x specs mounted → drives ≡ [] → HasNoDrive mounted
 no_drive x images [] drives mounted are has none = λ number. has.others number tt
 no_drive x images (spec ∷ specs) [] mounted are has none = absurd are
 no_drive x images (spec ∷ specs) (drive ∷ drives) mounted are has none = absurd (cc)
 
-pub starts_of_file : (host : Host) (bytes : List ℕ) (file : MachineFile) (events : List Timed) (system : System) (x : Option Disks) (kept : Filed)
+pub starts_of_file : (host : Host) (bytes : List ℕ) (file : MachineFile) (events : List Timed) (system : System) (x : Disks) (kept : Filed)
     → machine_of_text bytes ≡ Some file → Scripted host.contents file.script events → system ≡ opened file events → OpensOn host.images file.drives system.kernel.disk kept x
-    → HasDrives x file.drives kept.mounted → KeepsAtFirst host file.drives kept → system.kernel.disk.served ≡ None → StartsOf host Run (λ content. content ≡ bytes) system kept x
+    → HasDrives x file.drives kept.mounted → system.kernel.disk.served ≡ None → StartsOf host Run (λ content. content ≡ bytes) system kept x
 unfolding begins_of_file
-starts_of_file host bytes file events system x kept is scripted was opens listed keeps idle = record {
+starts_of_file host bytes file events system x kept is scripted was opens listed idle = record {
   drives = opens.drives;
   begins = begins_of_file host bytes file events system opens.drives is scripted was opens.are;
   same = refl;
-  files = λ told. opens.stand (subst (AreTold host.images) (drives_of_file bytes file is) told);
+  files = opens.stand;
   listed = subst (λ specs. HasDrives x specs kept.mounted) (sym (drives_of_file bytes file is)) listed;
-  at_first = subst (λ specs. KeepsAtFirst host specs kept) (sym (drives_of_file bytes file is)) keeps;
   bare = no_drive x host.images file.drives opens.drives kept.mounted opens.are listed;
   idle = idle;
 }
@@ -175,7 +176,7 @@ program_names_nothing Program bytes script is named = absurd (cc)
 program_names_nothing Run bytes script is named = absurd (cc)
 
 -- a file holds such bytes
-pub starts_of_contents : (host : Host) (form : Form) (name bytes : List ℕ) (system : System) (kept : Filed) (disks : Option Disks) → Holds host.contents (input_of form) name bytes
+pub starts_of_contents : (host : Host) (form : Form) (name bytes : List ℕ) (system : System) (kept : Filed) (disks : Disks) → Holds host.contents (input_of form) name bytes
     → StartsOf host form (λ content. content ≡ bytes) system kept disks → Starts host form name system kept disks
 starts_of_contents host form name bytes system kept disks from_file starts = record {
   drives = starts.drives;
@@ -193,12 +194,11 @@ starts_of_contents host form name bytes system kept disks from_file starts = rec
   same = starts.same;
   files = starts.files;
   listed = starts.listed;
-  at_first = starts.at_first;
   bare = starts.bare;
   idle = starts.idle;
 }
 
-pub starts_with_contents : (host : Host) (form which : Form) (name bytes : List ℕ) (disks : Option Disks) (result : Result Machine Status) → form ≡ which
+pub starts_with_contents : (host : Host) (form which : Form) (name bytes : List ℕ) (disks : Disks) (result : Result Machine Status) → form ≡ which
     → Holds host.contents (input_of form) name bytes
     → IfOk result (λ machine. StartsOf host which (λ content. content ≡ bytes) machine.system machine.bdos disks)
     → IfOk result (λ machine. Starts host form name machine.system machine.bdos disks)
@@ -276,7 +276,7 @@ ends_with_contents host form which name bytes old new (Err status) is from_file 
     (inr (ends_after host which name bytes old new status (subst (λ (f : Form). Holds host.contents (input_of f) name bytes) is from_file) ends))
 
 -- a program's machine has no drive
-pub program_starts : (host : Host) (bytes : List ℕ) (disks : Option Disks) (system : System) (kept : Filed) → system ≡ opening_system bytes → kept ≡ nothing_kept (in_places [])
+pub program_starts : (host : Host) (bytes : List ℕ) (disks : Disks) (system : System) (kept : Filed) → system ≡ opening_system bytes → kept ≡ nothing_kept (in_places [])
     → StandsForFiles system.kernel.disk kept disks (Between (untouched (placed []))) → system.kernel.disk.served ≡ None
     → StartsOf host Program (λ content. content ≡ bytes) system kept disks
 unfolding system_of script_name drives_listed
@@ -294,30 +294,17 @@ program_starts host bytes disks system kept is none stand idle = record {
     outputs = refl;
   };
   same = refl;
-  files = λ told. stand;
+  files = stand;
   listed = nothing_mounted disks kept none;
-  at_first = record { attached = λ number. None; disks = None; mounted = record { directories = []; mounted = tt; is = none } };
   bare = λ nothing. subst (λ (k : Filed). HasNoDrive k.mounted) (sym none) none_mounted;
   idle = idle;
 }
 
 -- where no drive was called, that is so of each ending
 
-pub unless_disk_always : (status : Status) (P : Type 0) → P → UnlessDiskFault status P
-unless_disk_always Ran P p = p
-unless_disk_always Usage P p = p
-unless_disk_always MachineFault P p = p
-unless_disk_always (ScriptFault line) P p = p
-unless_disk_always (ImageFault drive cause place) P p = p
-unless_disk_always (TooLong what) P p = p
-unless_disk_always ReadFault P p = p
-unless_disk_always (DiskFault step) P p = tt
-unless_disk_always (WriteFault step) P p = p
-unless_disk_always OutOfMemory P p = p
-
 pub either_way : {M : Type 0} (result : Result M Status) (P : Type 0) → P → MatchResult result (λ _. P) (λ status. UnlessDiskFault status P)
 either_way (Ok machine) P p = p
-either_way (Err status) P p = unless_disk_always status P p
+either_way (Err status) P p = always_disk status P p
 
 pub refusal_early : (status : Status) → IsRefusal status → IsEarly status
 refusal_early Ran refusal = absurd refusal

@@ -29,27 +29,27 @@ use Rattle.mpm_mount.proofs.Still.{has_own, file_injective}
 use Rattle.mpm_requests.specs.Asking.{StandsWhere}
 use Rattle.mpm_bdos.specs.Serving.{StandEach}
 use Rattle.mpm_directories.specs.Places.{directory_at}
-use Rattle.mpm_bdos.specs.Turns.{labelled, told_images}
+use Rattle.mpm_bdos.specs.Turns.{labelled, images_of}
 use Rattle.mpm_bdos.proofs.NextTurns.{image_told}
 use Rattle.mpm_top.specs.Data.{data_file, data_of, data_on, sector_in, HasDriveA}
 use Rattle.mpm_top.proofs.Naming.{kind_labelled}
 
--- drive A behind a run
+-- drive A after a run
 
-drive_by_directory : (x : Option Disks) (drives : List (Option Drive)) (directory : Option Directory) (drive : Option Drive) → option_map labelled directory ≡ Some (0, Hd4)
-    → StandsWhere 0 (told_images x 0) directory drive → slice_index_or drives 0 None ≡ drive → HasDriveA x directory drives
+drive_by_directory : (x : Disks) (drives : List (Option Drive)) (directory : Option Directory) (drive : Option Drive) → option_map labelled directory ≡ Some (0, Hd4)
+    → StandsWhere 0 (images_of x 0) directory drive → slice_index_or drives 0 None ≡ drive → HasDriveA x directory drives
 drive_by_directory x drives None drive label stands here = absurd (none-some _ label)
 drive_by_directory x drives (Some d) None label stands here = absurd stands
 drive_by_directory x drives (Some d) (Some files) label stands here = record {
-  image = told_images x 0;
+  image = images_of x 0;
   files = files;
-  told = image_told x 0 d.kind stands.stands.size;
+  attached = image_told x 0 d.kind stands.stands.size;
   stands = stands.stands;
   here = here;
 }
 
-pub has_drive_a : (x : Option Disks) (mounted : List (Option Directory)) (drives : List (Option Drive)) → option_map labelled (directory_at mounted 0) ≡ Some (0, Hd4)
-    → StandEach (told_images x) mounted drives → HasDriveA x (directory_at mounted 0) drives
+pub has_drive_a : (x : Disks) (mounted : List (Option Directory)) (drives : List (Option Drive)) → option_map labelled (directory_at mounted 0) ≡ Some (0, Hd4)
+    → StandEach (images_of x) mounted drives → HasDriveA x (directory_at mounted 0) drives
 has_drive_a x mounted drives label stand = drive_by_directory x drives (directory_at mounted 0) (slice_index_or drives 0 None) label (stand.each 0) refl
 
 -- the directory of the drive is of its kind

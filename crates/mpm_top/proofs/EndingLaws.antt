@@ -1,6 +1,6 @@
--- Where files are told, a command ends as they say.
+-- Where files are known, a command ends as they say.
 use Rattle.std.proofs.Common.{◌≡◌, ◌∙◌, ℕ, ◌<◌, ◌≤◌, List, [], ◌∷◌, ◌++◌, Option, Some, None, IsSome, MatchOption, length, option_map, option_and_then, nat_lt, inl, inr, refl, sym, ap, subst, arith}
-use Rattle.std.specs.Prelude.{⊤, Result, Ok, Err, IsOk}
+use Rattle.std.specs.Prelude.{⊤, Result}
 use Rattle.std.proofs.lemmas.List.{length-append}
 use Rattle.std.proofs.lemmas.Option.{same_Some}
 use Rattle.std.proofs.lemmas.Bool.{cond-true, cond-false, lt-ltb, le-ltb}
@@ -22,17 +22,20 @@ use Rattle.mpm_mount.specs.declared.errors.ImageFault.{ImageFault as FaultOfImag
 use Rattle.mpm_mount.specs.Drives.{Drive}
 use Rattle.mpm_mount.specs.Images.{files_of}
 use Rattle.mpm_drives.specs.declared.error.BootError.TheVariants.{Image, DiskFault as DriveFailed}
-use Rattle.mpm_drives.specs.Images.{ToldImage, Untold, Missing, Bytes, Images, HasFiles, IsFaultless, HasFault}
+use Rattle.mpm_port.specs.Disks.{ToldImage, Untold, Missing, Bytes}
+use Rattle.mpm_drives.specs.Images.{Images, HasFiles, HasFault}
 use Rattle.mpm_drives.specs.Mounted.{NumberedDrive, AreDrivesOf, number_of}
 use Rattle.mpm_drives.specs.Stopping.{Failures, StopsAt, IsFirst}
 use Rattle.mpm_machine.specs.State.{State}
-use Rattle.mpm_top.specs.Runs.{Contents, Host, Failed, command_on, input_of, room_for, system_of, script_name, drives_listed, Holds, Scripted, Begins, Unread, IsNoMachine, LacksScript, LacksDrive, Ends, EndsAs, ending_mounted, ending_attached, ending_drives, ending_read, ending_told, ending_scripted, ending_stood, ending_by_contents, ending}
+use Rattle.mpm_top.specs.Beginnings.{Contents, Host, Failed, command_on, input_of, room_for, system_of, script_name, drives_listed, Holds, Scripted, Begins}
+use Rattle.mpm_top.specs.Promises.{Seen, EndsKnown}
+use Rattle.mpm_top.specs.Endings.{Unread, IsNoMachine, LacksScript, LacksDrive, Ends, EndsAs, ending_mounted, ending_attached, ending_drives, ending_read, ending_told, ending_scripted, ending_stood, ending_by_contents, ending}
 
 -- a name that joins a list makes it longer
 nothing_joins : (names : List (List ℕ)) (name : List ℕ) → names ≡ names ++ (name ∷ []) → ⊥
 nothing_joins names name e = omega (arith, ap (λ (n : List (List ℕ)). length n) e, length-append names (name ∷ []))
 
--- what may be held of a told file is what it holds
+-- what may be held of a known file is what it holds
 known_contents : (told : Option (List ℕ)) (bytes file : List ℕ) → told ≡ Some file → MatchOption told ⊤ (λ f. bytes ≡ f) → bytes ≡ file
 known_contents None bytes file e h = absurd (cc)
 known_contents (Some other) bytes file e h = h ∙ (cc)
@@ -78,7 +81,7 @@ unfolding system_of script_name
 names_some Program bytes script events e = absurd (cc)
 names_some Run bytes script events e = then_some (λ file. file.script) (λ file. opened file events) (machine_of_text bytes) script e
 
--- how a told script ends
+-- how a known script ends
 
 script_fits : (contents : Contents) (drives : Option Status) (script text : List ℕ) → contents script ≡ Some text → length text ≤ room_for ScriptText
     → ending_scripted contents drives (Some script) ≡ ending_read drives (script_of text)
@@ -100,7 +103,7 @@ was_some : {A B : Type 0} (found : Option A) (f : A → Option B) (b : B) → op
 was_some None f b e = absurd (cc)
 was_some (Some a) f b e = refl
 
--- a script that the ending is told by is told
+-- a script by which the ending is known is known
 script_told : (contents : Contents) (drives : Option Status) (script : List ℕ) (status : Status) → ending_scripted contents drives (Some script) ≡ Some status
     → IsSome (contents script)
 script_told contents drives script status e = was_some (contents script) (ending_told drives) status e
@@ -121,8 +124,9 @@ events_read contents drives (Some script) events status from_file e =
 attached_run : (spec : DriveSpec) (image : ToldImage) (files : Drive) (rest : Option Status) (status : Status) → HasFiles image spec.kind files
     → ending_attached spec image rest ≡ Some status → rest ≡ Some status
 attached_run spec Untold files rest status has e = absurd (cc)
-attached_run spec Missing files rest status has e = absurd has
-attached_run spec (Bytes bytes) files rest status has e = sym (ap (λ (r : Result Drive FaultOfImage). ending_mounted spec r rest) has) ∙ e
+attached_run spec Missing files rest status has e = absurd has.brought
+attached_run spec (Bytes bytes) files rest status has e =
+    sym (ap (λ (r : Result Drive FaultOfImage). ending_mounted spec r rest) (ap (λ b. files_of b spec.kind) (sym has.brought) ∙ has.stands)) ∙ e
 
 drives_run : (images : Images) (specs : List DriveSpec) (drives : List NumberedDrive) (status : Status) → AreDrivesOf images specs drives
     → ending_drives images specs ≡ Some status → status ≡ Ran
@@ -133,23 +137,13 @@ drives_run images (spec ∷ specs) [] status are e = absurd are
 drives_run images (spec ∷ specs) (d ∷ drives) status are e =
     drives_run images specs drives status are.1 (attached_run spec (images spec.image) d.files (ending_drives images specs) status are.0.files e)
 
-mounted_later : (spec : DriveSpec) (found : Result Drive FaultOfImage) (rest : Option Status) (status : Status) → IsOk found
-    → ending_mounted spec found rest ≡ Some status → rest ≡ Some status
-mounted_later spec (Ok files) rest status ok e = e
-mounted_later spec (Err fault) rest status ok e = absurd (cc)
-
-attached_later : (spec : DriveSpec) (image : ToldImage) (rest : Option Status) (status : Status) → IsFaultless image spec.kind
-    → ending_attached spec image rest ≡ Some status → rest ≡ Some status
-attached_later spec Untold rest status sound e = absurd (cc)
-attached_later spec Missing rest status sound e = absurd sound
-attached_later spec (Bytes bytes) rest status sound e = mounted_later spec (files_of bytes spec.kind) rest status sound e
-
 attached_fault : (spec : DriveSpec) (image : ToldImage) (fault : FaultOfImage) (rest : Option Status) (status : Status) → HasFault image spec.kind fault
     → ending_attached spec image rest ≡ Some status → ImageFault (number_of spec) fault.cause fault.place ≡ status
 attached_fault spec Untold fault rest status has e = absurd (cc)
-attached_fault spec Missing fault rest status has e = absurd has
+attached_fault spec Missing fault rest status has e = absurd has.brought
 attached_fault spec (Bytes bytes) fault rest status has e =
-    same_Some (ImageFault (number_of spec) fault.cause fault.place) status (sym (ap (λ (r : Result Drive FaultOfImage). ending_mounted spec r rest) has) ∙ e)
+    same_Some (ImageFault (number_of spec) fault.cause fault.place) status
+    (sym (ap (λ (r : Result Drive FaultOfImage). ending_mounted spec r rest) (ap (λ b. files_of b spec.kind) (sym has.brought) ∙ has.stands)) ∙ e)
 
 first_fault_is : (images : Images) (specs : List DriveSpec) (old new : Failures) (drive cause place : ℕ) (status : Status)
     → IsFirst images (λ spec. StopsAt images spec old new (Image drive cause place)) specs → ending_drives images specs ≡ Some status
@@ -161,7 +155,7 @@ first_fault_is images (spec ∷ specs) old new drive cause place status (inl sto
     ∙ attached_fault spec (images spec.image) (record { cause = cause; place = place }) (ending_drives images specs) status stops.1 e
 first_fault_is images (spec ∷ specs) old new drive cause place status (inr later) e =
     first_fault_is images specs old new drive cause place status later.1
-    (attached_later spec (images spec.image) (ending_drives images specs) status later.0 e)
+    (attached_run spec (images spec.image) later.0.0 (ending_drives images specs) status later.0.1 e)
 
 -- no drive stops it where nothing fails
 first_never : (images : Images) (specs : List DriveSpec) (P : DriveSpec → Type 0) → ((spec : DriveSpec) → P spec → ⊥) → IsFirst images P specs → ⊥
@@ -253,7 +247,7 @@ file_told host form name status e = was_some (host.contents name) (ending_by_con
 
 -- an ending that has its reason is the one that files and images tell, where it is none by a device
 
-pub told_ending : (host : Host) (form : Form) (name : List ℕ) (old new : Failed) (status result : Status)
+told_ending : (host : Host) (form : Form) (name : List ℕ) (old new : Failed) (status result : Status)
     → Ends host form name old new result → ending host form name ≡ Some status → new.files ≡ old.files
     → ((step : ℕ) → result ≡ DiskFault step → EndsAs status result) → ((step : ℕ) → result ≡ WriteFault step → EndsAs status result) → EndsAs status result
 told_ending host form name old new status Ran (inl nothing) e same disk write = absurd nothing
@@ -299,7 +293,7 @@ disk_failed host form name old new step (inr (inl lacks)) same sound =
     first_never host.images (drives_listed form lacks.1.bytes) _ (λ spec. no_drive_stops host.images spec old.drives new.drives same sound) lacks.1.stops
 disk_failed host form name old new step (inr (inr loses)) same sound = sound loses.rose
 
-pub no_disk_fault : (host : Host) (form : Form) (name : List ℕ) (old new : Failed) (result : Status) (step : ℕ) → Ends host form name old new result
+no_disk_fault : (host : Host) (form : Form) (name : List ℕ) (old new : Failed) (result : Status) (step : ℕ) → Ends host form name old new result
     → result ≡ DiskFault step → new.drives.names ≡ old.drives.names → (Rose old.drives.faults new.drives.faults → ⊥) → ⊥
 no_disk_fault host form name old new result step ends is same sound =
     disk_failed host form name old new step (subst (λ (s : Status). Ends host form name old new s) is ends) same sound
@@ -309,7 +303,7 @@ no_disk_fault host form name old new result step ends is same sound =
 zero_is : (step : ℕ) → step ≡ 0 → DiskFault step ≡ DiskFault 0
 zero_is step is = ap (λ (n : ℕ). DiskFault n) is
 
-pub missing_disk : (host : Host) (form : Form) (name : List ℕ) (old new : Failed) (step : ℕ) → Ends host form name old new (DiskFault step)
+missing_disk : (host : Host) (form : Form) (name : List ℕ) (old new : Failed) (step : ℕ) → Ends host form name old new (DiskFault step)
     → ending host form name ≡ Some (DiskFault 0) → DiskFault step ≡ DiskFault 0
 missing_disk host form name old new step (inl nothing) e = absurd nothing
 missing_disk host form name old new step (inr (inl lacks)) e = zero_is step lacks.0
@@ -318,7 +312,7 @@ missing_disk host form name old new step (inr (inr loses)) e =
     let none : DiskFault 0 ≡ Ran = begins_says host form name found.0 loses.start (DiskFault 0) loses.begins found.1 e in
     absurd (cc)
 
-pub missing_write : (host : Host) (form : Form) (name : List ℕ) (old new : Failed) (step : ℕ) → Ends host form name old new (WriteFault step)
+missing_write : (host : Host) (form : Form) (name : List ℕ) (old new : Failed) (step : ℕ) → Ends host form name old new (WriteFault step)
     → ending host form name ≡ Some (DiskFault 0) → ⊥
 missing_write host form name old new step (inl nothing) e = absurd nothing
 missing_write host form name old new step (inr begun) e =
@@ -326,13 +320,30 @@ missing_write host form name old new step (inr begun) e =
     let none : DiskFault 0 ≡ Ran = begins_says host form name found.0 begun.0 (DiskFault 0) begun.1 found.1 e in
     absurd (cc)
 
-pub missing_image : (host : Host) (form : Form) (name : List ℕ) (old new : Failed) (result : Status) → Ends host form name old new result
+missing_image : (host : Host) (form : Form) (name : List ℕ) (old new : Failed) (result : Status) → Ends host form name old new result
     → ending host form name ≡ Some (DiskFault 0) → new.files ≡ old.files → EndsAs (DiskFault 0) result
 missing_image host form name old new result ends e same =
     let P : Status → Type 0 = λ s. Ends host form name old new s in
     told_ending host form name old new (DiskFault 0) result ends e same
     (λ step is. inl (is ∙ missing_disk host form name old new step (subst P is ends) e))
     (λ step is. absurd (missing_write host form name old new step (subst P is ends) e))
+
+-- where files and images are known, so it ends
+
+pub known_ending : (missing : List ℕ → Type 0) (command : Command) (old new : Seen) (result : Status) → Ends old.host command.form command.name old.failed new.failed result
+    → ((step : ℕ) → result ≡ WriteFault step → Rose old.printed.faults new.printed.faults) → (missing command.name → EndsAs ReadFault result)
+    → ((bytes script : List ℕ) → old.host.contents command.name ≡ Some bytes → length bytes ≤ room_for (input_of command.form)
+    → script_name command.form bytes ≡ Some script → missing script → EndsAs ReadFault result)
+    → EndsKnown missing command old new result
+known_ending missing command old new result ends write file script = record {
+  first = λ wanted is files names sound drive_sound.
+      told_ending old.host command.form command.name old.failed new.failed wanted result ends is files
+      (λ step disk. absurd (no_disk_fault old.host command.form command.name old.failed new.failed result step ends disk names drive_sound))
+      (λ step wrote. absurd (sound (write step wrote)));
+  file = file;
+  script = script;
+  image = λ is files. missing_image old.host command.form command.name old.failed new.failed result ends is files;
+}
 
 -- the command that is asked
 pub asked_command : (found : Option Command) (name spelled : List ℕ) (asked : Asked) (command : Command) → IsAsked found spelled asked → name ≡ spelled

@@ -1,12 +1,12 @@
 -- The machine of a seed as it begins, and the words that ask for it.
-use Rattle.std.proofs.Common.{◌≡◌, ◌≢◌, ◌∙◌, ℕ, Bool, true, false, List, [], ◌∷◌, Option, Some, None, Ok, refl, sym, ap, subst, inl, inr, arith}
-use Rattle.std.specs.Prelude.{Result, Err, IfOk, bytes_eq, codes, option_map, if◌then◌else◌}
+use Rattle.std.proofs.Common.{◌≡◌, ◌∙◌, ℕ, Bool, true, false, List, [], ◌∷◌, Option, Some, None, Ok, refl, ap, subst, inl, inr, arith}
+use Rattle.std.specs.Prelude.{Result, Err, IfOk, IsSomeAnd, length, bytes_eq, codes, option_map, if◌then◌else◌}
 use Rattle.std.specs.List.{AllZip}
 use Rattle.mpm_base.specs.declared.kind.Kind.TheVariants.{Hd4}
 use Rattle.std.proofs.lemmas.Slice.Eq.{bytes_eq-Decides}
 use Rattle.mpm_port.specs.Causes.{Rose}
-use Rattle.mpm_port.specs.Disks.{Disks}
-use Rattle.mpm_port.specs.MemoryDisks.{MemoryDisks, disks_of}
+use Rattle.mpm_port.specs.Disks.{Disks, ToldImage, Bytes, Brings, size_of}
+use Rattle.mpm_port.specs.MemoryDisks.{MemoryDisks, found, told_of}
 use Rattle.mpm_port.proofs.Shelves.{contents_of_here}
 use Rattle.mpm_machine_file.specs.declared.lists.DriveSpec.{DriveSpec}
 use Rattle.mpm_machine_file.specs.declared.machine_file.MachineFile.{MachineFile}
@@ -16,12 +16,14 @@ use Rattle.mpm_generator.specs.Machines.{machine, script, name_of_image, drives_
 use Rattle.mpm_mount.specs.Drives.{Drive}
 use Rattle.mpm_mount.specs.Directories.{Directory}
 use Rattle.mpm_mount.specs.Images.{files_of}
+use Rattle.mpm_mount.specs.Mounting.{IsMounted}
+use Rattle.mpm_blocks.specs.Geometries.{geometry_of}
 use Rattle.mpm_mount.specs.declared.errors.ImageFault.{ImageFault as FaultOfImage}
 use Rattle.mpm_drives.specs.declared.error.BootError.{BootError}
 use Rattle.mpm_drives.specs.declared.error.BootError.TheVariants.{Image}
-use Rattle.mpm_drives.specs.Images.{ToldImage, Untold, Bytes, Images, image_named, found, HasFiles, HasFault}
+use Rattle.mpm_drives.specs.Images.{Images}
 use Rattle.mpm_drives.specs.Stopping.{Failures, StopsAt, IsFirst, Stops}
-use Rattle.mpm_drives.specs.Mounted.{NumberedDrive, AreTold, AreMounted, IsDriveOf, IsMountedAs, placed}
+use Rattle.mpm_drives.specs.Mounted.{NumberedDrive, AreMounted, IsDriveOf, IsMountedAs, placed}
 use Rattle.mpm_bdos.specs.Serving.{Kept as Filed}
 use Rattle.mpm_directories.specs.Places.{directory_at}
 use Rattle.mpm_bdos.specs.Turns.{labelled}
@@ -32,9 +34,7 @@ use Rattle.mpm_system.specs.declared.system.System.{System}
 use Rattle.mpm_system.specs.Opening.{opened}
 use Rattle.mpm_machine.specs.Files.{Between, StandsForFiles}
 use Rattle.mpm_machine.specs.Mounting.{HasMounted, HasDrives, OpensOn, untouched}
-use Rattle.mpm_top.specs.declared.status.Status.{Status}
-use Rattle.mpm_top.specs.declared.status.Status.TheVariants.{Ran, Usage, MachineFault, ScriptFault, ImageFault, TooLong, ReadFault, DiskFault, WriteFault, OutOfMemory}
-use Rattle.mpm_top.specs.Runs.{begun, UnlessReadFault}
+use Rattle.mpm_top.specs.Beginnings.{begun}
 use Rattle.mpm_top.specs.Words.{Command, command_of, command_with, form_of}
 use Rattle.mpm_top.specs.declared.seeds.Seeded.{Seeded}
 use Rattle.mpm_top.specs.declared.seeds.Found.{Found}
@@ -52,19 +52,7 @@ pub none_failed : (fault : StepFault) → HasFailed fault (record { sink = 0; dr
 none_failed SinkFailed failed = never_rose failed.0
 none_failed SyncFailed failed = never_rose failed.0
 
-pub unless_read_always : (status : Status) (P : Type 0) → P → UnlessReadFault status P
-unless_read_always Ran P p = p
-unless_read_always Usage P p = p
-unless_read_always MachineFault P p = p
-unless_read_always (ScriptFault line) P p = p
-unless_read_always (ImageFault drive cause place) P p = p
-unless_read_always (TooLong what) P p = p
-unless_read_always ReadFault P p = tt
-unless_read_always (DiskFault step) P p = p
-unless_read_always (WriteFault step) P p = p
-unless_read_always OutOfMemory P p = p
-
--- what a sink counted that was told the closed text of some steps
+-- what a sink counted that was given the closed text of some steps
 
 pub are_found : (seed steps : ℕ) (system : System) (begins_files : Drive) {E : Type 0} (result : Result Found E) → files_of (image_of seed) Hd4 ≡ Ok begins_files
     → system ≡ opened machine script → IfOk result (λ found. AreOf steps (begun system (drive_a begins_files)) found) → IfOk result (λ found. AreFound seed steps found)
@@ -77,12 +65,11 @@ are_found seed steps system files (Ok found) are is of = record {
 
 -- the image of a seed is that of its name
 
-pub image_there : (seed : ℕ) → image_named (Some (disks_of (drives_of seed))) name_of_image ≡ Bytes (image_of seed)
-unfolding image_named
+pub image_there : (seed : ℕ) → told_of (drives_of seed) name_of_image ≡ Bytes (image_of seed)
 image_there seed = ap found (contents_of_here [] name_of_image (image_of seed))
 
-is_told : (image : ToldImage) (bytes : List ℕ) → image ≡ Bytes bytes → image ≢ Untold
-is_told image bytes is none = let e : Bytes bytes ≡ Untold = sym is ∙ none in absurd (cc)
+brought_is : (told : ToldImage) (image bytes : List ℕ) → told ≡ Bytes image → Brings told bytes → bytes ≡ image
+brought_is told image bytes is brought = subst (λ (t : ToldImage). Brings t bytes) is brought
 
 only_one : {X Y : Type 0} (P : X → Y → Type 0) (x : X) (ys : List Y) → AllZip P (x ∷ []) ys → (y : Y) × (ys ≡ y ∷ []) × P x y
 only_one P x [] all = absurd all
@@ -90,7 +77,7 @@ only_one P x (y ∷ []) all = (y, refl, all.0)
 only_one P x (y ∷ z ∷ ys) all = absurd all.1
 
 -- with what its machine begins: files that its image stands for, on the one drive
-pub record BeginsSeeded (seed : ℕ) (system : System) (kept : Filed) (disks : Option Disks) : Type 0 where
+pub record BeginsSeeded (seed : ℕ) (system : System) (kept : Filed) (disks : Disks) : Type 0 where
   pub files : Drive
   pub are : files_of (image_of seed) Hd4 ≡ Ok files
   pub stand : StandsForFiles system.kernel.disk kept disks (Between (untouched (placed (drive_a files))))
@@ -102,43 +89,46 @@ one_drive : (images : Images) (image : List ℕ) (drives : List NumberedDrive) �
     → (files : Drive) × (drives ≡ drive_a files) × (files_of image Hd4 ≡ Ok files)
 one_drive images image drives there are =
     let one = only_one (IsDriveOf images) its_drive drives are in
-    let P : ToldImage → Type 0 = λ told. HasFiles told Hd4 one.0.files in
-    (one.0.files, one.1 ∙ (λ i. record { number = one.2.number i; files = one.0.files } ∷ []), subst P there one.2.files)
+    let files = one.0.files in
+    let has = one.2.files in (
+      files,
+      one.1 ∙ (λ i. record { number = one.2.number i; files = files } ∷ []),
+      subst (λ b. files_of b Hd4 ≡ Ok files) (brought_is (images name_of_image) image has.image there has.brought) has.stands,
+    )
 
-begins_seeded : (seed : ℕ) (system : System) (kept : Filed) (disks : Option Disks) → OpensOn (image_named (Some (disks_of (drives_of seed)))) machine.drives system.kernel.disk kept disks
-    → BeginsSeeded seed system kept disks
+begins_seeded : (seed : ℕ) (system : System) (kept : Filed) (disks : Disks) → OpensOn (told_of (drives_of seed)) machine.drives system.kernel.disk kept disks → BeginsSeeded seed system kept disks
 begins_seeded seed system kept disks opens =
-    let images : Images = image_named (Some (disks_of (drives_of seed))) in
-    let there = image_there seed in
-    let one = one_drive images (image_of seed) opens.drives there opens.are in
-    let told : AreTold images machine.drives = (is_told (images name_of_image) (image_of seed) there, tt) in
+    let one = one_drive (told_of (drives_of seed)) (image_of seed) opens.drives (image_there seed) opens.are in
     record {
       files = one.0;
       are = one.2;
-      stand = subst (λ (on : List NumberedDrive). StandsForFiles system.kernel.disk kept disks (Between (untouched (placed on)))) one.1 (opens.stand told);
+      stand = subst (λ (on : List NumberedDrive). StandsForFiles system.kernel.disk kept disks (Between (untouched (placed on)))) one.1 opens.stand;
     }
 
 -- so it is of a machine that is booted by them
-pub begins_booted : (seed : ℕ) (file : MachineFile) (old : MemoryDisks) (system : System) (kept : Filed) (disks : Option Disks) → file ≡ machine → old ≡ drives_of seed
-    → OpensOn (image_named (Some (disks_of old))) file.drives system.kernel.disk kept disks → BeginsSeeded seed system kept disks
+pub begins_booted : (seed : ℕ) (file : MachineFile) (old : MemoryDisks) (system : System) (kept : Filed) (disks : Disks) → file ≡ machine → old ≡ drives_of seed
+    → OpensOn (told_of old) file.drives system.kernel.disk kept disks → BeginsSeeded seed system kept disks
 begins_booted seed file old system kept disks same was opens =
-    let P : MachineFile → Type 0 = λ f. OpensOn (image_named (Some (disks_of old))) f.drives system.kernel.disk kept disks in
-    let Q : MemoryDisks → Type 0 = λ d. OpensOn (image_named (Some (disks_of d))) machine.drives system.kernel.disk kept disks in
+    let P : MachineFile → Type 0 = λ f. OpensOn (told_of old) f.drives system.kernel.disk kept disks in
+    let Q : MemoryDisks → Type 0 = λ d. OpensOn (told_of d) machine.drives system.kernel.disk kept disks in
     begins_seeded seed system kept disks (subst Q was (subst P same opens))
 
 -- its drive has the size of its kind
 
-one_size : (attached : ℕ → Option ℕ) (disks : Option Disks) (images : Images) (mounted : List Directory) → AllZip (IsMountedAs attached disks images) (its_drive ∷ []) mounted
-    → attached 0 ≡ Some 4194304
-one_size attached disks images mounted are =
-    let one = only_one (IsMountedAs attached disks images) its_drive mounted are in
-    let P : ℕ → Type 0 = λ number. attached number ≡ Some 4194304 in
-    subst P one.2.number one.2.size
+sized : (found : Option (List ℕ)) (told : ToldImage) (d : Directory) → d.kind ≡ Hd4 → IsSomeAnd found (λ image. Brings told image × IsMounted image Hd4 d)
+    → option_map length found ≡ Some 4194304
+sized None told d kind is = absurd is
+sized (Some image) told d kind is = ap Some (is.1.stands.size ∙ ap (λ k. (geometry_of k).bytes) kind)
 
-pub size_booted : (file : MachineFile) (attached : ℕ → Option ℕ) (disks : Option Disks) (images : Images) (kept : Filed) → file ≡ machine
-    → HasMounted attached disks images file.drives kept → attached 0 ≡ Some 4194304
-size_booted file attached disks images kept same has =
-    one_size attached disks images has.directories (subst (λ (f : MachineFile). AreMounted attached disks images f.drives has.directories) same has.mounted)
+one_size : (disks : Disks) (images : Images) (mounted : List Directory) → AllZip (IsMountedAs disks images) (its_drive ∷ []) mounted → size_of disks 0 ≡ Some 4194304
+one_size disks images mounted are =
+    let one = only_one (IsMountedAs disks images) its_drive mounted are in
+    let P : ℕ → Type 0 = λ number. size_of disks number ≡ Some 4194304 in
+    subst P one.2.number (sized (disks.image one.0.drive) (images name_of_image) one.0 one.2.kind one.2.image)
+
+pub size_booted : (file : MachineFile) (disks : Disks) (images : Images) (kept : Filed) → file ≡ machine → HasMounted disks images file.drives kept → size_of disks 0 ≡ Some 4194304
+size_booted file disks images kept same has =
+    one_size disks images has.directories (subst (λ (f : MachineFile). AreMounted disks images f.drives has.directories) same has.mounted)
 
 -- its image is at no fault
 
@@ -150,21 +140,22 @@ fault_nowhere : (images : Images) (image : List ℕ) (files : Drive) (old new : 
 unfolding IsFirst
 fault_nowhere images image files old new drive cause place there are (inl stops) =
     let fault : FaultOfImage = record { cause = cause; place = place } in
-    apart files fault (files_of image Hd4) are (subst (λ (told : ToldImage). HasFault told Hd4 fault) there stops.1)
+    let has = stops.1 in
+    apart files fault (files_of image Hd4) are (subst (λ b. files_of b Hd4 ≡ Err fault) (brought_is (images name_of_image) image has.image there has.brought) has.stands)
 fault_nowhere images image files old new drive cause place there are (inr later) = absurd later.1
 
 pub no_image_fault : (seed : ℕ) (file : MachineFile) (drives : MemoryDisks) (old new : Failures) (error : BootError) (drive cause place : ℕ) → error ≡ Image drive cause place → file ≡ machine
-    → drives ≡ drives_of seed → Stops (image_named (Some (disks_of drives))) file.drives old new error → ⊥
+    → drives ≡ drives_of seed → Stops (told_of drives) file.drives old new error → ⊥
 no_image_fault seed file drives old new error drive cause place is same was stops =
     let sound = has_files seed in
-    let P : MachineFile → Type 0 = λ f. Stops (image_named (Some (disks_of drives))) f.drives old new (Image drive cause place) in
-    let Q : MemoryDisks → Type 0 = λ d. Stops (image_named (Some (disks_of d))) machine.drives old new (Image drive cause place) in
-    let R : BootError → Type 0 = λ e. Stops (image_named (Some (disks_of drives))) file.drives old new e in
-    fault_nowhere (image_named (Some (disks_of (drives_of seed)))) (image_of seed) sound.0 old new drive cause place (image_there seed) sound.1
+    let P : MachineFile → Type 0 = λ f. Stops (told_of drives) f.drives old new (Image drive cause place) in
+    let Q : MemoryDisks → Type 0 = λ d. Stops (told_of d) machine.drives old new (Image drive cause place) in
+    let R : BootError → Type 0 = λ e. Stops (told_of drives) file.drives old new e in
+    fault_nowhere (told_of (drives_of seed)) (image_of seed) sound.0 old new drive cause place (image_there seed) sound.1
     (subst Q was (subst P same (subst R is stops)))
 
 -- its drive is drive A
-pub first_drive : (x : Option Disks) (file : MachineFile) (mounted : List (Option Directory)) → file ≡ machine → HasDrives x file.drives mounted
+pub first_drive : (x : Disks) (file : MachineFile) (mounted : List (Option Directory)) → file ≡ machine → HasDrives x file.drives mounted
     → option_map labelled (directory_at mounted 0) ≡ Some (0, Hd4)
 first_drive x file mounted same has =
     let on : HasDrives x machine.drives mounted = subst (λ (f : MachineFile). HasDrives x f.drives mounted) same has in

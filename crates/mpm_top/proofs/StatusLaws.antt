@@ -1,36 +1,36 @@
--- Laws of how a command ends: what it can't be where it ended before the first step, and where a device failed in its run.
-use Rattle.std.proofs.Common.{◌≡◌, ◌∙◌, ℕ, List, sym, subst}
-use Rattle.mpm_port.specs.Causes.{Rose}
-use Rattle.mpm_machine.specs.Faults.{Counts}
+-- Laws of how a command ends: where it ended before the first step, and where a device failed in its run.
+use Rattle.std.proofs.Common.{◌≡◌, ◌∙◌, ◌≤◌, ℕ, List, inl, inr, sym, subst}
+use Rattle.mpm_machine.specs.State.{State}
 use Rattle.mpm_machine.specs.declared.machine.StepFault.{StepFault}
 use Rattle.mpm_machine.specs.declared.machine.StepFault.TheVariants.{WriteFault as SinkFailed, DiskFault as SyncFailed}
 use Rattle.mpm_top.specs.declared.status.Status.{Status}
 use Rattle.mpm_top.specs.declared.status.Status.TheVariants.{Ran, Usage, MachineFault, ScriptFault, ImageFault, TooLong, ReadFault, DiskFault, WriteFault, OutOfMemory}
 use Rattle.mpm_top.specs.declared.status.Input.TheVariants.{ScriptText}
-use Rattle.mpm_top.specs.Runs.{Contents, Unfetched, Unread, IsEarly, IsRefusal, UnlessReadFault, UnlessDiskFault, UnlessWriteFault, Causes, ended_by}
+use Rattle.mpm_top.specs.Words.{Command}
+use Rattle.mpm_top.specs.Beginnings.{Contents, Begins, drives_listed}
+use Rattle.mpm_top.specs.Runs.{StandFor, KeepsOthers, StopsRun, Causes}
+use Rattle.mpm_top.specs.Endings.{Unfetched, Unread, IsEarly, IsRefusal, by_fault, UnlessReadFault, UnlessDiskFault, UnlessWriteFault, ended_by}
+use Rattle.mpm_top.specs.Promises.{Seen, WritesNothing, Writes, Fails}
 
--- it ended before the first step
+-- what is so in each case is so
 
-pub early_ran : (status : Status) → IsEarly status → status ≡ Ran → ⊥
-early_ran status early is = subst IsEarly is early
+pub each_fault : {none file drive output : Type 0} (status : Status) → none → file → drive → output → by_fault none file drive output status
+each_fault Ran n f d o = n
+each_fault Usage n f d o = n
+each_fault MachineFault n f d o = n
+each_fault (ScriptFault line) n f d o = n
+each_fault (ImageFault letter cause place) n f d o = n
+each_fault (TooLong what) n f d o = n
+each_fault ReadFault n f d o = f
+each_fault (DiskFault step) n f d o = d
+each_fault (WriteFault step) n f d o = o
+each_fault OutOfMemory n f d o = n
 
-pub early_write : (status : Status) (step : ℕ) → IsEarly status → status ≡ WriteFault step → ⊥
-early_write status step early is = subst IsEarly is early
+pub always_disk : (status : Status) (P : Type 0) → P → UnlessDiskFault status P
+always_disk status P p = each_fault status p p tt p
 
-pub early_disk : (status : Status) (step : ℕ) → IsEarly status → status ≡ DiskFault step → step ≡ 0
-early_disk status step early is = subst IsEarly is early
-
-pub unless_write : {P : Type 0} (status : Status) → P → UnlessWriteFault status P
-unless_write Ran so = so
-unless_write Usage so = so
-unless_write MachineFault so = so
-unless_write (ScriptFault line) so = so
-unless_write (ImageFault drive cause place) so = so
-unless_write (TooLong what) so = so
-unless_write ReadFault so = so
-unless_write (DiskFault step) so = tt
-unless_write (WriteFault step) so = tt
-unless_write OutOfMemory so = so
+always_write : (status : Status) (P : Type 0) → P → UnlessWriteFault status P
+always_write status P p = each_fault status p p tt tt
 
 -- a script whose file wasn't fetched wasn't read
 pub unfetched_unread : (contents : Contents) (script : List ℕ) (old new : List (List ℕ)) (status : Status) → Unfetched contents ScriptText script old new status
@@ -45,6 +45,35 @@ unfetched_unread contents script old new ReadFault why = why
 unfetched_unread contents script old new (DiskFault step) why = why
 unfetched_unread contents script old new (WriteFault step) why = why
 unfetched_unread contents script old new OutOfMemory why = why
+
+-- it ended before the first step
+
+pub early_ran : (status : Status) → IsEarly status → status ≡ Ran → ⊥
+early_ran status early is = subst IsEarly is early
+
+early_write : (status : Status) (step : ℕ) → IsEarly status → status ≡ WriteFault step → ⊥
+early_write status step early is = subst IsEarly is early
+
+pub writes_early : (Same : Type 0) (command : Command) (old new : Seen) (status : Status) → IsEarly status → WritesNothing Same old new → Writes Same command old new status
+writes_early Same command old new Ran early nothing = absurd early
+writes_early Same command old new Usage early nothing = nothing
+writes_early Same command old new MachineFault early nothing = nothing
+writes_early Same command old new (ScriptFault line) early nothing = nothing
+writes_early Same command old new (ImageFault drive cause place) early nothing = nothing
+writes_early Same command old new (TooLong what) early nothing = nothing
+writes_early Same command old new ReadFault early nothing = nothing
+writes_early Same command old new (DiskFault step) early nothing = inl (early, nothing)
+writes_early Same command old new (WriteFault step) early nothing = absurd early
+writes_early Same command old new OutOfMemory early nothing = nothing
+
+pub fails_early : (old new : Seen) (status : Status) → IsEarly status → UnlessReadFault status (new.failed.files ≡ old.failed.files)
+    → UnlessDiskFault status (new.failed.drives ≡ old.failed.drives) → new.printed.faults ≡ old.printed.faults → Fails old new status
+fails_early old new status early files drives same = record {
+  files = files;
+  drives = drives;
+  output = always_write status _ same;
+  write = λ step is. absurd (early_write status step early is);
+}
 
 -- a device failed in its run
 
@@ -63,25 +92,41 @@ refuses SyncFailed step refusal = refusal
 pub ended_refusal : (fault : StepFault) (step : ℕ) (status : Status) → status ≡ ended_by fault step → IsRefusal status → ⊥
 ended_refusal fault step status is refusal = refuses fault step (subst IsRefusal is refusal)
 
-pub ended_unless_read : {P : Type 0} (fault : StepFault) (step : ℕ) (status : Status) → status ≡ ended_by fault step → P → UnlessReadFault status P
-ended_unless_read {P = P} SinkFailed step status is so = subst (λ (t : Status). UnlessReadFault t P) (sym is) so
-ended_unless_read {P = P} SyncFailed step status is so = subst (λ (t : Status). UnlessReadFault t P) (sym is) so
+writes_by : (Same : Type 0) (command : Command) (old new : Seen) (s : State) (fault : StepFault) (step : ℕ) (begins : Begins old.host command.form command.name s)
+    → step ≤ command.steps
+    → StopsRun (StandFor new.disks new.host.images (drives_listed command.form begins.bytes)) fault command.trace s command.steps old.printed new.printed step
+    → KeepsOthers old.host.images new.host.images (drives_listed command.form begins.bytes) → (step ≡ 0 → new.host.images ≡ old.host.images)
+    → Writes Same command old new (ended_by fault step)
+writes_by Same command old new s SinkFailed step begins within stops others early =
+    record { start = s; begins = begins; within = within; stops = stops; others = others }
+writes_by Same command old new s SyncFailed step begins within stops others early =
+    inr (record { start = s; begins = begins; within = within; stops = stops; others = others; early = early })
 
-pub ended_unless_disk : {P : Type 0} (fault : StepFault) (step : ℕ) (status : Status) → status ≡ ended_by fault step → P → UnlessDiskFault status P
-ended_unless_disk {P = P} SinkFailed step status is so = subst (λ (t : Status). UnlessDiskFault t P) (sym is) so
-ended_unless_disk {P = P} SyncFailed step status is so = subst (λ (t : Status). UnlessDiskFault t P) (sym is) tt
+pub writes_stopped : (Same : Type 0) (command : Command) (old new : Seen) (s : State) (fault : StepFault) (step : ℕ) (status : Status) → status ≡ ended_by fault step
+    → (begins : Begins old.host command.form command.name s) → step ≤ command.steps
+    → StopsRun (StandFor new.disks new.host.images (drives_listed command.form begins.bytes)) fault command.trace s command.steps old.printed new.printed step
+    → KeepsOthers old.host.images new.host.images (drives_listed command.form begins.bytes) → (step ≡ 0 → new.host.images ≡ old.host.images)
+    → Writes Same command old new status
+writes_stopped Same command old new s fault step status is begins within stops others early =
+    subst (λ (t : Status). Writes Same command old new t) (sym is) (writes_by Same command old new s fault step begins within stops others early)
 
-pub ended_unless_write : (P : Type 0) (fault : StepFault) (step : ℕ) (status : Status) → status ≡ ended_by fault step → UnlessWriteFault status P
-ended_unless_write P SinkFailed step status is = subst (λ (t : Status). UnlessWriteFault t P) (sym is) tt
-ended_unless_write P SyncFailed step status is = subst (λ (t : Status). UnlessWriteFault t P) (sym is) tt
+no_write : (step said : ℕ) → DiskFault step ≡ WriteFault said → ⊥
+no_write step said e = cc
 
--- the drives' count is as it was where the sink failed
-pub ended_drives : (fault : StepFault) (step : ℕ) (status : Status) (old new : Counts) (drives : ℕ) → status ≡ ended_by fault step → Causes fault old new
-    → old.drives ≡ drives → UnlessDiskFault status (new.drives ≡ drives)
-ended_drives SinkFailed step status old new drives is causes same = subst (λ (t : Status). UnlessDiskFault t (new.drives ≡ drives)) (sym is) (causes.1 ∙ same)
-ended_drives SyncFailed step status old new drives is causes same = subst (λ (t : Status). UnlessDiskFault t (new.drives ≡ drives)) (sym is) tt
+fails_by : (old new : Seen) (fault : StepFault) (step : ℕ) → new.failed.files ≡ old.failed.files → new.failed.drives.names ≡ old.failed.drives.names
+    → Causes fault (record { sink = old.printed.faults; drives = old.failed.drives.faults }) (record { sink = new.printed.faults; drives = new.failed.drives.faults })
+    → Fails old new (ended_by fault step)
+fails_by old new SinkFailed step files names causes = record {
+  files = files;
+  drives = λ i. record { faults = causes.1 i; names = names i };
+  output = tt;
+  write = λ said is. causes.0;
+}
+fails_by old new SyncFailed step files names causes = record { files = files; drives = tt; output = tt; write = λ said is. absurd (no_write step said is) }
 
-pub ended_write : (fault : StepFault) (step said : ℕ) (status : Status) (old new : Counts) → status ≡ ended_by fault step → status ≡ WriteFault said → Causes fault old new
-    → Rose old.sink new.sink
-ended_write SinkFailed step said status old new is write causes = causes.0
-ended_write SyncFailed step said status old new is write causes = let no : DiskFault step ≡ WriteFault said = sym is ∙ write in absurd (cc)
+pub fails_stopped : (old new : Seen) (fault : StepFault) (step : ℕ) (status : Status) → status ≡ ended_by fault step → new.failed.files ≡ old.failed.files
+    → new.failed.drives.names ≡ old.failed.drives.names
+    → Causes fault (record { sink = old.printed.faults; drives = old.failed.drives.faults }) (record { sink = new.printed.faults; drives = new.failed.drives.faults })
+    → Fails old new status
+fails_stopped old new fault step status is files names causes =
+    subst (λ (t : Status). Fails old new t) (sym is) (fails_by old new fault step files names causes)

@@ -1,4 +1,4 @@
--- Which drives are synced behind a run: those that are mounted, as the others are attached as they were.
+-- Which drives are synced after a run: those that are mounted, as the others are attached as they were.
 use Rattle.std.proofs.Common.{◌≡◌, ◌≢◌, ◌∙◌, ℕ, false, Bool, List, [], ◌∷◌, Option, Some, None, IfSome, IfOk, Result, Ok, Err, inl, inr, refl, sym, ap, subst}
 use Rattle.std.specs.Prelude.{◌⊎◌, option_map}
 use Rattle.std.specs.List.{All, AllByRecursion}
@@ -18,7 +18,7 @@ use Rattle.mpm_top.specs.Runs.{KeepsUnmounted, AreSyncedOf, SyncsAttached}
 
 -- what isn't mounted the machine file doesn't list, so that it is as it was
 
-unlisted : (disks : Option Disks) (mounted : List (Option Directory)) (specs : List DriveSpec) (number : ℕ) → AllByRecursion (IsInPlace disks mounted) specs
+unlisted : (disks : Disks) (mounted : List (Option Directory)) (specs : List DriveSpec) (number : ℕ) → AllByRecursion (IsInPlace disks mounted) specs
     → directory_at mounted number ≡ None → AllByRecursion (λ spec. number_of spec ≢ number) specs
 unlisted disks mounted [] number each free = tt
 unlisted disks mounted (spec ∷ specs) number each free = (
@@ -26,12 +26,12 @@ unlisted disks mounted (spec ∷ specs) number each free = (
   unlisted disks mounted specs number each.1 free,
 )
 
-pub keeps_unmounted : {A : Type 0} (specs : List DriveSpec) (before behind : ℕ → A) (disks : Option Disks) (mounted : List (Option Directory))
-    → ((number : ℕ) → All (λ spec. number_of spec ≢ number) specs → behind number ≡ before number) → HasDrives disks specs mounted → KeepsUnmounted before behind mounted
-keeps_unmounted specs before behind disks mounted beside has number free =
+pub keeps_unmounted : (specs : List DriveSpec) (before later : ℕ → Option ℕ) (disks : Disks) (mounted : List (Option Directory))
+    → ((number : ℕ) → All (λ spec. number_of spec ≢ number) specs → later number ≡ before number) → HasDrives disks specs mounted → KeepsUnmounted before later mounted
+keeps_unmounted specs before later disks mounted beside has number free =
     beside number (All-from_recursion (λ spec. number_of spec ≢ number) specs (unlisted disks mounted specs number has.each free))
 
--- a drive that was mounted is so behind steps
+-- a drive that was mounted is so after steps
 
 if_there : (old new : Option Directory) (P : Type 0) → option_map labelled new ≡ option_map labelled old → IfSome new (λ d. P) → IfSome old (λ d. P)
 if_there None new P same p = tt
@@ -49,7 +49,7 @@ where_labelled : (directory : Option Directory) (label : ℕ × Kind) (P : Type 
 where_labelled None label P is p = absurd (none-some _ is)
 where_labelled (Some d) label P is p = p
 
-pub listed_synced : (disks : Option Disks) (mounted : List (Option Directory)) (unsynced : ℕ → Bool) (specs : List DriveSpec) → AllByRecursion (IsInPlace disks mounted) specs
+pub listed_synced : (disks : Disks) (mounted : List (Option Directory)) (unsynced : ℕ → Bool) (specs : List DriveSpec) → AllByRecursion (IsInPlace disks mounted) specs
     → AreSynced unsynced mounted → AreSyncedOf unsynced specs
 listed_synced disks mounted unsynced [] each synced = tt
 listed_synced disks mounted unsynced (spec ∷ specs) each synced = (
@@ -63,17 +63,17 @@ attached_or_synced : (directory : Option Directory) (P Q : Type 0) → (director
 attached_or_synced None P Q free synced = inl (free refl)
 attached_or_synced (Some d) P Q free synced = inr synced
 
-pub syncs_attached : (before behind : ℕ → Option ℕ) (unsynced : ℕ → Bool) (mounted : List (Option Directory)) → KeepsUnmounted before behind mounted → AreSynced unsynced mounted
-    → SyncsAttached before behind unsynced
-syncs_attached before behind unsynced mounted attaches synced number =
-    attached_or_synced (directory_at mounted number) (behind number ≡ before number) (unsynced number ≡ false) (attaches number) (synced number)
+pub syncs_attached : (before later : ℕ → Option ℕ) (unsynced : ℕ → Bool) (mounted : List (Option Directory)) → KeepsUnmounted before later mounted → AreSynced unsynced mounted
+    → SyncsAttached before later unsynced
+syncs_attached before later unsynced mounted attaches synced number =
+    attached_or_synced (directory_at mounted number) (later number ≡ before number) (unsynced number ≡ false) (attaches number) (synced number)
 
 -- where no drive was called
 
 pub still_attached : (attached : ℕ → Option ℕ) (unsynced : ℕ → Bool) → SyncsAttached attached attached unsynced
 still_attached attached unsynced number = inl refl
 
-pub nothing_called : {A E : Type 0} (result : Result Machine E) (before : ℕ → A) → IfOk result (λ machine. KeepsUnmounted before before machine.bdos.mounted)
+pub nothing_called : {E : Type 0} (result : Result Machine E) (before : ℕ → Option ℕ) → IfOk result (λ machine. KeepsUnmounted before before machine.bdos.mounted)
 nothing_called (Err error) before = tt
 nothing_called (Ok machine) before = λ number free. refl
 

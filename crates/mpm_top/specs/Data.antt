@@ -4,7 +4,6 @@ use Rattle.std.specs.Prelude.{◌≡◌, ℕ, ◌+◌, ◌*◌, ◌/◌, ◌%◌
 use Rattle.std.specs.List.{range_with_len}
 use Rattle.std.specs.Option.{option_map_or}
 use Rattle.mpm_port.specs.Disks.{Disks}
-use Rattle.mpm_blocks.specs.Sectors.{told_image}
 use Rattle.mpm_dirent.specs.declared.kinds.FileEntry.{FileEntry}
 use Rattle.mpm_mount.specs.Drives.{FileName, Drive, visible_of}
 use Rattle.mpm_mount.specs.Faults.{block_at}
@@ -36,9 +35,9 @@ sector_in place f =
     if nat_lt place f.rc && not (block_at f (place / 16) == 0) then Some (16 * block_at f (place / 16) + place % 16) else None
 
 -- the image of drive A and its directory in memory stand for what is there
-pub record HasDriveA (disks : Option Disks) (directory : Option Directory) (drives : List (Option Drive)) : Type 0 where
+pub record HasDriveA (disks : Disks) (directory : Option Directory) (drives : List (Option Drive)) : Type 0 where
   pub image : List ℕ
   pub files : Drive
-  pub told : told_image disks 0 ≡ Some image
+  pub attached : disks.image 0 ≡ Some image
   pub stands : IfSome directory (λ there. Stands image there files)
   pub here : slice_index_or drives 0 None ≡ Some files

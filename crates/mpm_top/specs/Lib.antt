@@ -1,4 +1,7 @@
 pub mod Words
+pub mod Beginnings
 pub mod Runs
+pub mod Endings
+pub mod Promises
 pub mod Data
 pub mod Seeds

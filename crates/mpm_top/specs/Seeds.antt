@@ -2,7 +2,7 @@
 use Rattle.std.specs.Prelude.{◌≡◌, ℕ, ◌<◌, ◌≤◌, true, List, [], ◌∷◌, ◌++◌, Option, Some, None, Ok, bytes_eq, codes, decimal, if◌then◌else◌}
 use Rattle.mpm_base.specs.declared.kind.Kind.TheVariants.{Hd4}
 use Rattle.mpm_port.specs.Causes.{Rose}
-use Rattle.mpm_port.specs.Texts.{appended, AppendsPart}
+use Rattle.mpm_port.specs.Texts.{AppendsPart}
 use Rattle.mpm_devices.specs.Kinds.{counted}
 use Rattle.mpm_script.specs.Numbers.{number_of}
 use Rattle.mpm_script.specs.declared.line.TheConstants.{GREATEST_STEP}
@@ -16,7 +16,8 @@ use Rattle.mpm_machine.specs.State.{State}
 use Rattle.mpm_system.specs.Opening.{opened}
 use Rattle.mpm_machine.specs.After.{after}
 use Rattle.mpm_machine.specs.Settling.{carried}
-use Rattle.mpm_top.specs.Runs.{begun, drives_left}
+use Rattle.mpm_top.specs.Beginnings.{begun}
+use Rattle.mpm_top.specs.Runs.{drives_left}
 use Rattle.mpm_top.specs.Data.{data_on}
 use Rattle.mpm_top.specs.Words.{steps_of}
 use Rattle.mpm_top.specs.declared.status.Status.{Status}
@@ -54,8 +55,8 @@ drive_a files = record { number = 0; files = files } ∷ []
 abbrev pub seeded_start : Drive → State
 seeded_start files = begun (opened machine script) (drive_a files)
 
--- the lines that begin with `c` and those that begin with `t`, of the text of some steps behind a state and of the end; and what is
--- summed of the file on drive A behind it
+-- the lines that begin with `c` and those that begin with `t`, of the text of some steps after a state and of the end; and what is
+-- summed of the file on drive A after it
 pub record AreOf (steps : ℕ) (s : State) (found : Found) : Type 0 where
   pub lines : found.lines ≡ counted 99 (closed true (carried (after steps s)).outputs)
   pub calls : found.calls ≡ counted 116 (closed true (carried (after steps s)).outputs)
@@ -76,8 +77,8 @@ unfoldable pub report : Found → List ℕ
 report found = line_with (codes "lines ") found.lines ++ (line_with (codes "calls ") found.calls ++ line_with (codes "data ") found.data)
 
 -- how such a run ends: with its report, or with a first part of it where the sink failed; or for want of memory, with nothing
-abbrev pub EndsSeeded : Seeded → Option (List ℕ) → Option (List ℕ) → ℕ → ℕ → Status → Type 0
-EndsSeeded asked first written before now Ran = (found : Found) × AreFound asked.seed asked.steps found × (written ≡ appended first (report found)) × (now ≡ before)
+abbrev pub EndsSeeded : Seeded → List ℕ → List ℕ → ℕ → ℕ → Status → Type 0
+EndsSeeded asked first written before now Ran = (found : Found) × AreFound asked.seed asked.steps found × (written ≡ first ++ report found) × (now ≡ before)
 EndsSeeded asked first written before now Usage = ⊥
 EndsSeeded asked first written before now MachineFault = ⊥
 EndsSeeded asked first written before now (ScriptFault line) = ⊥

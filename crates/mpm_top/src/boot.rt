@@ -1,10 +1,12 @@
 ghost use Rattle.std.specs.Prelude.{◌≡◌, ◌≤◌, ◌↔◌, ℕ, List, Some, IsSome, IfSome, IfOk, IfErr, MatchResult, length};
-ghost use Rattle.mpm_drives.specs.Images.{image_named};
+ghost use Rattle.mpm_port.specs.Disks.{size_of};
 ghost use Rattle.mpm_bdos.specs.Syncing.{AreSynced};
 ghost use Rattle.mpm_system.specs.Whole.{IsWhole, NoCompletions};
 ghost use Rattle.mpm_machine.specs.Holding.{HoldsDrives};
 ghost use Rattle.mpm_machine.specs.Mounting.{HasNoDrive};
-ghost use Rattle.mpm_top.specs.Runs.{input_of as input_said, room_for, script_name, Host, host, failed, status_of, KeepsUnmounted, Holds, HoldsEvents, Starts, StartsOf, Scripted, Unfetched, Unread, Ends, EndsAfter, IsRefusal, IsEarly, UnlessReadFault, UnlessDiskFault, EndsAs};
+ghost use Rattle.mpm_top.specs.Beginnings.{input_of as input_said, room_for, script_name, Host, host, failures, failed, Holds, HoldsEvents, Starts, StartsOf, Scripted};
+ghost use Rattle.mpm_top.specs.Runs.{KeepsUnmounted};
+ghost use Rattle.mpm_top.specs.Endings.{status_of, Unfetched, Unread, Ends, EndsAfter, IsRefusal, IsEarly, UnlessReadFault, UnlessDiskFault, EndsAs};
 
 use crate::status::{Input, Status};
 use crate::words::Form;
@@ -34,16 +36,15 @@ pub(crate) fn boot<F: Files, D: Drives>(
     files: &mut F,
     drives: &mut D,
 ) -> Result<Machine, Status>
-    ensures starts { IfOk result (λ machine. Starts (host F.contents D.disks files.old drives.old) form name.now machine.system machine.bdos (D.disks drives.new)) }
-    ensures holds { IfOk result (λ machine. HoldsDrives D.attached D.disks machine.system.kernel machine.bdos drives.new) }
-    ensures attached { IfOk result (λ machine. KeepsUnmounted (D.attached drives.old) (D.attached drives.new) machine.bdos.mounted) }
+    ensures starts { IfOk result (λ machine. Starts (host F.contents D.told files.old drives.old) form name.now machine.system machine.bdos (D.disks drives.new)) }
+    ensures holds { IfOk result (λ machine. HoldsDrives D.disks machine.system.kernel machine.bdos drives.new) }
+    ensures sizes { IfOk result (λ machine. KeepsUnmounted (size_of (D.disks drives.old)) (size_of (D.disks drives.new)) machine.bdos.mounted) }
     ensures fresh { IfOk result (λ machine. AreSynced (D.unsynced drives.new) machine.bdos.mounted) }
-    ensures unsynced { IfOk result (λ machine. KeepsUnmounted (D.unsynced drives.old) (D.unsynced drives.new) machine.bdos.mounted) }
     ensures whole { IfOk result (λ machine. IsWhole machine.system) }
     ensures no_completions { IfOk result (λ machine. NoCompletions machine.system) }
     ensures start { IfOk result (λ machine. machine.system.steps ≡ 0) }
     ensures early { IfErr result (λ status. IsEarly status) }
-    ensures reason { IfErr result (λ status. Ends (host F.contents D.disks files.old drives.old) form name.now
+    ensures reason { IfErr result (λ status. Ends (host F.contents D.told files.old drives.old) form name.now
         (failed F.failed_names D.faults D.failed_names files.old drives.old) (failed F.failed_names D.faults D.failed_names files.new drives.new) status) }
     ensures names { MatchResult result (λ _. F.failed_names files.new ≡ F.failed_names files.old)
         (λ status. UnlessReadFault status (F.failed_names files.new ≡ F.failed_names files.old)) }
@@ -51,11 +52,9 @@ pub(crate) fn boot<F: Files, D: Drives>(
     ensures missing_script { (bytes script : List ℕ) → F.contents files.old name.now ≡ Some bytes → length bytes ≤ room_for (input_said form)
         → script_name form bytes ≡ Some script → F.missing files.old script → MatchResult result (λ _. ⊥) (λ status. EndsAs Status.ReadFault status) }
     ensures files { (other : List ℕ) → F.contents files.new other ≡ F.contents files.old other }
-    ensures drive_names { MatchResult result (λ _. D.failed_names drives.new ≡ D.failed_names drives.old)
-        (λ status. UnlessDiskFault status (D.failed_names drives.new ≡ D.failed_names drives.old)) }
-    ensures drive_faults { MatchResult result (λ _. D.faults drives.new ≡ D.faults drives.old)
-        (λ status. UnlessDiskFault status (D.faults drives.new ≡ D.faults drives.old)) }
-    ensures images { (image : List ℕ) → image_named (D.disks drives.new) image ≡ image_named (D.disks drives.old) image }
+    ensures drives { MatchResult result (λ _. failures D.faults D.failed_names drives.new ≡ failures D.faults D.failed_names drives.old)
+        (λ status. UnlessDiskFault status (failures D.faults D.failed_names drives.new ≡ failures D.faults D.failed_names drives.old)) }
+    ensures told { D.told drives.new ≡ D.told drives.old }
     ensures program { form ≡ Form.Program → drives.new ≡ drives.old }
     ensures no_drive { form ≡ Form.Program → IfOk result (λ machine. HasNoDrive machine.bdos.mounted) }
 {
@@ -98,7 +97,7 @@ fn fetch<F: Files>(
 fn boot_program<D: Drives>(alloc: Global, bytes: &[u8], drives: &D) -> Result<Machine, Status>
     requires { length bytes.now ≤ 48512 }
     ensures starts { (host : Host) → IfOk result (λ machine. StartsOf host Form.Program (λ content. content ≡ bytes.now) machine.system machine.bdos (D.disks drives.now)) }
-    ensures holds { IfOk result (λ machine. HoldsDrives D.attached D.disks machine.system.kernel machine.bdos drives.now) }
+    ensures holds { IfOk result (λ machine. HoldsDrives D.disks machine.system.kernel machine.bdos drives.now) }
     ensures no_drive { IfOk result (λ machine. HasNoDrive machine.bdos.mounted) }
     ensures whole { IfOk result (λ machine. IsWhole machine.system) }
     ensures no_completions { IfOk result (λ machine. NoCompletions machine.system) }
@@ -119,28 +118,25 @@ fn boot_machine<F: Files, D: Drives>(
     files: &mut F,
     drives: &mut D,
 ) -> Result<Machine, Status>
-    ensures starts { IfOk result (λ machine. StartsOf (host F.contents D.disks files.old drives.old) Form.Run (λ content. content ≡ bytes.now)
+    ensures starts { IfOk result (λ machine. StartsOf (host F.contents D.told files.old drives.old) Form.Run (λ content. content ≡ bytes.now)
         machine.system machine.bdos (D.disks drives.new)) }
-    ensures holds { IfOk result (λ machine. HoldsDrives D.attached D.disks machine.system.kernel machine.bdos drives.new) }
-    ensures attached { IfOk result (λ machine. KeepsUnmounted (D.attached drives.old) (D.attached drives.new) machine.bdos.mounted) }
+    ensures holds { IfOk result (λ machine. HoldsDrives D.disks machine.system.kernel machine.bdos drives.new) }
+    ensures sizes { IfOk result (λ machine. KeepsUnmounted (size_of (D.disks drives.old)) (size_of (D.disks drives.new)) machine.bdos.mounted) }
     ensures fresh { IfOk result (λ machine. AreSynced (D.unsynced drives.new) machine.bdos.mounted) }
-    ensures unsynced { IfOk result (λ machine. KeepsUnmounted (D.unsynced drives.old) (D.unsynced drives.new) machine.bdos.mounted) }
     ensures whole { IfOk result (λ machine. IsWhole machine.system) }
     ensures no_completions { IfOk result (λ machine. NoCompletions machine.system) }
     ensures start { IfOk result (λ machine. machine.system.steps ≡ 0) }
     ensures early { IfErr result (λ status. IsEarly status) }
-    ensures reason { IfErr result (λ status. EndsAfter (host F.contents D.disks files.old drives.old) Form.Run (λ content. content ≡ bytes.now)
+    ensures reason { IfErr result (λ status. EndsAfter (host F.contents D.told files.old drives.old) Form.Run (λ content. content ≡ bytes.now)
         (failed F.failed_names D.faults D.failed_names files.old drives.old) (failed F.failed_names D.faults D.failed_names files.new drives.new) status) }
     ensures names { MatchResult result (λ _. F.failed_names files.new ≡ F.failed_names files.old)
         (λ status. UnlessReadFault status (F.failed_names files.new ≡ F.failed_names files.old)) }
     ensures missing { (script : List ℕ) → script_name Form.Run bytes.now ≡ Some script → F.missing files.old script
         → MatchResult result (λ _. ⊥) (λ status. EndsAs Status.ReadFault status) }
     ensures files { (other : List ℕ) → F.contents files.new other ≡ F.contents files.old other }
-    ensures drive_names { MatchResult result (λ _. D.failed_names drives.new ≡ D.failed_names drives.old)
-        (λ status. UnlessDiskFault status (D.failed_names drives.new ≡ D.failed_names drives.old)) }
-    ensures drive_faults { MatchResult result (λ _. D.faults drives.new ≡ D.faults drives.old)
-        (λ status. UnlessDiskFault status (D.faults drives.new ≡ D.faults drives.old)) }
-    ensures images { (image : List ℕ) → image_named (D.disks drives.new) image ≡ image_named (D.disks drives.old) image }
+    ensures drives { MatchResult result (λ _. failures D.faults D.failed_names drives.new ≡ failures D.faults D.failed_names drives.old)
+        (λ status. UnlessDiskFault status (failures D.faults D.failed_names drives.new ≡ failures D.faults D.failed_names drives.old)) }
+    ensures told { D.told drives.new ≡ D.told drives.old }
 {
     let file = match read_machine(alloc, bytes) {
         Ok(file) => file,

@@ -1,8 +1,7 @@
 ghost use Rattle.std.specs.Prelude.{◌≡◌, ◌<◌, ◌≤◌, ◌+◌, ℕ, List, Option, Some, IfSome, option_map};
 ghost use Rattle.mpm_base.specs.declared.kind.Kind.TheVariants.{Hd4};
-ghost use Rattle.mpm_port.specs.Disks.{sector_of as sector_said};
-ghost use Rattle.mpm_port.specs.MemoryDisks.{disks_of, size_of};
-ghost use Rattle.mpm_blocks.specs.Sectors.{told_image};
+ghost use Rattle.mpm_port.specs.Disks.{size_of, sector_of as sector_said};
+ghost use Rattle.mpm_port.specs.MemoryDisks.{disks_of};
 ghost use Rattle.mpm_mount.specs.Drives.{Drive, visible_of};
 ghost use Rattle.mpm_mount.specs.Directories.{Stands};
 ghost use Rattle.mpm_directories.specs.Places.{directory_at};
@@ -21,9 +20,9 @@ const NAME: [u8; 11] = *b"DATA    DAT";
 /// The sum over the first 32 records of DATA.DAT of user 0 on drive A, an `hd4` disk, counted from 1: that number times the
 /// record's first byte. A record that isn't there counts as 0. The machine has the drive mounted.
 pub(crate) fn data_sum(machine: &Machine, drives: &mut SteadyDrives) -> u64
-    requires size { size_of drives.old 0 ≡ Some 4194304 }
+    requires size { size_of (disks_of drives.old) 0 ≡ Some 4194304 }
     requires drive { option_map labelled (directory_at machine.now.bdos.mounted 0) ≡ Some (0, Hd4) }
-    ensures { (on : List (Option Drive)) → HasDriveA (Some (disks_of drives.old)) (directory_at machine.now.bdos.mounted 0) on → result ≡ data_on on }
+    ensures { (on : List (Option Drive)) → HasDriveA (disks_of drives.old) (directory_at machine.now.bdos.mounted 0) on → result ≡ data_on on }
 {
     match machine.directory(0) {
         Some(mounted) => sum_of(mounted, drives),
@@ -33,9 +32,9 @@ pub(crate) fn data_sum(machine: &Machine, drives: &mut SteadyDrives) -> u64
 
 /// The sum over those records of a mounted drive A.
 fn sum_of(mounted: &Mounted, drives: &mut SteadyDrives) -> u64
-    requires size { size_of drives.old 0 ≡ Some 4194304 }
+    requires size { size_of (disks_of drives.old) 0 ≡ Some 4194304 }
     requires kind { mounted.now.kind ≡ Hd4 }
-    ensures { (image : List ℕ) (files : Drive) → told_image (Some (disks_of drives.old)) 0 ≡ Some image → Stands image mounted.now files
+    ensures { (image : List ℕ) (files : Drive) → (disks_of drives.old).image 0 ≡ Some image → Stands image mounted.now files
         → result ≡ data_of files }
 {
     let mut sum: u64 = 0;
@@ -47,27 +46,27 @@ fn sum_of(mounted: &Mounted, drives: &mut SteadyDrives) -> u64
 
 /// A record's part of the sum.
 fn weighed(mounted: &Mounted, place: u8, drives: &mut SteadyDrives) -> u64
-    requires size { size_of drives.old 0 ≡ Some 4194304 }
+    requires size { size_of (disks_of drives.old) 0 ≡ Some 4194304 }
     requires kind { mounted.now.kind ≡ Hd4 }
     requires place { place < 32 }
-    ensures part { (image : List ℕ) (files : Drive) → told_image (Some (disks_of drives.old)) 0 ≡ Some image → Stands image mounted.now files
+    ensures part { (image : List ℕ) (files : Drive) → (disks_of drives.old).image 0 ≡ Some image → Stands image mounted.now files
         → result ≡ weighed_said files place }
     ensures small { result ≤ 8160 }
-    ensures size { size_of drives.new 0 ≡ Some 4194304 }
-    ensures same { told_image (Some (disks_of drives.new)) 0 ≡ told_image (Some (disks_of drives.old)) 0 }
+    ensures size { size_of (disks_of drives.new) 0 ≡ Some 4194304 }
+    ensures same { disks_of drives.new ≡ disks_of drives.old }
 {
     (u64::from(place) + 1) * u64::from(first_byte(mounted, place, drives))
 }
 
 /// The first byte of a record, 0 where it isn't there.
 fn first_byte(mounted: &Mounted, place: u8, drives: &mut SteadyDrives) -> u8
-    requires size { size_of drives.old 0 ≡ Some 4194304 }
+    requires size { size_of (disks_of drives.old) 0 ≡ Some 4194304 }
     requires kind { mounted.now.kind ≡ Hd4 }
     requires place { place < 32 }
-    ensures byte { (image : List ℕ) (files : Drive) → told_image (Some (disks_of drives.old)) 0 ≡ Some image → Stands image mounted.now files
+    ensures byte { (image : List ℕ) (files : Drive) → (disks_of drives.old).image 0 ≡ Some image → Stands image mounted.now files
         → result ≡ first_of (visible_of files data_file place) }
-    ensures size { size_of drives.new 0 ≡ Some 4194304 }
-    ensures same { told_image (Some (disks_of drives.new)) 0 ≡ told_image (Some (disks_of drives.old)) 0 }
+    ensures size { size_of (disks_of drives.new) 0 ≡ Some 4194304 }
+    ensures same { disks_of drives.new ≡ disks_of drives.old }
 {
     match sector_of(mounted, place) {
         Some(sector) => {
@@ -115,11 +114,11 @@ fn sector_in(file: &FileEntry, place: u8) -> Option<u32>
 
 /// A sector of the drive.
 fn sector_at(sector: u32, drives: &mut SteadyDrives) -> [u8; 128]
-    requires size { size_of drives.old 0 ≡ Some 4194304 }
+    requires size { size_of (disks_of drives.old) 0 ≡ Some 4194304 }
     requires sector { sector < 32768 }
-    ensures bytes { (image : List ℕ) → told_image (Some (disks_of drives.old)) 0 ≡ Some image → result ≡ sector_said image sector }
-    ensures size { size_of drives.new 0 ≡ Some 4194304 }
-    ensures same { told_image (Some (disks_of drives.new)) 0 ≡ told_image (Some (disks_of drives.old)) 0 }
+    ensures bytes { (image : List ℕ) → (disks_of drives.old).image 0 ≡ Some image → result ≡ sector_said image sector }
+    ensures size { size_of (disks_of drives.new) 0 ≡ Some 4194304 }
+    ensures same { disks_of drives.new ≡ disks_of drives.old }
 {
     let mut bytes = [0; 128];
     match drives.read(0, sector, &mut bytes) {

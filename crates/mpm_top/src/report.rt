@@ -1,6 +1,6 @@
 ghost use Rattle.std.specs.Prelude.{◌≡◌, ◌≤◌, ◌+◌, ◌++◌, ◌∷◌, [], OnOk, OnErr, length, decimal};
 ghost use Rattle.mpm_port.specs.Causes.{HasCause};
-ghost use Rattle.mpm_port.specs.Texts.{appended, AppendsPart};
+ghost use Rattle.mpm_port.specs.Texts.{AppendsPart};
 ghost use Rattle.mpm_top.specs.Seeds.{report as report_said};
 
 use crate::seeds::Found;
@@ -10,7 +10,7 @@ use mpm_port::{Failed, Sink};
 
 /// Writes what is reported of a run, by one put.
 pub(crate) fn put_report<S: Sink>(found: &Found, sink: &mut S) -> Result<(), Failed>
-    ensures ok { OnOk result (S.written sink.new ≡ appended (S.written sink.old) (report_said found.now)) }
+    ensures ok { OnOk result (S.written sink.new ≡ S.written sink.old ++ report_said found.now) }
     ensures err { OnErr result (AppendsPart (S.written sink.old) (report_said found.now) (S.written sink.new)) }
     ensures cause { HasCause (S.faults sink.old) (S.faults sink.new) result }
 {
@@ -30,7 +30,7 @@ fn report(found: &Found) -> ArrayVec<u8, 96>
     text
 }
 
-/// A line of a word and a number behind the text.
+/// A line of a word and a number after the text.
 fn push_line(word: &[u8], number: u64, text: &mut ArrayVec<u8, 96>)
     requires { length text.old.items + length word.now + 21 ≤ 96 }
     ensures text { text.new.items ≡ text.old.items ++ (word.now ++ (decimal number ++ (10 ∷ []))) }

@@ -1,10 +1,7 @@
-ghost use Rattle.std.specs.Prelude.{◌≡◌, ◌≢◌, ◌≤◌, ◌<◌, ◌⊎◌, ◌↔◌, [], ℕ, List, Option, Some, None, OnOk, IfErr, MatchResult, length, slice_index_or};
+ghost use Rattle.std.specs.Prelude.{◌≡◌, ◌≢◌, ◌≤◌, ◌<◌, ◌↔◌, [], ℕ, List, Some, None, OnOk, IfErr, MatchResult, length, slice_index_or};
 ghost use Rattle.mpm_script.specs.declared.line.TheConstants.{GREATEST_STEP};
-ghost use Rattle.mpm_port.specs.Causes.{Rose};
-ghost use Rattle.mpm_port.specs.Texts.{appended};
-ghost use Rattle.mpm_render.specs.Outputs.{closed};
+ghost use Rattle.mpm_port.specs.Disks.{size_of};
 ghost use Rattle.mpm_machine_file.specs.declared.lists.DriveSpec.{DriveSpec};
-ghost use Rattle.mpm_drives.specs.Images.{image_named};
 ghost use Rattle.mpm_drives.specs.Mounted.{NumberedDrive, placed};
 ghost use Rattle.mpm_bdos.specs.Syncing.{AreSynced};
 ghost use Rattle.mpm_system.specs.Whole.{IsWhole, NoCompletions};
@@ -13,10 +10,12 @@ ghost use Rattle.mpm_machine.specs.Files.{Between, StandsForFiles};
 ghost use Rattle.mpm_machine.specs.Holding.{HoldsDrives};
 ghost use Rattle.mpm_machine.specs.Faults.{counts};
 ghost use Rattle.mpm_machine.specs.Mounting.{HasDrives, HasNoDrive, untouched};
-ghost use Rattle.mpm_machine.specs.After.{after, ShowsBefore};
-ghost use Rattle.mpm_machine.specs.Settling.{carried};
+ghost use Rattle.mpm_machine.specs.After.{ShowsBefore};
 ghost use Rattle.mpm_top.specs.Words.{Command, texts, command_of};
-ghost use Rattle.mpm_top.specs.Runs.{command_on, input_of as input_said, room_for, script_name, host, failed, begun, drives_left, SameImages, KeepsOthers, StandFor, StopsRun, ClosesAfter, Causes, stopped_by, SyncsAttached, WritesAll, WritesSteps, StopsSteps, WritesPart, WritesClosed, Ends, EndsAs, ending, IsRefusal, IsEarly, UnlessWriteFault, UnlessReadFault, UnlessDiskFault};
+ghost use Rattle.mpm_top.specs.Beginnings.{command_on, input_of as input_said, room_for, script_name, host, failed, begun};
+ghost use Rattle.mpm_top.specs.Runs.{printed, StandFor, KeepsOthers, SyncsAttached, RunsOut, StopsRun, ClosesAfter, Causes};
+ghost use Rattle.mpm_top.specs.Endings.{stopped_by, Ends, EndsAs, IsRefusal};
+ghost use Rattle.mpm_top.specs.Promises.{seen, Writes, Fails, Promises};
 ghost use Rattle.mpm_top.specs.Seeds.{seeded_of, EndsSeeded};
 
 use crate::boot::boot;
@@ -33,7 +32,7 @@ use std::marker::Brand;
 use std::sync::ledger::{Blank, Ledger};
 
 /// Does what the words after the program's name ask.
-#[tactic(auto, using(crate::proofs::SeedLaws::asks_one, crate::proofs::SeedLaws::unless_read_always, crate::proofs::BootLaws::unless_disk_always, crate::proofs::Syncing::still_attached))]
+#[tactic(auto, using(crate::proofs::SeedLaws::asks_one, crate::proofs::Syncing::still_attached))]
 pub fn run_words<F: Files, D: Drives, S: Sink>(
     alloc: Global,
     words: &[String],
@@ -46,60 +45,22 @@ pub fn run_words<F: Files, D: Drives, S: Sink>(
     ensures usage_files { result ≡ Status.Usage → files.new ≡ files.old }
     ensures usage_drives { result ≡ Status.Usage → drives.new ≡ drives.old }
 
-    // Ran: what the sink was given is exactly the text of the outputs after those steps and the end, to which the call in service is
-    // carried, the images of the names that the machine file lists stand for what is on its drives then, each of these is synced, and
-    // nothing failed. After this ending and the two below no other image has changed.
-    ensures ran { (command : Command) → command_of (texts words.now) ≡ Some command → result ≡ Status.Ran
-        → WritesAll (host F.contents D.disks files.old drives.old) (image_named (D.disks drives.new)) (D.unsynced drives.new) command (S.written sink.old) (S.written sink.new) }
-    ensures synced { result ≡ Status.Ran → SyncsAttached (D.attached drives.old) (D.attached drives.new) (D.unsynced drives.new) }
-
-    // Every ending has its reason in what the files hold and in the images, or in what failed: MachineFault, ScriptFault,
-    // ImageFault, TooLong, ReadFault and DiskFault among them.
-    ensures reason { (command : Command) → command_of (texts words.now) ≡ Some command
-        → Ends (host F.contents D.disks files.old drives.old) command.form command.name
-        (failed F.failed_names D.faults D.failed_names files.old drives.old) (failed F.failed_names D.faults D.failed_names files.new drives.new) result }
-    ensures names { UnlessReadFault result (F.failed_names files.new ≡ F.failed_names files.old) }
-    ensures drive_names { UnlessDiskFault result (D.failed_names drives.new ≡ D.failed_names drives.old) }
-    ensures drive_faults { UnlessDiskFault result (D.faults drives.new ≡ D.faults drives.old) }
-
-    // And where files and images are told, and nothing failed, the ending is the first that has a reason, or want of memory.
-    ensures told { (command : Command) → command_of (texts words.now) ≡ Some command
-        → (status : Status) → ending (host F.contents D.disks files.old drives.old) command.form command.name ≡ Some status
-        → F.failed_names files.new ≡ F.failed_names files.old → D.failed_names drives.new ≡ D.failed_names drives.old
-        → (Rose (S.faults sink.old) (S.faults sink.new) → ⊥) → (Rose (D.faults drives.old) (D.faults drives.new) → ⊥) → EndsAs status result }
-
-    // ReadFault, or want of memory, comes where a file is told to be missing, and DiskFault where an image is.
-    ensures missing { (command : Command) → command_of (texts words.now) ≡ Some command
-        → F.missing files.old command.name → EndsAs Status.ReadFault result }
-    ensures missing_script { (command : Command) → command_of (texts words.now) ≡ Some command
-        → (bytes script : List ℕ) → F.contents files.old command.name ≡ Some bytes → length bytes ≤ room_for (input_said command.form)
-        → script_name command.form bytes ≡ Some script → F.missing files.old script → EndsAs Status.ReadFault result }
-    ensures missing_image { (command : Command) → command_of (texts words.now) ≡ Some command
-        → ending (host F.contents D.disks files.old drives.old) command.form command.name ≡ Some (Status.DiskFault 0)
-        → F.failed_names files.new ≡ F.failed_names files.old → EndsAs (Status.DiskFault 0) result }
-
-    // WriteFault comes only where the sink's count rose, in the step and after the text that it says; the images stand for what is
-    // on the drives after that step, or behind the end.
-    ensures write { (step : ℕ) → result ≡ Status.WriteFault step → Rose (S.faults sink.old) (S.faults sink.new) }
-    ensures write_text { (command : Command) → command_of (texts words.now) ≡ Some command → (step : ℕ) → result ≡ Status.WriteFault step
-        → WritesPart (host F.contents D.disks files.old drives.old) (image_named (D.disks drives.new)) command (S.written sink.old) (S.written sink.new) step }
-    ensures count { UnlessWriteFault result (S.faults sink.new ≡ S.faults sink.old) }
-
-    // DiskFault comes as the drives are mounted, with nothing written, or in the step that it says, or after all steps, as the call in
-    // service is carried to its end or as they are synced. Each image stands for what was on its drive before that, or, of the drive
-    // of the call that failed, for that within a turn of the call; or for what is on the drives behind the end.
-    ensures disk_text { (command : Command) → command_of (texts words.now) ≡ Some command → (step : ℕ) → result ≡ Status.DiskFault step
-        → ((step ≡ 0) × (sink.new ≡ sink.old)) ⊎ WritesClosed (host F.contents D.disks files.old drives.old) (image_named (D.disks drives.new)) command (S.written sink.old) (S.written sink.new)
-        (S.faults sink.old) (S.faults sink.new) step }
-
-    // After a refusal nothing is written. Before the first step, and where a drive fails with step 0, images are as they were. So is
-    // what the files hold after any ending; `program` has no drive.
-    ensures nothing { IsRefusal result → sink.new ≡ sink.old }
-    ensures images { IsEarly result → SameImages (D.disks drives.old) (D.disks drives.new) }
-    ensures files { (other : List ℕ) → F.contents files.new other ≡ F.contents files.old other }
+    // `program` and `run`: what was written, what the images stand for then, and why it ended so.
+    ensures command { (command : Command) → command_of (texts words.now) ≡ Some command
+        → Promises (sink.new ≡ sink.old) (F.missing files.old) command
+        (seen F.contents F.failed_names D.disks D.told D.unsynced D.faults D.failed_names S.written S.faults files.old drives.old sink.old)
+        (seen F.contents F.failed_names D.disks D.told D.unsynced D.faults D.failed_names S.written S.faults files.new drives.new sink.new) result }
     ensures program { (command : Command) → command_of (texts words.now) ≡ Some command → command.form ≡ Form.Program → drives.new ≡ drives.old }
 
-    // The run of a seed's machine is reported in three lines, by the outputs of its model after those steps; files and drives are
+    // Whatever was asked: what failed, that nothing is written where it is refused, that each drive is synced or attached as it was,
+    // and that what the files hold stays.
+    ensures fails { Fails (seen F.contents F.failed_names D.disks D.told D.unsynced D.faults D.failed_names S.written S.faults files.old drives.old sink.old)
+        (seen F.contents F.failed_names D.disks D.told D.unsynced D.faults D.failed_names S.written S.faults files.new drives.new sink.new) result }
+    ensures nothing { IsRefusal result → sink.new ≡ sink.old }
+    ensures synced { result ≡ Status.Ran → SyncsAttached (size_of (D.disks drives.old)) (size_of (D.disks drives.new)) (D.unsynced drives.new) }
+    ensures files { (other : List ℕ) → F.contents files.new other ≡ F.contents files.old other }
+
+    // `gen`: the run of a seed's machine is reported in three lines, by the outputs of its model after those steps; files and drives are
     // as they were.
     ensures seeded { (asked : Seeded) → seeded_of (texts words.now) ≡ Some asked
         → EndsSeeded asked (S.written sink.old) (S.written sink.new) (S.faults sink.old) (S.faults sink.new) result }
@@ -131,28 +92,20 @@ fn run_command<F: Files, D: Drives, S: Sink>(
 ) -> Status
     requires { asked.steps ≤ GREATEST_STEP }
     ensures usage { result ≢ Status.Usage }
-    ensures ran { result ≡ Status.Ran
-        → WritesAll (host F.contents D.disks files.old drives.old) (image_named (D.disks drives.new)) (D.unsynced drives.new) (command_on name.now asked) (S.written sink.old) (S.written sink.new) }
-    ensures synced { result ≡ Status.Ran → SyncsAttached (D.attached drives.old) (D.attached drives.new) (D.unsynced drives.new) }
-    ensures reason { Ends (host F.contents D.disks files.old drives.old) asked.form name.now
+    ensures writes { Writes (sink.new ≡ sink.old) (command_on name.now asked)
+        (seen F.contents F.failed_names D.disks D.told D.unsynced D.faults D.failed_names S.written S.faults files.old drives.old sink.old)
+        (seen F.contents F.failed_names D.disks D.told D.unsynced D.faults D.failed_names S.written S.faults files.new drives.new sink.new) result }
+    ensures program { asked.form ≡ Form.Program → drives.new ≡ drives.old }
+    ensures fails { Fails (seen F.contents F.failed_names D.disks D.told D.unsynced D.faults D.failed_names S.written S.faults files.old drives.old sink.old)
+        (seen F.contents F.failed_names D.disks D.told D.unsynced D.faults D.failed_names S.written S.faults files.new drives.new sink.new) result }
+    ensures reason { Ends (host F.contents D.told files.old drives.old) asked.form name.now
         (failed F.failed_names D.faults D.failed_names files.old drives.old) (failed F.failed_names D.faults D.failed_names files.new drives.new) result }
-    ensures names { UnlessReadFault result (F.failed_names files.new ≡ F.failed_names files.old) }
-    ensures drive_names { UnlessDiskFault result (D.failed_names drives.new ≡ D.failed_names drives.old) }
-    ensures drive_faults { UnlessDiskFault result (D.faults drives.new ≡ D.faults drives.old) }
     ensures missing { F.missing files.old name.now → EndsAs Status.ReadFault result }
     ensures missing_script { (bytes script : List ℕ) → F.contents files.old name.now ≡ Some bytes → length bytes ≤ room_for (input_said asked.form)
         → script_name asked.form bytes ≡ Some script → F.missing files.old script → EndsAs Status.ReadFault result }
-    ensures write { (step : ℕ) → result ≡ Status.WriteFault step → Rose (S.faults sink.old) (S.faults sink.new) }
-    ensures write_text { (step : ℕ) → result ≡ Status.WriteFault step
-        → WritesPart (host F.contents D.disks files.old drives.old) (image_named (D.disks drives.new)) (command_on name.now asked) (S.written sink.old) (S.written sink.new) step }
-    ensures count { UnlessWriteFault result (S.faults sink.new ≡ S.faults sink.old) }
-    ensures disk_text { (step : ℕ) → result ≡ Status.DiskFault step
-        → ((step ≡ 0) × (sink.new ≡ sink.old)) ⊎ WritesClosed (host F.contents D.disks files.old drives.old) (image_named (D.disks drives.new)) (command_on name.now asked) (S.written sink.old) (S.written sink.new)
-        (S.faults sink.old) (S.faults sink.new) step }
     ensures nothing { IsRefusal result → sink.new ≡ sink.old }
-    ensures images { IsEarly result → SameImages (D.disks drives.old) (D.disks drives.new) }
+    ensures synced { result ≡ Status.Ran → SyncsAttached (size_of (D.disks drives.old)) (size_of (D.disks drives.new)) (D.unsynced drives.new) }
     ensures files { (other : List ℕ) → F.contents files.new other ≡ F.contents files.old other }
-    ensures program { asked.form ≡ Form.Program → drives.new ≡ drives.old }
 {
     match boot(alloc, name, asked.form, files, drives) {
         Ok(mut machine) => {
@@ -178,8 +131,8 @@ fn stopped(error: RunFault) -> Status
 /// Closes the unfinished lines where a drive failed; where the sink did nothing is written any more.
 fn close<S: Sink>(fault: StepFault, render: &mut Render, sink: &mut S)
     ensures left { fault ≡ StepFault.WriteFault → sink.new ≡ sink.old }
-    ensures closes { (s : State) (first : Option (List ℕ)) → ShowsBefore fault render.old (S.written sink.old) s first
-        → ClosesAfter fault render.old.trace s first (S.written sink.new) (S.faults sink.old) (S.faults sink.new) }
+    ensures closes { (s : State) (first : List ℕ) → ShowsBefore fault render.old (S.written sink.old) s first
+        → ClosesAfter fault render.old.trace s (record { text = first; faults = S.faults sink.old }) (printed S.written S.faults sink.new) }
 {
     match fault {
         StepFault::DiskFault => {
@@ -202,29 +155,25 @@ fn run_to_end<D: Drives, S: Sink, L: Ledger>(
     requires no_completions { NoCompletions machine.old.system }
     requires start { machine.old.system.steps ≡ 0 }
     requires idle { machine.old.system.kernel.disk.served ≡ None }
-    requires holds { HoldsDrives D.attached D.disks machine.old.system.kernel machine.old.bdos drives.old }
+    requires holds { HoldsDrives D.disks machine.old.system.kernel machine.old.bdos drives.old }
     requires limit { asked.steps ≤ GREATEST_STEP }
     requires name { blank.name ≡ L.name }
     requires parts { blank.parts ≡ L.parts }
     requires some_part { 0 < L.parts }
-    ensures ok { (on : List NumberedDrive) → StandsForFiles machine.old.system.kernel.disk machine.old.bdos (D.disks drives.old) (Between (untouched (placed on)))
-        → OnOk result (S.written sink.new ≡ appended (S.written sink.old) (closed asked.trace (carried (after asked.steps (begun machine.old.system on))).outputs)) }
-    ensures steps { OnOk result (WritesSteps asked.trace asked.steps machine.old.bdos machine.old.system (S.written sink.old) (S.written sink.new)) }
-    ensures stops { IfErr result (λ error. StopsSteps error.fault asked.trace asked.steps machine.old.bdos machine.old.system (S.written sink.old) (S.written sink.new)
-        (S.faults sink.old) (S.faults sink.new) error.step) }
-    ensures images { (specs : List DriveSpec) (on : List NumberedDrive) → HasDrives (D.disks drives.old) specs machine.old.bdos.mounted
+    ensures runs { (specs : List DriveSpec) (on : List NumberedDrive) → HasDrives (D.disks drives.old) specs machine.old.bdos.mounted
         → StandsForFiles machine.old.system.kernel.disk machine.old.bdos (D.disks drives.old) (Between (untouched (placed on)))
-        → OnOk result (StandFor (image_named (D.disks drives.new)) specs (drives_left (after asked.steps (begun machine.old.system on)))) }
-    ensures err { (specs : List DriveSpec) (on : List NumberedDrive) → HasDrives (D.disks drives.old) specs machine.old.bdos.mounted
+        → OnOk result (RunsOut (StandFor (D.disks drives.new) (D.told drives.new) specs) asked.trace (begun machine.old.system on) asked.steps
+        (printed S.written S.faults sink.old) (printed S.written S.faults sink.new)) }
+    ensures stops { (specs : List DriveSpec) (on : List NumberedDrive) → HasDrives (D.disks drives.old) specs machine.old.bdos.mounted
         → StandsForFiles machine.old.system.kernel.disk machine.old.bdos (D.disks drives.old) (Between (untouched (placed on)))
-        → IfErr result (λ error. StopsRun (StandFor (image_named (D.disks drives.new)) specs) error.fault asked.trace (begun machine.old.system on) asked.steps
-        (S.written sink.old) (S.written sink.new) (S.faults sink.old) (S.faults sink.new) error.step) }
+        → IfErr result (λ error. StopsRun (StandFor (D.disks drives.new) (D.told drives.new) specs) error.fault asked.trace (begun machine.old.system on) asked.steps
+        (printed S.written S.faults sink.old) (printed S.written S.faults sink.new) error.step) }
     ensures others { (specs : List DriveSpec) → HasDrives (D.disks drives.old) specs machine.old.bdos.mounted
-        → KeepsOthers (image_named (D.disks drives.old)) (image_named (D.disks drives.new)) specs }
+        → KeepsOthers (D.told drives.old) (D.told drives.new) specs }
     ensures synced { OnOk result (AreSynced (D.unsynced drives.new) machine.old.bdos.mounted) }
-    ensures attached { (number : ℕ) → D.attached drives.new number ≡ D.attached drives.old number }
+    ensures sizes { (number : ℕ) → size_of (D.disks drives.new) number ≡ size_of (D.disks drives.old) number }
     ensures within { IfErr result (λ error. error.step ≤ asked.steps) }
-    ensures early { IfErr result (λ error. error.step ≡ 0 → SameImages (D.disks drives.old) (D.disks drives.new)) }
+    ensures early { IfErr result (λ error. error.step ≡ 0 → D.told drives.new ≡ D.told drives.old) }
     ensures cause { MatchResult result (λ _. counts S.faults D.faults sink.new drives.new ≡ counts S.faults D.faults sink.old drives.old)
         (λ error. Causes error.fault (counts S.faults D.faults sink.old drives.old) (counts S.faults D.faults sink.new drives.new)) }
     ensures names { D.failed_names drives.new ≡ D.failed_names drives.old }

@@ -2,7 +2,8 @@ ghost use Rattle.std.specs.Prelude.{◌≡◌, ◌≢◌, ◌≤◌, ◌<◌, �
 ghost use Rattle.mpm_script.specs.declared.line.TheConstants.{GREATEST_STEP};
 ghost use Rattle.mpm_base.specs.declared.kind.Kind.TheVariants.{Hd4};
 ghost use Rattle.mpm_port.specs.Causes.{Rose};
-ghost use Rattle.mpm_port.specs.MemoryDisks.{disks_of, size_of};
+ghost use Rattle.mpm_port.specs.Disks.{size_of};
+ghost use Rattle.mpm_port.specs.MemoryDisks.{disks_of};
 ghost use Rattle.mpm_render.specs.Outputs.{closed};
 ghost use Rattle.mpm_generator.specs.Machines.{machine as machine_said, script as script_said, drives_of};
 ghost use Rattle.mpm_drives.specs.Mounted.{NumberedDrive, placed};
@@ -15,7 +16,9 @@ ghost use Rattle.mpm_machine.specs.Mounting.{untouched};
 ghost use Rattle.mpm_machine.specs.After.{after};
 ghost use Rattle.mpm_machine.specs.Settling.{carried};
 ghost use Rattle.mpm_top.specs.Words.{texts};
-ghost use Rattle.mpm_top.specs.Runs.{begun, drives_left, IsRefusal, UnlessWriteFault};
+ghost use Rattle.mpm_top.specs.Beginnings.{begun};
+ghost use Rattle.mpm_top.specs.Runs.{drives_left};
+ghost use Rattle.mpm_top.specs.Endings.{IsRefusal, UnlessWriteFault};
 ghost use Rattle.mpm_top.specs.Data.{HasDriveA};
 ghost use Rattle.mpm_top.specs.Seeds.{seeded_of, AreOf, AreFound, EndsSeeded};
 
@@ -135,11 +138,11 @@ fn find_of(
     requires whole { IsWhole machine.old.system }
     requires no_completions { NoCompletions machine.old.system }
     requires start { machine.old.system.steps ≡ 0 }
-    requires holds { HoldsDrives size_of (λ d. Some (disks_of d)) machine.old.system.kernel machine.old.bdos drives.old }
+    requires holds { HoldsDrives disks_of machine.old.system.kernel machine.old.bdos drives.old }
     requires limit { steps ≤ GREATEST_STEP }
-    requires size { size_of drives.old 0 ≡ Some 4194304 }
+    requires size { size_of (disks_of drives.old) 0 ≡ Some 4194304 }
     requires drive { option_map labelled (directory_at machine.old.bdos.mounted 0) ≡ Some (0, Hd4) }
-    ensures { (on : List NumberedDrive) → StandsForFiles machine.old.system.kernel.disk machine.old.bdos (Some (disks_of drives.old)) (Between (untouched (placed on)))
+    ensures { (on : List NumberedDrive) → StandsForFiles machine.old.system.kernel.disk machine.old.bdos (disks_of drives.old) (Between (untouched (placed on)))
         → IfOk result (λ found. AreOf steps (begun machine.old.system on) found) }
 {
     match LineCounts::new(alloc) {
@@ -167,18 +170,18 @@ fn run_counted<L: Ledger>(
     requires whole { IsWhole machine.old.system }
     requires no_completions { NoCompletions machine.old.system }
     requires start { machine.old.system.steps ≡ 0 }
-    requires holds { HoldsDrives size_of (λ d. Some (disks_of d)) machine.old.system.kernel machine.old.bdos drives.old }
+    requires holds { HoldsDrives disks_of machine.old.system.kernel machine.old.bdos drives.old }
     requires limit { steps ≤ GREATEST_STEP }
     requires drive { option_map labelled (directory_at machine.old.bdos.mounted 0) ≡ Some (0, Hd4) }
     requires name { blank.name ≡ L.name }
     requires parts { blank.parts ≡ L.parts }
     requires some_part { 0 < L.parts }
-    ensures text { (on : List NumberedDrive) → StandsForFiles machine.old.system.kernel.disk machine.old.bdos (Some (disks_of drives.old)) (Between (untouched (placed on)))
+    ensures text { (on : List NumberedDrive) → StandsForFiles machine.old.system.kernel.disk machine.old.bdos (disks_of drives.old) (Between (untouched (placed on)))
         → counts.new ≡ counts.old ++ closed true (carried (after steps (begun machine.old.system on))).outputs }
-    ensures files { (on : List NumberedDrive) → StandsForFiles machine.old.system.kernel.disk machine.old.bdos (Some (disks_of drives.old)) (Between (untouched (placed on)))
-        → HasDriveA (Some (disks_of drives.new)) (directory_at machine.new.bdos.mounted 0) (drives_left (after steps (begun machine.old.system on))) }
+    ensures files { (on : List NumberedDrive) → StandsForFiles machine.old.system.kernel.disk machine.old.bdos (disks_of drives.old) (Between (untouched (placed on)))
+        → HasDriveA (disks_of drives.new) (directory_at machine.new.bdos.mounted 0) (drives_left (after steps (begun machine.old.system on))) }
     ensures drive { option_map labelled (directory_at machine.new.bdos.mounted 0) ≡ Some (0, Hd4) }
-    ensures attached { (number : ℕ) → size_of drives.new number ≡ size_of drives.old number }
+    ensures sizes { (number : ℕ) → size_of (disks_of drives.new) number ≡ size_of (disks_of drives.old) number }
 {
     let mut calls = Steps::<L>::new(blank);
     let mut render = Render::new(true);

@@ -38,7 +38,7 @@ pub enum Status {
 
 impl Input {
     ghost use Rattle.std.specs.Prelude.{◌≡◌};
-    ghost use Rattle.mpm_top.specs.Runs.{room_for};
+    ghost use Rattle.mpm_top.specs.Beginnings.{room_for};
 
     /// The most bytes that it may have.
     pub(crate) fn room(self) -> usize

@@ -1,7 +1,8 @@
 //! A reader of disks in memory by their bytes: where entries and records are is told by the guides alone. (CP/M Alteration Guide,
 //! "Disk Parameter Tables"; MP/M II System Guide, "Disk Definition Tables".)
 ghost use Rattle.std.specs.Prelude.{◌≡◌, ◌<◌, Some, IsSome, IsTrue, IfOk};
-ghost use Rattle.mpm_port.specs.MemoryDisks.{size_of};
+ghost use Rattle.mpm_port.specs.Disks.{size_of};
+ghost use Rattle.mpm_port.specs.MemoryDisks.{disks_of};
 ghost use Rattle.mpm_blocks.specs.Geometries.{geometry_of};
 
 use mpm_base::Kind;
@@ -12,9 +13,10 @@ use std::alloc::Global;
 use std::test::Fail;
 
 /// The bytes of a sector of drive 0.
+#[tactic(auto, unfolding(mpm_port::specs::MemoryDisks::after_access))]
 fn sector(drives: &mut MemoryDrives, kind: Kind, number: u32) -> [u8; 128]
-    requires { size_of drives.old 0 ≡ Some (geometry_of kind).bytes }
-    ensures { size_of drives.new 0 ≡ Some (geometry_of kind).bytes }
+    requires { size_of (disks_of drives.old) 0 ≡ Some (geometry_of kind).bytes }
+    ensures { size_of (disks_of drives.new) 0 ≡ Some (geometry_of kind).bytes }
 {
     let mut bytes = [0; 128];
     let sector = place(kind, number);
@@ -26,8 +28,8 @@ fn sector(drives: &mut MemoryDrives, kind: Kind, number: u32) -> [u8; 128]
 
 /// Puts bytes into a sector of drive 0.
 fn put_sector(drives: &mut MemoryDrives, kind: Kind, number: u32, bytes: &[u8; 128])
-    requires { size_of drives.old 0 ≡ Some (geometry_of kind).bytes }
-    ensures { size_of drives.new 0 ≡ Some (geometry_of kind).bytes }
+    requires { size_of (disks_of drives.old) 0 ≡ Some (geometry_of kind).bytes }
+    ensures { size_of (disks_of drives.new) 0 ≡ Some (geometry_of kind).bytes }
 {
     let sector = place(kind, number);
     if sector < geometry(kind).bytes / 128 {
@@ -37,8 +39,8 @@ fn put_sector(drives: &mut MemoryDrives, kind: Kind, number: u32, bytes: &[u8; 1
 
 /// Gives all bytes of a block of drive 0 the value E5h.
 fn empty_block(drives: &mut MemoryDrives, kind: Kind, block: u16)
-    requires { size_of drives.old 0 ≡ Some (geometry_of kind).bytes }
-    ensures { size_of drives.new 0 ≡ Some (geometry_of kind).bytes }
+    requires { size_of (disks_of drives.old) 0 ≡ Some (geometry_of kind).bytes }
+    ensures { size_of (disks_of drives.new) 0 ≡ Some (geometry_of kind).bytes }
 {
     let records = layout_of(kind).block;
     let first = u32::from(block).saturating_mul(records);
@@ -49,8 +51,8 @@ fn empty_block(drives: &mut MemoryDrives, kind: Kind, block: u16)
 
 /// Puts the first eight slots of drive 0 as they were, and the first three blocks of files and the last.
 pub(crate) fn restore(drives: &mut MemoryDrives, kind: Kind, entries: &[Entry])
-    requires { size_of drives.old 0 ≡ Some (geometry_of kind).bytes }
-    ensures { size_of drives.new 0 ≡ Some (geometry_of kind).bytes }
+    requires { size_of (disks_of drives.old) 0 ≡ Some (geometry_of kind).bytes }
+    ensures { size_of (disks_of drives.new) 0 ≡ Some (geometry_of kind).bytes }
 {
     put_sector(drives, kind, 0, &directory_sector(entries, 0));
     put_sector(drives, kind, 1, &directory_sector(entries, 4));
@@ -63,8 +65,8 @@ pub(crate) fn restore(drives: &mut MemoryDrives, kind: Kind, entries: &[Entry])
 
 /// The entries of the first eight slots of drive 0.
 pub(crate) fn entries(drives: &mut MemoryDrives, kind: Kind) -> [Entry; 8]
-    requires { size_of drives.old 0 ≡ Some (geometry_of kind).bytes }
-    ensures { size_of drives.new 0 ≡ Some (geometry_of kind).bytes }
+    requires { size_of (disks_of drives.old) 0 ≡ Some (geometry_of kind).bytes }
+    ensures { size_of (disks_of drives.new) 0 ≡ Some (geometry_of kind).bytes }
 {
     let first = sector(drives, kind, 0);
     let second = sector(drives, kind, 1);
@@ -126,8 +128,8 @@ pub(crate) fn record(
     letter: u8,
     number: u32,
 ) -> u8
-    requires { size_of drives.old 0 ≡ Some (geometry_of kind).bytes }
-    ensures { size_of drives.new 0 ≡ Some (geometry_of kind).bytes }
+    requires { size_of (disks_of drives.old) 0 ≡ Some (geometry_of kind).bytes }
+    ensures { size_of (disks_of drives.new) 0 ≡ Some (geometry_of kind).bytes }
 {
     match record_among(kind, entries, letter, number) {
         Some(at) => one_byte(&sector(drives, kind, at)),
@@ -137,7 +139,7 @@ pub(crate) fn record(
 
 /// Drive 0 in memory with an image.
 pub(crate) fn attached(alloc: Global, image: &[u8]) -> Result<MemoryDrives, Fail>
-    ensures { IfOk result (λ drives. IsSome (size_of drives 0)) }
+    ensures { IfOk result (λ drives. IsSome (size_of (disks_of drives) 0)) }
 {
     let mut drives = MemoryDrives::new(alloc);
     drives.add("disk", image)?;
@@ -148,10 +150,11 @@ pub(crate) fn attached(alloc: Global, image: &[u8]) -> Result<MemoryDrives, Fail
 }
 
 /// Whether drive 0 has the size of a kind, by one call.
+#[tactic(auto, unfolding(mpm_port::specs::MemoryDisks::after_access))]
 pub(crate) fn has_size(drives: &mut MemoryDrives, kind: Kind) -> bool
-    requires { IsSome (size_of drives.old 0) }
-    ensures same { size_of drives.new 0 ≡ size_of drives.old 0 }
-    ensures size { IsTrue result → size_of drives.new 0 ≡ Some (geometry_of kind).bytes }
+    requires { IsSome (size_of (disks_of drives.old) 0) }
+    ensures same { size_of (disks_of drives.new) 0 ≡ size_of (disks_of drives.old) 0 }
+    ensures size { IsTrue result → size_of (disks_of drives.new) 0 ≡ Some (geometry_of kind).bytes }
 {
     drives.size(0) == Ok(u64::from(geometry(kind).bytes))
 }

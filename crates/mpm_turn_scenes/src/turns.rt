@@ -1,6 +1,7 @@
 //! Jobs by their turns on drive 0 in memory, where a call of the drive fails, and what is then seen of the disk.
 ghost use Rattle.std.specs.Prelude.{◌≡◌, ◌<◌, Some, IsSome, IfOk};
-ghost use Rattle.mpm_port.specs.MemoryDisks.{size_of, disks_of};
+ghost use Rattle.mpm_port.specs.Disks.{size_of};
+ghost use Rattle.mpm_port.specs.MemoryDisks.{disks_of};
 ghost use Rattle.mpm_blocks.specs.Geometries.{geometry_of};
 ghost use Rattle.mpm_cache.specs.Coherent.{IsCoherent, HasNoAlias};
 
@@ -80,12 +81,12 @@ fn ends<L: Ledger>(
     drives: &mut MemoryDrives,
     steps: &mut Steps<L>,
 ) -> bool
-    requires size { size_of drives.old mounted.old.drive ≡ Some (geometry_of mounted.old.kind).bytes }
-    requires coherent { IsCoherent cache.old (Some (disks_of drives.old)) }
-    requires apart { HasNoAlias cache.old (Some (disks_of drives.old)) mounted.old.drive }
-    ensures size { size_of drives.new mounted.old.drive ≡ Some (geometry_of mounted.old.kind).bytes }
-    ensures coherent { IsCoherent cache.new (Some (disks_of drives.new)) }
-    ensures apart { HasNoAlias cache.new (Some (disks_of drives.new)) mounted.old.drive }
+    requires size { size_of (disks_of drives.old) mounted.old.drive ≡ Some (geometry_of mounted.old.kind).bytes }
+    requires coherent { IsCoherent cache.old (disks_of drives.old) }
+    requires apart { HasNoAlias cache.old (disks_of drives.old) mounted.old.drive }
+    ensures size { size_of (disks_of drives.new) mounted.old.drive ≡ Some (geometry_of mounted.old.kind).bytes }
+    ensures coherent { IsCoherent cache.new (disks_of drives.new) }
+    ensures apart { HasNoAlias cache.new (disks_of drives.new) mounted.old.drive }
     ensures drive { mounted.new.drive ≡ mounted.old.drive }
     ensures kind { mounted.new.kind ≡ mounted.old.kind }
 {
@@ -107,12 +108,12 @@ fn does<L: Ledger>(
     steps: &mut Steps<L>,
     job: &Job,
 ) -> Option<Came>
-    requires size { size_of drives.old mounted.old.drive ≡ Some (geometry_of mounted.old.kind).bytes }
-    requires coherent { IsCoherent cache.old (Some (disks_of drives.old)) }
-    requires apart { HasNoAlias cache.old (Some (disks_of drives.old)) mounted.old.drive }
-    ensures size { size_of drives.new mounted.old.drive ≡ Some (geometry_of mounted.old.kind).bytes }
-    ensures coherent { IsCoherent cache.new (Some (disks_of drives.new)) }
-    ensures apart { HasNoAlias cache.new (Some (disks_of drives.new)) mounted.old.drive }
+    requires size { size_of (disks_of drives.old) mounted.old.drive ≡ Some (geometry_of mounted.old.kind).bytes }
+    requires coherent { IsCoherent cache.old (disks_of drives.old) }
+    requires apart { HasNoAlias cache.old (disks_of drives.old) mounted.old.drive }
+    ensures size { size_of (disks_of drives.new) mounted.old.drive ≡ Some (geometry_of mounted.old.kind).bytes }
+    ensures coherent { IsCoherent cache.new (disks_of drives.new) }
+    ensures apart { HasNoAlias cache.new (disks_of drives.new) mounted.old.drive }
     ensures drive { mounted.new.drive ≡ mounted.old.drive }
     ensures kind { mounted.new.kind ≡ mounted.old.kind }
 {
@@ -135,12 +136,12 @@ fn all_done<L: Ledger>(
     steps: &mut Steps<L>,
     jobs: &[Job],
 ) -> Option<Came>
-    requires size { size_of drives.old mounted.old.drive ≡ Some (geometry_of mounted.old.kind).bytes }
-    requires coherent { IsCoherent cache.old (Some (disks_of drives.old)) }
-    requires apart { HasNoAlias cache.old (Some (disks_of drives.old)) mounted.old.drive }
-    ensures size { size_of drives.new mounted.old.drive ≡ Some (geometry_of mounted.old.kind).bytes }
-    ensures coherent { IsCoherent cache.new (Some (disks_of drives.new)) }
-    ensures apart { HasNoAlias cache.new (Some (disks_of drives.new)) mounted.old.drive }
+    requires size { size_of (disks_of drives.old) mounted.old.drive ≡ Some (geometry_of mounted.old.kind).bytes }
+    requires coherent { IsCoherent cache.old (disks_of drives.old) }
+    requires apart { HasNoAlias cache.old (disks_of drives.old) mounted.old.drive }
+    ensures size { size_of (disks_of drives.new) mounted.old.drive ≡ Some (geometry_of mounted.old.kind).bytes }
+    ensures coherent { IsCoherent cache.new (disks_of drives.new) }
+    ensures apart { HasNoAlias cache.new (disks_of drives.new) mounted.old.drive }
     ensures drive { mounted.new.drive ≡ mounted.old.drive }
     ensures kind { mounted.new.kind ≡ mounted.old.kind }
 {
@@ -156,8 +157,8 @@ fn all_done<L: Ledger>(
 
 /// What is seen of drive 0.
 fn look(drives: &mut MemoryDrives, kind: Kind, first: u32) -> Seen
-    requires { size_of drives.old 0 ≡ Some (geometry_of kind).bytes }
-    ensures { size_of drives.new 0 ≡ Some (geometry_of kind).bytes }
+    requires { size_of (disks_of drives.old) 0 ≡ Some (geometry_of kind).bytes }
+    ensures { size_of (disks_of drives.new) 0 ≡ Some (geometry_of kind).bytes }
 {
     let found = entries(drives, kind);
     let mut slots = [FREE; 8];
@@ -203,8 +204,8 @@ fn left_now(
     scene: &Scene<'_>,
     came: Option<Came>,
 ) -> Result<Left, Fail>
-    requires attached { IsSome (size_of drives.old 0) }
-    ensures attached { IsSome (size_of drives.new 0) }
+    requires attached { IsSome (size_of (disks_of drives.old) 0) }
+    ensures attached { IsSome (size_of (disks_of drives.new) 0) }
 {
     let is_next = !has_size(drives, scene.kind);
     if !has_size(drives, scene.kind) {
@@ -235,8 +236,8 @@ fn done<L: Ledger>(
     requires name { blank.name ≡ L.name }
     requires parts { blank.parts ≡ L.parts }
     requires some { 0 < L.parts }
-    requires attached { IsSome (size_of drives.old 0) }
-    ensures { IsSome (size_of drives.new 0) }
+    requires attached { IsSome (size_of (disks_of drives.old) 0) }
+    ensures { IsSome (size_of (disks_of drives.new) 0) }
 {
     let mut steps = Steps::<L>::new(blank);
     let mut cache = Cache::new(alloc)?;
@@ -258,8 +259,8 @@ fn behind_mounting(kind: Kind, call: u64) -> u64 {
 
 /// Calls the drive up to the call of a number, which fails.
 fn call_up_to(drives: &mut MemoryDrives, kind: Kind, number: u64) -> Result<(), Fail>
-    requires attached { IsSome (size_of drives.old 0) }
-    ensures attached { IsSome (size_of drives.new 0) }
+    requires attached { IsSome (size_of (disks_of drives.old) 0) }
+    ensures attached { IsSome (size_of (disks_of drives.new) 0) }
 {
     drives.fail_at(number)?;
     for _ in 0..ROUND {
@@ -281,8 +282,8 @@ fn left_in(
     round: u64,
     call: u64,
 ) -> Result<Left, Fail>
-    requires attached { IsSome (size_of drives.old 0) }
-    ensures attached { IsSome (size_of drives.new 0) }
+    requires attached { IsSome (size_of (disks_of drives.old) 0) }
+    ensures attached { IsSome (size_of (disks_of drives.new) 0) }
 {
     if !has_size(drives, scene.kind) {
         return Err(Fail::from("the image has another size"));
@@ -297,7 +298,7 @@ fn left_in(
 
 /// The drive of a scene.
 fn drive(alloc: Global, scene: &Scene<'_>) -> Result<MemoryDrives, Fail>
-    ensures { IfOk result (λ drives. IsSome (size_of drives 0)) }
+    ensures { IfOk result (λ drives. IsSome (size_of (disks_of drives) 0)) }
 {
     let image = image(alloc, scene.kind, scene.entries)?;
     attached(alloc, image.as_slice())
@@ -337,7 +338,7 @@ fn first_in(
     scene: &Scene<'_>,
     came: Came,
 ) -> Result<Option<(u64, Left)>, Fail>
-    requires attached { IsSome (size_of drives.old 0) }
+    requires attached { IsSome (size_of (disks_of drives.old) 0) }
 {
     let count = call_count(scene);
     for call in 1..count.saturating_add(2) {

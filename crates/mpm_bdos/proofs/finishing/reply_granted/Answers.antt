@@ -1,10 +1,9 @@
-use Rattle.std.proofs.Common.{◌∙◌, [], None, if◌then◌else◌, refl, sym, ap}
+use Rattle.std.proofs.Common.{◌∙◌, [], None, refl, sym, ap}
 use Rattle.std.specs.Option.{option_copied}
 use Rattle.mpm_marks.specs.Driving.{protected_by, marks_by, freed_by}
 use Rattle.mpm_bdos.specs.Serving.{InService}
 use Rattle.mpm_bdos.specs.Finishing.{serving}
 use Rattle.mpm_bdos.proofs.UserLaws.{users_driven}
-use Rattle.mpm_bdos.proofs.Answerable.{nothing_granted}
 use Rattle.mpm_bdos.proofs.FinishLaws.{granted_on_drives, granted_named}
 use Rattle.mpm_bdos.proofs.finishing.reply_granted.Goals as goal
 
@@ -20,7 +19,7 @@ returns-then-is_on_drives-clause-finished c = λ images s moment refusal serves 
     let service : InService = record { caller = c.args.caller.now; function = c.args.function; drive = c.args.drive; call = c.args.call.now; moment = moment; refusal = refusal; work = c.args.work.now; deleted = c.args.deleted.now } in
     let p = c.args.caller.now.process in
     granted_on_drives images (serving c.args.mounted.now c.args.protected.now c.args.opens.now c.args.marks.now c.args.searches.now service) service s c.has.result c.reply_on_drives.new.reply c.reply_on_drives.new.protected c.reply_on_drives.new.opens c.reply_on_drives.new.marks
-    refl serves none (sym c.is_on_drives.ensures.value ∙ c.if-is_on_drives.true) c.position_of_call.ensures.size c.has.ensures.value
+    refl serves none (sym c.is_on_drives.ensures ∙ c.if-is_on_drives.true) c.position_of_call.ensures.size c.has.ensures.value
     (c.reply_on_drives.ensures.reply ∙ ap (λ dma. record { hl = 0; fcb = None; at = dma; bytes = [] }) c.dma_of_call.ensures)
     (c.reply_on_drives.ensures.protected ∙ ap (λ word. protected_by c.args.protected.now c.has.result c.args.caller.now.drive word c.args.function) c.word_of_call.ensures)
     (c.reply_on_drives.ensures.opens ∙ ap (λ word. freed_by c.args.opens.now p word c.args.function) c.word_of_call.ensures)
@@ -30,13 +29,5 @@ pub returns-else-is_on_drives-clause-finished : goal.returns-else-is_on_drives-c
 returns-else-is_on_drives-clause-finished c = λ images s moment refusal serves none.
     let service : InService = record { caller = c.args.caller.now; function = c.args.function; drive = c.args.drive; call = c.args.call.now; moment = moment; refusal = refusal; work = c.args.work.now; deleted = c.args.deleted.now } in
     granted_named images (serving c.args.mounted.now c.args.protected.now c.args.opens.now c.args.marks.now c.args.searches.now service) service s (option_copied c.get.result) c.reply_on.new.reply c.reply_on.new.opens c.reply_on.new.searches
-    refl serves none (sym c.is_on_drives.ensures.value ∙ c.if-is_on_drives.false) c.requires.caller c.requires.users c.position_of_call.ensures.size c.position_of_call.ensures.low
-    c.get.ensures.place (λ image d there answering. c.reply_on.ensures.replied image d s.filing.drives c.args.marks.now moment there answering)
-
-pub returns-then-is_on_drives-clause-may : goal.returns-then-is_on_drives-clause-may
-returns-then-is_on_drives-clause-may c =
-    nothing_granted c.args.function c.args.caller.now.multi c.args.call.now.fcb c.args.call.now.dma c.dma_of_call.result 0 c.reply_on_drives.new.reply c.requires.caller.some
-    (sym (ap (λ b. if b then 1 else 0) (c.is_on_drives.ensures.unread c.if-is_on_drives.true))) c.reply_on_drives.ensures.reply c.dma_of_call.ensures
-
-pub returns-else-is_on_drives-clause-may : goal.returns-else-is_on_drives-clause-may
-returns-else-is_on_drives-clause-may c = c.reply_on.ensures.may
+    refl serves none (sym c.is_on_drives.ensures ∙ c.if-is_on_drives.false) c.requires.caller c.requires.users c.position_of_call.ensures.size c.position_of_call.ensures.low
+    c.get.ensures (λ image d there answering. c.reply_on.ensures.replied image d s.filing.drives c.args.marks.now moment there answering)

@@ -1,10 +1,8 @@
 use Rattle.std.proofs.Common.{◌∙◌, sym, ap, subst}
-use Rattle.mpm_base.specs.Calls.{Taken}
 use Rattle.std.specs.Option.{option_copied}
 use Rattle.std.proofs.lemmas.Option.{same_Some, none-some}
 use Rattle.mpm_requests.specs.Asking.{called}
 use Rattle.mpm_bdos.specs.Replying.{IsAnswering}
-use Rattle.mpm_bdos.proofs.Answerable.{nothing_granted}
 use Rattle.mpm_bdos.proofs.finishing.reply_on.Goals as goal
 
 pub returns-in-Some-clause-replied : goal.returns-in-Some-clause-replied
@@ -16,8 +14,3 @@ returns-in-Some-clause-replied c = λ image d drives marks moment there answerin
 
 pub returns-in-None-clause-replied : goal.returns-in-None-clause-replied
 returns-in-None-clause-replied c = λ image d drives marks moment there answering. absurd (none-some d (sym (ap option_copied c.in-None.is) ∙ there))
-
-pub returns-in-None-clause-may : goal.returns-in-None-clause-may
-returns-in-None-clause-may c =
-    nothing_granted c.args.function c.args.caller.now.multi c.args.call.now.fcb c.args.call.now.dma c.call.inside.dma c.nothing_done.result c.answer_with.new.self c.requires.some c.nothing_done.ensures
-    c.answer_with.ensures (ap (λ (call : Taken). call.dma) c.call.view_is)

@@ -2,7 +2,6 @@ use Rattle.std.proofs.Common.{◌≡◌, ◌∙◌, IfSome, sym, ap, subst}
 use Rattle.mpm_entries.specs.declared.granting.Granted.{Granted}
 use Rattle.mpm_entries.specs.Granting.{is_moving, FewDone, IsPlaced, value_by}
 use Rattle.mpm_bdos.specs.Ending.{is_reading, HasRead}
-use Rattle.mpm_bdos.specs.Answering.{MayGrant}
 use Rattle.mpm_requests.specs.Asking.{key_asked, IsOwn}
 use Rattle.mpm_bdos.specs.Leaving.{left_by, left_first, granted_by}
 use Rattle.mpm_functions.specs.Ends.{done_by}
@@ -37,15 +36,9 @@ returns-clause-reply c = λ image drive records entry stands granted is.
     let same : c.grant-granted.result ≡ granted_by drive (left_first opens a work deleted) a work =
     c.grant-granted.ensures.granted image drive stands granted.in_file ∙ ap (λ o. granted_by drive o a work) left
     in
-    c.answer.ensures.all image drive records entry stands (subst (λ (g : Granted). FewDone a.caller.multi g.ended) (sym same) granted.few)
+    c.answer.ensures image drive records entry stands (subst (λ (g : Granted). FewDone a.caller.multi g.ended) (sym same) granted.few)
     (λ moves. subst IsPlaced (sym same) (granted.placed (sym (ap (λ (g : Granted). is_moving g.function) same) ∙ moves)))
     (λ reads. subst (λ (g : Granted). HasRead (done_by a.caller.multi (value_by drive g g.function)) work records) (sym same)
     (granted.read (sym (ap (λ (g : Granted). is_reading g.function) same) ∙ reads)))
     (c.told_found-told.ensures image drive stands ∙ ap (found_bytes drive) is)
     ∙ ap (λ g. answer_by drive g records entry c.args.fcb.now c.args.dma) same
-
-pub answer-requires-clause-block : goal.answer-requires-clause-block
-answer-requires-clause-block c = c.grant-granted.ensures.block ∙ c.requires.block
-
-pub returns-clause-may : goal.returns-clause-may
-returns-clause-may c = subst (λ function. MayGrant c.args.asked.now.caller.multi function c.args.fcb.now c.args.dma c.answer.new.reply) c.grant-granted.ensures.function c.answer.ensures.may

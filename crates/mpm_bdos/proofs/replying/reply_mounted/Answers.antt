@@ -1,17 +1,13 @@
 use Rattle.std.proofs.Common.{◌≡◌, ◌∙◌, ℕ, suc, List, Option, Some, None, sym, ap, subst}
 use Rattle.std.specs.Prelude.{option_map, slice_index_or, replicate}
-use Rattle.mpm_base.specs.Calls.{Taken}
 use Rattle.mpm_mount.specs.Drives.{FileName, Drive}
 use Rattle.mpm_mount.specs.Directories.{Stands}
-use Rattle.mpm_fcb.specs.Blocks.{block_of}
 use Rattle.mpm_requests.specs.declared.asking.Asked.{Asked}
-use Rattle.mpm_requests.specs.declared.caller.Caller.{Caller}
 use Rattle.mpm_requests.specs.Subjects.{drive_number, found, found_by}
 use Rattle.mpm_bdos.specs.Jobs.{call_turns, turned}
 use Rattle.mpm_requests.specs.Searches.{search_by, searches_by}
 use Rattle.mpm_bdos.specs.Changes.{search_of_call}
 use Rattle.mpm_bdos.specs.Replies.{answer_by}
-use Rattle.mpm_bdos.specs.Answering.{MayGrant}
 use Rattle.mpm_requests.specs.Asking.{called, asked_of, found_as}
 use Rattle.mpm_bdos.specs.Leaving.{IsInFile, IsGranted, left_first, granted_by, opens_left}
 use Rattle.mpm_bdos.proofs.StillLaws.{moved_drive, asked_still, still_found}
@@ -60,16 +56,3 @@ returns-clause-replied c = λ image drives marks moment answering.
           ∙ (λ i. searches_by searches p (λ entry. search_by last (drive_is i) user (block_is i) entry f) (found_by after user (block_is i) last f))
           ∙ ap (searches_by searches p (search_of_call s)) (still_found s answering.served.none);
     }
-
-pub answer_mounted-requires-clause-block : goal.answer_mounted-requires-clause-block
-answer_mounted-requires-clause-block c = c.ask-asked.ensures.block ∙ ap (λ (call : Taken). block_of call.fcb) (sym c.call.view_is)
-
-pub returns-clause-may : goal.returns-clause-may
-returns-clause-may c =
-    let reply = c.answer_mounted.new.reply in
-    let multi = c.args.caller.now.multi in
-    let fcb = c.call.inside.fcb in
-    let dma = c.call.inside.dma in
-    subst (λ (call : Taken). MayGrant multi c.args.function call.fcb call.dma reply) c.call.view_is
-    (subst (λ function. MayGrant multi function fcb dma reply) c.ask-asked.ensures.function
-    (subst (λ (caller : Caller). MayGrant caller.multi c.ask-asked.result.function fcb dma reply) c.ask-asked.ensures.caller c.answer_mounted.ensures.may))

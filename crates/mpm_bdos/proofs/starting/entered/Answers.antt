@@ -4,7 +4,7 @@ use Rattle.mpm_bdos.proofs.starting.entered.Goals as goal
 
 pub returns-clause-all : goal.returns-clause-all
 returns-clause-all c = λ image drives stands drive_is.
-    let refused = c.refusal_of-refusal.ensures.all image drives c.args.moment stands in
+    let refused = c.refusal_of-refusal.ensures image drives c.args.moment stands in
     let s = called drives c.args.protected.now c.args.opens.now c.args.marks.now c.args.searches.now c.args.caller.now c.args.function c.args.call.now c.args.moment in
     record {
       is = record { caller = refl; function = refl; drive = drive_is; call = c.copied.ensures; moment = refl; refusal = refused; deleted = λ none. c.deleted_of-deleted.ensures image s stands none refl refl drive_is c.block_of_call-block.ensures.block refl };
@@ -12,4 +12,4 @@ returns-clause-all c = λ image drives stands drive_is.
     }
 
 pub returns-clause-entered : goal.returns-clause-entered
-returns-clause-entered c = λ named. record { caller_is = refl; function_is = refl; call_is = c.copied.ensures; drive = named; row = c.refusal_of-refusal.ensures.row }
+returns-clause-entered c = record { caller_is = refl; function_is = refl; call_is = c.copied.ensures }

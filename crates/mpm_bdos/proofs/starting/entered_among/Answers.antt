@@ -1,7 +1,6 @@
 use Rattle.std.proofs.Common.{◌≡◌, ◌∙◌, ℕ, sym, ap, subst}
 use Rattle.std.specs.Prelude.{unwrap_or}
 use Rattle.mpm_requests.specs.Subjects.{drive_by, drive_number}
-use Rattle.mpm_requests.specs.Searches.{searched}
 use Rattle.mpm_requests.specs.Asking.{called, StandsFor}
 use Rattle.mpm_directories.specs.Places.{directory_at}
 use Rattle.mpm_bdos.specs.Starting.{Enters}
@@ -16,7 +15,7 @@ returns-clause-all c = λ images drives stand.
     c.drive_of_call-drive.ensures
     ∙ (λ i. unwrap_or (drive_by (c.get-search.ensures i) caller.drive (c.word_of_call-word.ensures i) (c.block_of_call-block.ensures.block i) c.args.function) caller.drive)
     in
-    let place = c.get.ensures.place ∙ ap (directory_at c.args.mounted.now) drive_is in
+    let place = c.get.ensures ∙ ap (directory_at c.args.mounted.now) drive_is in
     record {
       enters = subst (λ m. Enters (images number) m s c.entered.result) place
           (c.entered.ensures.all (images number) drives (subst (λ m. StandsFor (images number) m s) (sym place) (stand.each number)) drive_is);
@@ -27,13 +26,3 @@ returns-clause-drive c = λ drives.
     let caller = c.args.caller.now in
     c.entered.ensures.drive ∙ c.drive_of_call-drive.ensures
     ∙ (λ i. unwrap_or (drive_by (c.get-search.ensures i) caller.drive (c.word_of_call-word.ensures i) (c.block_of_call-block.ensures.block i) c.args.function) caller.drive)
-
-pub returns-clause-entered : goal.returns-clause-entered
-returns-clause-entered c =
-    let own = c.args.caller.now.drive in
-    c.entered.ensures.entered (record {
-      own = own;
-      search = searched c.get-search.result;
-      is = c.drive_of_call-drive.ensures
-          ∙ (λ i. unwrap_or (drive_by (searched c.get-search.result) own (c.word_of_call-word.ensures i) (c.block_of_call-block.ensures.block i) c.args.function) own);
-    })

@@ -1,10 +1,9 @@
-use Rattle.std.proofs.Common.{◌≡◌, suc, ◌<◌, Some, IfSome, refl, sym, ap, subst, ◌∙◌, arith}
-use Rattle.std.specs.Prelude.{IfOk, OnOk, OnErr, option_map}
-use Rattle.mpm_files.specs.Serving.{turns_in}
+use Rattle.std.proofs.Common.{Some, IfSome, refl, sym, ap, subst, ◌∙◌, arith}
+use Rattle.std.specs.Prelude.{OnErr, option_map}
 use Rattle.mpm_files.specs.Turning.{IsNextCached}
-use Rattle.mpm_bdos.specs.Turns.{HasLeft, IsCounted, IsWorking, IsContainedAt, labelled, progress_after}
+use Rattle.mpm_bdos.specs.Turns.{HasLeft, IsWorking, IsContainedAt, labelled}
 use Rattle.mpm_files.proofs.Causing.{cause_none}
-use Rattle.mpm_bdos.proofs.TurnedAt.{told_by_work, told_by_job, counts, labels_as, nothing_there, left_alone}
+use Rattle.mpm_bdos.proofs.TurnedAt.{told_by_job, labels_as, nothing_there, left_alone}
 use Rattle.mpm_bdos.proofs.turning.turn_at.Goals as goal
 
 pub returns-in-Some : goal.returns-in-Some
@@ -21,16 +20,13 @@ returns-in-Some g c =
       progress = λ before job j working.
           let service : IsWorking disks (Some c.in-Some.mounted) before job j work = subst (λ place. IsWorking disks place before job j work) c.in-Some.is working in
           told_by_job before job j work result service.service.serving did.progress;
-      told = subst (λ place. IfSome place (λ _. IfOk result (λ told. told ≡ progress_after (suc work.ended) (turns_in work)))) (sym c.in-Some.is) (told_by_work work result did.progress);
-      counted = subst (λ place. IfSome place (λ _. work.ended < turns_in work → OnOk result (IsCounted work c.turn-result.new.work))) (sym c.in-Some.is)
-          (λ more. counts work c.turn-result.new.work result did.units (did.counted more));
       same = ap Some (labels_as c.in-Some.mounted c.turn-result.new.mounted did.drive did.kind) ∙ ap (option_map labelled) (sym c.in-Some.is);
       calls = did.calls;
       reads = did.reads;
       reads_only = did.reads_only;
       cached = λ read next. did.cached read (subst (λ place. IfSome place (λ d. IsNextCached c.args.cache.now d work)) c.in-Some.is next);
       directory = c.kind.ensures.directory;
-      leaves = subst (λ place. HasLeft g.D.Drives.attached g.D.Drives.disks g.D.Drives.failed_names g.D.Drives.unsynced place c.args.cache.now c.turn-result.new.cache c.args.drives.now c.turn-result.new.drives)
+      leaves = subst (λ place. HasLeft g.D.Drives.disks g.D.Drives.told g.D.Drives.failed_names g.D.Drives.unsynced place c.args.cache.now c.turn-result.new.cache c.args.drives.now c.turn-result.new.drives)
           (sym c.in-Some.is) did.leaves;
       cause = did.cause;
     }
@@ -42,14 +38,12 @@ returns-in-None g c =
       ok = λ before job j suits working h. absurd (subst (λ place. IsWorking disks place before job j c.args.work.now) c.in-None.is working);
       err = λ before job j suits working h. tt;
       progress = λ before job j working. absurd (subst (λ place. IsWorking disks place before job j c.args.work.now) c.in-None.is working);
-      told = nothing_there _ c.args.place.now c.in-None.is;
-      counted = nothing_there _ c.args.place.now c.in-None.is;
       same = refl;
       calls = omega arith;
       reads = λ read. omega arith;
       reads_only = λ read other. refl;
       cached = λ read next. refl;
       directory = nothing_there _ c.args.place.now c.in-None.is;
-      leaves = left_alone g.D.Drives.attached g.D.Drives.disks g.D.Drives.failed_names g.D.Drives.unsynced c.args.place.now c.args.cache.now c.args.drives.now c.in-None.is;
+      leaves = left_alone g.D.Drives.disks g.D.Drives.told g.D.Drives.failed_names g.D.Drives.unsynced c.args.place.now c.args.cache.now c.args.drives.now c.in-None.is;
       cause = cause_none _ _;
     }

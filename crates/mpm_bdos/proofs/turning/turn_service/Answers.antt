@@ -1,10 +1,8 @@
-use Rattle.std.proofs.Common.{◌≡◌, suc, ◌<◌, Some, refl, sym, ap, subst, ◌∙◌, arith}
-use Rattle.std.specs.Prelude.{IfOk, OnOk, OnErr, option_map}
-use Rattle.mpm_files.specs.Serving.{turns_in}
-use Rattle.mpm_bdos.specs.Turns.{IsServing, IsServiceContained, OfWork, HasCountedIn, KeepsImages, KeepsUnsynced, ServesReading, ServesCached, drive_served, has_work, progress_after, without_work}
-use Rattle.mpm_bdos.proofs.Fitting.{stays_same, unsynced_same}
+use Rattle.std.proofs.Common.{Some, refl, sym, ap, subst, ◌∙◌, arith}
+use Rattle.std.specs.Prelude.{OnErr, option_map}
+use Rattle.mpm_bdos.specs.Turns.{IsServing, IsServiceContained, KeepsImages, KeepsUnsynced, ServesReading, ServesCached, drive_served, has_work, without_work}
+use Rattle.mpm_bdos.proofs.Fitting.{stays_same, told_same, unsynced_same}
 use Rattle.mpm_files.proofs.Causing.{cause_none}
-use Rattle.mpm_bdos.proofs.TurnedAt.{nothing_there}
 use Rattle.mpm_bdos.proofs.turning.turn_service.Goals as goal
 
 pub returns-in-Some : goal.returns-in-Some
@@ -21,8 +19,6 @@ returns-in-Some g c =
           subst (λ service. OnErr result (IsServiceContained disks' mounted before job j service)) (sym is)
           (did.err before job j suits (subst (λ service. IsServing disks mounted before job j service) is serving) h);
       progress = λ before job j serving. did.progress before job j (subst (λ service. IsServing disks mounted before job j service) is serving);
-      told = subst (λ service. OfWork mounted service (λ work. IfOk result (λ told. told ≡ progress_after (suc work.ended) (turns_in work)))) (sym is) did.told;
-      counted = subst (λ service. OfWork mounted service (λ work. work.ended < turns_in work → OnOk result (HasCountedIn work (Some c.turn.new.self)))) (sym is) did.counted;
       idle = λ none.
           let idle = did.idle (sym (ap has_work is) ∙ none) in
           record { call = ap Some idle.call ∙ sym is; directories = idle.directories; cache = idle.cache; drives = idle.drives; calls = idle.calls };
@@ -34,9 +30,9 @@ returns-in-Some g c =
       fits = did.fits;
       images = subst (λ service. KeepsImages (drive_served service) mounted disks disks') (sym is) did.images;
       beside = did.beside;
+      told_are = did.told_are;
       names = did.names;
       unsynced = subst (λ service. KeepsUnsynced (drive_served service) (g.D.Drives.unsynced c.args.drives.now) (g.D.Drives.unsynced c.turn.new.drives)) (sym is) did.unsynced;
-      attached = did.attached;
       calls = did.calls;
       reads = λ reading. did.reads (subst ServesReading is reading);
       reads_only = λ reading. did.reads_only (subst ServesReading is reading);
@@ -53,8 +49,6 @@ returns-in-None g c =
       ok = λ before job j suits serving h. absurd (subst (λ service. IsServing disks mounted before job j service) is serving);
       err = λ before job j suits serving h. tt;
       progress = λ before job j serving. absurd (subst (λ service. IsServing disks mounted before job j service) is serving);
-      told = nothing_there _ c.args.service.now is;
-      counted = nothing_there _ c.args.service.now is;
       idle = λ none. record { call = refl; directories = refl; cache = refl; drives = refl; calls = refl };
       done = λ none. refl;
       still = refl;
@@ -64,9 +58,9 @@ returns-in-None g c =
       fits = c.requires;
       images = λ other apart has. refl;
       beside = stays_same mounted disks;
+      told_are = told_same mounted disks (g.D.Drives.told c.args.drives.now);
       names = refl;
       unsynced = unsynced_same _ (g.D.Drives.unsynced c.args.drives.now);
-      attached = λ other. refl;
       calls = omega arith;
       reads = λ reading. absurd (subst ServesReading is reading);
       reads_only = λ reading. absurd (subst ServesReading is reading);

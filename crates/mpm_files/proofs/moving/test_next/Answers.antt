@@ -1,7 +1,6 @@
 use Rattle.std.proofs.Common.{◌≡◌, ◌+◌, true, false, Some, None, refl, sym, subst, ap, ◌∙◌, arith}
 use Rattle.mpm_base.proofs.Tests.{not_back}
 use Rattle.std.specs.Prelude.{bytes_eq}
-use Rattle.mpm_blocks.proofs.ToldImages.{told_image_same}
 use Rattle.mpm_mount.specs.Drives.{record_of}
 use Rattle.mpm_files.specs.Units.{PassesRecord, WritesRecord}
 use Rattle.mpm_files.specs.Plans.{file_of_job, record_at, has_record}
@@ -44,7 +43,7 @@ returns-then-work g c = record {
   drive = refl;
   kind = refl;
   calls = omega arith;
-  leaves = leaves_itself g.D.Drives.attached g.D.Drives.disks g.D.Drives.failed_names g.D.Drives.unsynced c.args.mounted.now.drive c.args.cache.now c.args.drives.now c.requires.coherent;
+  leaves = leaves_itself g.D.Drives.disks g.D.Drives.told g.D.Drives.failed_names g.D.Drives.unsynced c.args.mounted.now.drive c.args.cache.now c.args.drives.now c.requires.coherent;
   cause = cause_none _ _;
 }
 
@@ -95,7 +94,7 @@ put_held-requires g c =
     let left = c.read_record.ensures.leaves in
     record {
       number = omega (arith, c.if-n-gt-LAST.false);
-      size = left.drives c.args.mounted.now.drive ∙ c.requires.size;
+      size = left.others.sizes c.args.mounted.now.drive ∙ c.requires.size;
       coherent = left.coherent;
       apart = left.alone c.requires.apart;
     }
@@ -127,7 +126,7 @@ returns g c = record {
               (subst (λ t. Does (g.D.Drives.disks c.put_held.new.drives) c.args.mounted.now.drive c.put_held.new.mounted (units_done before job j)
               (WritesRecord (file_of_job c.args.work.now.job) c.saturating_add-n.result c.bytes_at-2.result t) c.put_held.result) c.stamp.ensures
               (c.put_held.ensures.does image (units_done before job j)
-              (told_image_same (g.D.Drives.disks c.args.drives.now) (g.D.Drives.disks c.read_record.new.drives) c.args.mounted.now.drive c.read_record.ensures.disks ∙ told) service.stands
+              (ap (λ x. x.image c.args.mounted.now.drive) c.read_record.ensures.disks ∙ told) service.stands
               (ap (lacks_block c.args.mounted.now (file_of_job c.args.work.now.job)) (sym n) ∙ held)))),
         ),
       ));
@@ -136,6 +135,6 @@ returns g c = record {
   drive = c.put_held.ensures.drive;
   kind = c.put_held.ensures.kind;
   calls = omega (arith, c.read_record.ensures.calls, c.put_held.ensures.calls);
-  leaves = leaves_over g.D.Drives.attached g.D.Drives.disks g.D.Drives.failed_names g.D.Drives.unsynced c.args.mounted.now.drive c.args.cache.now c.read_record.new.cache c.put_held.new.cache c.args.drives.now c.read_record.new.drives c.put_held.new.drives c.read_record.ensures.leaves c.put_held.ensures.leaves;
+  leaves = leaves_over g.D.Drives.disks g.D.Drives.told g.D.Drives.failed_names g.D.Drives.unsynced c.args.mounted.now.drive c.args.cache.now c.read_record.new.cache c.put_held.new.cache c.args.drives.now c.read_record.new.drives c.put_held.new.drives c.read_record.ensures.leaves c.put_held.ensures.leaves;
   cause = cause_behind _ _ _ c.put_held.result c.in-Ok.ensures.cause.stays c.put_held.ensures.cause;
 }

@@ -82,7 +82,7 @@ returns-then-n-gt-LAST g c = record {
   drive = refl;
   kind = refl;
   calls = omega arith;
-  leaves = leaves_itself g.D.Drives.attached g.D.Drives.disks g.D.Drives.failed_names g.D.Drives.unsynced c.args.mounted.now.drive c.args.cache.now c.args.drives.now c.requires.coherent;
+  leaves = leaves_itself g.D.Drives.disks g.D.Drives.told g.D.Drives.failed_names g.D.Drives.unsynced c.args.mounted.now.drive c.args.cache.now c.args.drives.now c.requires.coherent;
   cause = cause_none _ _;
 }
 
@@ -96,6 +96,6 @@ returns-then-work-gt31 g c = record {
   drive = refl;
   kind = refl;
   calls = omega arith;
-  leaves = leaves_itself g.D.Drives.attached g.D.Drives.disks g.D.Drives.failed_names g.D.Drives.unsynced c.args.mounted.now.drive c.args.cache.now c.args.drives.now c.requires.coherent;
+  leaves = leaves_itself g.D.Drives.disks g.D.Drives.told g.D.Drives.failed_names g.D.Drives.unsynced c.args.mounted.now.drive c.args.cache.now c.args.drives.now c.requires.coherent;
   cause = cause_none _ _;
 }

@@ -1,15 +1,15 @@
-use Rattle.mpm_port.proofs.Images.{same_told}
+use Rattle.std.proofs.Common.{refl}
 use Rattle.mpm_files.specs.Plans.{file_of_job}
 use Rattle.mpm_files.proofs.RecordReads.{reads, read_inside, reads_visible, reads_only}
 use Rattle.mpm_files.proofs.reading.read_record.Goals as goal
 
 pub returns-in-None-clause-does : goal.returns-in-None-clause-does
 returns-in-None-clause-does g c = λ image files told stands.
-    reads_only image c.args.mounted.now files (file_of_job c.args.job.now) c.args.n (g.D.Drives.disks c.args.drives.now) (g.D.Drives.disks c.args.drives.now) _ told stands (same_told (g.D.Drives.disks c.args.drives.now))
+    reads_only image c.args.mounted.now files (file_of_job c.args.job.now) c.args.n (g.D.Drives.disks c.args.drives.now) (g.D.Drives.disks c.args.drives.now) _ told stands refl
 
 pub returns-in-None-held_sector-clause-does : goal.returns-in-None-held_sector-clause-does
 returns-in-None-held_sector-clause-does g c = λ image files told stands.
-    reads_only image c.args.mounted.now files (file_of_job c.args.job.now) c.args.n (g.D.Drives.disks c.args.drives.now) (g.D.Drives.disks c.args.drives.now) _ told stands (same_told (g.D.Drives.disks c.args.drives.now))
+    reads_only image c.args.mounted.now files (file_of_job c.args.job.now) c.args.n (g.D.Drives.disks c.args.drives.now) (g.D.Drives.disks c.args.drives.now) _ told stands refl
 
 pub read-requires-clause-within : goal.read-requires-clause-within
 read-requires-clause-within g c =

@@ -13,7 +13,7 @@ returns-in-None g c = record {
   drive = refl;
   kind = refl;
   calls = omega arith;
-  leaves = leaves_itself g.D.Drives.attached g.D.Drives.disks g.D.Drives.failed_names g.D.Drives.unsynced c.args.mounted.now.drive c.args.cache.now c.args.drives.now c.requires.coherent;
+  leaves = leaves_itself g.D.Drives.disks g.D.Drives.told g.D.Drives.failed_names g.D.Drives.unsynced c.args.mounted.now.drive c.args.cache.now c.args.drives.now c.requires.coherent;
   cause = cause_none _ _;
 }
 
@@ -23,7 +23,7 @@ returns-in-None-free_block g c = record {
   drive = refl;
   kind = refl;
   calls = omega arith;
-  leaves = leaves_itself g.D.Drives.attached g.D.Drives.disks g.D.Drives.failed_names g.D.Drives.unsynced c.args.mounted.now.drive c.args.cache.now c.args.drives.now c.requires.coherent;
+  leaves = leaves_itself g.D.Drives.disks g.D.Drives.told g.D.Drives.failed_names g.D.Drives.unsynced c.args.mounted.now.drive c.args.cache.now c.args.drives.now c.requires.coherent;
   cause = cause_none _ _;
 }
 
@@ -33,7 +33,7 @@ returns-in-None-cleared_of g c = record {
   drive = refl;
   kind = refl;
   calls = omega arith;
-  leaves = leaves_itself g.D.Drives.attached g.D.Drives.disks g.D.Drives.failed_names g.D.Drives.unsynced c.args.mounted.now.drive c.args.cache.now c.args.drives.now c.requires.coherent;
+  leaves = leaves_itself g.D.Drives.disks g.D.Drives.told g.D.Drives.failed_names g.D.Drives.unsynced c.args.mounted.now.drive c.args.cache.now c.args.drives.now c.requires.coherent;
   cause = cause_none _ _;
 }
 
@@ -56,7 +56,7 @@ pub put_taken-requires : goal.put_taken-requires
 put_taken-requires g c =
     let left = c.put_with_block.ensures.leaves in
     record {
-      size = left.drives c.args.mounted.now.drive ∙ c.requires.size;
+      size = left.others.sizes c.args.mounted.now.drive ∙ c.requires.size;
       coherent = left.coherent;
       apart = left.alone c.requires.apart;
       entry = c.in-Some.ensures.found;
@@ -75,7 +75,7 @@ returns-in-Ok g c = record {
   drive = c.put_taken.ensures.drive;
   kind = c.put_taken.ensures.kind;
   calls = omega (arith, c.put_with_block.ensures.calls, c.put_taken.ensures.calls);
-  leaves = leaves_over g.D.Drives.attached g.D.Drives.disks g.D.Drives.failed_names g.D.Drives.unsynced c.args.mounted.now.drive c.args.cache.now c.put_with_block.new.cache c.put_taken.new.cache c.args.drives.now c.put_with_block.new.drives c.put_taken.new.drives c.put_with_block.ensures.leaves c.put_taken.ensures.leaves;
+  leaves = leaves_over g.D.Drives.disks g.D.Drives.told g.D.Drives.failed_names g.D.Drives.unsynced c.args.mounted.now.drive c.args.cache.now c.put_with_block.new.cache c.put_taken.new.cache c.args.drives.now c.put_with_block.new.drives c.put_taken.new.drives c.put_with_block.ensures.leaves c.put_taken.ensures.leaves;
   cause = cause_behind _ _ _ c.put_taken.result c.in-Ok.ensures.cause.stays c.put_taken.ensures.cause;
 }
 

@@ -13,7 +13,7 @@ returns-in-None g c = record {
   drive = refl;
   kind = refl;
   calls = omega arith;
-  leaves = leaves_itself g.D.Drives.attached g.D.Drives.disks g.D.Drives.failed_names g.D.Drives.unsynced c.args.mounted.now.drive c.args.cache.now c.args.drives.now c.requires.coherent;
+  leaves = leaves_itself g.D.Drives.disks g.D.Drives.told g.D.Drives.failed_names g.D.Drives.unsynced c.args.mounted.now.drive c.args.cache.now c.args.drives.now c.requires.coherent;
   cause = cause_none _ _;
 }
 
@@ -23,7 +23,7 @@ returns-in-None-held_sector g c = record {
   drive = refl;
   kind = refl;
   calls = omega arith;
-  leaves = leaves_itself g.D.Drives.attached g.D.Drives.disks g.D.Drives.failed_names g.D.Drives.unsynced c.args.mounted.now.drive c.args.cache.now c.args.drives.now c.requires.coherent;
+  leaves = leaves_itself g.D.Drives.disks g.D.Drives.told g.D.Drives.failed_names g.D.Drives.unsynced c.args.mounted.now.drive c.args.cache.now c.args.drives.now c.requires.coherent;
   cause = cause_none _ _;
 }
 
@@ -33,7 +33,7 @@ pub put_raised-requires : goal.put_raised-requires
 put_raised-requires g c =
     let left = c.put_in_block.ensures.leaves in
     record {
-      size = left.drives c.args.mounted.now.drive ∙ c.requires.size;
+      size = left.others.sizes c.args.mounted.now.drive ∙ c.requires.size;
       coherent = left.coherent;
       apart = left.alone c.requires.apart;
       entry = c.in-Some.ensures.found;
@@ -48,7 +48,7 @@ returns-in-Ok g c = record {
   drive = c.put_raised.ensures.drive;
   kind = c.put_raised.ensures.kind;
   calls = omega (arith, c.put_in_block.ensures.calls, c.put_raised.ensures.calls);
-  leaves = leaves_over g.D.Drives.attached g.D.Drives.disks g.D.Drives.failed_names g.D.Drives.unsynced c.args.mounted.now.drive c.args.cache.now c.put_in_block.new.cache c.put_raised.new.cache c.args.drives.now c.put_in_block.new.drives c.put_raised.new.drives c.put_in_block.ensures.leaves c.put_raised.ensures.leaves;
+  leaves = leaves_over g.D.Drives.disks g.D.Drives.told g.D.Drives.failed_names g.D.Drives.unsynced c.args.mounted.now.drive c.args.cache.now c.put_in_block.new.cache c.put_raised.new.cache c.args.drives.now c.put_in_block.new.drives c.put_raised.new.drives c.put_in_block.ensures.leaves c.put_raised.ensures.leaves;
   cause = cause_behind _ _ _ c.put_raised.result c.in-Ok.ensures.cause.stays c.put_raised.ensures.cause;
 }
 

@@ -2,9 +2,9 @@ use Rattle.std.proofs.Common.{ap, sym, arith}
 use Rattle.mpm_system.specs.declared.system.System.{System}
 use Rattle.mpm_machine.proofs.MovingLaws.{quiet_steps}
 use Rattle.mpm_machine.proofs.PassingLaws.{passes_nothing}
-use Rattle.mpm_machine.proofs.IdleLaws.{Idles, idle_state, idle_steps, idle_settled, idle_whole, idle_handed}
+use Rattle.mpm_machine.proofs.IdleLaws.{Idles, idle_state, idle_settled, idle_whole, idle_handed}
 use Rattle.mpm_machine.proofs.PassedLaws.{alike_itself, calls_idle}
-use Rattle.mpm_machine.proofs.NextLaws.{still_state, still_steps}
+use Rattle.mpm_machine.proofs.NextLaws.{still_state}
 use Rattle.mpm_machine.proofs.NobodyDueLaws.{none_aborted_due}
 use Rattle.mpm_machine.proofs.ahead.idle.Goals as goal
 
@@ -38,7 +38,6 @@ returns c =
         states = λ s is inside. idle_state done old new s on inside c.pass.ensures is;
         disk = ap (λ (system : System). system.kernel.disk) c.pass.ensures;
         calls = calls_idle done old new c.pass.ensures;
-        steps = λ kept stand. idle_steps done kept old new stand c.requires.whole on c.pass.ensures;
         due = λ some. none_aborted_due new.kernel (idle_settled done old new on c.pass.ensures);
         whole = idle_whole done old new c.requires.whole c.pass.ensures;
         no_completions = idle_handed done old new c.requires.no_completions c.pass.ensures;
@@ -57,7 +56,6 @@ returns-then-not-is_idle c =
         states = λ s is inside. still_state old s is;
         disk = sym (passes_nothing old.kernel.disk);
         calls = alike_itself old.kernel.dispatcher.procs;
-        steps = λ kept stand. still_steps kept old;
         due = λ some. absurd (omega (arith, some));
         whole = c.requires.whole;
         no_completions = c.requires.no_completions;

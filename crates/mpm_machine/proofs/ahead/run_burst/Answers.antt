@@ -4,7 +4,7 @@ use Rattle.mpm_system.specs.Idling.{CanPass}
 use Rattle.mpm_system.proofs.WholeLaws.{segment_is_home}
 use Rattle.mpm_system.proofs.IdlingLaws.{fewer_can}
 use Rattle.mpm_machine.specs.Moving.{Quiet}
-use Rattle.mpm_machine.proofs.MovingLaws.{moved_disk, quiet_ahead, moved_state, moved_steps, moved_settled, whole_moved, no_completions_moved, steps_moved, ahead_moved}
+use Rattle.mpm_machine.proofs.MovingLaws.{moved_disk, quiet_ahead, moved_state, moved_settled, whole_moved, no_completions_moved, steps_moved, ahead_moved}
 use Rattle.mpm_machine.proofs.PassedLaws.{calls_moved}
 use Rattle.mpm_machine.proofs.NobodyDueLaws.{none_aborted_due}
 use Rattle.mpm_machine.proofs.ahead.run_burst.Goals as goal
@@ -45,7 +45,6 @@ returns c =
         states = λ s is inside. moved_state done here.p here.seg old new s c.requires.whole on moved quiet passing inside is;
         disk = moved_disk done here.p here.seg old new moved;
         calls = calls_moved done here.p here.seg old new moved;
-        steps = λ kept stand. moved_steps done here.p here.seg kept old new stand c.requires.whole on moved quiet passing;
         due = λ some. none_aborted_due new.kernel (moved_settled done here.p here.seg old new c.requires.whole on moved);
         whole = whole_moved done here.p here.seg old new c.requires.whole lives moved;
         no_completions = no_completions_moved done here.p here.seg old new moved on.no_completions;

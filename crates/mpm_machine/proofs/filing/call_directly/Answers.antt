@@ -1,5 +1,4 @@
 use Rattle.mpm_machine.proofs.FilingLaws.{directly_is, directly_answered}
-use Rattle.mpm_machine.proofs.ToldLaws.{directly_told, directly_as_kept}
 use Rattle.mpm_machine.proofs.filing.call_directly.Goals as goal
 
 pub returns-clause-outcome : goal.returns-clause-outcome
@@ -7,17 +6,6 @@ returns-clause-outcome c disks filing stands =
     directly_is disks filing c.args.p c.args.system.now c.args.bdos.now c.kept_call.result.now c.living.result.now c.answer.new.self c.direct.new.reply c.direct.result
     c.kept_call.ensures c.living.ensures c.requires.function stands c.answer.ensures
     c.direct.ensures.answer c.direct.ensures.extended c.direct.ensures.other c.direct.ensures.unanswered
-
-pub returns-clause-told : goal.returns-clause-told
-returns-clause-told c =
-    directly_told c.args.p c.args.system.now c.kept_call.result.now c.living.result.now c.answer.new.self c.direct.new.reply c.direct.result
-    c.kept_call.ensures c.living.ensures c.requires.function c.answer.ensures
-    c.direct.ensures.told c.direct.ensures.other c.direct.ensures.unanswered
-
-pub returns-clause-as_kept : goal.returns-clause-as_kept
-returns-clause-as_kept c =
-    directly_as_kept c.args.bdos.now c.args.p c.args.system.now c.kept_call.result.now c.living.result.now c.direct.new.reply c.direct.result
-    c.kept_call.ensures c.living.ensures c.requires.function c.direct.ensures.exact
 
 pub returns-clause-within : goal.returns-clause-within
 returns-clause-within c images s j serves =

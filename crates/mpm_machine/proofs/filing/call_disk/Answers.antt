@@ -1,7 +1,6 @@
 use Rattle.std.proofs.Common.{◌≤◌, sym, subst}
 use Rattle.mpm_procs.specs.declared.process.Process.{Process}
-use Rattle.mpm_machine.proofs.FilingLaws.{disk_is, disk_as_kept, disk_has_job, at_once_idle, at_once_owed, bare_still}
-use Rattle.mpm_machine.proofs.ToldLaws.{disk_told}
+use Rattle.mpm_machine.proofs.FilingLaws.{disk_is, at_once_idle, at_once_owed, bare_still}
 use Rattle.mpm_machine.proofs.FailingLaws.{disk_fails, disk_calls}
 use Rattle.mpm_machine.proofs.filing.call_disk.Goals as goal
 
@@ -34,25 +33,8 @@ returns-clause-calls g c filing stands =
     disk_calls (g.D.Drives.disks c.args.drives.now) filing c.args.p c.args.system.now c.args.bdos.now c.looked_at-caller.result c.living.result.now c.kept_call.result.now c.now-now.result _ _
     c.looked_at-caller.ensures.process c.living.ensures c.kept_call.ensures c.now-now.ensures.moment c.requires.function stands c.call_at_once.ensures.calls
 
-pub returns-clause-told : goal.returns-clause-told
-returns-clause-told g c =
-    disk_told c.args.p c.args.system.now c.looked_at-caller.result c.living.result.now c.kept_call.result.now c.call_at_once.new.reply c.call_at_once.result
-    c.looked_at-caller.ensures.process c.living.ensures c.kept_call.ensures c.requires.function c.call_at_once.ensures.may
-
 pub returns-clause-service : goal.returns-clause-service
 returns-clause-service g c = at_once_idle _ _ c.kept_call.ensures c.requires.function c.call_at_once.ensures.service
-
-pub returns-clause-as_kept : goal.returns-clause-as_kept
-returns-clause-as_kept g c =
-    disk_as_kept c.args.p c.args.system.now c.args.bdos.now c.call_at_once.new.self c.looked_at-caller.result c.living.result.now c.kept_call.result.now c.now-now.result
-    c.call_at_once.new.reply c.call_at_once.result c.looked_at-caller.ensures.process c.living.ensures c.kept_call.ensures c.now-now.ensures.moment c.requires.function
-    c.call_at_once.ensures.jobless
-
-pub returns-clause-job : goal.returns-clause-job
-returns-clause-job g c =
-    disk_has_job c.args.p c.args.system.now c.args.bdos.now c.looked_at-caller.result c.living.result.now c.kept_call.result.now c.now-now.result c.call_at_once.result
-    c.looked_at-caller.ensures.process c.living.ensures c.kept_call.ensures c.now-now.ensures.moment
-    (λ images before function its jobless. (c.call_at_once.ensures.idle images before function its jobless).2)
 
 pub returns-clause-unsynced : goal.returns-clause-unsynced
 returns-clause-unsynced g c =

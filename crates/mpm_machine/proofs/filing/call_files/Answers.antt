@@ -3,7 +3,7 @@ use Rattle.mpm_machine.proofs.DriveLaws.{keeps_still}
 use Rattle.mpm_machine.proofs.filing.call_files.Goals as goal
 
 pub returns-in-None-clause-keeps : goal.returns-in-None-clause-keeps
-returns-in-None-clause-keeps g c = keeps_still _ _ _ refl
+returns-in-None-clause-keeps g c = keeps_still _ _ _ _ refl
 
 pub returns-in-None-clause-calls : goal.returns-in-None-clause-calls
 returns-in-None-clause-calls g c filing stands = omega arith

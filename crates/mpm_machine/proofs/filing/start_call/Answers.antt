@@ -1,7 +1,5 @@
-use Rattle.std.proofs.Common.{◌∙◌, ◌≤◌, is_some, refl, sym, ap, subst}
-use Rattle.mpm_base.specs.Calls.{Taken}
+use Rattle.std.proofs.Common.{◌≤◌, refl, sym, subst}
 use Rattle.mpm_procs.specs.declared.process.Process.{Process}
-use Rattle.mpm_functions.specs.Functions.{function_of}
 use Rattle.mpm_bdos.specs.Serving.{filing_of}
 use Rattle.mpm_machine.proofs.FilingLaws.{turns_are, serves_at_entry, entered_as}
 use Rattle.mpm_machine.proofs.filing.start_call.Goals as goal
@@ -18,16 +16,6 @@ pub returns-clause-turns : goal.returns-clause-turns
 returns-clause-turns c images drives function is stand =
     turns_are images (filing_of c.args.bdos.now drives) c.args.p c.args.system.now c.args.bdos.now function c.looked_at-caller.result c.living.result.now c.kept_call.result.now c.now.result c.start.result
     c.looked_at-caller.ensures.process c.living.ensures c.kept_call.ensures c.now.ensures.moment is refl stand c.start.ensures.turns
-
--- upon drives for which the directories stand, whatever the images are
-pub returns-clause-takes : goal.returns-clause-takes
-returns-clause-takes c function is =
-    let on = c.start.ensures.stand (ap is_some (ap (λ (call : Taken). function_of call.function) c.kept_call.ensures ∙ is)) in
-    let filing = filing_of c.args.bdos.now on.drives in (
-      filing,
-      turns_are on.images filing c.args.p c.args.system.now c.args.bdos.now function c.looked_at-caller.result c.living.result.now c.kept_call.result.now c.now.result c.start.result
-          c.looked_at-caller.ensures.process c.living.ensures c.kept_call.ensures c.now.ensures.moment is refl on.stand c.start.ensures.turns,
-    )
 
 pub returns-clause-serves : goal.returns-clause-serves
 returns-clause-serves c images drives function is stand =

@@ -4,7 +4,7 @@ use Rattle.mpm_service.specs.Disk.{turn_answer}
 use Rattle.mpm_service.specs.declared.service.Turn.TheVariants.{Work}
 use Rattle.mpm_machine.proofs.TurnLaws.{turn_works, nothing_to_work}
 use Rattle.mpm_machine.proofs.DriveLaws.{keeps_still}
-use Rattle.mpm_machine.proofs.WorkLaws.{works_here, no_work_here, works_in, turn_failed, holds_worked, rests}
+use Rattle.mpm_machine.proofs.WorkLaws.{works_here, no_work_here, works_in, turn_failed, holds_worked}
 use Rattle.mpm_machine.proofs.filing.work.Goals as goal
 
 pub returns-in-Err-clause-err : goal.returns-in-Err-clause-err
@@ -15,11 +15,8 @@ returns-in-Err-clause-err g c files stands =
 
 pub returns-in-Err-clause-holds : goal.returns-in-Err-clause-holds
 returns-in-Err-clause-holds g c =
-    holds_worked g.D.Drives.attached g.D.Drives.disks c.args.system.now.kernel c.args.bdos.now c.turn.new.self c.args.drives.now c.turn.new.drives
+    holds_worked g.D.Drives.disks c.args.system.now.kernel c.args.bdos.now c.turn.new.self c.args.drives.now c.turn.new.drives
     c.requires.holds c.turn.ensures.kept c.turn.ensures.still c.turn.ensures.fits
-
-pub returns-in-Err-clause-at_rest : goal.returns-in-Err-clause-at_rest
-returns-in-Err-clause-at_rest g c less = rests c.args.bdos.now c.turn.new.self _ _ _ _ c.turn.ensures.kept (c.turn.ensures.idle less)
 
 pub returns-in-Err-clause-unsynced : goal.returns-in-Err-clause-unsynced
 returns-in-Err-clause-unsynced g c = c.turn.ensures.unsynced.owed
@@ -29,9 +26,6 @@ returns-in-Err-clause-idle g c idle =
     absurd (false≢true (sym idle ∙ works_in c.args.system.now
     (works_here c.args.system.now.kernel.disk c.ahead.result (Work c.in-Work.p c.in-Work.last) true (c.ahead.ensures ∙ ap turn_answer c.disk.ensures) c.in-Work.is refl)))
 
-pub returns-in_default-turn-clause-at_rest : goal.returns-in_default-turn-clause-at_rest
-returns-in_default-turn-clause-at_rest g c less = rests c.args.bdos.now c.turn.new.self _ _ _ _ c.turn.ensures.kept (c.turn.ensures.idle less)
-
 pub returns-in_default-turn-clause-ok : goal.returns-in_default-turn-clause-ok
 returns-in_default-turn-clause-ok g c files stands =
     turn_works c.args.system.now.kernel.disk c.args.bdos.now c.turn.new.self (g.D.Drives.disks c.args.drives.now) (g.D.Drives.disks c.turn.new.drives) files
@@ -40,7 +34,7 @@ returns-in_default-turn-clause-ok g c files stands =
 
 pub returns-in_default-turn-clause-holds : goal.returns-in_default-turn-clause-holds
 returns-in_default-turn-clause-holds g c =
-    holds_worked g.D.Drives.attached g.D.Drives.disks c.args.system.now.kernel c.args.bdos.now c.turn.new.self c.args.drives.now c.turn.new.drives
+    holds_worked g.D.Drives.disks c.args.system.now.kernel c.args.bdos.now c.turn.new.self c.args.drives.now c.turn.new.drives
     c.requires.holds c.turn.ensures.kept c.turn.ensures.still c.turn.ensures.fits
 
 pub returns-in_default-turn-clause-unsynced : goal.returns-in_default-turn-clause-unsynced
@@ -57,18 +51,15 @@ returns-in_default g c = record {
       nothing_to_work c.args.system.now.kernel.disk c.args.bdos.now (g.D.Drives.disks c.args.drives.now) files
       (no_work_here c.args.system.now.kernel.disk c.ahead.result (c.ahead.ensures ∙ ap turn_answer c.disk.ensures) c.in_default.not-Work) stands;
   err = λ files stands. tt;
-  keeps = keeps_still (g.D.Drives.disks c.args.drives.now) c.args.bdos.now.mounted c.args.bdos.now.mounted refl;
+  keeps = keeps_still (g.D.Drives.told c.args.drives.now) (g.D.Drives.disks c.args.drives.now) c.args.bdos.now.mounted c.args.bdos.now.mounted refl;
   names = refl;
-  attached = λ number. refl;
   unsynced = λ number was. was;
   bare = λ none. none;
   none = λ none. refl;
   holds = c.requires.holds;
-  kept = record { rest = refl; service = refl; places = λ number _. refl; labels = λ number. refl };
-  at_rest = λ less. refl;
   unfailing = λ none. refl;
   workless = λ less. refl;
-  idle = λ idle. (refl, refl, refl, refl);
+  idle = λ idle. (refl, refl, refl);
   few = omega arith;
   cause = record { later = omega arith; stays = refl; failed = tt };
 }

@@ -2,18 +2,10 @@ use Rattle.std.proofs.Common.{rules, ◌≡◌, arith}
 use Rattle.std.proofs.lemmas.Grind.{common_steps}
 use Rattle.mpm_blocks.specs.Geometries.{geometry_of}
 use Rattle.mpm_mount.proofs.Mounts.{wrong_size}
-use Rattle.mpm_mount.proofs.SomeFaults.{size_of_some}
 use Rattle.mpm_mount.proofs.mounting.check_size.Goals as goal
 
 pub returns-in-Ok-2-clause-err : goal.returns-in-Ok-2-clause-err
 returns-in-Ok-2-clause-err g c =
     let size : c.from.result ≡ (geometry_of c.args.kind).bytes = first_of (search rules, grind (arith, common_steps)) in
     let other : c.in-Ok.bytes ≡ (geometry_of c.args.kind).bytes → ⊥ = λ same. omega arith in
-    wrong_size (g.D.Drives.disks c.args.drives.now) c.args.drive c.args.kind c.in-Ok.bytes other
-    (λ told is. g.met.D.Drives.sizes c.args.drives.now told c.args.drive c.in-Ok.bytes is c.in-Ok.ensures.size)
-
-pub returns-in-Ok-2-clause-some : goal.returns-in-Ok-2-clause-some
-returns-in-Ok-2-clause-some g c =
-    let size : c.from.result ≡ (geometry_of c.args.kind).bytes = first_of (search rules, grind (arith, common_steps)) in
-    let other : c.in-Ok.bytes ≡ (geometry_of c.args.kind).bytes → ⊥ = λ same. omega arith in
-    size_of_some (g.D.Drives.attached c.args.drives.now c.args.drive) c.args.kind c.in-Ok.bytes c.in-Ok.ensures.size other
+    wrong_size ((g.D.Drives.disks c.args.drives.now).image c.args.drive) c.args.kind c.in-Ok.bytes other c.in-Ok.ensures.size

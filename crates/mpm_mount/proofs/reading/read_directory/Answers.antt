@@ -2,42 +2,42 @@ use Rattle.std.proofs.Common.{◌≡◌, ◌*◌, List, [], length, refl, sym, a
 use Rattle.std.specs.Prelude.{IfSome}
 use Rattle.std.proofs.lemmas.List.Elements.{All-nil, All-same}
 use Rattle.mpm_blocks.specs.Geometries.{geometry_of}
-use Rattle.mpm_blocks.specs.Sectors.{sectors_of, told_image}
-use Rattle.mpm_blocks.proofs.ToldImages.{told_image_same}
+use Rattle.mpm_blocks.specs.Sectors.{sectors_of}
+use Rattle.mpm_port.specs.Disks.{Disks}
 use Rattle.mpm_dirent.specs.declared.kinds.Entry.{Entry}
 use Rattle.mpm_dirent.specs.Proper.{IsProper}
 use Rattle.mpm_mount.specs.Directories.{IsWhole}
 use Rattle.mpm_mount.specs.Images.{entries_to}
-use Rattle.mpm_mount.proofs.EntriesRead.{told_none, told_more}
+use Rattle.mpm_mount.proofs.EntriesRead.{nothing_read, more_read}
 use Rattle.mpm_mount.proofs.Telling.{same_itself, same_over}
 use Rattle.mpm_mount.proofs.reading.read_directory.Goals as goal
 
 pub loop-sector-init : goal.loop-sector-init
 loop-sector-init g c =
-    let told = told_image (g.D.Drives.disks c.args.drives.now) c.args.drive in
+    let here = (g.D.Drives.disks c.args.drives.now).image c.args.drive in
     record {
-      entries = subst (λ (xs : List Entry). IfSome told (λ image. xs ≡ entries_to (sectors_of image c.args.kind) (geometry_of c.args.kind).wide (4 * 0)))
-          (sym c.new-entries.ensures.items) (told_none told c.args.kind);
+      entries = subst (λ (xs : List Entry). IfSome here (λ image. xs ≡ entries_to (sectors_of image c.args.kind) (geometry_of c.args.kind).wide (4 * 0)))
+          (sym c.new-entries.ensures.items) (nothing_read here c.args.kind);
       size = ap length c.new-entries.ensures.items;
       proper = All-same (IsProper (geometry_of c.args.kind).wide) c.new-entries.result.items [] c.new-entries.ensures.items (All-nil (IsProper (geometry_of c.args.kind).wide));
       whole = All-same IsWhole c.new-entries.result.items [] c.new-entries.ensures.items (All-nil IsWhole);
       count = refl;
-      same = same_itself g.D.Drives.attached g.D.Drives.disks g.D.Drives.failed_names c.args.drives.now;
-      unsynced = λ other. refl;
+      same = same_itself g.D.Drives.disks g.D.Drives.told g.D.Drives.failed_names c.args.drives.now;
+      unsynced = refl;
     }
 
 pub loop-sector-preserved : goal.loop-sector-preserved
 loop-sector-preserved g c =
     record {
-      entries = told_more (told_image (g.D.Drives.disks c.args.drives.now) c.args.drive) (told_image (g.D.Drives.disks c.loop-sector.drives) c.args.drive) c.args.kind
+      entries = more_read ((g.D.Drives.disks c.args.drives.now).image c.args.drive) ((g.D.Drives.disks c.loop-sector.drives).image c.args.drive) c.args.kind
           c.loop-sector.sector c.loop-sector.entries.items c.read_sector.new.entries.items
-          (told_image_same (g.D.Drives.disks c.args.drives.now) (g.D.Drives.disks c.loop-sector.drives) c.args.drive c.loop-sector.invariant.same.images)
+          (ap (λ (d : Disks). d.image c.args.drive) c.loop-sector.invariant.same.images)
           c.loop-sector.invariant.entries c.in-Ok.ensures.entries;
       size = omega (arith, c.in-Ok.ensures.size, c.loop-sector.invariant.size);
       proper = c.in-Ok.ensures.proper c.loop-sector.invariant.proper;
       whole = c.in-Ok.ensures.whole c.loop-sector.invariant.whole;
       count = c.in-Ok.ensures.count ∙ c.loop-sector.invariant.count;
-      same = same_over g.D.Drives.attached g.D.Drives.disks g.D.Drives.failed_names c.args.drives.now c.loop-sector.drives c.read_sector.new.drives
+      same = same_over g.D.Drives.disks g.D.Drives.told g.D.Drives.failed_names c.args.drives.now c.loop-sector.drives c.read_sector.new.drives
           c.loop-sector.invariant.same c.in-Ok.ensures.same;
-      unsynced = λ other. c.in-Ok.ensures.unsynced other ∙ c.loop-sector.invariant.unsynced other;
+      unsynced = c.in-Ok.ensures.unsynced ∙ c.loop-sector.invariant.unsynced;
     }

@@ -2,12 +2,11 @@ use Rattle.std.proofs.Common.{◌≡◌, ◌∙◌, ◌+◌, suc, Some, cond, ge
 use Rattle.std.specs.Prelude.{find}
 use Rattle.mpm_functions.specs.declared.refusals.Refusal.TheVariants.{NotMounted}
 use Rattle.mpm_requests.specs.Asking.{asks}
-use Rattle.mpm_functions.proofs.Rows.{one_at}
 use Rattle.mpm_requests.proofs.Firsts.{found_next, none_behind}
 use Rattle.mpm_requests.proofs.applies.first_refusal.Goals as goal
 
-pub returns-then-applies-clause-all : goal.returns-then-applies-clause-all
-returns-then-applies-clause-all c = λ image drive stands.
+pub returns-then-applies : goal.returns-then-applies
+returns-then-applies c = λ image drive stands.
     let test = asks drive c.args.opens.now c.args.marks.now c.args.asked.now in
     let refusals = c.args.refusals.now in
     let place = c.loop-place.place in
@@ -26,10 +25,7 @@ loop-place-preserved c = λ image drive stands.
     ∙ ap (λ b. cond b (Some (get_or refusals place NotMounted)) (find test (drop (suc place) refusals))) (sym (c.applies.ensures image drive stands) ∙ c.if-applies.false)
     ∙ ap (λ k. find test (drop k refusals)) more
 
-pub returns-clause-all : goal.returns-clause-all
-returns-clause-all c = λ image drive stands.
+pub returns : goal.returns
+returns c = λ image drive stands.
     let test = asks drive c.args.opens.now c.args.marks.now c.args.asked.now in
     sym (c.loop-place.invariant image drive stands ∙ none_behind test c.args.refusals.now c.loop-place.place c.loop-place-test.false)
-
-pub returns-then-applies-clause-row : goal.returns-then-applies-clause-row
-returns-then-applies-clause-row c = one_at c.args.refusals.now c.loop-place.place NotMounted c.loop-place-test.true

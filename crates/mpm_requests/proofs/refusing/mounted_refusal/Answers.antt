@@ -1,16 +1,12 @@
-use Rattle.std.proofs.Common.{◌∙◌, IfSome, ap, subst}
+use Rattle.std.proofs.Common.{◌∙◌, ap}
 use Rattle.mpm_requests.specs.Subjects.{drive_at}
-use Rattle.mpm_functions.specs.Refusals.{IsOfRow}
 use Rattle.mpm_requests.specs.Asking.{called, refused_asked}
 use Rattle.mpm_requests.proofs.AskedLaws.{asked_refusal}
 use Rattle.mpm_requests.proofs.refusing.mounted_refusal.Goals as goal
 
-pub returns-clause-all : goal.returns-clause-all
-returns-clause-all c = λ image drives moment stands there.
+pub returns : goal.returns
+returns c = λ image drives moment stands there.
     let s = called drives c.args.protected.now c.args.opens.now c.args.marks.now c.args.searches.now c.args.caller.now c.args.function c.args.call.now moment in
-    c.refusal_asked.ensures.all image (drive_at s) stands
+    c.refusal_asked.ensures image (drive_at s) stands
     ∙ ap (refused_asked (drive_at s) c.args.opens.now c.args.marks.now) (c.ask-asked.ensures.asked image drives c.args.marks.now moment stands)
     ∙ asked_refusal s there
-
-pub returns-clause-row : goal.returns-clause-row
-returns-clause-row c = subst (λ function. IfSome c.refusal_asked.result (IsOfRow function)) c.ask-asked.ensures.function c.refusal_asked.ensures.row

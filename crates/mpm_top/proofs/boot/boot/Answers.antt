@@ -1,36 +1,33 @@
 use Rattle.std.proofs.Common.{◌≡◌, ℕ, List, IfOk, sym, subst, refl}
 use Rattle.std.proofs.Math.Path.{fun_ext}
 use Rattle.std.specs.Prelude.{IfErr}
+use Rattle.mpm_port.specs.Disks.{size_of}
 use Rattle.mpm_top.specs.declared.status.Input.{Input}
 use Rattle.mpm_top.specs.declared.words.Form.TheVariants.{Program, Run}
-use Rattle.mpm_top.specs.Runs.{Contents, host, failed, Holds, StartsOf, EndsAfter}
-use Rattle.mpm_top.proofs.BootLaws.{program_names_nothing, starts_with_contents, ends_with_contents, unless_disk_always, either_way, refusal_early}
+use Rattle.mpm_top.specs.Beginnings.{Contents, host, failed, Holds, StartsOf}
+use Rattle.mpm_top.specs.Endings.{EndsAfter}
+use Rattle.mpm_top.proofs.BootLaws.{program_names_nothing, starts_with_contents, ends_with_contents, either_way, refusal_early}
+use Rattle.mpm_top.proofs.StatusLaws.{always_disk}
 use Rattle.mpm_top.proofs.Syncing.{nothing_called, none_synced}
 use Rattle.mpm_top.proofs.boot.boot.Goals as goal
 
 pub returns-in-Program-clause-starts : goal.returns-in-Program-clause-starts
 returns-in-Program-clause-starts g c =
-    let found = host g.F.Files.contents g.D.Drives.disks c.args.files.now c.args.drives.now in
+    let found = host g.F.Files.contents g.D.Drives.told c.args.files.now c.args.drives.now in
     let disks = g.D.Drives.disks c.args.drives.now in
     let from_file = subst (Holds found.contents c.input.result c.args.name.now) (sym c.as_slice.ensures.value) c.in-Ok.ensures.contents_are in
     let P : Input → Type 0 = λ input. Holds found.contents input c.args.name.now c.as_slice.result.now in
     starts_with_contents found c.args.form Program c.args.name.now c.as_slice.result.now disks c.boot_program.result c.in-Program.is (subst P c.input.ensures from_file)
     (c.boot_program.ensures.starts found)
 
-pub returns-in-Program-clause-attached : goal.returns-in-Program-clause-attached
-returns-in-Program-clause-attached g c = nothing_called c.boot_program.result (g.D.Drives.attached c.args.drives.now)
+pub returns-in-Program-clause-sizes : goal.returns-in-Program-clause-sizes
+returns-in-Program-clause-sizes g c = nothing_called c.boot_program.result (size_of (g.D.Drives.disks c.args.drives.now))
 
 pub returns-in-Program-clause-fresh : goal.returns-in-Program-clause-fresh
 returns-in-Program-clause-fresh g c = none_synced c.boot_program.result (g.D.Drives.unsynced c.args.drives.now) c.boot_program.ensures.no_drive
 
-pub returns-in-Program-clause-unsynced : goal.returns-in-Program-clause-unsynced
-returns-in-Program-clause-unsynced g c = nothing_called c.boot_program.result (g.D.Drives.unsynced c.args.drives.now)
-
-pub returns-in-Program-clause-drive_names : goal.returns-in-Program-clause-drive_names
-returns-in-Program-clause-drive_names g c = either_way c.boot_program.result _ refl
-
-pub returns-in-Program-clause-drive_faults : goal.returns-in-Program-clause-drive_faults
-returns-in-Program-clause-drive_faults g c = either_way c.boot_program.result _ refl
+pub returns-in-Program-clause-drives : goal.returns-in-Program-clause-drives
+returns-in-Program-clause-drives g c = either_way c.boot_program.result _ refl
 
 pub returns-in-Program-clause-missing_script : goal.returns-in-Program-clause-missing_script
 returns-in-Program-clause-missing_script g c bytes script told fits named missing =
@@ -39,15 +36,12 @@ returns-in-Program-clause-missing_script g c bytes script told fits named missin
 pub returns-in-Err-clause-early : goal.returns-in-Err-clause-early
 returns-in-Err-clause-early g c = refusal_early c.in-Err.status c.in-Err.ensures.refusal
 
-pub returns-in-Err-clause-drive_names : goal.returns-in-Err-clause-drive_names
-returns-in-Err-clause-drive_names g c = unless_disk_always c.in-Err.status _ refl
-
-pub returns-in-Err-clause-drive_faults : goal.returns-in-Err-clause-drive_faults
-returns-in-Err-clause-drive_faults g c = unless_disk_always c.in-Err.status _ refl
+pub returns-in-Err-clause-drives : goal.returns-in-Err-clause-drives
+returns-in-Err-clause-drives g c = always_disk c.in-Err.status _ refl
 
 pub returns-clause-starts : goal.returns-clause-starts
 returns-clause-starts g c =
-    let found = host g.F.Files.contents g.D.Drives.disks c.args.files.now c.args.drives.now in
+    let found = host g.F.Files.contents g.D.Drives.told c.args.files.now c.args.drives.now in
     let from_file = subst (Holds found.contents c.input.result c.args.name.now) (sym c.as_slice-in-Run.ensures.value) c.in-Ok.ensures.contents_are in
     let P : Input → Type 0 = λ input. Holds found.contents input c.args.name.now c.as_slice-in-Run.result.now in
     starts_with_contents found c.args.form Run c.args.name.now c.as_slice-in-Run.result.now (g.D.Drives.disks c.boot_machine.new.drives) c.boot_machine.result c.in-Run.is
@@ -57,7 +51,7 @@ returns-clause-starts g c =
 
 pub returns-clause-reason : goal.returns-clause-reason
 returns-clause-reason g c =
-    let found = host g.F.Files.contents g.D.Drives.disks c.args.files.now c.args.drives.now in
+    let found = host g.F.Files.contents g.D.Drives.told c.args.files.now c.args.drives.now in
     let from_file = subst (Holds found.contents c.input.result c.args.name.now) (sym c.as_slice-in-Run.ensures.value) c.in-Ok.ensures.contents_are in
     let P : Input → Type 0 = λ input. Holds found.contents input c.args.name.now c.as_slice-in-Run.result.now in
     ends_with_contents found c.args.form Run c.args.name.now c.as_slice-in-Run.result.now

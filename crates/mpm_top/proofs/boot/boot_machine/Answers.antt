@@ -1,9 +1,10 @@
-use Rattle.std.proofs.Common.{◌∙◌, Err, sym, ap, refl}
-use Rattle.mpm_drives.specs.Images.{image_named}
-use Rattle.mpm_drives.specs.Stopping.{Failures}
+use Rattle.std.proofs.Common.{◌∙◌, Err, length, sym, ap, refl}
+use Rattle.std.specs.Prelude.{option_map}
+use Rattle.mpm_port.specs.Disks.{size_of}
 use Rattle.mpm_machine.proofs.SettlingLaws.{nobody_yet}
-use Rattle.mpm_top.specs.Runs.{host, failed}
-use Rattle.mpm_top.proofs.BootLaws.{no_machine, names_nothing, script_of_file, starts_of_file, ends_unread, ends_unmounted, unless_disk, unless_disk_always, refusal_early}
+use Rattle.mpm_top.specs.Beginnings.{host, failed}
+use Rattle.mpm_top.proofs.BootLaws.{no_machine, names_nothing, script_of_file, starts_of_file, ends_unread, ends_unmounted, unless_disk, refusal_early}
+use Rattle.mpm_top.proofs.StatusLaws.{always_disk}
 use Rattle.mpm_top.proofs.Syncing.{keeps_unmounted}
 use Rattle.mpm_top.proofs.boot.boot_machine.Goals as goal
 
@@ -15,7 +16,7 @@ returns-in-Err-Fault-clause-missing g c script named missing = absurd (names_not
 
 pub returns-in-Err-clause-reason : goal.returns-in-Err-clause-reason
 returns-in-Err-clause-reason g c =
-    ends_unread (host g.F.Files.contents g.D.Drives.disks c.args.files.now c.args.drives.now) c.args.bytes.now c.in-Ok.file
+    ends_unread (host g.F.Files.contents g.D.Drives.told c.args.files.now c.args.drives.now) c.args.bytes.now c.in-Ok.file
     (failed g.F.Files.failed_names g.D.Drives.faults g.D.Drives.failed_names c.args.files.now c.args.drives.now)
     (failed g.F.Files.failed_names g.D.Drives.faults g.D.Drives.failed_names c.read_script_of.new.files c.args.drives.now)
     c.in-Err.status c.in-Ok.ensures.ok c.in-Err.ensures.named c.in-Err.ensures.reason
@@ -27,29 +28,23 @@ returns-in-Err-clause-missing g c script named missing =
 pub returns-in-Err-clause-early : goal.returns-in-Err-clause-early
 returns-in-Err-clause-early g c = refusal_early c.in-Err.status c.in-Err.ensures.refusal
 
-pub returns-in-Err-clause-drive_names : goal.returns-in-Err-clause-drive_names
-returns-in-Err-clause-drive_names g c = unless_disk_always c.in-Err.status _ refl
-
-pub returns-in-Err-clause-drive_faults : goal.returns-in-Err-clause-drive_faults
-returns-in-Err-clause-drive_faults g c = unless_disk_always c.in-Err.status _ refl
+pub returns-in-Err-clause-drives : goal.returns-in-Err-clause-drives
+returns-in-Err-clause-drives g c = always_disk c.in-Err.status _ refl
 
 pub returns-in-Ok-boot-clause-starts : goal.returns-in-Ok-boot-clause-starts
 returns-in-Ok-boot-clause-starts g c =
-    starts_of_file (host g.F.Files.contents g.D.Drives.disks c.args.files.now c.args.drives.now) c.args.bytes.now c.in-Ok.file c.in-Ok-read_script_of.script
+    starts_of_file (host g.F.Files.contents g.D.Drives.told c.args.files.now c.args.drives.now) c.args.bytes.now c.in-Ok.file c.in-Ok-read_script_of.script
     c.in-Ok-boot.machine.system (g.D.Drives.disks c.boot.new.drives) c.in-Ok-boot.machine.bdos c.in-Ok.ensures.ok
     c.in-Ok-read_script_of.ensures.scripted c.in-Ok-boot.ensures.opening c.in-Ok-boot.ensures.files c.in-Ok-boot.ensures.drives
-    (record { attached = g.D.Drives.attached c.boot.new.drives; disks = g.D.Drives.disks c.boot.new.drives; mounted = c.in-Ok-boot.ensures.mounted })
     (nobody_yet c.in-Ok-boot.machine.system.kernel.disk c.in-Ok.file.disk_turn c.in-Ok-boot.ensures.disk)
 
-pub returns-in-Ok-boot-clause-attached : goal.returns-in-Ok-boot-clause-attached
-returns-in-Ok-boot-clause-attached g c =
-    keeps_unmounted c.in-Ok.file.drives (g.D.Drives.attached c.args.drives.now) (g.D.Drives.attached c.boot.new.drives) (g.D.Drives.disks c.boot.new.drives)
-    c.in-Ok-boot.machine.bdos.mounted c.boot.ensures.beside.drives c.in-Ok-boot.ensures.drives
+pub returns-in-Ok-boot-clause-drives : goal.returns-in-Ok-boot-clause-drives
+returns-in-Ok-boot-clause-drives g c = λ i. record { faults = c.in-Ok-boot.ensures.count i; names = c.in-Ok-boot.ensures.names i }
 
-pub returns-in-Ok-boot-clause-unsynced : goal.returns-in-Ok-boot-clause-unsynced
-returns-in-Ok-boot-clause-unsynced g c =
-    keeps_unmounted c.in-Ok.file.drives (g.D.Drives.unsynced c.args.drives.now) (g.D.Drives.unsynced c.boot.new.drives) (g.D.Drives.disks c.boot.new.drives)
-    c.in-Ok-boot.machine.bdos.mounted c.boot.ensures.unsynced c.in-Ok-boot.ensures.drives
+pub returns-in-Ok-boot-clause-sizes : goal.returns-in-Ok-boot-clause-sizes
+returns-in-Ok-boot-clause-sizes g c =
+    keeps_unmounted c.in-Ok.file.drives (size_of (g.D.Drives.disks c.args.drives.now)) (size_of (g.D.Drives.disks c.boot.new.drives)) (g.D.Drives.disks c.boot.new.drives)
+    c.in-Ok-boot.machine.bdos.mounted (λ number apart. ap (option_map length) (c.boot.ensures.beside.images number apart)) c.in-Ok-boot.ensures.drives
 
 pub returns-in-Ok-boot-clause-missing : goal.returns-in-Ok-boot-clause-missing
 returns-in-Ok-boot-clause-missing g c script named missing =
@@ -57,7 +52,7 @@ returns-in-Ok-boot-clause-missing g c script named missing =
 
 pub returns-clause-reason : goal.returns-clause-reason
 returns-clause-reason g c =
-    ends_unmounted (host g.F.Files.contents g.D.Drives.disks c.args.files.now c.args.drives.now) c.args.bytes.now c.in-Ok.file c.in-Ok-read_script_of.script
+    ends_unmounted (host g.F.Files.contents g.D.Drives.told c.args.files.now c.args.drives.now) c.args.bytes.now c.in-Ok.file c.in-Ok-read_script_of.script
     (failed g.F.Files.failed_names g.D.Drives.faults g.D.Drives.failed_names c.args.files.now c.args.drives.now)
     (failed g.F.Files.failed_names g.D.Drives.faults g.D.Drives.failed_names c.read_script_of.new.files c.boot.new.drives)
     c.in-Err-boot.error c.refusal.result c.refusal.ensures c.in-Ok.ensures.ok c.in-Ok-read_script_of.ensures.scripted c.in-Err-boot.ensures.err
@@ -66,12 +61,6 @@ pub returns-clause-missing : goal.returns-clause-missing
 returns-clause-missing g c script named missing =
     absurd (c.in-Ok-read_script_of.ensures.missing script (sym (script_of_file c.args.bytes.now c.in-Ok.file c.in-Ok.ensures.ok) ∙ named) missing)
 
-pub returns-clause-drive_names : goal.returns-clause-drive_names
-returns-clause-drive_names g c =
-    unless_disk (image_named (g.D.Drives.disks c.args.drives.now)) c.in-Ok.file.drives _ _ c.in-Err-boot.error c.refusal.result _ c.refusal.ensures c.in-Err-boot.ensures.err
-    (λ same. ap (λ (f : Failures). f.names) same)
-
-pub returns-clause-drive_faults : goal.returns-clause-drive_faults
-returns-clause-drive_faults g c =
-    unless_disk (image_named (g.D.Drives.disks c.args.drives.now)) c.in-Ok.file.drives _ _ c.in-Err-boot.error c.refusal.result _ c.refusal.ensures c.in-Err-boot.ensures.err
-    (λ same. ap (λ (f : Failures). f.faults) same)
+pub returns-clause-drives : goal.returns-clause-drives
+returns-clause-drives g c =
+    unless_disk (g.D.Drives.told c.args.drives.now) c.in-Ok.file.drives _ _ c.in-Err-boot.error c.refusal.result _ c.refusal.ensures c.in-Err-boot.ensures.err (λ same. same)

@@ -12,7 +12,7 @@ returns-in-Ok-clause-starts g c host =
     (c.in-Ok.ensures.files (g.D.Drives.disks c.args.drives.now)) (nobody_yet c.in-Ok.machine.system.kernel.disk 0 c.in-Ok.ensures.disk)
 
 pub returns-in-Ok-clause-holds : goal.returns-in-Ok-clause-holds
-returns-in-Ok-clause-holds g c = holds_nothing g.D.Drives.attached g.D.Drives.disks c.in-Ok.machine.system.kernel 0 c.in-Ok.machine.bdos c.args.drives.now c.in-Ok.ensures.disk c.in-Ok.ensures.bdos
+returns-in-Ok-clause-holds g c = holds_nothing g.D.Drives.disks c.in-Ok.machine.system.kernel 0 c.in-Ok.machine.bdos c.args.drives.now c.in-Ok.ensures.disk c.in-Ok.ensures.bdos
 
 pub returns-in-Ok-clause-no_drive : goal.returns-in-Ok-clause-no_drive
 returns-in-Ok-clause-no_drive g c = subst (λ (k : Kept). HasNoDrive k.mounted) (sym c.in-Ok.ensures.bdos) none_mounted

@@ -4,7 +4,7 @@ use Rattle.mpm_script.specs.Reading.{Faults}
 use Rattle.mpm_script.specs.Scripts.{script_of}
 use Rattle.mpm_script.specs.declared.error.ScriptError.{ScriptError}
 use Rattle.mpm_script.specs.declared.event.Timed.{Timed}
-use Rattle.mpm_top.specs.Runs.{Holds}
+use Rattle.mpm_top.specs.Beginnings.{Holds}
 use Rattle.mpm_top.proofs.StatusLaws.{unfetched_unread}
 use Rattle.mpm_top.proofs.boot.read_named.Goals as goal
 

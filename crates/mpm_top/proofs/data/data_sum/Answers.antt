@@ -14,5 +14,5 @@ unreachable-requires c = none_there _ (sym (ap option_copied c.in-None.is) ∙ c
 pub returns : goal.returns
 returns c on has =
     let there = sym c.directory.ensures ∙ ap option_copied c.in-Some.is in
-    c.sum_of.ensures has.image has.files has.told (subst (λ directory. IfSome directory (λ d. Stands has.image d has.files)) there has.stands)
+    c.sum_of.ensures has.image has.files has.attached (subst (λ directory. IfSome directory (λ d. Stands has.image d has.files)) there has.stands)
     ∙ summed_on on has.files has.here

@@ -1,26 +1,20 @@
-use Rattle.std.proofs.Common.{subst}
+use Rattle.std.proofs.Common.{◌≡◌, subst}
 use Rattle.mpm_top.specs.Words.{Command, command_of, texts}
-use Rattle.mpm_top.specs.Runs.{host, failed, Ends}
-use Rattle.mpm_top.proofs.EndingLaws.{asked_command, told_ending, no_disk_fault, missing_image}
+use Rattle.mpm_top.specs.Promises.{seen, Promises}
+use Rattle.mpm_top.proofs.EndingLaws.{asked_command, known_ending}
 use Rattle.mpm_top.proofs.run.run_words.Goals as goal
 
-pub returns-clause-told : goal.returns-clause-told
-returns-clause-told g c command asked status is names drive_names sound drive_sound =
-    let found = host g.F.Files.contents g.D.Drives.disks c.args.files.now c.args.drives.now in
-    let old = failed g.F.Files.failed_names g.D.Drives.faults g.D.Drives.failed_names c.args.files.now c.args.drives.now in
-    let new = failed g.F.Files.failed_names g.D.Drives.faults g.D.Drives.failed_names c.run_command.new.files c.run_command.new.drives in
-    let P : Command → Type 0 = λ k. Ends found k.form k.name old new c.run_command.result in
-    let same = asked_command (command_of (texts c.args.words.now)) c.name_of.result.now _ c.in-Some.asked command c.in-Some.ensures.command c.name_of.ensures asked in
-    let ends = subst P same c.run_command.ensures.reason in
-    told_ending found command.form command.name old new status c.run_command.result ends is names
-    (λ step disk. absurd (no_disk_fault found command.form command.name old new c.run_command.result step ends disk drive_names drive_sound))
-    (λ step wrote. absurd (sound (c.run_command.ensures.write step wrote)))
+-- a command
 
-pub returns-clause-missing_image : goal.returns-clause-missing_image
-returns-clause-missing_image g c command asked is names =
-    let found = host g.F.Files.contents g.D.Drives.disks c.args.files.now c.args.drives.now in
-    let old = failed g.F.Files.failed_names g.D.Drives.faults g.D.Drives.failed_names c.args.files.now c.args.drives.now in
-    let new = failed g.F.Files.failed_names g.D.Drives.faults g.D.Drives.failed_names c.run_command.new.files c.run_command.new.drives in
-    let P : Command → Type 0 = λ k. Ends found k.form k.name old new c.run_command.result in
+pub returns-clause-command : goal.returns-clause-command
+returns-clause-command g c command asked =
+    let old = seen g.F.Files.contents g.F.Files.failed_names g.D.Drives.disks g.D.Drives.told g.D.Drives.unsynced g.D.Drives.faults g.D.Drives.failed_names g.S.Sink.written g.S.Sink.faults c.args.files.now c.args.drives.now c.args.sink.now in
+    let new = seen g.F.Files.contents g.F.Files.failed_names g.D.Drives.disks g.D.Drives.told g.D.Drives.unsynced g.D.Drives.faults g.D.Drives.failed_names g.S.Sink.written g.S.Sink.faults c.run_command.new.files c.run_command.new.drives c.run_command.new.sink in
     let same = asked_command (command_of (texts c.args.words.now)) c.name_of.result.now _ c.in-Some.asked command c.in-Some.ensures.command c.name_of.ensures asked in
-    missing_image found command.form command.name old new c.run_command.result (subst P same c.run_command.ensures.reason) is names
+    subst (λ (k : Command). Promises (c.run_command.new.sink ≡ c.args.sink.now) (g.F.Files.missing c.args.files.now) k old new c.run_command.result) same
+    (record {
+      writes = c.run_command.ensures.writes;
+      reason = c.run_command.ensures.reason;
+      known = known_ending (g.F.Files.missing c.args.files.now) _ old new c.run_command.result c.run_command.ensures.reason c.run_command.ensures.fails.write
+          c.run_command.ensures.missing c.run_command.ensures.missing_script;
+    })

@@ -3,7 +3,7 @@ use Rattle.mpm_devices.specs.Kinds.{counted}
 use Rattle.mpm_render.specs.Outputs.{closed}
 use Rattle.mpm_machine.specs.After.{after}
 use Rattle.mpm_machine.specs.Settling.{carried}
-use Rattle.mpm_top.specs.Runs.{begun}
+use Rattle.mpm_top.specs.Beginnings.{begun}
 use Rattle.mpm_top.proofs.seeded.find_of.Goals as goal
 
 pub returns-in-Ok : goal.returns-in-Ok

@@ -1,12 +1,12 @@
-use Rattle.std.proofs.Common.{◌≡◌, ◌∙◌, ◌++◌, ℕ, Bool, List, Option, Some, subst}
-use Rattle.std.proofs.lemmas.Option.{same_Some}
+use Rattle.std.proofs.Common.{◌≡◌, ◌∙◌, ◌++◌, Bool, subst}
 use Rattle.mpm_port.specs.MemoryDisks.{disks_of}
 use Rattle.mpm_render.specs.Outputs.{closed}
 use Rattle.mpm_machine.specs.After.{after}
 use Rattle.mpm_machine.specs.Settling.{carried}
 use Rattle.mpm_machine.proofs.SettlingLaws.{settled_stand}
-use Rattle.mpm_top.specs.Runs.{begun, drives_left}
-use Rattle.mpm_top.proofs.RunLaws.{stands_begun}
+use Rattle.mpm_top.specs.Beginnings.{begun}
+use Rattle.mpm_top.specs.Runs.{drives_left}
+use Rattle.mpm_top.proofs.RunLaws.{stands_first}
 use Rattle.mpm_top.proofs.DataLaws.{has_drive_a}
 use Rattle.mpm_top.proofs.SeedLaws.{none_failed}
 use Rattle.mpm_top.proofs.seeded.run_counted.Goals as goal
@@ -19,26 +19,26 @@ unreachable-requires-in-Err-settle g c = none_failed c.in-Err-settle.field-0 c.i
 
 pub returns-clause-text : goal.returns-clause-text
 returns-clause-text g c on stand =
-    let first : Option (List ℕ) = Some c.args.counts.now in
+    let first = c.args.counts.now in
     let s = begun c.args.machine.now.system on in
-    let stands = stands_begun c.args.machine.now on c.new-render.result first (Some (disks_of c.args.drives.now)) (c.new-render.ensures.fresh first) stand in
+    let stands = stands_first c.args.machine.now s.files c.new-render.result first (disks_of c.args.drives.now) (c.new-render.ensures.fresh first) stand in
     let there = after c.args.steps s in
     let traces = c.in-Ok.ensures.trace ∙ c.new-render.ensures.trace in
-    let P : Bool → Type 0 = λ trace. Some c.settle.new.sink ≡ Some (c.args.counts.now ++ closed trace (carried there).outputs) in
-    same_Some _ _ (subst P traces (c.in-Ok-settle.ensures.ok there first (c.in-Ok.ensures.ok s first stands)))
+    let P : Bool → Type 0 = λ trace. c.settle.new.sink ≡ c.args.counts.now ++ closed trace (carried there).outputs in
+    subst P traces (c.in-Ok-settle.ensures.ok there first (c.in-Ok.ensures.ok s first stands))
 
 pub returns-clause-drive : goal.returns-clause-drive
 returns-clause-drive g c = c.in-Ok-settle.ensures.keeps.labels 0 ∙ c.in-Ok.ensures.keeps.labels 0 ∙ c.requires.drive
 
-pub returns-clause-attached : goal.returns-clause-attached
-returns-clause-attached g c number = c.in-Ok-settle.ensures.attached number ∙ c.in-Ok.ensures.attached number
+pub returns-clause-sizes : goal.returns-clause-sizes
+returns-clause-sizes g c number = c.in-Ok-settle.ensures.keeps.beside.sizes number ∙ c.in-Ok.ensures.keeps.beside.sizes number
 
 pub returns-clause-files : goal.returns-clause-files
 returns-clause-files g c on stand =
-    let first : Option (List ℕ) = Some c.args.counts.now in
+    let first = c.args.counts.now in
     let s = begun c.args.machine.now.system on in
-    let disks = Some (disks_of c.settle.new.drives) in
-    let stands = stands_begun c.args.machine.now on c.new-render.result first (Some (disks_of c.args.drives.now)) (c.new-render.ensures.fresh first) stand in
+    let disks = disks_of c.settle.new.drives in
+    let stands = stands_first c.args.machine.now s.files c.new-render.result first (disks_of c.args.drives.now) (c.new-render.ensures.fresh first) stand in
     let there = after c.args.steps s in
     has_drive_a disks c.settle.new.self.bdos.mounted (drives_left there)
     (c.in-Ok-settle.ensures.keeps.labels 0 ∙ c.in-Ok.ensures.keeps.labels 0 ∙ c.requires.drive)

@@ -3,7 +3,6 @@ use Rattle.std.specs.Prelude.{is_some, option_map}
 use Rattle.std.proofs.lemmas.Bool.{true≢false}
 use Rattle.mpm_base.proofs.Options.{none_there}
 use Rattle.mpm_base.specs.declared.kind.Kind.{Kind}
-use Rattle.mpm_port.specs.Disks.{Told}
 use Rattle.mpm_clock.specs.PackedDecimal.{stamp}
 use Rattle.mpm_functions.specs.declared.functions.FileFunction.{FileFunction}
 use Rattle.mpm_functions.specs.Functions.{function_of}
@@ -12,12 +11,11 @@ use Rattle.mpm_bdos.specs.Jobs.{call_turns}
 use Rattle.mpm_bdos.specs.Serving.{Kept, Serves}
 use Rattle.mpm_directories.specs.Places.{directory_at}
 use Rattle.mpm_bdos.specs.Starting.{caller_of, entering}
-use Rattle.mpm_bdos.specs.Turns.{FitsDrives, KeepsUnsynced, StaysBeside, labelled, told_images}
-use Rattle.mpm_bdos.proofs.Answerable.{still_entered}
-use Rattle.mpm_bdos.proofs.NextTurns.{idle_work, served_idly}
-use Rattle.mpm_bdos.proofs.Fitting.{stays_same}
+use Rattle.mpm_bdos.specs.Turns.{FitsDrives, KeepsToldOf, KeepsUnsynced, StaysBeside, labelled, images_of}
+use Rattle.mpm_bdos.proofs.NextTurns.{idle_work}
+use Rattle.mpm_bdos.proofs.Fitting.{stays_same, told_same}
 use Rattle.mpm_files.proofs.Causing.{cause_none}
-use Rattle.mpm_bdos.proofs.AtOnceLaws.{same_drive, changes_alone, alone_still}
+use Rattle.mpm_bdos.proofs.AtOnceLaws.{changes_alone, alone_still}
 use Rattle.mpm_bdos.proofs.bdos.Bdos.call_at_once.Goals as goal
 
 -- no call on files
@@ -29,14 +27,10 @@ returns-then-not-is_file_call g c =
     record {
       ok = λ before function is stand. absurd (never function is);
       err = λ before function is stand. absurd (never function is);
-      jobless = λ images before function is so. absurd (never function is);
-      idle = λ images before function is so. absurd (never function is);
+      idle = λ before function is stand none. absurd (never function is);
       alone = λ before function is. absurd (never function is);
       unsynced = λ before function is. absurd (never function is);
-      calls = λ images before function is stand. absurd (never function is);
-      may = λ function is. absurd (never function is);
-      drive = λ before function is. absurd (never function is);
-      stand = λ some. absurd (true≢false (sym some ∙ ap is_some none));
+      calls = λ before function is stand. absurd (never function is);
       none = λ free. refl;
       unfailing = λ free. refl;
       service = λ function is. absurd (never function is);
@@ -47,8 +41,8 @@ returns-then-not-is_file_call g c =
       labels = λ number. refl;
       fits = c.requires.fits;
       beside = stays_same c.args.self.now.mounted (g.D.Drives.disks c.args.drives.now);
+      told_are = told_same c.args.self.now.mounted (g.D.Drives.disks c.args.drives.now) (g.D.Drives.told c.args.drives.now);
       names = refl;
-      attached = λ number. refl;
       cause = cause_none _ _;
     }
 
@@ -60,43 +54,32 @@ returns-in-Ok g c =
     let file : is_some (function_of c.args.call.now.function) ≡ true = sym c.is_file_call.ensures ∙ c.if-not-is_file_call.false in
     record {
       ok = λ before function is stand.
-          let first = told_images (g.D.Drives.disks c.args.drives.now) in
-          let images = told_images (g.D.Drives.disks c.do_turns.new.drives) in
+          let first = images_of (g.D.Drives.disks c.args.drives.now) in
+          let images = images_of (g.D.Drives.disks c.do_turns.new.drives) in
           let s = entering c.args.self.now before (caller_of c.args.p c.args.process.now) function c.args.call.now (stamp c.args.now) in
           let turns : c.start-turns.result ≡ call_turns s = c.start-turns.ensures.turns first before function is stand in
           let all : 0 + c.start-turns.result ≡ call_turns s = omega (arith, turns) in
           c.reply.ensures.comes images s
           (subst (Serves images c.do_turns.new.self s) all (c.in-Ok.ensures.ok s 0 (c.start-turns.ensures.serves first before function is stand) (omega (arith, turns))));
       err = λ before function is stand. tt;
-      jobless = λ images before function is so.
-          let kept = c.start-turns.new.self in
+      idle = λ before function is stand none.
+          let images = images_of (g.D.Drives.disks c.args.drives.now) in
           let s = entering c.args.self.now before (caller_of c.args.p c.args.process.now) function c.args.call.now (stamp c.args.now) in
-          let serves = c.start-turns.ensures.serves images before function is so.stand in
-          let rest = c.do_turns.ensures.idle (idle_work images kept s 0 so.none serves) in
-          c.reply.ensures.comes images s (subst (λ k. Serves images k s (call_turns s)) (sym rest.kept) (served_idly images kept s so.none serves));
-      idle = λ images before function is so.
-          let s = entering c.args.self.now before (caller_of c.args.p c.args.process.now) function c.args.call.now (stamp c.args.now) in
-          let rest = c.do_turns.ensures.idle (idle_work images c.start-turns.new.self s 0 so.none (c.start-turns.ensures.serves images before function is so.stand)) in
+          let rest = c.do_turns.ensures.idle (idle_work images c.start-turns.new.self s 0 none (c.start-turns.ensures.serves images before function is stand)) in
           (rest.device, rest.calls, refl);
       alone = λ before function is.
           let disks = g.D.Drives.disks in
           let s = entering c.args.self.now before (caller_of c.args.p c.args.process.now) function c.args.call.now (stamp c.args.now) in
           alone_still (drive_number s) c.args.self.now.mounted c.start-turns.new.self.mounted c.do_turns.new.self.mounted c.reply.new.self.mounted (disks c.args.drives.now) (disks c.do_turns.new.drives)
           (ap (λ (kept : Kept). kept.mounted) c.start-turns.ensures.kept) (ap (λ (kept : Kept). kept.mounted) c.reply.ensures.kept)
-          (changes_alone g.D.Drives.attached disks g.D.Drives.failed_names g.D.Drives.unsynced c.start-turns.new.self c.do_turns.new.self c.args.drives.now c.do_turns.new.drives (drive_number s)
+          (changes_alone disks g.D.Drives.told g.D.Drives.failed_names g.D.Drives.unsynced c.start-turns.new.self c.do_turns.new.self c.args.drives.now c.do_turns.new.drives (drive_number s)
           (c.start-turns.ensures.drive before function is) c.do_turns.ensures.left);
       unsynced = λ before function is.
           let unsynced = g.D.Drives.unsynced in
           subst (λ drive. KeepsUnsynced drive (unsynced c.args.drives.now) (unsynced c.do_turns.new.drives)) (c.start-turns.ensures.drive before function is) c.do_turns.ensures.left.kept_unsynced;
-      calls = λ images before function is stand. subst (λ n. c.do_turns.new.steps ≤ c.args.steps.now + 20 * n) (c.start-turns.ensures.turns images before function is stand) c.do_turns.ensures.calls;
-      may = λ function is.
-          let caller = caller_of c.args.p c.args.process.now in
-          c.reply.ensures.may caller function c.args.call.now
-          (still_entered caller function c.args.call.now c.start-turns.new.self.service c.do_turns.new.self.service c.do_turns.ensures.left.kept.service (c.start-turns.ensures.entered function is));
-      drive = λ before function is.
-          c.reply.ensures.drive (drive_number (entering c.args.self.now before (caller_of c.args.p c.args.process.now) function c.args.call.now (stamp c.args.now)))
-          (same_drive c.start-turns.new.self.service c.do_turns.new.self.service c.do_turns.ensures.left.kept.service ∙ c.start-turns.ensures.drive before function is);
-      stand = c.start-turns.ensures.stand;
+      calls = λ before function is stand.
+          subst (λ n. c.do_turns.new.steps ≤ c.args.steps.now + 20 * n)
+          (c.start-turns.ensures.turns (images_of (g.D.Drives.disks c.args.drives.now)) before function is stand) c.do_turns.ensures.calls;
       none = λ none.
           (c.do_turns.ensures.idle (c.start-turns.ensures.workless (sym c.is_file_call.ensures ∙ c.if-not-is_file_call.false) none)).device;
       unfailing = λ none. refl;
@@ -108,10 +91,10 @@ returns-in-Ok g c =
       labels = λ number.
           let labels : Kept → Option (ℕ × Kind) = λ kept. option_map labelled (directory_at kept.mounted number) in
           ap labels c.reply.ensures.kept ∙ left.kept.labels number ∙ ap labels c.start-turns.ensures.kept;
-      fits = subst (λ (kept : Kept). FitsDrives g.D.Drives.attached g.D.Drives.disks kept.mounted kept.cached c.do_turns.new.drives) (sym c.reply.ensures.kept) left.fits;
-      beside = subst (λ (kept : Kept). Told (StaysBeside kept.mounted) (g.D.Drives.disks c.args.drives.now) (g.D.Drives.disks c.do_turns.new.drives)) c.start-turns.ensures.kept left.beside;
+      fits = subst (λ (kept : Kept). FitsDrives g.D.Drives.disks kept.mounted kept.cached c.do_turns.new.drives) (sym c.reply.ensures.kept) left.fits;
+      beside = subst (λ (kept : Kept). StaysBeside kept.mounted (g.D.Drives.disks c.args.drives.now) (g.D.Drives.disks c.do_turns.new.drives)) c.start-turns.ensures.kept left.beside;
+      told_are = subst (λ (kept : Kept). KeepsToldOf kept.mounted (g.D.Drives.disks c.args.drives.now) (g.D.Drives.told c.args.drives.now) (g.D.Drives.told c.do_turns.new.drives)) c.start-turns.ensures.kept left.told_are;
       names = left.names;
-      attached = left.attached_are;
       cause = record { later = c.in-Ok.ensures.cause.later; stays = c.in-Ok.ensures.cause.stays; failed = tt };
     }
 
@@ -124,30 +107,29 @@ returns-in-Err g c =
     record {
       ok = λ before function is stand. tt;
       err = λ before function is stand.
-          let first = told_images (g.D.Drives.disks c.args.drives.now) in
+          let first = images_of (g.D.Drives.disks c.args.drives.now) in
           let s = entering c.args.self.now before (caller_of c.args.p c.args.process.now) function c.args.call.now (stamp c.args.now) in
           let turns : c.start-turns.result ≡ call_turns s = c.start-turns.ensures.turns first before function is stand in
           c.in-Err.ensures.err s 0 (c.start-turns.ensures.serves first before function is stand) (omega (arith, turns));
-      jobless = λ images before function is so. tt;
-      idle = λ images before function is so.
+      idle = λ before function is stand none.
+          let images = images_of (g.D.Drives.disks c.args.drives.now) in
           let s = entering c.args.self.now before (caller_of c.args.p c.args.process.now) function c.args.call.now (stamp c.args.now) in
-          let none = idle_work images c.start-turns.new.self s 0 so.none (c.start-turns.ensures.serves images before function is so.stand) in
-          let rest = c.do_turns.ensures.idle none in
-          (rest.device, rest.calls, c.in-Err.ensures.unfailing none);
+          let workless = idle_work images c.start-turns.new.self s 0 none (c.start-turns.ensures.serves images before function is stand) in
+          let rest = c.do_turns.ensures.idle workless in
+          (rest.device, rest.calls, c.in-Err.ensures.unfailing workless);
       alone = λ before function is.
           let disks = g.D.Drives.disks in
           let s = entering c.args.self.now before (caller_of c.args.p c.args.process.now) function c.args.call.now (stamp c.args.now) in
           alone_still (drive_number s) c.args.self.now.mounted c.start-turns.new.self.mounted c.do_turns.new.self.mounted c.leave_service.new.self.mounted (disks c.args.drives.now) (disks c.do_turns.new.drives)
           (ap (λ (kept : Kept). kept.mounted) c.start-turns.ensures.kept) (ap (λ (kept : Kept). kept.mounted) c.leave_service.ensures)
-          (changes_alone g.D.Drives.attached disks g.D.Drives.failed_names g.D.Drives.unsynced c.start-turns.new.self c.do_turns.new.self c.args.drives.now c.do_turns.new.drives (drive_number s)
+          (changes_alone disks g.D.Drives.told g.D.Drives.failed_names g.D.Drives.unsynced c.start-turns.new.self c.do_turns.new.self c.args.drives.now c.do_turns.new.drives (drive_number s)
           (c.start-turns.ensures.drive before function is) c.do_turns.ensures.left);
       unsynced = λ before function is.
           let unsynced = g.D.Drives.unsynced in
           subst (λ drive. KeepsUnsynced drive (unsynced c.args.drives.now) (unsynced c.do_turns.new.drives)) (c.start-turns.ensures.drive before function is) c.do_turns.ensures.left.kept_unsynced;
-      calls = λ images before function is stand. subst (λ n. c.do_turns.new.steps ≤ c.args.steps.now + 20 * n) (c.start-turns.ensures.turns images before function is stand) c.do_turns.ensures.calls;
-      may = λ function is. tt;
-      drive = λ before function is. tt;
-      stand = c.start-turns.ensures.stand;
+      calls = λ before function is stand.
+          subst (λ n. c.do_turns.new.steps ≤ c.args.steps.now + 20 * n)
+          (c.start-turns.ensures.turns (images_of (g.D.Drives.disks c.args.drives.now)) before function is stand) c.do_turns.ensures.calls;
       none = λ none.
           (c.do_turns.ensures.idle (c.start-turns.ensures.workless (sym c.is_file_call.ensures ∙ c.if-not-is_file_call.false) none)).device;
       unfailing = λ none.
@@ -167,9 +149,9 @@ returns-in-Err g c =
       labels = λ number.
           let labels : Kept → Option (ℕ × Kind) = λ kept. option_map labelled (directory_at kept.mounted number) in
           ap labels c.leave_service.ensures ∙ left.kept.labels number ∙ ap labels c.start-turns.ensures.kept;
-      fits = subst (λ (kept : Kept). FitsDrives g.D.Drives.attached g.D.Drives.disks kept.mounted kept.cached c.do_turns.new.drives) (sym c.leave_service.ensures) left.fits;
-      beside = subst (λ (kept : Kept). Told (StaysBeside kept.mounted) (g.D.Drives.disks c.args.drives.now) (g.D.Drives.disks c.do_turns.new.drives)) c.start-turns.ensures.kept left.beside;
+      fits = subst (λ (kept : Kept). FitsDrives g.D.Drives.disks kept.mounted kept.cached c.do_turns.new.drives) (sym c.leave_service.ensures) left.fits;
+      beside = subst (λ (kept : Kept). StaysBeside kept.mounted (g.D.Drives.disks c.args.drives.now) (g.D.Drives.disks c.do_turns.new.drives)) c.start-turns.ensures.kept left.beside;
+      told_are = subst (λ (kept : Kept). KeepsToldOf kept.mounted (g.D.Drives.disks c.args.drives.now) (g.D.Drives.told c.args.drives.now) (g.D.Drives.told c.do_turns.new.drives)) c.start-turns.ensures.kept left.told_are;
       names = left.names;
-      attached = left.attached_are;
       cause = record { later = c.in-Err.ensures.cause.later; stays = tt; failed = c.in-Err.ensures.cause.failed };
     }

@@ -1,13 +1,13 @@
 use Rattle.std.proofs.Common.{◌≡◌, ◌+◌, refl, sym, subst, ◌∙◌, arith, add-zero}
 use Rattle.mpm_bdos.specs.Serving.{Serves}
-use Rattle.mpm_bdos.specs.Turns.{told_images}
+use Rattle.mpm_bdos.specs.Turns.{images_of}
 use Rattle.mpm_bdos.proofs.AtOnceLaws.{no_turns, one_more, one_more_turn, rests_again, still_none, cause_since, is_ok_or_err}
 use Rattle.mpm_bdos.proofs.bdos.Bdos.do_turns.Goals as goal
 
 pub loop-turn-init : goal.loop-turn-init
 loop-turn-init g c = record {
-  serves = λ s ended first few. subst (Serves (told_images (g.D.Drives.disks c.args.drives.now)) c.args.self.now s) (sym (add-zero ended)) first;
-  left = no_turns g.D.Drives.attached g.D.Drives.disks g.D.Drives.failed_names g.D.Drives.unsynced c.args.self.now c.args.drives.now c.requires.fits;
+  serves = λ s ended first few. subst (Serves (images_of (g.D.Drives.disks c.args.drives.now)) c.args.self.now s) (sym (add-zero ended)) first;
+  left = no_turns g.D.Drives.disks g.D.Drives.told g.D.Drives.failed_names g.D.Drives.unsynced c.args.self.now c.args.drives.now c.requires.fits;
   calls = omega arith;
   idle = λ none. record { kept = refl; device = refl; calls = refl };
   count = refl;
@@ -20,10 +20,10 @@ loop-turn-preserved g c =
     let so = c.loop-turn.invariant in
     let turn = c.loop-turn._turn in
     record {
-      serves = λ s ended first few. subst (Serves (told_images (g.D.Drives.disks now.drives)) now.self s) (one_more ended turn)
+      serves = λ s ended first few. subst (Serves (images_of (g.D.Drives.disks now.drives)) now.self s) (one_more ended turn)
           (c.in_default.ensures.ok s (ended + turn) (so.serves s ended first (omega (arith, few))) (omega (arith, few)));
-      left = one_more_turn g.D.Drives.attached g.D.Drives.disks g.D.Drives.failed_names g.D.Drives.unsynced c.args.self.now c.loop-turn.self now.self c.args.drives.now c.loop-turn.drives now.drives so.left
-          (record { kept = does.kept; fits = does.fits; images = does.images; beside = does.beside; names = does.names; attached_are = does.attached; kept_unsynced = does.unsynced });
+      left = one_more_turn g.D.Drives.disks g.D.Drives.told g.D.Drives.failed_names g.D.Drives.unsynced c.args.self.now c.loop-turn.self now.self c.args.drives.now c.loop-turn.drives now.drives so.left
+          (record { kept = does.kept; fits = does.fits; images = does.images; beside = does.beside; told_are = does.told_are; names = does.names; kept_unsynced = does.unsynced });
       calls = omega (arith, does.calls, so.calls);
       idle = λ none. rests_again c.args.self.now c.loop-turn.self now.self c.args.drives.now c.loop-turn.drives now.drives c.args.steps.now c.loop-turn.steps now.steps (so.idle none) does.kept
           (does.idle (still_none c.args.self.now c.loop-turn.self (so.idle none).kept none));
@@ -44,8 +44,8 @@ returns-in-Err g c =
         its = omega (arith, few, c.loop-turn-test.true);
         stops = c.in-Err.ensures.err s (ended + turn) (so.serves s ended first (omega (arith, few, c.loop-turn-test.true))) (omega (arith, few, c.loop-turn-test.true));
       };
-      left = one_more_turn g.D.Drives.attached g.D.Drives.disks g.D.Drives.failed_names g.D.Drives.unsynced c.args.self.now c.loop-turn.self now.self c.args.drives.now c.loop-turn.drives now.drives so.left
-          (record { kept = does.kept; fits = does.fits; images = does.images; beside = does.beside; names = does.names; attached_are = does.attached; kept_unsynced = does.unsynced });
+      left = one_more_turn g.D.Drives.disks g.D.Drives.told g.D.Drives.failed_names g.D.Drives.unsynced c.args.self.now c.loop-turn.self now.self c.args.drives.now c.loop-turn.drives now.drives so.left
+          (record { kept = does.kept; fits = does.fits; images = does.images; beside = does.beside; told_are = does.told_are; names = does.names; kept_unsynced = does.unsynced });
       calls = omega (arith, does.calls, so.calls, c.loop-turn-test.true);
       idle = λ none. absurd (is_ok_or_err _ _ _ c.in-Err.is (does.done (still_none c.args.self.now c.loop-turn.self (so.idle none).kept none)));
       unfailing = λ none. absurd (is_ok_or_err _ _ _ c.in-Err.is (does.done (still_none c.args.self.now c.loop-turn.self (so.idle none).kept none)));
@@ -58,7 +58,7 @@ returns g c =
     let so = c.loop-turn.invariant in
     let all : c.loop-turn._turn ≡ c.args.turns = omega (arith, c.loop-turn-test.false, c.loop-turn.auto._turn-end) in
     record {
-      ok = λ s ended first few. subst (λ turns. Serves (told_images (g.D.Drives.disks c.loop-turn.drives)) c.loop-turn.self s (ended + turns)) all (so.serves s ended first (omega (arith, few, all)));
+      ok = λ s ended first few. subst (λ turns. Serves (images_of (g.D.Drives.disks c.loop-turn.drives)) c.loop-turn.self s (ended + turns)) all (so.serves s ended first (omega (arith, few, all)));
       err = λ s ended first few. tt;
       left = so.left;
       calls = omega (arith, so.calls, all);

@@ -1,9 +1,7 @@
-use Rattle.std.proofs.Common.{◌∙◌, sym, ap, subst}
+use Rattle.std.proofs.Common.{◌∙◌, sym, subst}
 use Rattle.std.proofs.lemmas.Option.{none-some}
 use Rattle.mpm_bdos.specs.Jobs.{call_turns}
 use Rattle.mpm_bdos.specs.Serving.{Kept, Serves}
-use Rattle.mpm_bdos.specs.Answering.{HasEntered}
-use Rattle.mpm_bdos.proofs.Answerable.{entered_answers, of_served_drive}
 use Rattle.mpm_bdos.proofs.FinishLaws.{uncached, comes_still}
 use Rattle.mpm_bdos.proofs.bdos.Bdos.reply.Goals as goal
 
@@ -24,18 +22,3 @@ returns-in-None-clause-comes c = λ images s serves.
     let old : Kept = record { mounted = inside.mounted; cached = inside.cache; protected = inside.protected; opens = inside.opens; marks = inside.marks; searches = inside.searches; service = inside.service } in
     let its = subst (λ (k : Kept). Serves images k s (call_turns s)) (sym c.self.view_is) serves in
     absurd (none-some its.service (sym c.in-None.is ∙ its.there))
-
-pub returns-in-Some-clause-may : goal.returns-in-Some-clause-may
-returns-in-Some-clause-may c = λ caller function call entered.
-    entered_answers caller function call c.in-Some.service c.reply_service-extended.new.reply c.reply_service-extended.result
-    (subst (HasEntered caller function call) (ap (λ (kept : Kept). kept.service) (sym c.self.view_is) ∙ c.in-Some.is) entered)
-    c.reply_service-extended.ensures.may
-
-pub returns-in-None-clause-may : goal.returns-in-None-clause-may
-returns-in-None-clause-may c = λ caller function call entered.
-    absurd (subst (HasEntered caller function call) (ap (λ (kept : Kept). kept.service) (sym c.self.view_is) ∙ c.in-None.is) entered)
-
-pub returns-in-Some-clause-drive : goal.returns-in-Some-clause-drive
-returns-in-Some-clause-drive c = λ drive served.
-    of_served_drive drive c.in-Some.service c.args.self.now.service c.reply_service-extended.result
-    (ap (λ (kept : Kept). kept.service) (sym c.self.view_is) ∙ c.in-Some.is) served c.reply_service-extended.ensures.drive

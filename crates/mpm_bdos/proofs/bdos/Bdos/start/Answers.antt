@@ -2,8 +2,7 @@ use Rattle.std.proofs.Common.{◌≡◌, ◌∙◌, Some, sym, ap, subst}
 use Rattle.mpm_clock.specs.PackedDecimal.{stamp}
 use Rattle.mpm_requests.specs.Subjects.{drive_number}
 use Rattle.mpm_bdos.specs.Serving.{InService, Kept, StandEach, Serves}
-use Rattle.mpm_bdos.specs.Answering.{IsEntered}
-use Rattle.mpm_bdos.specs.Starting.{caller_of, entering, turns_where}
+use Rattle.mpm_bdos.specs.Starting.{IsEntered, caller_of, entering, turns_where}
 use Rattle.mpm_bdos.specs.Jobs.{call_turns}
 use Rattle.mpm_bdos.proofs.AtOnceLaws.{nothing_to_do}
 use Rattle.mpm_bdos.proofs.Started.{entered_so, entered_turns, one_function, some_turns}

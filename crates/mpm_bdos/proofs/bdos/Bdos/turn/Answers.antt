@@ -1,6 +1,6 @@
 use Rattle.std.proofs.Common.{refl, sym, subst}
 use Rattle.mpm_bdos.specs.Serving.{Kept, Serves}
-use Rattle.mpm_bdos.specs.Turns.{told_images}
+use Rattle.mpm_bdos.specs.Turns.{images_of}
 use Rattle.mpm_bdos.proofs.NextTurns.{next_served, next_stopped, next_progress}
 use Rattle.mpm_bdos.proofs.bdos.Bdos.turn.Goals as goal
 
@@ -14,18 +14,18 @@ returns-clause-ok g c =
     let new : Kept = record old { mounted = now.mounted; cached = now.cache; service = now.service } in
     λ s j serves turn. next_served disks old new c.args.drives.now now.drives s j c.args.steps.now now.steps c.turn_service.result does.ok does.idle
     (record { rest = refl; service = does.kept; places = does.places; labels = does.labels }) does.images
-    (subst (λ one. Serves (told_images (disks c.args.drives.now)) one s j) (sym c.self.view_is) serves) turn
+    (subst (λ one. Serves (images_of (disks c.args.drives.now)) one s j) (sym c.self.view_is) serves) turn
 
 pub returns-clause-err : goal.returns-clause-err
 returns-clause-err g c =
     let disks = g.D.Drives.disks in
     let does = c.turn_service.ensures in
     λ s j serves turn. next_stopped (disks c.args.drives.now) (disks c.turn_service.new.drives) _ s j c.turn_service.result does.err does.done
-    (subst (λ one. Serves (told_images (disks c.args.drives.now)) one s j) (sym c.self.view_is) serves) turn
+    (subst (λ one. Serves (images_of (disks c.args.drives.now)) one s j) (sym c.self.view_is) serves) turn
 
 pub returns-clause-progress : goal.returns-clause-progress
 returns-clause-progress g c =
     let disks = g.D.Drives.disks in
     let does = c.turn_service.ensures in
     λ s j serves. next_progress (disks c.args.drives.now) _ s j c.turn_service.result does.progress does.done
-    (subst (λ one. Serves (told_images (disks c.args.drives.now)) one s j) (sym c.self.view_is) serves)
+    (subst (λ one. Serves (images_of (disks c.args.drives.now)) one s j) (sym c.self.view_is) serves)

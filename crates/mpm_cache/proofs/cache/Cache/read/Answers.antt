@@ -1,4 +1,3 @@
-use Rattle.mpm_port.proofs.Images.{same_told}
 use Rattle.std.proofs.Common.{sym, ◌∙◌}
 use Rattle.mpm_cache.proofs.CoherentLaws.{coherent_hit, coherent_same}
 use Rattle.mpm_cache.proofs.AliasLaws.{apart_same}
@@ -10,10 +9,7 @@ returns-in-Some-clause-bytes g c =
 
 pub returns-in-Some-clause-coherent : goal.returns-in-Some-clause-coherent
 returns-in-Some-clause-coherent g c =
-    coherent_same c.args.self.now c.find.new.self (g.D.Drives.disks c.args.drives.now) (g.D.Drives.disks c.args.drives.now) c.find.ensures.same
-    (same_told (g.D.Drives.disks c.args.drives.now)) c.requires.coherent
+    coherent_same c.args.self.now c.find.new.self (g.D.Drives.disks c.args.drives.now) c.find.ensures.same c.requires.coherent
 
 pub returns-in-Some-clause-apart : goal.returns-in-Some-clause-apart
-returns-in-Some-clause-apart g c =
-    apart_same c.args.drive c.args.self.now c.find.new.self (g.D.Drives.disks c.args.drives.now) (g.D.Drives.disks c.args.drives.now) c.find.ensures.same
-    (same_told (g.D.Drives.disks c.args.drives.now))
+returns-in-Some-clause-apart g c = apart_same c.args.drive c.args.self.now c.find.new.self (g.D.Drives.disks c.args.drives.now) c.find.ensures.same

@@ -1,20 +1,16 @@
-use Rattle.mpm_cache.proofs.CoherentLaws.{coherent_written, coherent_failed, within_image}
+use Rattle.mpm_cache.proofs.CoherentLaws.{coherent_written, coherent_failed}
 use Rattle.mpm_cache.proofs.AliasLaws.{apart_written, apart_failed}
 use Rattle.mpm_cache.proofs.cache.Cache.write.Goals as goal
 
 pub returns-in-Ok-clause-coherent : goal.returns-in-Ok-clause-coherent
 returns-in-Ok-clause-coherent g c =
-    let within = within_image (g.D.Drives.disks c.args.drives.now) (g.D.Drives.attached c.args.drives.now c.args.drive) c.args.drive c.args.sector c.requires.inside
-    (λ told bytes h k. g.met.D.Drives.sizes c.args.drives.now told c.args.drive bytes h k) in
     coherent_written c.args.self.now c.keep.new.self (g.D.Drives.disks c.args.drives.now) (g.D.Drives.disks c.write.new.self) c.args.drive c.args.sector c.args.bytes.now
-    c.keep.ensures.kept c.in-Ok.ensures.ok c.told-bytes within c.requires.apart c.requires.coherent
+    c.keep.ensures.kept c.in-Ok.ensures.ok c.told-bytes c.requires.inside c.requires.apart c.requires.coherent
 
 pub returns-in-Err-clause-coherent : goal.returns-in-Err-clause-coherent
 returns-in-Err-clause-coherent g c =
-    let within = within_image (g.D.Drives.disks c.args.drives.now) (g.D.Drives.attached c.args.drives.now c.args.drive) c.args.drive c.args.sector c.requires.inside
-    (λ told bytes h k. g.met.D.Drives.sizes c.args.drives.now told c.args.drive bytes h k) in
     coherent_failed c.args.self.now c.forget.new.self (g.D.Drives.disks c.args.drives.now) (g.D.Drives.disks c.write.new.self) c.args.drive c.args.sector c.args.bytes.now
-    c.forget.ensures.forgotten c.in-Err.ensures.err c.told-bytes within c.requires.apart c.requires.coherent
+    c.forget.ensures.forgotten c.in-Err.ensures.err c.told-bytes c.requires.inside c.requires.apart c.requires.coherent
 
 pub returns-in-Ok-clause-apart : goal.returns-in-Ok-clause-apart
 returns-in-Ok-clause-apart g c =

@@ -4,9 +4,9 @@ use Rattle.std.proofs.lemmas.List.Elements.{recursion_from_All}
 use Rattle.mpm_machine_file.specs.declared.lists.DriveSpec.{DriveSpec}
 use Rattle.mpm_machine_file.specs.MachineFiles.{IsDrive}
 use Rattle.mpm_mount.specs.Directories.{Directory}
-use Rattle.mpm_drives.specs.Images.{image_named}
-use Rattle.mpm_drives.specs.Mounted.{number_of, AreMounted, AreSynced}
-use Rattle.mpm_drives.proofs.Mounting.{beside_more, not_listed, others_differ, mounted_kept, mounted_more, mounted_by, stops_from, stops_at, failures_same, taken_more, parted, stays, synced_more}
+use Rattle.mpm_drives.specs.Images.{Images}
+use Rattle.mpm_drives.specs.Mounted.{number_of, IsMountedAs, AreMounted, AreSynced}
+use Rattle.mpm_drives.proofs.Mounting.{beside_more, not_listed, others_differ, mounted_kept, mounted_more, stops_from, stops_at, failures_same, taken_more, parted, stays, synced_more}
 use Rattle.mpm_drives.proofs.mounted.MountedDrives.mount.Goals as goal
 
 pub returns-in-Err-clause-err : goal.returns-in-Err-clause-err
@@ -14,9 +14,9 @@ returns-in-Err-clause-err g c =
     let i = c.loop-spec.spec-index in
     let specs = c.args.specs.now in
     let spec = c.spec-item.result in
-    stops_at _ _ (image_named (g.D.Drives.disks c.args.drives.now)) specs (take i specs) c.loop-spec.items.items spec (drop (i + 1) specs) _ _ c.in-Err.error
+    stops_at _ (g.D.Drives.told c.args.drives.now) specs (take i specs) c.loop-spec.items.items spec (drop (i + 1) specs) _ _ c.in-Err.error
     (parted specs i spec (omega arith) c.spec-item.is) c.loop-spec.invariant.mounted
-    (stops_from (image_named (g.D.Drives.disks c.loop-spec.drives)) (image_named (g.D.Drives.disks c.args.drives.now)) spec _ _ _ c.in-Err.error (c.loop-spec.invariant.images spec.image)
+    (stops_from (g.D.Drives.told c.loop-spec.drives) (g.D.Drives.told c.args.drives.now) spec _ _ _ c.in-Err.error c.loop-spec.invariant.told
     (failures_same _ _ _ _ c.loop-spec.invariant.count c.loop-spec.invariant.names) c.in-Err.ensures.err)
 
 pub returns-in-Err-clause-unsynced : goal.returns-in-Err-clause-unsynced
@@ -33,21 +33,20 @@ loop-spec-preserved g c =
     let specs = c.args.specs.now in
     let spec = c.spec-item.result in
     let items = c.loop-spec.items.items in
-    let a = g.D.Drives.attached c.mount_drive.new.drives in
     let x = g.D.Drives.disks c.mount_drive.new.drives in
     let before_it = g.D.Drives.unsynced c.loop-spec.drives in
     let now = g.D.Drives.unsynced c.mount_drive.new.drives in
-    let images = image_named (g.D.Drives.disks c.args.drives.now) in
+    let images = g.D.Drives.told c.args.drives.now in
     let parts = parted specs i spec (omega arith) c.spec-item.is in
     let apart = others_differ specs (take i specs) spec (drop (i + 1) specs) parts (recursion_from_All IsDrive specs c.requires.each) c.requires.apart in
-    let before = mounted_kept (number_of spec) _ a _ x images (take i specs) items c.in-Ok.ensures.only apart c.loop-spec.invariant.mounted in
-    let here = mounted_by a x (image_named (g.D.Drives.disks c.loop-spec.drives)) images spec c.in-Ok.mounted (c.loop-spec.invariant.images spec.image) c.in-Ok.ensures.mounted in
+    let before = mounted_kept (number_of spec) _ x images (take i specs) items c.in-Ok.ensures.only apart c.loop-spec.invariant.mounted in
+    let here = subst (λ (t : Images). IsMountedAs x t spec c.in-Ok.mounted) c.loop-spec.invariant.told c.in-Ok.ensures.mounted in
     let pushed : c.push.new.self.items ≡ items ++ (c.in-Ok.mounted ∷ []) = first_of (search rules, grind (arith, common_steps)) in
-    let P : List DriveSpec → Type 0 = λ front. AreMounted a x images front c.push.new.self.items in
-    let Q : List Directory → Type 0 = λ ds. AreMounted a x images (take i specs ++ (spec ∷ [])) ds in
+    let P : List DriveSpec → Type 0 = λ front. AreMounted x images front c.push.new.self.items in
+    let Q : List Directory → Type 0 = λ ds. AreMounted x images (take i specs ++ (spec ∷ [])) ds in
     record {
-      beside = beside_more specs (take i specs) spec (drop (i + 1) specs) _ _ a _ _ x parts c.loop-spec.invariant.beside c.in-Ok.ensures.only;
-      mounted = subst P (sym (taken_more specs i spec (omega arith) c.spec-item.is)) (subst Q (sym pushed) (mounted_more a x images (take i specs) items spec c.in-Ok.mounted before here));
+      beside = beside_more specs (take i specs) spec (drop (i + 1) specs) _ _ x parts c.loop-spec.invariant.beside c.in-Ok.ensures.only;
+      mounted = subst P (sym (taken_more specs i spec (omega arith) c.spec-item.is)) (subst Q (sym pushed) (mounted_more x images (take i specs) items spec c.in-Ok.mounted before here));
       fresh = subst (AreSynced now) (sym pushed)
           (synced_more items c.in-Ok.mounted before_it now c.loop-spec.invariant.fresh (stays before_it now (number_of spec) c.in-Ok.ensures.fresh c.in-Ok.ensures.unsynced)
           (ap now c.in-Ok.ensures.mounted.number ∙ c.in-Ok.ensures.fresh));
@@ -56,5 +55,5 @@ loop-spec-preserved g c =
       none = λ nothing. absurd (omega (arith, nothing));
       count = c.in-Ok.ensures.count ∙ c.loop-spec.invariant.count;
       names = c.in-Ok.ensures.names ∙ c.loop-spec.invariant.names;
-      images = λ name. c.in-Ok.ensures.only.images name ∙ c.loop-spec.invariant.images name;
+      told = c.in-Ok.ensures.told ∙ c.loop-spec.invariant.told;
     }

@@ -1,16 +1,15 @@
-use Rattle.std.proofs.Common.{◌≡◌, ◌≢◌, ℕ, List, All, take}
-use Rattle.mpm_drives.specs.Images.{image_named}
+use Rattle.std.proofs.Common.{◌≡◌, ◌≢◌, ℕ, All, take}
 use Rattle.mpm_drives.specs.Mounted.{number_of, AreMounted, AreSynced, SameBeside}
 use Rattle.mpm_drives.proofs.mounted.MountedDrives.mount.Given as goal
 
 abbrev pub invariant-loop-spec : goal.invariant-loop-spec
 invariant-loop-spec g l = record {
-  mounted : AreMounted (g.D.Drives.attached l.drives) (g.D.Drives.disks l.drives) (image_named (g.D.Drives.disks l.initial.drives)) (take l.spec-index l.specs) l.items.items;
-  beside : SameBeside l.specs (g.D.Drives.attached l.initial.drives) (g.D.Drives.attached l.drives) (g.D.Drives.disks l.initial.drives) (g.D.Drives.disks l.drives);
+  mounted : AreMounted (g.D.Drives.disks l.drives) (g.D.Drives.told l.initial.drives) (take l.spec-index l.specs) l.items.items;
+  beside : SameBeside l.specs (g.D.Drives.disks l.initial.drives) (g.D.Drives.disks l.drives);
   none : l.spec-index ≡ 0 → l.drives ≡ l.initial.drives;
   count : g.D.Drives.faults l.drives ≡ g.D.Drives.faults l.initial.drives;
   names : g.D.Drives.failed_names l.drives ≡ g.D.Drives.failed_names l.initial.drives;
   fresh : AreSynced (g.D.Drives.unsynced l.drives) l.items.items;
   unsynced : (number : ℕ) → All (λ spec. number_of spec ≢ number) l.specs → g.D.Drives.unsynced l.drives number ≡ g.D.Drives.unsynced l.initial.drives number;
-  images : (name : List ℕ) → image_named (g.D.Drives.disks l.drives) name ≡ image_named (g.D.Drives.disks l.initial.drives) name;
+  told : g.D.Drives.told l.drives ≡ g.D.Drives.told l.initial.drives;
 }

@@ -1,11 +1,11 @@
 use Rattle.std.proofs.Common.{◌∙◌, ℕ, refl, sym, ap, subst, arith}
 use Rattle.mpm_bdos.specs.Serving.{Kept}
 use Rattle.mpm_system.specs.declared.system.System.{System}
-use Rattle.mpm_machine.specs.State.{State, StandsWithDrives}
+use Rattle.mpm_machine.specs.State.{State, IsAt, StandsWithDrives}
 use Rattle.mpm_machine.specs.After.{after, ShowsBefore}
 use Rattle.mpm_machine.specs.Mounting.{HasNoDrive, KeepsMounted}
 use Rattle.mpm_machine.specs.Failing.{StopsWithImages}
-use Rattle.mpm_machine.proofs.NextLaws.{after_more, ends_in_step, run_and_step, stopped_in_step, so_in_step}
+use Rattle.mpm_machine.proofs.NextLaws.{after_more, ends_in_step, so_in_step}
 use Rattle.mpm_machine.proofs.DriveLaws.{keeps_still}
 use Rattle.mpm_machine.proofs.machine.Machine.advance.Goals as goal
 
@@ -27,11 +27,11 @@ returns-then-done-most g c =
     let ran = c.run_on-done.ensures.went in
     record {
       ok = λ s first stands. ran.ok s first stands;
+      model = ran.model;
       err = λ s first stands. tt;
       shown = λ s first stands. tt;
       images = λ s first stands. tt;
-      steps = ran.steps;
-      stops = tt;
+      interprets = ran.interprets;
       due = ran.due (omega (arith, c.requires.some, c.if-done-most.true));
       some = omega (arith, c.requires.some, c.if-done-most.true);
       few = c.run_on-done.ensures.count;
@@ -40,10 +40,9 @@ returns-then-done-most g c =
       count = ran.done;
       trace = refl;
       cause = record { stays = refl; failed = tt };
-      keeps = keeps_still _ _ _ (ap (λ (k : Kept). k.mounted) ran.bdos);
+      keeps = keeps_still _ _ _ _ (ap (λ (k : Kept). k.mounted) ran.bdos);
       holds = ran.holds;
       names = refl;
-      attached = λ number. refl;
       unsynced = λ number was. was;
       bare = λ none. subst (λ (k : Kept). HasNoDrive k.mounted) (sym ran.bdos) none;
       none = λ none. refl;
@@ -65,30 +64,30 @@ returns g c =
           let P : State → Type 0 = λ t. StandsWithDrives c.step.new.self c.step.new.render (g.S.Sink.written c.step.new.sink) (g.D.Drives.disks c.step.new.drives) t first in
           subst P (sym (after_more done s))
           (stepped.ok (after done s) first (ran.ok s first stands));
+      model = λ s here.
+          subst (IsAt c.step.new.self (g.D.Drives.disks c.step.new.drives)) (sym (after_more done s)) (stepped.model (after done s) (ran.model s here));
       err = λ s first stands. tt;
       shown = λ s first stands. tt;
       images = λ s first stands. tt;
-      steps = run_and_step done _ _ _ _ _ _ ran.steps stepped.step;
-      stops = tt;
-      due = stepped.due;
+      interprets = λ i. stepped.leaves.interprets (ran.interprets i);
+      due = stepped.leaves.due;
       some = omega arith;
       few = omega (arith, c.run_on-done.ensures.count, c.if-done-most.false);
-      whole = stepped.whole;
-      no_completions = stepped.no_completions;
-      count = omega (arith, ran.done, stepped.count);
+      whole = stepped.leaves.whole;
+      no_completions = stepped.leaves.no_completions;
+      count = omega (arith, ran.done, stepped.leaves.count);
       trace = stepped.trace;
       cause = record { stays = stepped.cause.stays; failed = tt };
-      keeps = subst (λ (k : Kept). KeepsMounted (g.D.Drives.disks c.args.drives.now) (g.D.Drives.disks c.step.new.drives) k.mounted c.step.new.self.bdos.mounted) ran.bdos stepped.keeps;
+      keeps = subst (λ (k : Kept). KeepsMounted (g.D.Drives.told c.args.drives.now) (g.D.Drives.told c.step.new.drives) (g.D.Drives.disks c.args.drives.now) (g.D.Drives.disks c.step.new.drives) k.mounted c.step.new.self.bdos.mounted) ran.bdos stepped.drives.keeps;
       holds = stepped.holds;
-      names = stepped.names;
-      attached = stepped.attached;
-      unsynced = stepped.unsynced;
-      bare = λ none. stepped.bare (subst (λ (k : Kept). HasNoDrive k.mounted) (sym ran.bdos) none);
-      none = λ none. stepped.none (subst (λ (k : Kept). HasNoDrive k.mounted) (sym ran.bdos) none);
+      names = stepped.drives.names;
+      unsynced = stepped.drives.unsynced;
+      bare = λ none. (stepped.none (subst (λ (k : Kept). HasNoDrive k.mounted) (sym ran.bdos) none)).2;
+      none = λ none. (stepped.none (subst (λ (k : Kept). HasNoDrive k.mounted) (sym ran.bdos) none)).1;
       unfailing = λ none. tt;
       calls = λ turns. omega (arith, stepped.few (omega (arith, turns, ran.turn_steps)));
       last_calls = λ turns. tt;
-      turn_steps = stepped.turn_steps ∙ ran.turn_steps;
+      turn_steps = stepped.leaves.turn_steps ∙ ran.turn_steps;
     }
 
 -- that step failed
@@ -102,21 +101,20 @@ returns-in-Err g c =
     let steps : System → ℕ = λ system. system.steps in
     record {
       ok = λ s first stands. tt;
+      model = λ s here. tt;
       err = λ s first stands. let same = ap steps stands.system.parts in
           ends_in_step fault c.args.render.now.trace (g.S.Sink.written c.step.new.sink) first s c.args.most done _
           (omega (arith, c.run_on-done.ensures.count, c.if-done-most.false)) (omega (arith, c.steps_done-step.ensures, ran.done, same))
-          (failed.err (after done s) first (ran.ok s first stands));
+          (failed.stops (after done s) first (ran.ok s first stands)).text;
       shown = λ s first stands. let same = ap steps stands.system.parts in
           so_in_step (λ t. ShowsBefore fault c.step.new.render (g.S.Sink.written c.step.new.sink) t first) s done _
           (omega (arith, c.steps_done-step.ensures, ran.done, same))
-          (failed.shown (after done s) first (ran.ok s first stands));
+          (failed.stops (after done s) first (ran.ok s first stands)).shown;
       images = λ s first stands. let same = ap steps stands.system.parts in
           so_in_step (StopsWithImages fault (g.D.Drives.disks c.step.new.drives) c.step.new.self.bdos.mounted) s done _
           (omega (arith, c.steps_done-step.ensures, ran.done, same))
-          (failed.images (after done s) first (ran.ok s first stands));
-      steps = tt;
-      stops = stopped_in_step c.args.most done fault _ c.run_on-done.new.self.bdos _ _ _ c.args.self.now.system c.run_on-done.new.self.system
-          (omega (arith, c.run_on-done.ensures.count, c.if-done-most.false)) (omega (arith, c.steps_done-step.ensures, ran.done)) ran.steps failed.stops;
+          (failed.stops (after done s) first (ran.ok s first stands)).images;
+      interprets = λ i. tt;
       due = tt;
       some = tt;
       few = tt;
@@ -125,14 +123,13 @@ returns-in-Err g c =
       count = tt;
       trace = failed.trace;
       cause = record { stays = tt; failed = failed.cause.failed };
-      keeps = subst (λ (k : Kept). KeepsMounted (g.D.Drives.disks c.args.drives.now) (g.D.Drives.disks c.step.new.drives) k.mounted c.step.new.self.bdos.mounted) ran.bdos failed.keeps;
+      keeps = subst (λ (k : Kept). KeepsMounted (g.D.Drives.told c.args.drives.now) (g.D.Drives.told c.step.new.drives) (g.D.Drives.disks c.args.drives.now) (g.D.Drives.disks c.step.new.drives) k.mounted c.step.new.self.bdos.mounted) ran.bdos failed.drives.keeps;
       holds = tt;
-      names = failed.names;
-      attached = failed.attached;
-      unsynced = failed.unsynced;
-      bare = λ none. failed.bare (subst (λ (k : Kept). HasNoDrive k.mounted) (sym ran.bdos) none);
-      none = λ none. failed.none (subst (λ (k : Kept). HasNoDrive k.mounted) (sym ran.bdos) none);
-      unfailing = λ none. failed.unfailing (subst (λ (k : Kept). HasNoDrive k.mounted) (sym ran.bdos) none);
+      names = failed.drives.names;
+      unsynced = failed.drives.unsynced;
+      bare = λ none. (failed.none (subst (λ (k : Kept). HasNoDrive k.mounted) (sym ran.bdos) none)).2;
+      none = λ none. (failed.none (subst (λ (k : Kept). HasNoDrive k.mounted) (sym ran.bdos) none)).1;
+      unfailing = λ none. (failed.none (subst (λ (k : Kept). HasNoDrive k.mounted) (sym ran.bdos) none)).0;
       calls = λ turns. tt;
       last_calls = λ turns. omega (arith, c.requires.some, failed.few (omega (arith, turns, ran.turn_steps)));
       turn_steps = tt;

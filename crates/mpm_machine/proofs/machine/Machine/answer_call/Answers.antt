@@ -1,34 +1,26 @@
 use Rattle.std.proofs.Common.{ap}
+use Rattle.std.proofs.lemmas.Result.{on_ok_weaker}
 use Rattle.mpm_procs.specs.Table.{call_of}
 use Rattle.mpm_bdos.specs.Serving.{Kept}
-use Rattle.mpm_bdos.specs.Turns.{told_images}
+use Rattle.mpm_bdos.specs.Turns.{images_of}
 use Rattle.mpm_machine.specs.FileCalls.{told_of}
-use Rattle.mpm_machine.proofs.ToldLaws.{ends_as_kept}
-use Rattle.mpm_machine.proofs.ServeLaws.{answered_ok, answered_err, answered_told, answered_stops, answered_whole, answered_nobody, emits_cause}
+use Rattle.mpm_machine.proofs.ServeLaws.{answered_ok, answered_err, answered_whole, answered_nobody, emits_cause}
 use Rattle.mpm_machine.proofs.machine.Machine.answer_call.Goals as goal
 
 pub returns-clause-ok : goal.returns-clause-ok
 returns-clause-ok g c disks s serves whose =
     answered_ok c.end_file_call.result c.args.p c.args.self.now.system c.end_file_call.new.system _ _ s c.reply-extended.new.self disks c.reply-extended.new.reply c.reply-extended.result
-    (c.reply-extended.ensures.comes (told_images disks) s serves) (ap (λ (k : Kept). k.service) c.reply-extended.ensures.kept) c.end_file_call.ensures.system c.end_file_call.ensures.wrote.ok
+    (c.reply-extended.ensures.comes (images_of disks) s serves) (ap (λ (k : Kept). k.service) c.reply-extended.ensures.kept) c.end_file_call.ensures.system c.end_file_call.ensures.wrote.ok
 
 pub returns-clause-err : goal.returns-clause-err
 returns-clause-err g c disks s serves whose =
     answered_err c.end_file_call.result c.args.p c.args.self.now.system _ _ s c.reply-extended.new.self disks c.reply-extended.new.reply c.reply-extended.result
-    (c.reply-extended.ensures.comes (told_images disks) s serves) c.end_file_call.ensures.wrote.err
+    (c.reply-extended.ensures.comes (images_of disks) s serves) c.end_file_call.ensures.wrote.err
 
-pub returns-clause-told : goal.returns-clause-told
-returns-clause-told g c =
-    answered_told c.end_file_call.result c.args.p c.args.self.now.system c.end_file_call.new.system _ _ c.args.self.now.bdos c.reply-extended.new.self c.reply-extended.new.reply c.reply-extended.result
-    c.requires.own c.reply-extended.ensures.may
-    (ends_as_kept c.args.self.now.bdos c.reply-extended.new.self c.reply-extended.new.reply c.reply-extended.result c.reply-extended.ensures.comes)
-    c.end_file_call.ensures.system c.end_file_call.ensures.wrote.ok
-
-pub returns-clause-stops : goal.returns-clause-stops
-returns-clause-stops g c =
-    answered_stops c.end_file_call.result c.args.p c.args.self.now.system _ _ c.args.self.now.bdos c.reply-extended.new.self c.reply-extended.new.reply c.reply-extended.result
-    c.requires.own c.reply-extended.ensures.may
-    (ends_as_kept c.args.self.now.bdos c.reply-extended.new.self c.reply-extended.new.reply c.reply-extended.result c.reply-extended.ensures.comes) c.end_file_call.ensures.wrote.err
+pub returns-clause-made : goal.returns-clause-made
+returns-clause-made g c =
+    on_ok_weaker c.end_file_call.result
+    (λ is. (told_of (call_of c.args.self.now.system.kernel.dispatcher.procs c.args.p) c.reply-extended.new.reply c.reply-extended.result, is)) c.end_file_call.ensures.system
 
 pub returns-clause-whole : goal.returns-clause-whole
 returns-clause-whole g c =

@@ -6,7 +6,7 @@ use Rattle.mpm_machine.proofs.WholeStepLaws.{whole_all_answered}
 use Rattle.mpm_machine.proofs.DueLaws.{no_completions_answered}
 use Rattle.mpm_machine.proofs.FileStepLaws.{call_records, called_few, begun_with_has_room}
 use Rattle.mpm_machine.proofs.BegunLaws.{keeps_made, holds_kept, holds_answered}
-use Rattle.mpm_machine.proofs.WithFilesLaws.{lives_to_call, ready_to_call, made_so, made_completed, gate_stands, gate_whole, gate_serves, gate_begun_to, gate_begun, gate_stops, gate_err, gate_still, gate_apart, gate_images, gate_calls, gate_idle}
+use Rattle.mpm_machine.proofs.WithFilesLaws.{lives_to_call, ready_to_call, made_so, made_completed, gate_stands, gate_whole, gate_serves, gate_begun_to, gate_made, gate_err, gate_still, gate_apart, gate_images, gate_calls, gate_idle}
 use Rattle.mpm_machine.proofs.machine.Machine.begin_with_files.Goals as goal
 
 pub make_file_call-requires-clause-lives : goal.make_file_call-requires-clause-lives
@@ -25,7 +25,7 @@ call_or_wait-requires g c =
       none = call_records c.args.p old made c.requires.no_completions.written is;
       lives = m.lives;
       ready = m.ready is_ready;
-      holds = holds_kept g.D.Drives.attached g.D.Drives.disks old made c.args.self.now.bdos c.args.drives.now (keeps_made c.args.p old made c.requires.whole.sound is_ready is) c.requires.holds;
+      holds = holds_kept g.D.Drives.disks old made c.args.self.now.bdos c.args.drives.now (keeps_made c.args.p old made c.requires.whole.sound is_ready is) c.requires.holds;
     }
 
 pub answer_all-requires : goal.answer_all-requires
@@ -33,12 +33,12 @@ answer_all-requires g c =
     let old = c.args.self.now.system in
     let made = c.make_file_call.new.self in
     let is = c.make_file_call.ensures in
-    let has = c.in-Ok.ensures.called in
+    let has = c.in-Ok.ensures.made in
     record {
-      whole = gate_whole c.args.p _ _ old made c.call_or_wait.new.self.system (made_so c.args.p old made c.requires.whole c.requires.caller is)
+      whole = gate_whole c.args.p old made c.call_or_wait.new.self.system (made_so c.args.p old made c.requires.whole c.requires.caller is)
           (ready_to_call c.args.p old c.requires.whole c.requires.caller) has;
-      room = begun_with_has_room (Some c.args.p) has.told old c.call_or_wait.new.self.system c.requires.no_completions.written
-          (has.called.system ∙ ap (λ (s : System). (file_called has.told c.args.p s).system) is);
+      room = begun_with_has_room (Some c.args.p) has.0 old c.call_or_wait.new.self.system c.requires.no_completions.written
+          (has.1 ∙ ap (λ (s : System). (file_called has.0 c.args.p s).system) is);
     }
 
 pub returns-in-Ok-clause-ok : goal.returns-in-Ok-clause-ok
@@ -52,13 +52,13 @@ returns-in-Ok-clause-ok g c files stands =
     gate_begun_to c.args.p files (seen g.S.Sink.written g.S.Sink.faults c.args.render.now c.args.sink.now)
     (seen g.S.Sink.written g.S.Sink.faults c.call_or_wait.new.render c.call_or_wait.new.sink) old made c.call_or_wait.new.self.system c.answer_all.new.system c.call_or_wait.new.self.bdos
     (g.D.Drives.disks c.call_or_wait.new.drives) c.requires.caller is (made_so c.args.p old made c.requires.whole c.requires.caller is) is_ready
-    (holds_kept g.D.Drives.attached g.D.Drives.disks old made kept c.args.drives.now (keeps_made c.args.p old made c.requires.whole.sound is_ready is) c.requires.holds).filed
-    c.in-Ok.ensures.called c.answer_all.ensures.system (c.in-Ok.ensures.ok files (gate_stands c.args.p old made kept disks files is stands))
+    (holds_kept g.D.Drives.disks old made kept c.args.drives.now (keeps_made c.args.p old made c.requires.whole.sound is_ready is) c.requires.holds).filed
+    c.in-Ok.ensures.made c.answer_all.ensures.system (c.in-Ok.ensures.ok files (gate_stands c.args.p old made kept disks files is stands))
 
-pub returns-in-Ok-clause-step : goal.returns-in-Ok-clause-step
-returns-in-Ok-clause-step g c =
-    gate_begun c.args.p _ _ c.args.self.now.system c.make_file_call.new.self c.call_or_wait.new.self.system c.answer_all.new.system c.requires.caller c.make_file_call.ensures
-    c.in-Ok.ensures.called c.answer_all.ensures.system
+pub returns-in-Ok-clause-made : goal.returns-in-Ok-clause-made
+returns-in-Ok-clause-made g c =
+    gate_made c.args.p c.args.self.now.system c.make_file_call.new.self c.call_or_wait.new.self.system c.answer_all.new.system c.requires.caller c.make_file_call.ensures
+    c.in-Ok.ensures.made c.answer_all.ensures.system
 
 pub returns-in-Ok-clause-served : goal.returns-in-Ok-clause-served
 returns-in-Ok-clause-served g c =
@@ -66,9 +66,9 @@ returns-in-Ok-clause-served g c =
     let made = c.make_file_call.new.self in
     let is = c.make_file_call.ensures in
     let is_ready = ready_to_call c.args.p old c.requires.whole c.requires.caller in
-    (gate_serves c.args.p _ _ old made c.call_or_wait.new.self.system c.answer_all.new.system is (made_so c.args.p old made c.requires.whole c.requires.caller is) is_ready
-    (holds_kept g.D.Drives.attached g.D.Drives.disks old made c.args.self.now.bdos c.args.drives.now (keeps_made c.args.p old made c.requires.whole.sound is_ready is) c.requires.holds).filed
-    c.in-Ok.ensures.called c.answer_all.ensures.system).served
+    (gate_serves c.args.p old made c.call_or_wait.new.self.system c.answer_all.new.system is (made_so c.args.p old made c.requires.whole c.requires.caller is) is_ready
+    (holds_kept g.D.Drives.disks old made c.args.self.now.bdos c.args.drives.now (keeps_made c.args.p old made c.requires.whole.sound is_ready is) c.requires.holds).filed
+    c.in-Ok.ensures.made c.answer_all.ensures.system).served
 
 pub returns-in-Ok-clause-turn_steps : goal.returns-in-Ok-clause-turn_steps
 returns-in-Ok-clause-turn_steps g c =
@@ -76,17 +76,17 @@ returns-in-Ok-clause-turn_steps g c =
     let made = c.make_file_call.new.self in
     let is = c.make_file_call.ensures in
     let is_ready = ready_to_call c.args.p old c.requires.whole c.requires.caller in
-    (gate_serves c.args.p _ _ old made c.call_or_wait.new.self.system c.answer_all.new.system is (made_so c.args.p old made c.requires.whole c.requires.caller is) is_ready
-    (holds_kept g.D.Drives.attached g.D.Drives.disks old made c.args.self.now.bdos c.args.drives.now (keeps_made c.args.p old made c.requires.whole.sound is_ready is) c.requires.holds).filed
-    c.in-Ok.ensures.called c.answer_all.ensures.system).steps
+    (gate_serves c.args.p old made c.call_or_wait.new.self.system c.answer_all.new.system is (made_so c.args.p old made c.requires.whole c.requires.caller is) is_ready
+    (holds_kept g.D.Drives.disks old made c.args.self.now.bdos c.args.drives.now (keeps_made c.args.p old made c.requires.whole.sound is_ready is) c.requires.holds).filed
+    c.in-Ok.ensures.made c.answer_all.ensures.system).steps
 
 pub returns-in-Ok-clause-whole : goal.returns-in-Ok-clause-whole
 returns-in-Ok-clause-whole g c =
     let old = c.args.self.now.system in
     let made = c.make_file_call.new.self in
     whole_all_answered c.call_or_wait.new.self.system c.answer_all.new.system
-    (gate_whole c.args.p _ _ old made c.call_or_wait.new.self.system (made_so c.args.p old made c.requires.whole c.requires.caller c.make_file_call.ensures)
-    (ready_to_call c.args.p old c.requires.whole c.requires.caller) c.in-Ok.ensures.called) c.answer_all.ensures.system
+    (gate_whole c.args.p old made c.call_or_wait.new.self.system (made_so c.args.p old made c.requires.whole c.requires.caller c.make_file_call.ensures)
+    (ready_to_call c.args.p old c.requires.whole c.requires.caller) c.in-Ok.ensures.made) c.answer_all.ensures.system
 
 pub returns-in-Ok-clause-completed : goal.returns-in-Ok-clause-completed
 returns-in-Ok-clause-completed g c =
@@ -97,8 +97,8 @@ returns-in-Ok-clause-room g c =
     omega (
       arith,
       c.answer_all.ensures.few,
-      called_few c.in-Ok.ensures.called.told c.args.p c.make_file_call.new.self c.call_or_wait.new.self.system
-          (call_records c.args.p c.args.self.now.system c.make_file_call.new.self c.requires.no_completions.written c.make_file_call.ensures) c.in-Ok.ensures.called.called.system,
+      called_few c.in-Ok.ensures.made.0 c.args.p c.make_file_call.new.self c.call_or_wait.new.self.system
+          (call_records c.args.p c.args.self.now.system c.make_file_call.new.self c.requires.no_completions.written c.make_file_call.ensures) c.in-Ok.ensures.made.1,
     )
 
 pub returns-in-Ok-clause-holds : goal.returns-in-Ok-clause-holds
@@ -107,9 +107,9 @@ returns-in-Ok-clause-holds g c =
     let made = c.make_file_call.new.self in
     let m = made_so c.args.p old made c.requires.whole c.requires.caller c.make_file_call.ensures in
     let is_ready = ready_to_call c.args.p old c.requires.whole c.requires.caller in
-    holds_answered g.D.Drives.attached g.D.Drives.disks c.in-Ok.ensures.called.told c.args.p made c.call_or_wait.new.self.system c.answer_all.new.system c.call_or_wait.new.self.bdos
+    holds_answered g.D.Drives.disks c.in-Ok.ensures.made.0 c.args.p made c.call_or_wait.new.self.system c.answer_all.new.system c.call_or_wait.new.self.bdos
     c.call_or_wait.new.drives m.whole m.lives (m.ready is_ready)
-    (gate_whole c.args.p _ _ old made c.call_or_wait.new.self.system m is_ready c.in-Ok.ensures.called) c.in-Ok.ensures.called.called.system c.answer_all.ensures.system
+    (gate_whole c.args.p old made c.call_or_wait.new.self.system m is_ready c.in-Ok.ensures.made) c.in-Ok.ensures.made.1 c.answer_all.ensures.system
     c.call_or_wait.ensures.holds
 
 pub returns-in-Ok-clause-idle : goal.returns-in-Ok-clause-idle
@@ -119,13 +119,6 @@ returns-in-Ok-clause-idle g c off =
 pub returns-in-Ok-clause-apart : goal.returns-in-Ok-clause-apart
 returns-in-Ok-clause-apart g c some =
     let same = c.call_or_wait.ensures.apart (gate_apart c.args.p c.args.self.now.system c.make_file_call.new.self c.make_file_call.ensures some) in (tt, same.1, same.2)
-
-pub returns-in-Ok-clause-at_rest : goal.returns-in-Ok-clause-at_rest
-returns-in-Ok-clause-at_rest g c off =
-    c.call_or_wait.ensures.at_rest (gate_idle c.args.p c.args.self.now.system c.make_file_call.new.self c.requires.caller c.make_file_call.ensures off)
-
-pub returns-in-Ok-clause-kept : goal.returns-in-Ok-clause-kept
-returns-in-Ok-clause-kept g c some = c.call_or_wait.ensures.kept (gate_apart c.args.p c.args.self.now.system c.make_file_call.new.self c.make_file_call.ensures some)
 
 pub returns-in-Ok-clause-calls : goal.returns-in-Ok-clause-calls
 returns-in-Ok-clause-calls g c files stands =
@@ -150,22 +143,11 @@ returns-in-Err-clause-stands g c files stands =
     c.make_file_call.ensures
     (c.in-Err.ensures.stands files (gate_stands c.args.p c.args.self.now.system c.make_file_call.new.self c.args.self.now.bdos (g.D.Drives.disks c.args.drives.now) files c.make_file_call.ensures stands))
 
-pub returns-in-Err-clause-stops : goal.returns-in-Err-clause-stops
-returns-in-Err-clause-stops g c =
-    gate_stops c.in-Err.fault c.args.self.now.bdos c.args.p _ _ c.args.self.now.system c.make_file_call.new.self c.requires.caller c.make_file_call.ensures c.in-Err.ensures.stops
-
 pub returns-in-Err-clause-idle : goal.returns-in-Err-clause-idle
 returns-in-Err-clause-idle g c off = c.in-Err.ensures.idle (gate_idle c.args.p c.args.self.now.system c.make_file_call.new.self c.requires.caller c.make_file_call.ensures off)
 
 pub returns-in-Err-clause-apart : goal.returns-in-Err-clause-apart
 returns-in-Err-clause-apart g c some = c.in-Err.ensures.apart (gate_apart c.args.p c.args.self.now.system c.make_file_call.new.self c.make_file_call.ensures some)
-
-pub returns-in-Err-clause-at_rest : goal.returns-in-Err-clause-at_rest
-returns-in-Err-clause-at_rest g c off =
-    c.call_or_wait.ensures.at_rest (gate_idle c.args.p c.args.self.now.system c.make_file_call.new.self c.requires.caller c.make_file_call.ensures off)
-
-pub returns-in-Err-clause-kept : goal.returns-in-Err-clause-kept
-returns-in-Err-clause-kept g c some = c.call_or_wait.ensures.kept (gate_apart c.args.p c.args.self.now.system c.make_file_call.new.self c.make_file_call.ensures some)
 
 pub returns-in-Err-clause-calls : goal.returns-in-Err-clause-calls
 returns-in-Err-clause-calls g c files stands =

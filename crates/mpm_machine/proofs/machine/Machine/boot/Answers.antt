@@ -43,9 +43,9 @@ returns-clause-disk g c = c.begin_residents.ensures.disk ∙ c.in-Ok.ensures.dis
 
 pub returns-clause-holds : goal.returns-clause-holds
 returns-clause-holds g c =
-    subst (λ (k : Kept). HoldsDrives g.D.Drives.attached g.D.Drives.disks c.begin_residents.new.self.system.kernel k c.boot_bare.new.drives) (sym c.begin_residents.ensures.bdos)
-    (holds_again g.D.Drives.attached g.D.Drives.disks c.in-Ok.machine.system.kernel c.begin_residents.new.self.system.kernel c.args.file.now.disk_turn c.in-Ok.machine.bdos c.boot_bare.new.drives
-    (c.begin_residents.ensures.disk ∙ c.in-Ok.ensures.disk) c.in-Ok.ensures.holds)
+    subst (λ (k : Kept). HoldsDrives g.D.Drives.disks c.begin_residents.new.self.system.kernel k c.boot_bare.new.drives) (sym c.begin_residents.ensures.bdos)
+    (holds_again g.D.Drives.disks c.in-Ok.machine.system.kernel c.begin_residents.new.self.system.kernel c.args.file.now.disk_turn c.in-Ok.machine.bdos c.boot_bare.new.drives
+    c.begin_residents.ensures.disk (c.begin_residents.ensures.disk ∙ c.in-Ok.ensures.disk) c.in-Ok.ensures.holds)
 
 pub returns-clause-files : goal.returns-clause-files
 returns-clause-files g c =

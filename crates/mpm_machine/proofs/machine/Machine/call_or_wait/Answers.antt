@@ -7,11 +7,12 @@ use Rattle.mpm_functions.specs.Functions.{function_of}
 use Rattle.mpm_bdos.specs.Serving.{Kept}
 use Rattle.mpm_machine.specs.Faults.{OnWriteFault}
 use Rattle.mpm_machine.specs.Files.{StandsWorked}
-use Rattle.mpm_machine.specs.Holding.{HoldsDrives}
+use Rattle.mpm_machine.specs.Holding.{HoldsKept}
 use Rattle.mpm_machine.specs.DiskStep.{files_called, told_at_gate}
-use Rattle.mpm_machine.specs.After.{HasCalled, HasToldAtGate}
+use Rattle.mpm_machine.specs.After.{HasCalled}
+use Rattle.mpm_machine.specs.FileCalls.{told_of}
 use Rattle.mpm_machine.proofs.DriveLaws.{keeps_still}
-use Rattle.mpm_machine.proofs.AtGateLaws.{IsCalled, waits_steps, waits_ok, waits_told, once_ok, once_told, once_err, once_still, once_images, once_fault, once_stops, once_trace, once_cause, between, fails_images, once_calls, served_directly, holds_filed}
+use Rattle.mpm_machine.proofs.AtGateLaws.{IsCalled, waits_steps, waits_ok, waits_made, once_ok, once_made, once_err, once_still, once_images, once_fault, once_trace, once_cause, between, fails_images, once_calls, served_directly, holds_filed}
 use Rattle.mpm_machine.proofs.machine.Machine.call_or_wait.Goals as goal
 
 pub wait_for_disk-requires-clause-steps : goal.wait_for_disk-requires-clause-steps
@@ -24,14 +25,14 @@ returns-then-not-is_done_at_once-clause-ok g c files stands =
     (g.D.Drives.disks c.args.drives.now) files (sym c.is_done_at_once.ensures.done ∙ c.if-not-is_done_at_once.true)
     (ap (λ (k : Kernel). record old { kernel = k }) c.wait_for_disk.ensures.kernel) stands
 
-pub returns-then-not-is_done_at_once-clause-called : goal.returns-then-not-is_done_at_once-clause-called
-returns-then-not-is_done_at_once-clause-called g c =
+pub returns-then-not-is_done_at_once-clause-made : goal.returns-then-not-is_done_at_once-clause-made
+returns-then-not-is_done_at_once-clause-made g c =
     let old = c.args.self.now.system in
-    waits_told c.args.p (seen g.S.Sink.written g.S.Sink.faults c.args.render.now c.args.sink.now) old (record old { kernel = c.wait_for_disk.new.self })
-    (sym c.is_done_at_once.ensures.done ∙ c.if-not-is_done_at_once.true) (ap (λ (k : Kernel). record old { kernel = k }) c.wait_for_disk.ensures.kernel)
+    waits_made c.args.p old (record old { kernel = c.wait_for_disk.new.self }) (sym c.is_done_at_once.ensures.done ∙ c.if-not-is_done_at_once.true)
+    (ap (λ (k : Kernel). record old { kernel = k }) c.wait_for_disk.ensures.kernel)
 
 pub returns-then-not-is_done_at_once-clause-keeps : goal.returns-then-not-is_done_at_once-clause-keeps
-returns-then-not-is_done_at_once-clause-keeps g c = keeps_still _ _ _ refl
+returns-then-not-is_done_at_once-clause-keeps g c = keeps_still _ _ _ _ refl
 
 pub returns-then-not-is_done_at_once-clause-calls : goal.returns-then-not-is_done_at_once-clause-calls
 returns-then-not-is_done_at_once-clause-calls g c filing stands = omega arith
@@ -55,14 +56,10 @@ returns-in-Ok-clause-ok g c files stands =
     c.call_files.new.reply c.in-Ok.extended c.requires.whole.sound c.requires.ready (sym c.is_done_at_once.ensures.done ∙ c.if-not-is_done_at_once.false)
     (c.is_done_at_once.ensures.apart c.if-not-is_done_at_once.false) called c.conclude.ensures.system c.conclude.ensures.wrote stands)
 
-pub returns-in-Ok-clause-called : goal.returns-in-Ok-clause-called
-returns-in-Ok-clause-called g c =
-    let old = c.args.self.now.system in
-    let o = seen g.S.Sink.written g.S.Sink.faults c.args.render.now c.args.sink.now in
-    let n = seen g.S.Sink.written g.S.Sink.faults c.conclude.new.render c.conclude.new.sink in
-    subst (λ (k : Kept). OnOk c.conclude.result (HasToldAtGate c.args.self.now.bdos k c.args.p o n old c.conclude.new.self.system)) (sym c.conclude.ensures.bdos)
-    (once_told c.args.self.now.bdos c.call_files.new.bdos c.conclude.result c.args.p o n old c.conclude.new.self.system c.call_files.new.reply c.in-Ok.extended
-    (sym c.is_done_at_once.ensures.done ∙ c.if-not-is_done_at_once.false) c.in-Ok.ensures.told c.in-Ok.ensures.as_kept c.conclude.ensures.system c.conclude.ensures.wrote)
+pub returns-in-Ok-clause-made : goal.returns-in-Ok-clause-made
+returns-in-Ok-clause-made g c =
+    once_made c.conclude.result (told_of (call_of c.args.self.now.system.kernel.dispatcher.procs c.args.p) c.call_files.new.reply c.in-Ok.extended) c.args.p c.args.self.now.system
+    c.conclude.new.self.system (sym c.is_done_at_once.ensures.done ∙ c.if-not-is_done_at_once.false) c.conclude.ensures.system
 
 pub returns-in-Ok-clause-err : goal.returns-in-Ok-clause-err
 returns-in-Ok-clause-err g c files stands =
@@ -95,12 +92,6 @@ returns-in-Ok-clause-stands g c files stands =
     (once_still c.conclude.result c.args.p old c.args.self.now.bdos c.call_files.new.bdos (g.D.Drives.disks c.args.drives.now) now files c.call_files.new.reply c.in-Ok.extended
     (sym c.is_done_at_once.ensures.done ∙ c.if-not-is_done_at_once.false) (c.is_done_at_once.ensures.apart c.if-not-is_done_at_once.false) called stands)
 
-pub returns-in-Ok-clause-stops : goal.returns-in-Ok-clause-stops
-returns-in-Ok-clause-stops g c =
-    once_stops c.conclude.result c.args.self.now.bdos c.call_files.new.bdos c.args.p (seen g.S.Sink.written g.S.Sink.faults c.args.render.now c.args.sink.now)
-    (seen g.S.Sink.written g.S.Sink.faults c.conclude.new.render c.conclude.new.sink) c.args.self.now.system c.call_files.new.reply c.in-Ok.extended
-    (sym c.is_done_at_once.ensures.done ∙ c.if-not-is_done_at_once.false) c.in-Ok.ensures.told c.in-Ok.ensures.as_kept c.conclude.ensures.err
-
 pub returns-in-Ok-clause-unfailing : goal.returns-in-Ok-clause-unfailing
 returns-in-Ok-clause-unfailing g c none =
     once_fault c.conclude.result (seen g.S.Sink.written g.S.Sink.faults c.args.render.now c.args.sink.now)
@@ -124,13 +115,6 @@ returns-in-Ok-clause-apart g c some =
       d.3,
     )
 
-pub returns-in-Ok-clause-at_rest : goal.returns-in-Ok-clause-at_rest
-returns-in-Ok-clause-at_rest g c off =
-    c.conclude.ensures.bdos ∙ (c.call_files.ensures.direct (served_directly c.args.p c.args.self.now.system off (sym c.is_done_at_once.ensures.done ∙ c.if-not-is_done_at_once.false))).1
-
-pub returns-in-Ok-clause-kept : goal.returns-in-Ok-clause-kept
-returns-in-Ok-clause-kept g c some = c.conclude.ensures.bdos ∙ (c.call_files.ensures.direct (c.is_done_at_once.ensures.apart c.if-not-is_done_at_once.false some)).1
-
 pub returns-in-Ok-clause-calls : goal.returns-in-Ok-clause-calls
 returns-in-Ok-clause-calls g c filing stands =
     once_calls c.args.p c.args.self.now.system filing _ _ (sym c.is_done_at_once.ensures.done ∙ c.if-not-is_done_at_once.false)
@@ -138,8 +122,8 @@ returns-in-Ok-clause-calls g c filing stands =
 
 pub returns-in-Ok-clause-holds : goal.returns-in-Ok-clause-holds
 returns-in-Ok-clause-holds g c =
-    subst (λ (k : Kept). HoldsDrives g.D.Drives.attached g.D.Drives.disks c.args.self.now.system.kernel k c.call_files.new.drives) (sym c.conclude.ensures.bdos)
-    (holds_filed g.D.Drives.attached g.D.Drives.disks c.args.self.now.system.kernel (function_of (call_of c.args.self.now.system.kernel.dispatcher.procs c.args.p).function)
+    subst (λ (k : Kept). HoldsKept g.D.Drives.disks c.args.self.now.system.kernel k c.call_files.new.drives) (sym c.conclude.ensures.bdos)
+    (holds_filed g.D.Drives.disks c.args.self.now.system.kernel (function_of (call_of c.args.self.now.system.kernel.dispatcher.procs c.args.p).function)
     c.args.self.now.bdos c.call_files.new.bdos c.args.drives.now c.call_files.new.drives c.requires.holds (c.is_done_at_once.ensures.apart c.if-not-is_done_at_once.false)
     (λ none. (c.call_files.ensures.direct none).1) c.call_files.ensures.service c.call_files.ensures.keeps.labels c.call_files.ensures.fits)
 
@@ -161,9 +145,6 @@ returns-in-Err-clause-images g c filing stands =
     (sym c.is_done_at_once.ensures.done ∙ c.if-not-is_done_at_once.false)
     (c.in-Err.ensures.err filing (between c.args.self.now.system c.args.self.now.bdos (g.D.Drives.disks c.args.drives.now) filing stands))
 
-pub returns-in-Err-clause-stops : goal.returns-in-Err-clause-stops
-returns-in-Err-clause-stops g c = record { still = refl; job = c.in-Err.ensures.job }
-
 pub returns-in-Err-clause-unfailing : goal.returns-in-Err-clause-unfailing
 returns-in-Err-clause-unfailing g c none = absurd (c.in-Err.ensures.unfailing none)
 
@@ -175,13 +156,6 @@ pub returns-in-Err-clause-apart : goal.returns-in-Err-clause-apart
 returns-in-Err-clause-apart g c some =
     absurd (false≢true (c.in-Err.ensures.direct (c.is_done_at_once.ensures.apart c.if-not-is_done_at_once.false some)).0)
 
-pub returns-in-Err-clause-at_rest : goal.returns-in-Err-clause-at_rest
-returns-in-Err-clause-at_rest g c off =
-    (c.call_files.ensures.direct (served_directly c.args.p c.args.self.now.system off (sym c.is_done_at_once.ensures.done ∙ c.if-not-is_done_at_once.false))).1
-
-pub returns-in-Err-clause-kept : goal.returns-in-Err-clause-kept
-returns-in-Err-clause-kept g c some = (c.call_files.ensures.direct (c.is_done_at_once.ensures.apart c.if-not-is_done_at_once.false some)).1
-
 pub returns-in-Err-clause-calls : goal.returns-in-Err-clause-calls
 returns-in-Err-clause-calls g c filing stands =
     once_calls c.args.p c.args.self.now.system filing _ _ (sym c.is_done_at_once.ensures.done ∙ c.if-not-is_done_at_once.false)
@@ -189,7 +163,7 @@ returns-in-Err-clause-calls g c filing stands =
 
 pub returns-in-Err-clause-holds : goal.returns-in-Err-clause-holds
 returns-in-Err-clause-holds g c =
-    holds_filed g.D.Drives.attached g.D.Drives.disks c.args.self.now.system.kernel (function_of (call_of c.args.self.now.system.kernel.dispatcher.procs c.args.p).function)
+    holds_filed g.D.Drives.disks c.args.self.now.system.kernel (function_of (call_of c.args.self.now.system.kernel.dispatcher.procs c.args.p).function)
     c.args.self.now.bdos c.call_files.new.bdos c.args.drives.now c.call_files.new.drives c.requires.holds (c.is_done_at_once.ensures.apart c.if-not-is_done_at_once.false)
     (λ none. (c.call_files.ensures.direct none).1) c.call_files.ensures.service c.call_files.ensures.keeps.labels c.call_files.ensures.fits
 

@@ -2,7 +2,7 @@ use Rattle.std.proofs.Common.{◌∙◌, refl, sym, ap, arith}
 use Rattle.mpm_service.specs.Disk.{served_process}
 use Rattle.mpm_bdos.proofs.Fitting.{unsynced_same}
 use Rattle.mpm_machine.proofs.DriveLaws.{keeps_still}
-use Rattle.mpm_machine.proofs.SettlingLaws.{nothing_carried, nothing_ends, somebody_served, served_err}
+use Rattle.mpm_machine.proofs.SettlingLaws.{nothing_carried, somebody_served, served_err}
 use Rattle.mpm_machine.proofs.machine.Machine.carry.Goals as goal
 
 pub returns-in-Some : goal.returns-in-Some
@@ -13,14 +13,11 @@ returns-in-Some g c =
       ok = carried.ok;
       err = carried.err;
       whole = carried.whole;
-      end = carried.end;
       serves = served_err c.carry_call.result c.args.self.now.system c.in-Some.p serves;
-      stops = carried.stops;
       trace = carried.trace;
       cause = carried.cause;
       keeps = carried.keeps;
       names = carried.names;
-      attached = carried.attached;
       called = carried.called;
       bare = carried.bare;
       none = carried.none;
@@ -36,14 +33,11 @@ returns-in-None g c =
       ok = λ files stands. nothing_carried files _ c.args.self.now.system c.args.self.now.bdos _ serves stands;
       err = λ files stands. tt;
       whole = c.requires.whole;
-      end = nothing_ends c.args.self.now.bdos _ c.args.self.now.system serves;
       serves = tt;
-      stops = tt;
       trace = refl;
       cause = record { stays = refl; failed = tt };
-      keeps = keeps_still _ _ _ refl;
+      keeps = keeps_still _ _ _ _ refl;
       names = refl;
-      attached = λ number. refl;
       called = record { unsynced = unsynced_same _ _; calls = omega arith; idle = λ none. refl };
       bare = λ none. none;
       none = λ none. refl;

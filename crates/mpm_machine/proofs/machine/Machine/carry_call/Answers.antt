@@ -4,17 +4,16 @@ use Rattle.mpm_service.specs.Ahead.{left_to}
 use Rattle.mpm_kernel.specs.Kernel.{Kernel}
 use Rattle.mpm_bdos.specs.Serving.{Kept, Serves}
 use Rattle.mpm_bdos.specs.Jobs.{call_turns}
-use Rattle.mpm_bdos.specs.Turns.{FitsDrives, told_images}
+use Rattle.mpm_bdos.specs.Turns.{FitsDrives, images_of}
 use Rattle.mpm_bdos.specs.AtOnce.{FailsSince}
 use Rattle.mpm_machine.specs.declared.machine.StepFault.TheVariants.{WriteFault}
 use Rattle.mpm_machine.specs.Files.{Files}
-use Rattle.mpm_machine.specs.Holding.{IsOwn}
 use Rattle.mpm_machine.specs.Mounting.{HasNoDrive, KeepsMounted}
 use Rattle.mpm_machine.specs.Failing.{Working, HaveImagesOf, FailsWithin}
-use Rattle.mpm_machine.specs.Settling.{HasCarried, StopsCarrying, WritesEndOf, StopsEndOf}
+use Rattle.mpm_machine.specs.Settling.{HasCarried, StopsCarrying}
 use Rattle.mpm_machine.proofs.FilingLaws.{label_none}
 use Rattle.mpm_machine.proofs.FailingLaws.{turns_fail}
-use Rattle.mpm_machine.proofs.CarryingLaws.{in_call, all_left_turns, own_behind, whole_unserved, nobody_left, never_both, writes_before, stops_before}
+use Rattle.mpm_machine.proofs.CarryingLaws.{in_call, all_left_turns, whole_unserved, nobody_left, never_both}
 use Rattle.mpm_machine.proofs.SettlingLaws.{turns_call}
 use Rattle.mpm_machine.proofs.machine.Machine.carry_call.Goals as goal
 
@@ -24,12 +23,6 @@ end_call-requires-clause-whole g c =
 
 pub end_call-requires-clause-over : goal.end_call-requires-clause-over
 end_call-requires-clause-over g c = c.finish_disk_call-turns.ensures.over c.args.p c.requires.served
-
-pub end_call-requires-clause-own : goal.end_call-requires-clause-own
-end_call-requires-clause-own g c =
-    subst (λ (k : Kernel). IsOwn k.dispatcher.procs c.args.p c.do_turns.new.self.service) (sym c.finish_disk_call-turns.ensures.kernel)
-    (own_behind c.args.self.now.system.kernel.disk c.args.p c.args.self.now.system.kernel.dispatcher.procs c.args.self.now.bdos.service c.do_turns.new.self.service c.requires.served
-    c.requires.holds.own c.do_turns.ensures.left.kept.service)
 
 pub end_call-requires-clause-idle : goal.end_call-requires-clause-idle
 end_call-requires-clause-idle g c = ap (λ (k : Kernel). k.disk.served) c.finish_disk_call-turns.ensures.kernel ∙ nobody_left c.args.self.now.system.kernel
@@ -54,7 +47,7 @@ returns-in-Err-clause-err g c files stands =
     )
 
 pub returns-in-Err-clause-keeps : goal.returns-in-Err-clause-keeps
-returns-in-Err-clause-keeps g c = record { labels = c.do_turns.ensures.left.kept.labels; beside = c.do_turns.ensures.left.beside }
+returns-in-Err-clause-keeps g c = record { labels = c.do_turns.ensures.left.kept.labels; beside = c.do_turns.ensures.left.beside; told_are = c.do_turns.ensures.left.told_are }
 
 pub returns-in-Err-clause-bare : goal.returns-in-Err-clause-bare
 returns-in-Err-clause-bare g c none number = label_none _ _ (c.do_turns.ensures.left.kept.labels number) (none number)
@@ -83,23 +76,15 @@ returns-in-Ok-clause-ok g c files stands =
     let its = in_call files disk c.args.p c.args.self.now.bdos (g.D.Drives.disks c.args.drives.now) c.requires.served stands in
     let few : its.turns + c.finish_disk_call-turns.result ≤ call_turns its.call = omega (arith, its.left, c.finish_disk_call-turns.ensures.turns, all_left_turns disk) in
     let all : its.turns + c.finish_disk_call-turns.result ≡ call_turns its.call = omega (arith, its.left, c.finish_disk_call-turns.ensures.turns, all_left_turns disk) in
-    let serves = subst (λ (j : ℕ). Serves (told_images now) c.do_turns.new.self its.call j) all (c.in_default.ensures.ok its.call its.turns its.serves few) in
+    let serves = subst (λ (j : ℕ). Serves (images_of now) c.do_turns.new.self its.call j) all (c.in_default.ensures.ok its.call its.turns its.serves few) in
     let passed = ap (λ (k : Kernel). record c.args.self.now.system { kernel = k }) c.finish_disk_call-turns.ensures.kernel in
     subst (λ (f : Files). HasCarried f before behind c.args.self.now.system c.end_call.new.self.system c.end_call.new.self.bdos now) (sym its.is)
     (c.in-Ok.ensures.ok now its.call c.args.self.now.system serves its.whose passed)
 
-pub returns-in-Ok-clause-end : goal.returns-in-Ok-clause-end
-returns-in-Ok-clause-end g c =
-    let before = seen g.S.Sink.written g.S.Sink.faults c.args.render.now c.args.sink.now in
-    let behind = seen g.S.Sink.written g.S.Sink.faults c.end_call.new.render c.end_call.new.sink in
-    subst (λ (call : Option ℕ). WritesEndOf c.args.self.now.bdos call before behind c.args.self.now.system c.end_call.new.self.system) (sym c.requires.served)
-    (writes_before c.args.self.now.bdos c.do_turns.new.self c.args.p before behind c.args.self.now.system c.end_call.new.self.system (λ less. (c.do_turns.ensures.idle less).kept)
-    (c.in-Ok.ensures.end c.args.self.now.system (ap (λ (k : Kernel). record c.args.self.now.system { kernel = k }) c.finish_disk_call-turns.ensures.kernel)))
-
 pub returns-in-Ok-clause-keeps : goal.returns-in-Ok-clause-keeps
 returns-in-Ok-clause-keeps g c =
-    subst (λ (k : Kept). KeepsMounted (g.D.Drives.disks c.args.drives.now) (g.D.Drives.disks c.do_turns.new.drives) c.args.self.now.bdos.mounted k.mounted) (sym c.end_call.ensures.kept)
-    (record { labels = c.do_turns.ensures.left.kept.labels; beside = c.do_turns.ensures.left.beside })
+    subst (λ (k : Kept). KeepsMounted (g.D.Drives.told c.args.drives.now) (g.D.Drives.told c.do_turns.new.drives) (g.D.Drives.disks c.args.drives.now) (g.D.Drives.disks c.do_turns.new.drives) c.args.self.now.bdos.mounted k.mounted) (sym c.end_call.ensures.kept)
+    (record { labels = c.do_turns.ensures.left.kept.labels; beside = c.do_turns.ensures.left.beside; told_are = c.do_turns.ensures.left.told_are })
 
 pub returns-in-Ok-clause-bare : goal.returns-in-Ok-clause-bare
 returns-in-Ok-clause-bare g c none =
@@ -110,7 +95,7 @@ returns-in-Ok-clause-none g c none = (c.do_turns.ensures.idle (c.requires.holds.
 
 pub returns-in-Ok-clause-fits : goal.returns-in-Ok-clause-fits
 returns-in-Ok-clause-fits g c =
-    subst (λ (k : Kept). FitsDrives g.D.Drives.attached g.D.Drives.disks k.mounted k.cached c.do_turns.new.drives) (sym c.end_call.ensures.kept) c.do_turns.ensures.left.fits
+    subst (λ (k : Kept). FitsDrives g.D.Drives.disks k.mounted k.cached c.do_turns.new.drives) (sym c.end_call.ensures.kept) c.do_turns.ensures.left.fits
 
 pub returns-in-Ok-clause-called : goal.returns-in-Ok-clause-called
 returns-in-Ok-clause-called g c =
@@ -131,23 +116,15 @@ returns-in-Err-end_call-clause-err g c files stands =
     let its = in_call files disk c.args.p c.args.self.now.bdos (g.D.Drives.disks c.args.drives.now) c.requires.served stands in
     let few : its.turns + c.finish_disk_call-turns.result ≤ call_turns its.call = omega (arith, its.left, c.finish_disk_call-turns.ensures.turns, all_left_turns disk) in
     let all : its.turns + c.finish_disk_call-turns.result ≡ call_turns its.call = omega (arith, its.left, c.finish_disk_call-turns.ensures.turns, all_left_turns disk) in
-    let serves = subst (λ (j : ℕ). Serves (told_images now) c.do_turns.new.self its.call j) all (c.in_default.ensures.ok its.call its.turns its.serves few) in
+    let serves = subst (λ (j : ℕ). Serves (images_of now) c.do_turns.new.self its.call j) all (c.in_default.ensures.ok its.call its.turns its.serves few) in
     let passed = ap (λ (k : Kernel). record c.args.self.now.system { kernel = k }) c.finish_disk_call-turns.ensures.kernel in
     subst (λ (f : Files). StopsCarrying WriteFault f before behind c.args.self.now.system c.end_call.new.self.bdos.mounted now) (sym its.is)
     (c.in-Err-end_call.ensures.err now its.call c.args.self.now.system serves its.whose passed)
 
-pub returns-in-Err-end_call-clause-stops : goal.returns-in-Err-end_call-clause-stops
-returns-in-Err-end_call-clause-stops g c =
-    let before = seen g.S.Sink.written g.S.Sink.faults c.args.render.now c.args.sink.now in
-    let behind = seen g.S.Sink.written g.S.Sink.faults c.end_call.new.render c.end_call.new.sink in
-    subst (λ (call : Option ℕ). StopsEndOf c.args.self.now.bdos call before behind c.args.self.now.system) (sym c.requires.served)
-    (stops_before c.args.self.now.bdos c.do_turns.new.self c.args.p before behind c.args.self.now.system (λ less. (c.do_turns.ensures.idle less).kept)
-    (c.in-Err-end_call.ensures.stops c.args.self.now.system (ap (λ (k : Kernel). record c.args.self.now.system { kernel = k }) c.finish_disk_call-turns.ensures.kernel)))
-
 pub returns-in-Err-end_call-clause-keeps : goal.returns-in-Err-end_call-clause-keeps
 returns-in-Err-end_call-clause-keeps g c =
-    subst (λ (k : Kept). KeepsMounted (g.D.Drives.disks c.args.drives.now) (g.D.Drives.disks c.do_turns.new.drives) c.args.self.now.bdos.mounted k.mounted) (sym c.end_call.ensures.kept)
-    (record { labels = c.do_turns.ensures.left.kept.labels; beside = c.do_turns.ensures.left.beside })
+    subst (λ (k : Kept). KeepsMounted (g.D.Drives.told c.args.drives.now) (g.D.Drives.told c.do_turns.new.drives) (g.D.Drives.disks c.args.drives.now) (g.D.Drives.disks c.do_turns.new.drives) c.args.self.now.bdos.mounted k.mounted) (sym c.end_call.ensures.kept)
+    (record { labels = c.do_turns.ensures.left.kept.labels; beside = c.do_turns.ensures.left.beside; told_are = c.do_turns.ensures.left.told_are })
 
 pub returns-in-Err-end_call-clause-bare : goal.returns-in-Err-end_call-clause-bare
 returns-in-Err-end_call-clause-bare g c none =
@@ -158,7 +135,7 @@ returns-in-Err-end_call-clause-none g c none = (c.do_turns.ensures.idle (c.requi
 
 pub returns-in-Err-end_call-clause-fits : goal.returns-in-Err-end_call-clause-fits
 returns-in-Err-end_call-clause-fits g c =
-    subst (λ (k : Kept). FitsDrives g.D.Drives.attached g.D.Drives.disks k.mounted k.cached c.do_turns.new.drives) (sym c.end_call.ensures.kept) c.do_turns.ensures.left.fits
+    subst (λ (k : Kept). FitsDrives g.D.Drives.disks k.mounted k.cached c.do_turns.new.drives) (sym c.end_call.ensures.kept) c.do_turns.ensures.left.fits
 
 pub returns-in-Err-end_call-clause-called : goal.returns-in-Err-end_call-clause-called
 returns-in-Err-end_call-clause-called g c =

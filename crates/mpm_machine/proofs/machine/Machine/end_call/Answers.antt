@@ -2,9 +2,8 @@ use Rattle.std.proofs.Common.{◌∙◌, ap, sym, subst, length, arith}
 use Rattle.mpm_output.specs.Outside.{seen}
 use Rattle.mpm_bdos.specs.Serving.{Kept}
 use Rattle.mpm_system.specs.Whole.{IsWhole}
-use Rattle.mpm_machine.specs.Settling.{ended_with}
 use Rattle.mpm_machine.proofs.DiskStepLaws.{whole_all_paid}
-use Rattle.mpm_machine.proofs.CarryingLaws.{Pays, carried_stopped_first, carried_stopped_last, carried_all, whole_at_end, told_stopped, told_stopped_last, told_wrote, told_system, ends_told, keeps_paid, stopped_behind}
+use Rattle.mpm_machine.proofs.CarryingLaws.{Pays, carried_stopped_first, carried_stopped_last, carried_all, whole_at_end, keeps_paid, stopped_behind}
 use Rattle.mpm_machine.proofs.machine.Machine.end_call.Goals as goal
 
 pub answer_call-requires-clause-room : goal.answer_call-requires-clause-room
@@ -20,15 +19,6 @@ returns-in-Err-clause-err g c disks s before serves whose is =
     carried_stopped_first _ _ disks c.args.self.now.bdos c.answer_call.new.self.bdos s c.args.p c.args.self.now.system before whose is serves c.answer_call.ensures.kept
     (c.in-Err.ensures.err disks s serves whose)
 
-pub returns-in-Err-clause-stops : goal.returns-in-Err-clause-stops
-returns-in-Err-clause-stops g c before is =
-    let stopped = c.in-Err.ensures.stops in
-    record {
-      change = ended_with stopped.told c.args.p before;
-      is = ends_told c.args.self.now.bdos stopped.left c.args.p c.args.self.now.system before stopped.told is stopped.of_call stopped.tells stopped.as_kept;
-      stops = told_stopped _ _ c.args.p c.args.self.now.system before stopped.told is stopped.stops;
-    }
-
 -- or as the records came out
 
 pub returns-in-Err-end_all-clause-err : goal.returns-in-Err-end_all-clause-err
@@ -37,17 +27,6 @@ returns-in-Err-end_all-clause-err g c disks s before serves whose is =
     let m = seen g.S.Sink.written g.S.Sink.faults c.answer_call.new.render c.answer_call.new.sink in
     carried_stopped_last _ m _ disks c.args.self.now.bdos c.pay.new.self.bdos s c.args.p c.args.self.now.system before c.answer_call.new.self.system c.pay.new.self.system whose is serves
     (ap (λ (k : Kept). k.mounted) c.pay.ensures.rest ∙ ap (λ (k : Kept). k.mounted) c.answer_call.ensures.kept) over.0 c.pay.ensures.system over.1 c.in-Err-end_all.ensures.wrote.err
-
-pub returns-in-Err-end_all-clause-stops : goal.returns-in-Err-end_all-clause-stops
-returns-in-Err-end_all-clause-stops g c before is =
-    let told = c.in_default.ensures.told in
-    let m = seen g.S.Sink.written g.S.Sink.faults c.answer_call.new.render c.answer_call.new.sink in
-    record {
-      change = ended_with told.told c.args.p before;
-      is = ends_told c.args.self.now.bdos c.answer_call.new.self.bdos c.args.p c.args.self.now.system before told.told is told.of_call told.tells told.as_kept;
-      stops = told_stopped_last _ m _ c.args.p c.args.self.now.system before c.answer_call.new.self.system c.pay.new.self.system told.told is told.system c.pay.ensures.system told.wrote
-          c.in-Err-end_all.ensures.wrote.err;
-    }
 
 pub returns-in-Err-end_all-clause-trace : goal.returns-in-Err-end_all-clause-trace
 returns-in-Err-end_all-clause-trace g c = c.in-Err-end_all.ensures.wrote.err.trace ∙ c.answer_call.ensures.trace
@@ -77,19 +56,6 @@ pub returns-clause-whole : goal.returns-clause-whole
 returns-clause-whole g c =
     whole_at_end c.answer_call.new.self.system c.pay.new.self.system c.end_all.new.system c.pay-2.new.self.system c.in_default.ensures.whole c.pay.ensures.system
     c.in_default-end_all.ensures.system c.pay-2.ensures.system
-
-pub returns-clause-end : goal.returns-clause-end
-returns-clause-end g c before is =
-    let told = c.in_default.ensures.told in
-    let m = seen g.S.Sink.written g.S.Sink.faults c.answer_call.new.render c.answer_call.new.sink in
-    record {
-      change = ended_with told.told c.args.p before;
-      is = ends_told c.args.self.now.bdos c.answer_call.new.self.bdos c.args.p c.args.self.now.system before told.told is told.of_call told.tells told.as_kept;
-      system = told_system c.args.p c.args.self.now.system before c.answer_call.new.self.system c.pay.new.self.system c.end_all.new.system c.pay-2.new.self.system told.told is told.system
-          c.pay.ensures.system c.in_default-end_all.ensures.system c.pay-2.ensures.system;
-      wrote = told_wrote _ m _ c.args.p c.args.self.now.system before c.answer_call.new.self.system c.pay.new.self.system told.told is told.system c.pay.ensures.system told.wrote
-          c.in_default-end_all.ensures.wrote.ok;
-    }
 
 pub returns-clause-trace : goal.returns-clause-trace
 returns-clause-trace g c = c.in_default-end_all.ensures.wrote.ok.trace ∙ c.answer_call.ensures.trace

@@ -4,9 +4,8 @@ use Rattle.mpm_kernel.specs.Kernel.{Kernel}
 use Rattle.mpm_output.specs.Outside.{Faults, seen}
 use Rattle.mpm_system.specs.declared.system.System.{System}
 use Rattle.mpm_machine.specs.declared.machine.Machine.{Machine}
-use Rattle.mpm_machine.proofs.EndStepLaws.{ended_sound, ended_still, has_ended, has_ended_to, serving_stopped, serving_stops, ending_stopped, ended_stops, ends_served, ended_begun, ended_filed, ended_own, ended_turn_steps, ended_whole, ended_nobody_due, ended_no_completions, ended_steps, workless_paid}
+use Rattle.mpm_machine.proofs.EndStepLaws.{ended_sound, ended_made, has_ended_to, serving_stopped, ending_stopped, ends_served, ended_begun, ended_filed, ended_own, ended_turn_steps, ended_whole, ended_nobody_due, ended_no_completions, ended_steps, workless_paid}
 use Rattle.mpm_machine.proofs.BehindLaws.{rest_images}
-use Rattle.mpm_machine.proofs.EnterLaws.{paid_is}
 use Rattle.mpm_machine.proofs.CarryingLaws.{keeps_paid, stopped_behind}
 use Rattle.mpm_machine.proofs.machine.Machine.end_step.Goals as goal
 
@@ -16,9 +15,6 @@ returns-in-Err-clause-err g c disks files stands = serving_stopped c.args.instru
 pub returns-in-Err-clause-stands : goal.returns-in-Err-clause-stands
 returns-in-Err-clause-stands g c disks files stands =
     rest_images c.args.instruction c.args.self.now.system c.args.self.now.bdos c.serve_disk.new.self.bdos disks files c.serve_disk.ensures.kept stands
-
-pub returns-in-Err-clause-stops : goal.returns-in-Err-clause-stops
-returns-in-Err-clause-stops g c = serving_stops c.args.instruction _ _ c.args.self.now.system c.in-Err.ensures.stops
 
 -- or behind it
 
@@ -31,11 +27,6 @@ returns-in-Err-end_all-clause-err g c disks files stands =
 pub returns-in-Err-end_all-clause-stands : goal.returns-in-Err-end_all-clause-stands
 returns-in-Err-end_all-clause-stands g c disks files stands =
     rest_images c.args.instruction c.args.self.now.system c.args.self.now.bdos c.serve_disk.new.self.bdos disks files c.serve_disk.ensures.kept stands
-
-pub returns-in-Err-end_all-clause-stops : goal.returns-in-Err-end_all-clause-stops
-returns-in-Err-end_all-clause-stops g c =
-    let m = seen g.S.Sink.written g.S.Sink.faults c.serve_disk.new.render c.serve_disk.new.sink in
-    ended_stops c.args.instruction _ m _ c.args.self.now.system c.serve_disk.new.self.system c.in_default.ensures.step c.in-Err-end_all.ensures.wrote.err
 
 pub returns-in-Err-end_all-clause-trace : goal.returns-in-Err-end_all-clause-trace
 returns-in-Err-end_all-clause-trace g c = c.in-Err-end_all.ensures.wrote.err.trace ∙ c.serve_disk.ensures.trace
@@ -67,8 +58,7 @@ returns g c =
     let faults : g.S.Sink.faults c.end_all.new.sink ≡ g.S.Sink.faults c.args.sink.now = ap (λ (f : Faults). f.sink) wrote.faults ∙ c.in_default.ensures.cause.stays in
     let picks = ap (λ (k : Kernel). record paid.system { kernel = k }) c.pick.ensures.kernel in
     let same = λ (some : is_some ended.kernel.disk.served ≡ true). ap (λ (machine : Machine). machine.bdos) (c.pay.ensures.served some) in
-    let left = paid_is ended served.bdos paid.bdos c.pay.ensures.rest same c.pay.ensures.filing in
-    let step = has_ended instruction o m n old.system served.system ended paid.system new c.in_default.ensures.step left same ends wrote c.pay.ensures.system picks in
+    let made = ended_made instruction old.system served.system ended paid.system new c.in_default.ensures.made ends c.pay.ensures.system picks in
     let so = ends_served instruction served.system ended paid.system new c.in_default.ensures.whole ends c.pay.ensures.system picks in
     record {
       ok = λ disks files stands.
@@ -76,17 +66,15 @@ returns g c =
           c.pay.ensures.system picks c.pay.ensures.rest same c.pay.ensures.filing;
       err = λ disks files stands. tt;
       stands = λ disks files stands. tt;
-      step = step;
-      stops = tt;
-      due = ended_nobody_due instruction o n old.system new c.requires.whole step;
-      whole = ended_whole instruction o n old.system new c.requires.whole step;
-      no_completions = ended_no_completions instruction o n old.system new c.requires.completed step;
-      count = ended_steps instruction o n old.system new step;
+      made = made;
+      due = ended_nobody_due instruction old.system new c.requires.whole made;
+      whole = ended_whole instruction old.system new c.requires.whole made;
+      no_completions = ended_no_completions instruction old.system new c.requires.completed made;
+      count = ended_steps instruction old.system new made;
       begun = ended_begun instruction served.system new so c.in_default.ensures.begun;
       filed = ended_filed instruction served.system new so c.in_default.ensures.filed;
       own = ended_own instruction served.system new served.bdos paid.bdos so c.pay.ensures.rest c.in_default.ensures.own;
-      turn_steps = ended_turn_steps instruction o m old.system served.system new so c.in_default.ensures.step;
-      stays = λ some still. same (ended_still o m old.system served.system ended c.in_default.ensures.step ends some still) ∙ c.serve_disk.ensures.stays some still;
+      turn_steps = ended_turn_steps instruction old.system served.system new so c.in_default.ensures.made;
       kept = keeps_paid old.bdos served.bdos paid.bdos c.serve_disk.ensures.kept c.pay.ensures.rest;
       workless = λ none less. workless_paid served.bdos paid.bdos c.pay.ensures.rest (c.serve_disk.ensures.workless none less);
       trace = wrote.trace ∙ c.serve_disk.ensures.trace;

@@ -2,7 +2,7 @@
 use Rattle.std.proofs.Common.{◌∙◌, refl, sym, ap}
 use Rattle.mpm_service.specs.Disk.{served_process}
 use Rattle.mpm_machine.proofs.WorkLaws.{served_by_some, unserved_by_some, not_both}
-use Rattle.mpm_machine.proofs.EnterLaws.{starts_whole, starts_lives, starts_filed, begins_so, begun_is, enters_so, has_entered, never_idle, enters_whole, owns_entered, nobody_starts, none_enters_so, nobody_entered, unserved_begun, unserved_own, has_entered_nobody, has_entered_still, goes_on}
+use Rattle.mpm_machine.proofs.EnterLaws.{starts_whole, starts_lives, starts_filed, begins_so, begun_is, enters_so, entered_made, enters_whole, owns_entered, nobody_starts, none_enters_so, nobody_entered, unserved_begun, unserved_own, nobody_made, still_made, goes_on}
 use Rattle.mpm_machine.proofs.machine.Machine.enter_call.Goals as goal
 
 pub returns-then-is_some-clause-ok : goal.returns-then-is_some-clause-ok
@@ -11,11 +11,10 @@ returns-then-is_some-clause-ok c disks files stands =
     goes_on old c.args.self.now.bdos disks files
     (served_by_some old.kernel.disk c.serving.result c.is_some.result (c.serving.ensures.served ∙ ap served_process c.disk.ensures) c.is_some.ensures c.if-is_some.true) stands
 
-pub returns-then-is_some-clause-entered : goal.returns-then-is_some-clause-entered
-returns-then-is_some-clause-entered c =
+pub returns-then-is_some-clause-made : goal.returns-then-is_some-clause-made
+returns-then-is_some-clause-made c =
     let old = c.args.self.now.system in
-    has_entered_still c.args.self.now.bdos old
-    (served_by_some old.kernel.disk c.serving.result c.is_some.result (c.serving.ensures.served ∙ ap served_process c.disk.ensures) c.is_some.ensures c.if-is_some.true)
+    still_made old (served_by_some old.kernel.disk c.serving.result c.is_some.result (c.serving.ensures.served ∙ ap served_process c.disk.ensures) c.is_some.ensures c.if-is_some.true)
 
 -- one that waits enters
 
@@ -42,22 +41,20 @@ returns-in-Starts c =
     begins_so p turns old c.turn_disk.new.self c.args.self.now.bdos new c.turn_disk.ensures.kernel
     (record {
       turns_are = c.start_call-turns.ensures.turns;
-      takes = c.start_call-turns.ensures.takes;
       serves = c.start_call-turns.ensures.serves;
       entered = c.start_call-turns.ensures.entered;
       some = c.start_call-turns.ensures.some;
     }) in
     let is = begun_is turns old c.turn_disk.new.self c.begin_disk_call.new.self c.turn_disk.ensures.kernel c.begin_disk_call.ensures.kernel in
-    let has = has_entered old _ p turns c.args.self.now.bdos new is starts none c.requires.filed c.start_call-turns.ensures.kept begins in
+    let made = entered_made old _ p turns is starts none in
     record {
       ok = λ disks files stands. enters_so old _ p turns c.args.self.now.bdos new disks files is starts none c.requires.filed begins stands;
       served = λ some. absurd (not_both old.kernel.disk.served none some);
-      entered = has;
-      whole = enters_whole old _ c.requires.whole has;
+      made = made;
+      whole = enters_whole old _ c.requires.whole made;
       begun = c.begin_disk_call.ensures.begun;
       own = owns_entered old _ p turns c.args.self.now.bdos new is starts none c.requires.filed begins;
       kept = c.start_call-turns.ensures.kept;
-      idle = λ idle. absurd (never_idle old _ p has.turns has.is none starts idle);
       workless = λ bare less. c.start_call-turns.ensures.workless bare;
       reply = refl;
     }
@@ -74,12 +71,11 @@ returns-in_default c =
     record {
       ok = λ disks files stands. none_enters_so old kernel c.args.self.now.bdos disks files c.turn_disk.ensures.kernel none nobody stands;
       served = λ some. absurd (not_both old.kernel.disk.served none some);
-      entered = has_entered_nobody c.args.self.now.bdos old kernel c.turn_disk.ensures.kernel none nobody;
+      made = nobody_made old kernel c.turn_disk.ensures.kernel none nobody;
       whole = starts_whole old kernel c.turn_disk.ensures.kernel c.requires.whole;
       begun = unserved_begun kernel still;
       own = unserved_own kernel c.args.self.now.bdos.service still;
       kept = refl;
-      idle = λ none. refl;
       workless = λ bare less. less;
       reply = refl;
     }

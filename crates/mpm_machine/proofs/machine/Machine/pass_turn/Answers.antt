@@ -12,10 +12,9 @@ use Rattle.mpm_system.specs.Whole.{IsWhole}
 use Rattle.mpm_machine.specs.Files.{StandsBetween}
 use Rattle.mpm_machine.specs.Holding.{IsOwn}
 use Rattle.mpm_machine.specs.DiskStep.{told_of_call, call_over}
-use Rattle.mpm_machine.specs.After.{HasAnswered, HasStoppedAnswering}
 use Rattle.mpm_machine.proofs.DiskStepLaws.{whole_passed}
-use Rattle.mpm_machine.proofs.EnterLaws.{nothing_passes, has_passed_none, passed_filed, filed_if_passed}
-use Rattle.mpm_machine.proofs.ServeLaws.{last_is_over, passed_is, works_last, works_on, never_on, own_last, none_behind, pass_over, pass_stops, has_passed_over, has_stopped_over, nobody_behind, none_holds, passes_so, has_passed_so, begun_so, own_so}
+use Rattle.mpm_machine.proofs.EnterLaws.{nothing_passes, none_made, passed_filed, filed_if_passed}
+use Rattle.mpm_machine.proofs.ServeLaws.{IsOverFrom, over_made, passed_is, works_last, works_on, never_on, none_behind, pass_over, pass_stops, nobody_behind, none_holds, passes_so, passed_made, begun_so, own_so}
 use Rattle.mpm_machine.proofs.WorkLaws.{nobody_served, somebody_served}
 use Rattle.mpm_machine.proofs.machine.Machine.pass_turn.Goals as goal
 
@@ -25,24 +24,16 @@ returns-then-is_none-clause-ok g c disks files stands =
     let none = (nobody_served old.kernel.disk c.serving.result c.is_none.result (c.serving.ensures.served ∙ ap served_process c.disk.ensures) c.is_none.ensures c.if-is_none.true) in
     nothing_passes files _ old c.args.self.now.bdos disks none stands
 
-pub returns-then-is_none-clause-step : goal.returns-then-is_none-clause-step
-returns-then-is_none-clause-step g c =
+pub returns-then-is_none-clause-made : goal.returns-then-is_none-clause-made
+returns-then-is_none-clause-made g c =
     let old = c.args.self.now.system in
-    let none = (nobody_served old.kernel.disk c.serving.result c.is_none.result (c.serving.ensures.served ∙ ap served_process c.disk.ensures) c.is_none.ensures c.if-is_none.true) in
-    has_passed_none c.args.self.now.bdos _ old none
+    none_made old (nobody_served old.kernel.disk c.serving.result c.is_none.result (c.serving.ensures.served ∙ ap served_process c.disk.ensures) c.is_none.ensures c.if-is_none.true)
 
 -- its turn was the last
 
 pub answer_call-requires-clause-whole : goal.answer_call-requires-clause-whole
 answer_call-requires-clause-whole g c =
     subst IsWhole (sym (passed_is c.args.self.now.system c.turn_disk.new.self c.turn_disk.ensures.kernel)) (whole_passed c.args.self.now.system c.requires.whole)
-
-pub answer_call-requires-clause-own : goal.answer_call-requires-clause-own
-answer_call-requires-clause-own g c =
-    let old = c.args.self.now.system in
-    let works = works_last old.kernel.disk c.turn_disk.result c.in-Work.p c.in-Work.last c.turn_disk.ensures.answer c.in-Work.is c.if-last.true in
-    subst (λ (k : Kernel). IsOwn k.dispatcher.procs c.in-Work.p c.args.self.now.bdos.service) (sym c.turn_disk.ensures.kernel)
-    (own_last old.kernel.disk (λ p. IsOwn old.kernel.dispatcher.procs p c.args.self.now.bdos.service) c.in-Work.p works c.requires.own)
 
 pub returns-then-last-clause-ok : goal.returns-then-last-clause-ok
 returns-then-last-clause-ok g c disks files stands =
@@ -68,57 +59,36 @@ returns-then-last-clause-err g c disks files stands =
     (λ s serves whose. subst (λ (passed : System). OnErr c.answer_call.result (Stopped o n (call_over (told_of_call s p passed) p passed).emitted))
     (passed_is old c.turn_disk.new.self c.turn_disk.ensures.kernel) (c.answer_call.ensures.err disks s serves whose))
 
-pub returns-then-last-clause-step : goal.returns-then-last-clause-step
-returns-then-last-clause-step g c =
+pub returns-then-last-clause-made : goal.returns-then-last-clause-made
+returns-then-last-clause-made g c =
     let old = c.args.self.now.system in
     let works = works_last old.kernel.disk c.turn_disk.result c.in-Work.p c.in-Work.last c.turn_disk.ensures.answer c.in-Work.is c.if-last.true in
-    let o = seen g.S.Sink.written g.S.Sink.faults c.args.render.now c.args.sink.now in
-    let n = seen g.S.Sink.written g.S.Sink.faults c.answer_call.new.render c.answer_call.new.sink in
-    has_passed_over c.answer_call.result c.args.self.now.bdos c.answer_call.new.self.bdos c.in-Work.p o n old c.answer_call.new.self.system works
-    (subst (λ (passed : System). OnOk c.answer_call.result (HasAnswered c.args.self.now.bdos c.answer_call.new.self.bdos c.in-Work.p o n passed c.answer_call.new.self.system))
-    (passed_is old c.turn_disk.new.self c.turn_disk.ensures.kernel) c.answer_call.ensures.told)
-
-pub returns-then-last-clause-stops : goal.returns-then-last-clause-stops
-returns-then-last-clause-stops g c =
-    let old = c.args.self.now.system in
-    let works = works_last old.kernel.disk c.turn_disk.result c.in-Work.p c.in-Work.last c.turn_disk.ensures.answer c.in-Work.is c.if-last.true in
-    let o = seen g.S.Sink.written g.S.Sink.faults c.args.render.now c.args.sink.now in
-    let n = seen g.S.Sink.written g.S.Sink.faults c.answer_call.new.render c.answer_call.new.sink in
-    has_stopped_over c.answer_call.result c.args.self.now.bdos c.in-Work.p o n old works
-    (subst (λ (passed : System). OnErr c.answer_call.result (HasStoppedAnswering c.args.self.now.bdos c.in-Work.p o n passed))
-    (passed_is old c.turn_disk.new.self c.turn_disk.ensures.kernel) c.answer_call.ensures.stops)
+    over_made c.answer_call.result c.in-Work.p old c.answer_call.new.self.system works
+    (subst (λ (passed : System). OnOk c.answer_call.result (IsOverFrom c.in-Work.p passed c.answer_call.new.self.system))
+    (passed_is old c.turn_disk.new.self c.turn_disk.ensures.kernel) c.answer_call.ensures.made)
 
 pub returns-then-last-clause-begun : goal.returns-then-last-clause-begun
 returns-then-last-clause-begun g c =
     let old = c.args.self.now.system in
     let works = works_last old.kernel.disk c.turn_disk.result c.in-Work.p c.in-Work.last c.turn_disk.ensures.answer c.in-Work.is c.if-last.true in
-    let o = seen g.S.Sink.written g.S.Sink.faults c.args.render.now c.args.sink.now in
-    let n = seen g.S.Sink.written g.S.Sink.faults c.answer_call.new.render c.answer_call.new.sink in
     none_holds c.answer_call.result (λ (call : Served). 0 < call.left) c.answer_call.new.self.system.kernel.disk
-    (nobody_behind c.answer_call.result c.args.self.now.bdos c.answer_call.new.self.bdos c.in-Work.p o n old c.answer_call.new.self.system works
-    (subst (λ (passed : System). OnOk c.answer_call.result (HasAnswered c.args.self.now.bdos c.answer_call.new.self.bdos c.in-Work.p o n passed c.answer_call.new.self.system))
-    (passed_is old c.turn_disk.new.self c.turn_disk.ensures.kernel) c.answer_call.ensures.told))
+    (nobody_behind c.answer_call.result c.in-Work.p old c.answer_call.new.self.system works
+    (subst (λ (passed : System). OnOk c.answer_call.result (IsOverFrom c.in-Work.p passed c.answer_call.new.self.system))
+    (passed_is old c.turn_disk.new.self c.turn_disk.ensures.kernel) c.answer_call.ensures.made))
 
 pub returns-then-last-clause-own : goal.returns-then-last-clause-own
 returns-then-last-clause-own g c =
     let old = c.args.self.now.system in
     let works = works_last old.kernel.disk c.turn_disk.result c.in-Work.p c.in-Work.last c.turn_disk.ensures.answer c.in-Work.is c.if-last.true in
-    let o = seen g.S.Sink.written g.S.Sink.faults c.args.render.now c.args.sink.now in
-    let n = seen g.S.Sink.written g.S.Sink.faults c.answer_call.new.render c.answer_call.new.sink in
     let new = c.answer_call.new.self in
     none_holds c.answer_call.result (λ (call : Served). IsOwn new.system.kernel.dispatcher.procs call.p new.bdos.service) new.system.kernel.disk
-    (nobody_behind c.answer_call.result c.args.self.now.bdos new.bdos c.in-Work.p o n old new.system works
-    (subst (λ (passed : System). OnOk c.answer_call.result (HasAnswered c.args.self.now.bdos new.bdos c.in-Work.p o n passed new.system))
-    (passed_is old c.turn_disk.new.self c.turn_disk.ensures.kernel) c.answer_call.ensures.told))
+    (nobody_behind c.answer_call.result c.in-Work.p old new.system works
+    (subst (λ (passed : System). OnOk c.answer_call.result (IsOverFrom c.in-Work.p passed new.system))
+    (passed_is old c.turn_disk.new.self c.turn_disk.ensures.kernel) c.answer_call.ensures.made))
 
 pub returns-then-last-clause-filed : goal.returns-then-last-clause-filed
 returns-then-last-clause-filed g c =
-    filed_if_passed c.answer_call.result c.args.self.now.bdos c.answer_call.new.self.bdos _ _ c.args.self.now.system c.answer_call.new.self.system c.requires.whole c.requires.filed (returns-then-last-clause-step g c)
-
-pub returns-then-last-clause-stays : goal.returns-then-last-clause-stays
-returns-then-last-clause-stays g c still =
-    let old = c.args.self.now.system in
-    absurd (last_is_over old c.in-Work.p (works_last old.kernel.disk c.turn_disk.result c.in-Work.p c.in-Work.last c.turn_disk.ensures.answer c.in-Work.is c.if-last.true) still)
+    filed_if_passed c.answer_call.result c.args.self.now.system c.answer_call.new.self.system c.requires.whole c.requires.filed (returns-then-last-clause-made g c)
 
 pub returns-then-last-clause-workless : goal.returns-then-last-clause-workless
 returns-then-last-clause-workless g c none less = ap has_work c.answer_call.ensures.idle
@@ -132,19 +102,19 @@ returns-else-last-clause-ok g c disks files stands =
     let more = works_on old.kernel.disk c.turn_disk.result c.in-Work.p c.in-Work.last c.turn_disk.ensures.answer c.in-Work.is c.if-last.false in
     passes_so files _ old c.turn_disk.new.self c.args.self.now.bdos disks c.turn_disk.ensures.kernel some more stands
 
-pub returns-else-last-clause-step : goal.returns-else-last-clause-step
-returns-else-last-clause-step g c =
+pub returns-else-last-clause-made : goal.returns-else-last-clause-made
+returns-else-last-clause-made g c =
     let old = c.args.self.now.system in
     let some = somebody_served old.kernel.disk c.serving.result c.is_none.result (c.serving.ensures.served ∙ ap served_process c.disk.ensures) c.is_none.ensures c.if-is_none.false in
     let more = works_on old.kernel.disk c.turn_disk.result c.in-Work.p c.in-Work.last c.turn_disk.ensures.answer c.in-Work.is c.if-last.false in
-    has_passed_so c.args.self.now.bdos _ old c.turn_disk.new.self c.turn_disk.ensures.kernel some more
+    passed_made old c.turn_disk.new.self c.turn_disk.ensures.kernel some more
+
+pub returns-else-last-clause-filed : goal.returns-else-last-clause-filed
+returns-else-last-clause-filed g c = passed_filed c.args.self.now.system _ c.requires.whole c.requires.filed (returns-else-last-clause-made g c)
 
 pub returns-else-last-clause-whole : goal.returns-else-last-clause-whole
 returns-else-last-clause-whole g c =
     subst IsWhole (sym (passed_is c.args.self.now.system c.turn_disk.new.self c.turn_disk.ensures.kernel)) (whole_passed c.args.self.now.system c.requires.whole)
-
-pub returns-else-last-clause-filed : goal.returns-else-last-clause-filed
-returns-else-last-clause-filed g c = passed_filed _ _ c.args.self.now.system _ c.requires.whole c.requires.filed (returns-else-last-clause-step g c)
 
 pub returns-else-last-clause-own : goal.returns-else-last-clause-own
 returns-else-last-clause-own g c =
@@ -157,19 +127,17 @@ returns-in_default g c =
     let old = c.args.self.now.system in
     let some = somebody_served old.kernel.disk c.serving.result c.is_none.result (c.serving.ensures.served ∙ ap served_process c.disk.ensures) c.is_none.ensures c.if-is_none.false in
     let more = never_on old.kernel.disk c.turn_disk.result c.turn_disk.ensures.answer c.in_default.not-Work in
-    let step = has_passed_so c.args.self.now.bdos (seen g.S.Sink.written g.S.Sink.faults c.args.render.now c.args.sink.now) old c.turn_disk.new.self c.turn_disk.ensures.kernel some more in
+    let made = passed_made old c.turn_disk.new.self c.turn_disk.ensures.kernel some more in
     record {
       ok = λ disks files stands. passes_so files _ old c.turn_disk.new.self c.args.self.now.bdos disks c.turn_disk.ensures.kernel some more stands;
       err = λ disks files stands. tt;
-      step = step;
-      stops = tt;
+      made = made;
       begun = begun_so old.kernel.disk c.turn_disk.new.self.disk c.turn_disk.result some c.turn_disk.ensures.answer c.turn_disk.ensures.after;
-      filed = passed_filed _ _ old _ c.requires.whole c.requires.filed step;
+      filed = passed_filed old _ c.requires.whole c.requires.filed made;
       own = own_so old.kernel c.turn_disk.new.self c.args.self.now.bdos.service c.turn_disk.ensures.kernel some c.requires.own;
       whole = subst IsWhole (sym (passed_is old c.turn_disk.new.self c.turn_disk.ensures.kernel)) (whole_passed old c.requires.whole);
       completed = ap (λ (k : Kernel). k.dispatcher.completed) c.turn_disk.ensures.kernel ∙ c.requires.completed;
       kept = refl;
-      stays = λ still. refl;
       workless = λ none less. less;
       trace = refl;
       cause = record { later = omega arith; stays = refl; failed = tt };

@@ -12,15 +12,14 @@ use Rattle.mpm_machine.proofs.machine.Machine.run_on.Goals as goal
 
 pub returns-in_default-clause-went : goal.returns-in_default-clause-went
 returns-in_default-clause-went g c =
-    went_silent g.D.Drives.attached g.D.Drives.disks c.args.drives.now (seen g.S.Sink.written g.S.Sink.faults c.args.render.now c.args.sink.now) c.idle.result
-    c.args.self.now c.idle.new.system c.idle.ensures.went c.requires.holds c.tell_sound.ensures.stand
+    went_silent g.D.Drives.disks c.args.drives.now (seen g.S.Sink.written g.S.Sink.faults c.args.render.now c.args.sink.now) c.idle.result
+    c.args.self.now c.idle.new.system c.idle.ensures.went c.requires.whole c.requires.holds
 
 pub loop-done-init : goal.loop-done-init
 loop-done-init g c = record {
   count = omega arith;
-  went = went_nowhere g.D.Drives.attached g.D.Drives.disks c.args.drives.now (seen g.S.Sink.written g.S.Sink.faults c.args.render.now c.args.sink.now) c.args.self.now
+  went = went_nowhere g.D.Drives.disks c.args.drives.now (seen g.S.Sink.written g.S.Sink.faults c.args.render.now c.args.sink.now) c.args.self.now
       c.requires.whole c.requires.no_completions c.requires.holds;
-  stand = c.tell_sound.ensures.stand;
   ahead = MatchOption-at_some ⊤ (λ (a : Ahead). RunsAhead a c.args.self.now.system) c.in-Some.here c.in-Some.is c.look_ahead-ahead.ensures.ahead;
 }
 
@@ -31,16 +30,15 @@ returns-then-done-most-clause-went g c =
     let o = seen g.S.Sink.written g.S.Sink.faults c.args.render.now c.args.sink.now in
     let so_far = c.loop-done.invariant.went in
     let before : Machine = c.loop-done.self in
-    went_both g.D.Drives.attached g.D.Drives.disks c.args.drives.now o c.loop-done.done c.run_burst-done.result c.args.self.now before (record before { system = c.run_burst-done.new.system }) so_far
-    (went_silent g.D.Drives.attached g.D.Drives.disks c.args.drives.now o c.run_burst-done.result before c.run_burst-done.new.system
-    c.run_burst-done.ensures.went so_far.holds c.loop-done.invariant.stand)
+    went_both g.D.Drives.disks c.args.drives.now o c.loop-done.done c.run_burst-done.result c.args.self.now before (record before { system = c.run_burst-done.new.system }) so_far
+    (went_silent g.D.Drives.disks c.args.drives.now o c.run_burst-done.result before c.run_burst-done.new.system
+    c.run_burst-done.ensures.went so_far.whole so_far.holds)
 
 -- and such a call
 
 pub loop-done-preserved : goal.loop-done-preserved
 loop-done-preserved g c =
     let o = seen g.S.Sink.written g.S.Sink.faults c.args.render.now c.args.sink.now in
-    let attached = g.D.Drives.attached in
     let disks = g.D.Drives.disks in
     let drives = c.args.drives.now in
     let here : Ahead = c.in-Some.here in
@@ -49,17 +47,16 @@ loop-done-preserved g c =
     let before : Machine = c.loop-done.self in
     let there : Machine = record before { system = c.run_burst-done.new.system } in
     let behind : Machine = record before { system = c.do_own_call.new.system } in
-    let burst = went_silent attached disks drives o c.run_burst-done.result before c.run_burst-done.new.system ran.went so_far.holds c.loop-done.invariant.stand in
+    let burst = went_silent disks drives o c.run_burst-done.result before c.run_burst-done.new.system ran.went so_far.whole so_far.holds in
     let makes = c.if-not-makes_own_call.ensures.own in
     let unasked : here.alone ≡ true → c.is_tracing.result ≡ false =
     MatchOption-at_some ⊤ (λ (a : Ahead). a.alone ≡ true → c.is_tracing.result ≡ false) here c.in-Some.is c.look_ahead-ahead.ensures.untraced in
     let off : c.args.render.now.trace ≡ false = sym c.is_tracing.ensures ∙ unasked c.if-not-makes_own_call.ensures.alone in
-    let alone = went_alone attached disks drives o here.p here.seg there c.do_own_call.new.system ran.went.whole makes c.do_own_call.ensures.system
-    (own_wrote o _ off c.do_own_call.ensures.emitted) burst.holds c.loop-done.invariant.stand in
+    let alone = went_alone disks drives o here.p here.seg there c.do_own_call.new.system ran.went.whole makes c.do_own_call.ensures.system
+    (own_wrote o _ off c.do_own_call.ensures.emitted) burst.holds in
     record {
       count = omega (arith, ran.count, c.loop-done.invariant.count, c.if-done-most.false);
-      went = went_both attached disks drives o (c.loop-done.done + c.run_burst-done.result) 1 c.args.self.now there behind
-          (went_both attached disks drives o c.loop-done.done c.run_burst-done.result c.args.self.now before there so_far burst) alone;
-      stand = c.loop-done.invariant.stand;
+      went = went_both disks drives o (c.loop-done.done + c.run_burst-done.result) 1 c.args.self.now there behind
+          (went_both disks drives o c.loop-done.done c.run_burst-done.result c.args.self.now before there so_far burst) alone;
       ahead = ahead_called here c.run_burst-done.new.system c.do_own_call.new.system ran.went.whole makes c.do_own_call.ensures.system ran.ahead;
     }

@@ -1,11 +1,7 @@
-use Rattle.std.proofs.Common.{◌≡◌, ◌∙◌, true, is_some, sym, ap, subst}
-use Rattle.mpm_bdos.specs.Serving.{Kept}
-use Rattle.mpm_system.specs.declared.system.System.{System}
+use Rattle.std.proofs.Common.{ap}
 use Rattle.mpm_machine.specs.declared.machine.Machine.{Machine}
-use Rattle.mpm_machine.specs.DiskStep.{call_entered, files_served}
-use Rattle.mpm_machine.specs.After.{ServesEntered, EntersFor}
-use Rattle.mpm_machine.proofs.ServeLaws.{still_served}
-use Rattle.mpm_machine.proofs.EnterLaws.{paid_whole, paid_begun, paid_filed, paid_own, paid_is, entered_behind, has_served_to, has_served, leaves_served, served_filed}
+use Rattle.mpm_machine.specs.DiskStep.{files_served}
+use Rattle.mpm_machine.proofs.EnterLaws.{paid_whole, paid_begun, paid_filed, paid_own, entered_behind, has_served_to, served_made, served_filed}
 use Rattle.mpm_machine.proofs.EndStepLaws.{served_nobody, keeps_then, keeps_entered, keeps_none, workless_paid}
 use Rattle.mpm_machine.proofs.CarryingLaws.{keeps_paid}
 use Rattle.mpm_machine.proofs.machine.Machine.serve_disk.Goals as goal
@@ -34,38 +30,21 @@ returns-clause-ok g c disks files stands =
     (entered_behind passed.system paid.system new.system passed.bdos paid.bdos new.bdos disks (files_served old files) c.pay.ensures.system so.2 c.pay.ensures.rest
     (λ some. ap (λ (machine : Machine). machine.bdos) (c.pay.ensures.served some)) c.pay.ensures.filing (λ found there. c.enter_call.ensures.ok disks found there))
 
-pub returns-clause-step : goal.returns-clause-step
-returns-clause-step g c =
-    let has = c.enter_call.ensures.entered in
-    let passed = c.pass_turn.new.self in
-    let paid = c.pay.new.self.bdos in
-    let pays = paid_is passed.system passed.bdos paid c.pay.ensures.rest (λ some. ap (λ (machine : Machine). machine.bdos) (c.pay.ensures.served some)) c.pay.ensures.filing in
-    has_served has.turns _ _ c.args.self.now.system passed.system c.enter_call.new.self.system c.in_default.ensures.step
-    (subst (EntersFor has.turns) c.pay.ensures.system has.its) (subst (ServesEntered c.enter_call.new.self.bdos has.turns) c.pay.ensures.system has.entered)
-    (has.is ∙ ap (call_entered has.turns) c.pay.ensures.system) c.pass_turn.ensures.stays
-    (leaves_served passed.system passed.bdos paid c.enter_call.new.self.bdos pays c.enter_call.ensures.kept)
-    (λ idle. ap (λ (k : Kept). k.service) (c.enter_call.ensures.idle idle ∙ c.pay.ensures.rest))
+pub returns-clause-made : goal.returns-clause-made
+returns-clause-made g c =
+    served_made c.args.self.now.system c.pass_turn.new.self.system c.pay.new.self.system c.enter_call.new.self.system c.in_default.ensures.made c.pay.ensures.system c.enter_call.ensures.made
 
 pub returns-clause-filed : goal.returns-clause-filed
-returns-clause-filed g c = served_filed _ _ c.args.self.now.system c.enter_call.new.self.system c.requires.whole c.requires.filed (returns-clause-step g c)
+returns-clause-filed g c = served_filed c.args.self.now.system c.enter_call.new.self.system c.requires.whole c.requires.filed (returns-clause-made g c)
 
 pub returns-clause-completed : goal.returns-clause-completed
-returns-clause-completed g c = served_nobody _ _ c.args.self.now.system c.enter_call.new.self.system c.requires.completed (returns-clause-step g c)
+returns-clause-completed g c = served_nobody c.args.self.now.system c.enter_call.new.self.system c.requires.completed (returns-clause-made g c)
 
 pub returns-clause-kept : goal.returns-clause-kept
 returns-clause-kept g c =
     keeps_then c.args.self.now.bdos c.pay.new.self.bdos c.enter_call.new.self.bdos
     (keeps_paid c.args.self.now.bdos c.pass_turn.new.self.bdos c.pay.new.self.bdos c.pass_turn.ensures.kept c.pay.ensures.rest)
     (keeps_entered c.pay.new.self.bdos c.enter_call.new.self.bdos c.enter_call.ensures.kept)
-
-pub returns-clause-stays : goal.returns-clause-stays
-returns-clause-stays g c some still =
-    let has = c.in_default.ensures.step in
-    let there = subst (λ (s : System). is_some s.kernel.disk.served ≡ true) (sym has.system) (still_served has.told c.args.self.now.system some still) in
-    let same = c.pay.ensures.served there in
-    let bdos = λ (machine : Machine). machine.bdos in
-    ap bdos (c.enter_call.ensures.served (subst (λ (machine : Machine). is_some machine.system.kernel.disk.served ≡ true) (sym same) there))
-    ∙ ap bdos same ∙ c.pass_turn.ensures.stays still
 
 pub returns-clause-workless : goal.returns-clause-workless
 returns-clause-workless g c none less =

@@ -1,19 +1,20 @@
--- the call in service was carried to its end, and lines are closed
-use Rattle.std.proofs.Common.{◌≡◌, ◌∙◌, Bool, inl, subst, arith}
+use Rattle.std.proofs.Common.{◌≡◌, ◌∙◌, ◌++◌, Bool, inl, subst, arith}
 use Rattle.std.specs.Prelude.{OnOk}
-use Rattle.mpm_port.specs.Texts.{appended}
 use Rattle.mpm_mount.specs.Mounting.{SameDrives}
 use Rattle.mpm_render.specs.Outputs.{closed}
 use Rattle.mpm_output.specs.Outside.{seen}
 use Rattle.mpm_base.proofs.Results.{on_ok}
 use Rattle.mpm_machine.specs.Faults.{itself}
 use Rattle.mpm_machine.specs.Settling.{carried, called}
-use Rattle.mpm_machine.proofs.SettlingLaws.{carried_shows, carried_system, carried_files, carried_images, stops_carrying, err_seen, err_stops, ok_closes, err_closes, keeps_synced, same_still, same_count, none_counted, sink_alone, cause_behind, ok_so}
+use Rattle.mpm_machine.proofs.SettlingLaws.{carried_shows, carried_system, carried_files, carried_images, stops_carrying, err_seen, err_stops, syncs_after, keeps_synced, same_still, same_count, none_counted, sink_alone, cause_behind, ok_so}
 use Rattle.mpm_machine.proofs.machine.Machine.settle.Goals as goal
+
+pub carry-requires-clause-holds : goal.carry-requires-clause-holds
+carry-requires-clause-holds g c = c.requires.holds.calls
 
 pub returns-in-Ok-clause-ok : goal.returns-in-Ok-clause-ok
 returns-in-Ok-clause-ok g c s first stands =
-    let P : Bool → Type 0 = λ t. OnOk c.close.result (g.S.Sink.written c.close.new.sink ≡ appended first (closed t (carried s).outputs)) in
+    let P : Bool → Type 0 = λ t. OnOk c.close.result (g.S.Sink.written c.close.new.sink ≡ first ++ closed t (carried s).outputs) in
     subst P c.in-Ok.ensures.trace
     (c.close.ensures.ok (carried s).outputs first
     (carried_shows s _ _ _ _ _ _ first stands.system.parts (c.in-Ok.ensures.ok s.files stands.files) stands.system.shown))
@@ -41,25 +42,18 @@ returns-in-Ok-clause-err g c s first stands =
     (c.close.ensures.err (carried s).outputs first shows)
     (carried_images s _ m _ _ _ _ _ stands.system.parts has c.close.ensures.drives.images)
 
-pub returns-in-Ok-clause-end : goal.returns-in-Ok-clause-end
-returns-in-Ok-clause-end g c =
-    ok_closes c.close.result c.args.self.now.bdos _ (seen g.S.Sink.written g.S.Sink.faults c.carry.new.render c.carry.new.sink) _ c.args.self.now.system c.carry.new.self.system c.in-Ok.ensures.end c.close.ensures.ok
-
 pub returns-in-Ok-clause-cause : goal.returns-in-Ok-clause-cause
 returns-in-Ok-clause-cause g c = cause_behind itself _ _ _ c.close.result c.in-Ok.ensures.cause.stays c.close.ensures.cause
 
 pub returns-in-Ok-clause-keeps : goal.returns-in-Ok-clause-keeps
-returns-in-Ok-clause-keeps g c = keeps_synced _ _ _ _ _ c.in-Ok.ensures.keeps c.close.ensures.drives.images
+returns-in-Ok-clause-keeps g c = keeps_synced _ _ _ _ _ _ _ _ c.in-Ok.ensures.keeps c.close.ensures.drives.images c.close.ensures.drives.told_are
 
 pub returns-in-Ok-clause-idle : goal.returns-in-Ok-clause-idle
 returns-in-Ok-clause-idle g c none =
-    subst (λ d. SameDrives g.D.Drives.attached g.D.Drives.disks g.D.Drives.failed_names d c.close.new.drives) (c.in-Ok.ensures.idle none) c.close.ensures.drives
+    subst (λ d. SameDrives g.D.Drives.disks g.D.Drives.told g.D.Drives.failed_names d c.close.new.drives) (c.in-Ok.ensures.idle none) c.close.ensures.drives
 
 pub returns-in-Ok-clause-names : goal.returns-in-Ok-clause-names
 returns-in-Ok-clause-names g c = c.close.ensures.drives.failed ∙ c.in-Ok.ensures.names
-
-pub returns-in-Ok-clause-attached : goal.returns-in-Ok-clause-attached
-returns-in-Ok-clause-attached g c number = c.close.ensures.drives.drives number ∙ c.in-Ok.ensures.attached number
 
 pub returns-in-Ok-clause-none : goal.returns-in-Ok-clause-none
 returns-in-Ok-clause-none g c none = c.close.ensures.none (none_counted c.carry.new.self.bdos.mounted (c.in-Ok.ensures.bare none)) ∙ c.in-Ok.ensures.none none
@@ -76,10 +70,7 @@ returns-in-Ok-clause-synced g c =
 
 pub returns-in-Ok-clause-stops : goal.returns-in-Ok-clause-stops
 returns-in-Ok-clause-stops g c =
-    err_closes c.close.result c.args.self.now.bdos c.carry.new.self.bdos.mounted _ (seen g.S.Sink.written g.S.Sink.faults c.carry.new.render c.carry.new.sink)
-    (seen g.S.Sink.written g.S.Sink.faults c.close.new.render c.close.new.sink) _ (called g.D.Drives.unsynced c.carry.new.drives c.carry.new.steps) _
-    c.args.self.now.system c.carry.new.self.system c.in-Ok.ensures.end c.close.ensures.err
-    (err_seen c.close.result g.S.Sink.written g.S.Sink.faults c.carry.new.render c.close.new.render c.carry.new.sink c.close.new.sink c.close.ensures.unwritten)
+    syncs_after c.close.result c.args.self.now.bdos c.carry.new.self.bdos.mounted _ (called g.D.Drives.unsynced c.carry.new.drives c.carry.new.steps) _ c.args.self.now.system
     c.in-Ok.ensures.called c.close.ensures.syncs
 
 pub returns-in-Ok-clause-calls : goal.returns-in-Ok-clause-calls
@@ -93,13 +84,13 @@ returns-in-Err-clause-err g c s first stands =
     stops_carrying c.in-Err.fault s _ _ _ _ _ first stands.system.parts c.in-Err.ensures.trace stands.system.shown (c.in-Err.ensures.err s.files stands.files)
 
 pub returns-in-Err-clause-stops : goal.returns-in-Err-clause-stops
-returns-in-Err-clause-stops g c = inl (record { serves = c.in-Err.ensures.serves; text = c.in-Err.ensures.stops; called = c.in-Err.ensures.called })
+returns-in-Err-clause-stops g c = inl (c.in-Err.ensures.serves, c.in-Err.ensures.called)
 
 pub returns-in-Err-clause-calls : goal.returns-in-Err-clause-calls
 returns-in-Err-clause-calls g c = omega (arith, c.in-Err.ensures.called.calls)
 
 pub returns-in-Err-clause-idle : goal.returns-in-Err-clause-idle
-returns-in-Err-clause-idle g c none = same_still g.D.Drives.attached g.D.Drives.disks g.D.Drives.failed_names c.args.drives.now c.carry.new.drives (c.in-Err.ensures.idle none)
+returns-in-Err-clause-idle g c none = same_still g.D.Drives.disks g.D.Drives.told g.D.Drives.failed_names c.args.drives.now c.carry.new.drives (c.in-Err.ensures.idle none)
 
 pub returns-in-Err-clause-ok : goal.returns-in-Err-clause-ok
 returns-in-Err-clause-ok g c s first stands = tt
@@ -112,9 +103,6 @@ returns-in-Err-clause-whole g c = tt
 
 pub returns-in-Err-clause-files : goal.returns-in-Err-clause-files
 returns-in-Err-clause-files g c s first stands = tt
-
-pub returns-in-Err-clause-end : goal.returns-in-Err-clause-end
-returns-in-Err-clause-end g c = tt
 
 pub returns-in-Err-clause-trace : goal.returns-in-Err-clause-trace
 returns-in-Err-clause-trace g c = c.in-Err.ensures.trace
@@ -130,9 +118,6 @@ returns-in-Err-clause-synced g c = tt
 
 pub returns-in-Err-clause-names : goal.returns-in-Err-clause-names
 returns-in-Err-clause-names g c = c.in-Err.ensures.names
-
-pub returns-in-Err-clause-attached : goal.returns-in-Err-clause-attached
-returns-in-Err-clause-attached g c = c.in-Err.ensures.attached
 
 pub returns-in-Err-clause-none : goal.returns-in-Err-clause-none
 returns-in-Err-clause-none g c = c.in-Err.ensures.none

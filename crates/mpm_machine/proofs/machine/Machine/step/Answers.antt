@@ -1,43 +1,35 @@
 -- it stopped
-use Rattle.mpm_machine.proofs.StandingLaws.{step_stands, step_stops, step_shows}
+use Rattle.mpm_machine.proofs.StandingLaws.{step_at, step_stands, step_stops, step_shows}
 use Rattle.mpm_machine.proofs.GoingSteps.{interprets_stepped}
+use Rattle.mpm_machine.proofs.NextLaws.{step_by}
 use Rattle.mpm_machine.proofs.FailingLaws.{step_leaves}
 use Rattle.mpm_machine.proofs.MadeLaws.{made_whole, made_no_completions, made_nobody_due, made_steps}
 use Rattle.mpm_machine.proofs.machine.Machine.step.Goals as goal
 
 pub returns-in-Err : goal.returns-in-Err
-returns-in-Err g c = record {
-  ok = λ s first stands. tt;
-  err = λ s first stands. step_stops c.args.self.now _ c.in-Err.fault _ _ s first c.in-Err.ensures.err stands;
-  shown = λ s first stands. step_shows c.args.self.now _ c.in-Err.fault _ _ s first c.in-Err.ensures.err stands;
-  images = λ s first stands.
-      step_leaves c.args.self.now (g.D.Drives.disks c.args.drives.now) (g.D.Drives.disks c.take_step.new.drives) c.take_step.new.self.bdos.mounted c.in-Err.fault
-      c.args.render.now (g.S.Sink.written c.args.sink.now) s first c.in-Err.ensures.images stands;
-  step = tt;
-  stops = c.in-Err.ensures.stops;
-  due = tt;
-  interprets = λ before. tt;
-  locks = tt;
-  whole = tt;
-  no_completions = tt;
-  count = tt;
-  holds = tt;
-  unfailing = c.in-Err.ensures.unfailing;
-  sink = c.in-Err.ensures.sink;
-  turn_steps = tt;
-  trace = c.in-Err.ensures.trace;
-  cause = c.in-Err.ensures.cause;
-  keeps = c.in-Err.ensures.keeps;
-  names = c.in-Err.ensures.names;
-  attached = c.in-Err.ensures.attached;
-  unsynced = c.in-Err.ensures.unsynced;
-  bare = c.in-Err.ensures.bare;
-  none = c.in-Err.ensures.none;
-  drives = c.in-Err.ensures.drives;
-  device_calls = c.in-Err.ensures.device_calls;
-  calls = c.in-Err.ensures.calls;
-  few = c.in-Err.ensures.few;
-}
+returns-in-Err g c =
+    let failed = c.in-Err.ensures in
+    record {
+      ok = λ s first stands. tt;
+      model = λ s here. tt;
+      stops = λ s first stands. record {
+        text = step_stops c.args.self.now _ c.in-Err.fault _ _ s first failed.err stands;
+        shown = step_shows c.args.self.now _ c.in-Err.fault _ _ s first failed.err stands;
+        images =
+            step_leaves c.args.self.now (g.D.Drives.disks c.args.drives.now) (g.D.Drives.disks c.take_step.new.drives) c.take_step.new.self.bdos.mounted c.in-Err.fault
+            c.args.render.now (g.S.Sink.written c.args.sink.now) s first failed.images stands;
+      };
+      law = λ s is. step_by s c.args.self.now.system is c.requires.whole c.requires.no_completions;
+      leaves = tt;
+      holds = tt;
+      drives = record { keeps = failed.keeps; names = failed.names; unsynced = failed.unsynced };
+      trace = failed.trace;
+      cause = failed.cause;
+      rests = λ off. (failed.sink off, failed.drives off, failed.device_calls off);
+      none = λ bare. (failed.unfailing bare, failed.none bare, failed.bare bare);
+      calls = failed.calls;
+      few = failed.few;
+    }
 
 -- it was done
 
@@ -45,34 +37,27 @@ pub returns-in-Ok : goal.returns-in-Ok
 returns-in-Ok g c =
     let old = c.args.self.now.system in
     let new = c.take_step.new.self.system in
-    let is = c.in-Ok.ensures.step in
+    let done = c.in-Ok.ensures in
     record {
-      ok = λ s first stands. step_stands c.args.self.now c.take_step.new.self _ _ _ _ s first c.in-Ok.ensures.ok stands;
-      err = λ s first stands. tt;
-      shown = λ s first stands. tt;
-      images = λ s first stands. tt;
-      step = is;
-      stops = tt;
-      due = made_nobody_due _ _ old new c.requires.whole is;
-      interprets = interprets_stepped _ _ old new c.requires.whole is;
-      locks = c.tell_sound.ensures.locks;
-      whole = made_whole _ _ old new c.requires.whole is;
-      no_completions = made_no_completions _ _ old new is;
-      count = made_steps _ _ old new is;
-      holds = c.in-Ok.ensures.holds;
-      unfailing = λ none. tt;
-      sink = λ none. tt;
-      turn_steps = c.in-Ok.ensures.turn_steps;
-      trace = c.in-Ok.ensures.trace;
-      cause = c.in-Ok.ensures.cause;
-      keeps = c.in-Ok.ensures.keeps;
-      names = c.in-Ok.ensures.names;
-      attached = c.in-Ok.ensures.attached;
-      unsynced = c.in-Ok.ensures.unsynced;
-      bare = c.in-Ok.ensures.bare;
-      none = c.in-Ok.ensures.none;
-      drives = c.in-Ok.ensures.drives;
-      device_calls = c.in-Ok.ensures.device_calls;
-      calls = c.in-Ok.ensures.calls;
-      few = c.in-Ok.ensures.few;
+      ok = λ s first stands. step_stands c.args.self.now c.take_step.new.self _ _ _ _ s first done.ok stands;
+      model = λ s here. step_at c.args.self.now c.take_step.new.self _ _ _ _ s done.ok here;
+      stops = λ s first stands. tt;
+      law = λ s is. step_by s old is c.requires.whole c.requires.no_completions;
+      leaves = record {
+        count = made_steps old new done.made;
+        whole = made_whole old new c.requires.whole done.made;
+        no_completions = made_no_completions old new done.made;
+        due = made_nobody_due old new c.requires.whole done.made;
+        locks = c.tell_sound.ensures;
+        interprets = interprets_stepped old new c.requires.whole done.made;
+        turn_steps = done.turn_steps;
+      };
+      holds = done.holds;
+      drives = record { keeps = done.keeps; names = done.names; unsynced = done.unsynced };
+      trace = done.trace;
+      cause = done.cause;
+      rests = λ off. (tt, done.drives off, done.device_calls off);
+      none = λ bare. (tt, done.none bare, done.bare bare);
+      calls = done.calls;
+      few = done.few;
     }

@@ -1,17 +1,18 @@
 use Rattle.std.proofs.Common.{◌∙◌, Ok, sym, ap, subst, arith}
-use Rattle.std.specs.Prelude.{List, Option, is_some}
-use Rattle.std.proofs.lemmas.Bool.{false≢true, true_from_ne_false}
+use Rattle.std.specs.Prelude.{List, Option}
+use Rattle.std.proofs.lemmas.Bool.{false≢true}
 use Rattle.mpm_mount.specs.Directories.{Directory}
-use Rattle.mpm_service.specs.declared.service.Served.{Served}
 use Rattle.mpm_output.specs.Outside.{seen}
 use Rattle.mpm_bdos.specs.Serving.{Kept}
-use Rattle.mpm_bdos.specs.Turns.{has_work}
 use Rattle.mpm_machine.specs.Mounting.{HasNoDrive, KeepsMounted}
-use Rattle.mpm_machine.specs.Stepping.{files_begun}
+use Rattle.mpm_machine.specs.Stepping.{files_begun, stepped}
 use Rattle.mpm_machine.proofs.DriveLaws.{keeps_both}
-use Rattle.mpm_machine.proofs.FilesStepLaws.{has_stepped, stays_served, begun_as_before, ended_as_before, stopped_as_before, has_stepped_to, begun_has_stopped, disk_has_stopped, ended_has_stopped, begun_stops_by, ended_stops_by}
-use Rattle.mpm_machine.proofs.TakeStepLaws.{does_nothing, no_turn, turn_worked, begun_worked, begun_apart, not_at_once, step_calls, turn_calls, turn_fails_so, write_stops, begun_stops_on, work_cause, begun_cause, begun_fails, ended_fails, ended_stays, holds_ended}
+use Rattle.mpm_machine.proofs.FilesStepLaws.{stepped_by, has_stepped_to, begun_stops_by, ended_stops_by}
+use Rattle.mpm_machine.proofs.TakeStepLaws.{does_nothing, not_at_once, step_calls, turn_calls, turn_fails_so, write_stops, begun_stops_on, work_cause, begun_cause, begun_fails, ended_fails, ended_stays, holds_ended}
 use Rattle.mpm_machine.proofs.machine.Machine.take_step.Goals as goal
+
+pub work-requires : goal.work-requires
+work-requires g c = record { holds = c.requires.holds.calls }
 
 pub end_step-requires-clause-begun : goal.end_step-requires-clause-begun
 end_step-requires-clause-begun g c =
@@ -30,12 +31,6 @@ end_step-requires-clause-own g c =
 pub returns-in-Err-clause-images : goal.returns-in-Err-clause-images
 returns-in-Err-clause-images g c files stands =
     turn_fails_so c.args.self.now.system (g.D.Drives.disks c.work.new.drives) files c.work.new.bdos.mounted (c.in-Err.ensures.err files stands)
-
-pub returns-in-Err-clause-stops : goal.returns-in-Err-clause-stops
-returns-in-Err-clause-stops g c =
-    disk_has_stopped c.args.self.now.bdos (seen g.S.Sink.written g.S.Sink.faults c.args.render.now c.args.sink.now) c.args.self.now.system c.tell_sound.ensures.stand
-    (turn_worked c.args.self.now.system (λ none. false≢true (c.in-Err.ensures.idle none).0))
-    (true_from_ne_false (has_work c.args.self.now.bdos.service) (λ less. false≢true (c.in-Err.ensures.workless less)))
 
 pub returns-in-Err-clause-unfailing : goal.returns-in-Err-clause-unfailing
 returns-in-Err-clause-unfailing g c none =
@@ -70,15 +65,8 @@ returns-in-Err-begin_step-clause-err g c files stands =
 pub returns-in-Err-begin_step-clause-images : goal.returns-in-Err-begin_step-clause-images
 returns-in-Err-begin_step-clause-images g c files stands =
     let worked = c.in_default.ensures.ok files stands in
-    begun_stops_on c.in-Err-begin_step.fault c.args.self.now.system c.begin_step.new.self.bdos (g.D.Drives.disks c.begin_step.new.drives) files c.requires.whole c.requires.holds.filed
+    begun_stops_on c.in-Err-begin_step.fault c.args.self.now.system c.begin_step.new.self.bdos (g.D.Drives.disks c.begin_step.new.drives) files c.requires.whole c.requires.holds.calls.filed
     (c.in-Err-begin_step.ensures.images files worked) (c.in-Err-begin_step.ensures.stands files worked)
-
-pub returns-in-Err-begin_step-clause-stops : goal.returns-in-Err-begin_step-clause-stops
-returns-in-Err-begin_step-clause-stops g c =
-    begun_has_stopped c.in-Err-begin_step.fault c.args.self.now.bdos c.work.new.bdos _ _ c.args.self.now.system c.tell_sound.ensures.stand c.requires.whole c.requires.no_completions
-    (begun_worked c.in-Err-begin_step.fault c.args.self.now.system (λ none. (c.in-Err-begin_step.ensures.idle none).0))
-    (begun_apart c.in-Err-begin_step.fault c.args.self.now.system (λ some. (c.in-Err-begin_step.ensures.apart some).0)) c.work.ensures.kept
-    (λ off. (c.work.ensures.idle off).3) c.in-Err-begin_step.ensures.stops
 
 pub returns-in-Err-begin_step-clause-unfailing : goal.returns-in-Err-begin_step-clause-unfailing
 returns-in-Err-begin_step-clause-unfailing g c none =
@@ -94,7 +82,7 @@ returns-in-Err-begin_step-clause-cause g c =
 
 pub returns-in-Err-begin_step-clause-keeps : goal.returns-in-Err-begin_step-clause-keeps
 returns-in-Err-begin_step-clause-keeps g c =
-    keeps_both _ _ _ _ _ _ c.work.ensures.keeps c.begin_step.ensures.keeps
+    keeps_both _ _ _ _ _ _ _ _ _ c.work.ensures.keeps c.begin_step.ensures.keeps
 
 pub returns-in-Err-begin_step-clause-none : goal.returns-in-Err-begin_step-clause-none
 returns-in-Err-begin_step-clause-none g c none =
@@ -123,21 +111,13 @@ pub returns-in-Err-end_step-clause-err : goal.returns-in-Err-end_step-clause-err
 returns-in-Err-end_step-clause-err g c files stands =
     let begun = c.in-Ok.ensures.ok files (c.in_default.ensures.ok files stands) in
     ended_stops_by c.in-Ok.instruction files _ (seen g.S.Sink.written g.S.Sink.faults c.begin_step.new.render c.begin_step.new.sink) (seen g.S.Sink.written g.S.Sink.faults c.end_step.new.render c.end_step.new.sink) c.args.self.now.system c.begin_step.new.self.system c.begin_step.new.self.bdos (g.D.Drives.disks c.begin_step.new.drives)
-    c.in-Ok.ensures.step.instruction_is begun (c.in-Err-end_step.ensures.err (g.D.Drives.disks c.begin_step.new.drives) (files_begun c.args.self.now.system files) begun.stands)
+    c.in-Ok.ensures.instruction begun (c.in-Err-end_step.ensures.err (g.D.Drives.disks c.begin_step.new.drives) (files_begun c.args.self.now.system files) begun.stands)
 
 pub returns-in-Err-end_step-clause-images : goal.returns-in-Err-end_step-clause-images
 returns-in-Err-end_step-clause-images g c files stands =
     let begun = c.in-Ok.ensures.ok files (c.in_default.ensures.ok files stands) in
     write_stops c.in-Ok.instruction files c.args.self.now.system c.begin_step.new.self.system (g.D.Drives.disks c.begin_step.new.drives) c.end_step.new.self.bdos.mounted
-    c.in-Ok.ensures.step.instruction_is begun.system (c.in-Err-end_step.ensures.stands (g.D.Drives.disks c.begin_step.new.drives) (files_begun c.args.self.now.system files) begun.stands)
-
-pub returns-in-Err-end_step-clause-stops : goal.returns-in-Err-end_step-clause-stops
-returns-in-Err-end_step-clause-stops g c =
-    ended_has_stopped c.in-Ok.instruction _ (seen g.S.Sink.written g.S.Sink.faults c.begin_step.new.render c.begin_step.new.sink) _ c.args.self.now.system c.begin_step.new.self.system c.tell_sound.ensures.stand c.requires.whole c.requires.no_completions
-    (begun_as_before c.args.self.now.bdos c.work.new.bdos c.begin_step.new.self.bdos c.in-Ok.instruction _ _ c.args.self.now.system c.begin_step.new.self.system c.work.ensures.kept
-    (λ off. (c.work.ensures.idle off).3) c.in-Ok.ensures.step)
-    (stopped_as_before c.args.self.now.bdos c.work.new.bdos c.begin_step.new.self.bdos c.in-Ok.instruction _ _ c.begin_step.new.self.system
-    c.work.ensures.at_rest (λ some. c.begin_step.ensures.kept (sym (ap (λ (call : Option Served). is_some call) c.in-Ok.ensures.served) ∙ some)) c.in-Err-end_step.ensures.stops)
+    c.in-Ok.ensures.instruction begun.system (c.in-Err-end_step.ensures.stands (g.D.Drives.disks c.begin_step.new.drives) (files_begun c.args.self.now.system files) begun.stands)
 
 pub returns-in-Err-end_step-clause-cause : goal.returns-in-Err-end_step-clause-cause
 returns-in-Err-end_step-clause-cause g c =
@@ -145,8 +125,8 @@ returns-in-Err-end_step-clause-cause g c =
 
 pub returns-in-Err-end_step-clause-keeps : goal.returns-in-Err-end_step-clause-keeps
 returns-in-Err-end_step-clause-keeps g c =
-    subst (λ (m : List (Option Directory)). KeepsMounted (g.D.Drives.disks c.args.drives.now) (g.D.Drives.disks c.begin_step.new.drives) c.args.self.now.bdos.mounted m)
-    (sym (ap (λ (k : Kept). k.mounted) c.end_step.ensures.kept)) (keeps_both _ _ _ _ _ _ c.work.ensures.keeps c.begin_step.ensures.keeps)
+    subst (λ (m : List (Option Directory)). KeepsMounted (g.D.Drives.told c.args.drives.now) (g.D.Drives.told c.begin_step.new.drives) (g.D.Drives.disks c.args.drives.now) (g.D.Drives.disks c.begin_step.new.drives) c.args.self.now.bdos.mounted m)
+    (sym (ap (λ (k : Kept). k.mounted) c.end_step.ensures.kept)) (keeps_both _ _ _ _ _ _ _ _ _ c.work.ensures.keeps c.begin_step.ensures.keeps)
 
 pub returns-in-Err-end_step-clause-bare : goal.returns-in-Err-end_step-clause-bare
 returns-in-Err-end_step-clause-bare g c none =
@@ -179,28 +159,23 @@ pub returns-in-Ok-end_step-clause-ok : goal.returns-in-Ok-end_step-clause-ok
 returns-in-Ok-end_step-clause-ok g c files stands =
     let begun = c.in-Ok.ensures.ok files (c.in_default.ensures.ok files stands) in
     has_stepped_to c.in-Ok.instruction files _ (seen g.S.Sink.written g.S.Sink.faults c.begin_step.new.render c.begin_step.new.sink) (seen g.S.Sink.written g.S.Sink.faults c.end_step.new.render c.end_step.new.sink) c.args.self.now.system c.begin_step.new.self.system c.end_step.new.self.system c.begin_step.new.self.bdos c.end_step.new.self.bdos
-    (g.D.Drives.disks c.begin_step.new.drives) c.in-Ok.ensures.step.instruction_is begun (c.in-Ok-end_step.ensures.ok (g.D.Drives.disks c.begin_step.new.drives) (files_begun c.args.self.now.system files) begun.stands)
+    (g.D.Drives.disks c.begin_step.new.drives) c.in-Ok.ensures.instruction begun (c.in-Ok-end_step.ensures.ok (g.D.Drives.disks c.begin_step.new.drives) (files_begun c.args.self.now.system files) begun.stands)
 
-pub returns-in-Ok-end_step-clause-step : goal.returns-in-Ok-end_step-clause-step
-returns-in-Ok-end_step-clause-step g c =
-    let old = c.args.self.now in
-    let worked = c.work.new.bdos in
-    let begun = c.begin_step.new.self in
-    let ended = c.in-Ok-end_step.ensures.step in
-    let served = c.in-Ok.ensures.served in
-    has_stepped c.in-Ok.instruction _ (seen g.S.Sink.written g.S.Sink.faults c.begin_step.new.render c.begin_step.new.sink) _ old.system begun.system c.end_step.new.self.system
-    c.tell_sound.ensures.stand c.requires.whole c.requires.no_completions
-    (begun_as_before old.bdos worked begun.bdos c.in-Ok.instruction _ _ old.system begun.system c.work.ensures.kept (λ off. (c.work.ensures.idle off).3) c.in-Ok.ensures.step) ended
-    (ended_as_before old.bdos worked begun.bdos ended.left begun.system ended.telling.at_disk c.work.ensures.at_rest
-    (λ some. c.begin_step.ensures.kept (sym (ap (λ (call : Option Served). is_some call) served) ∙ some)) ended.as_kept)
-    (λ some still. stays_served old.bdos worked c.end_step.new.self.bdos old.system c.work.ensures.kept (λ none. (c.work.ensures.idle none).3) c.work.ensures.at_rest
-    (c.end_step.ensures.stays (ap (λ (call : Option Served). is_some call) served ∙ some) still ∙ c.begin_step.ensures.kept some))
-    served (λ none off. c.begin_step.ensures.at_rest off ∙ (c.work.ensures.idle (no_turn old.system none)).3)
+pub returns-in-Ok-end_step-clause-made : goal.returns-in-Ok-end_step-clause-made
+returns-in-Ok-end_step-clause-made g c =
+    stepped_by c.in-Ok.instruction c.args.self.now.system c.begin_step.new.self.system c.end_step.new.self.system c.in-Ok.ensures.instruction c.in-Ok.ensures.made c.in-Ok-end_step.ensures.made
 
 pub returns-in-Ok-end_step-clause-holds : goal.returns-in-Ok-end_step-clause-holds
 returns-in-Ok-end_step-clause-holds g c =
-    holds_ended g.D.Drives.attached g.D.Drives.disks c.begin_step.new.self.system.kernel c.end_step.new.self.system.kernel c.begin_step.new.self.bdos c.end_step.new.self.bdos
-    c.begin_step.new.drives c.in-Ok.ensures.holds c.in-Ok-end_step.ensures.filed c.in-Ok-end_step.ensures.own c.in-Ok-end_step.ensures.begun c.end_step.ensures.kept c.end_step.ensures.workless
+    let files = c.requires.holds.files in
+    let here = c.in-Ok.ensures.holds in
+    let there = c.in-Ok-end_step.ensures in
+    record {
+      calls = holds_ended g.D.Drives.disks c.begin_step.new.self.system.kernel c.end_step.new.self.system.kernel c.begin_step.new.self.bdos c.end_step.new.self.bdos
+          c.begin_step.new.drives here there.filed there.own there.begun c.end_step.ensures.kept c.end_step.ensures.workless;
+      files = (stepped c.args.self.now.system files).files;
+      stands = (returns-in-Ok-end_step-clause-ok g c files c.requires.holds.stands).stands;
+    }
 
 pub returns-in-Ok-end_step-clause-cause : goal.returns-in-Ok-end_step-clause-cause
 returns-in-Ok-end_step-clause-cause g c =
@@ -208,8 +183,8 @@ returns-in-Ok-end_step-clause-cause g c =
 
 pub returns-in-Ok-end_step-clause-keeps : goal.returns-in-Ok-end_step-clause-keeps
 returns-in-Ok-end_step-clause-keeps g c =
-    subst (λ (m : List (Option Directory)). KeepsMounted (g.D.Drives.disks c.args.drives.now) (g.D.Drives.disks c.begin_step.new.drives) c.args.self.now.bdos.mounted m)
-    (sym (ap (λ (k : Kept). k.mounted) c.end_step.ensures.kept)) (keeps_both _ _ _ _ _ _ c.work.ensures.keeps c.begin_step.ensures.keeps)
+    subst (λ (m : List (Option Directory)). KeepsMounted (g.D.Drives.told c.args.drives.now) (g.D.Drives.told c.begin_step.new.drives) (g.D.Drives.disks c.args.drives.now) (g.D.Drives.disks c.begin_step.new.drives) c.args.self.now.bdos.mounted m)
+    (sym (ap (λ (k : Kept). k.mounted) c.end_step.ensures.kept)) (keeps_both _ _ _ _ _ _ _ _ _ c.work.ensures.keeps c.begin_step.ensures.keeps)
 
 pub returns-in-Ok-end_step-clause-bare : goal.returns-in-Ok-end_step-clause-bare
 returns-in-Ok-end_step-clause-bare g c none =
@@ -241,17 +216,11 @@ returns-in-Ok-end_step-clause-few g c some =
 pub returns-in-Err-begin_step-clause-names : goal.returns-in-Err-begin_step-clause-names
 returns-in-Err-begin_step-clause-names g c = c.begin_step.ensures.names ∙ c.work.ensures.names
 
-pub returns-in-Err-begin_step-clause-attached : goal.returns-in-Err-begin_step-clause-attached
-returns-in-Err-begin_step-clause-attached g c number = c.begin_step.ensures.attached number ∙ c.work.ensures.attached number
-
 pub returns-in-Err-begin_step-clause-unsynced : goal.returns-in-Err-begin_step-clause-unsynced
 returns-in-Err-begin_step-clause-unsynced g c number was = c.begin_step.ensures.unsynced number (c.work.ensures.unsynced number was)
 
 pub returns-in-Err-end_step-clause-names : goal.returns-in-Err-end_step-clause-names
 returns-in-Err-end_step-clause-names g c = c.begin_step.ensures.names ∙ c.work.ensures.names
-
-pub returns-in-Err-end_step-clause-attached : goal.returns-in-Err-end_step-clause-attached
-returns-in-Err-end_step-clause-attached g c number = c.begin_step.ensures.attached number ∙ c.work.ensures.attached number
 
 pub returns-in-Err-end_step-clause-unsynced : goal.returns-in-Err-end_step-clause-unsynced
 returns-in-Err-end_step-clause-unsynced g c number was = c.begin_step.ensures.unsynced number (c.work.ensures.unsynced number was)
@@ -261,9 +230,6 @@ returns-in-Err-end_step-clause-trace g c = c.end_step.ensures.trace ∙ c.begin_
 
 pub returns-in-Ok-end_step-clause-names : goal.returns-in-Ok-end_step-clause-names
 returns-in-Ok-end_step-clause-names g c = c.begin_step.ensures.names ∙ c.work.ensures.names
-
-pub returns-in-Ok-end_step-clause-attached : goal.returns-in-Ok-end_step-clause-attached
-returns-in-Ok-end_step-clause-attached g c number = c.begin_step.ensures.attached number ∙ c.work.ensures.attached number
 
 pub returns-in-Ok-end_step-clause-unsynced : goal.returns-in-Ok-end_step-clause-unsynced
 returns-in-Ok-end_step-clause-unsynced g c number was = c.begin_step.ensures.unsynced number (c.work.ensures.unsynced number was)

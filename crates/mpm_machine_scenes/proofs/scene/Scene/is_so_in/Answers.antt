@@ -1,8 +1,8 @@
-use Rattle.std.proofs.Common.{◌∙◌, ℕ, ◌<◌, ◌≤◌, ◌+◌, ◌*◌, List, Some, length, get_or, sym, subst, arith}
+use Rattle.std.proofs.Common.{◌∙◌, ℕ, ◌<◌, ◌≤◌, ◌+◌, ◌*◌, List, length, get_or, sym, subst, arith}
 use Rattle.mpm_script.specs.declared.event.Timed.{Timed}
 use Rattle.mpm_machine_file.specs.declared.machine_file.MachineFile.{MachineFile}
 use Rattle.mpm_machine_file.specs.MachineFiles.{IsMachine}
-use Rattle.mpm_port.specs.MemoryDisks.{size_of, disks_of}
+use Rattle.mpm_port.specs.MemoryDisks.{disks_of}
 use Rattle.mpm_system.specs.declared.system.System.{System}
 use Rattle.mpm_machine.specs.Holding.{HoldsDrives}
 use Rattle.mpm_machine.proofs.MountedLaws.{holds_again}
@@ -27,6 +27,6 @@ place_both-placed-requires-clause-free c =
 pub is_seen-requires-clause-holds : goal.is_seen-requires-clause-holds
 is_seen-requires-clause-holds c =
     let kernel = c.place_both-placed.new.machine.system.kernel in
-    let same = c.place_both-placed.ensures.disk ∙ c.in-Ok.ensures.disk in
-    subst (λ kept. HoldsDrives size_of (λ d. Some (disks_of d)) kernel kept c.boot_bare.new.drives) (sym c.place_both-placed.ensures.bdos)
-    (holds_again size_of (λ d. Some (disks_of d)) c.in-Ok.machine.system.kernel kernel c.args.file.now.disk_turn c.in-Ok.machine.bdos c.boot_bare.new.drives same c.in-Ok.ensures.holds)
+    subst (λ kept. HoldsDrives disks_of kernel kept c.boot_bare.new.drives) (sym c.place_both-placed.ensures.bdos)
+    (holds_again disks_of c.in-Ok.machine.system.kernel kernel c.args.file.now.disk_turn c.in-Ok.machine.bdos c.boot_bare.new.drives c.place_both-placed.ensures.disk
+    (c.place_both-placed.ensures.disk ∙ c.in-Ok.ensures.disk) c.in-Ok.ensures.holds)

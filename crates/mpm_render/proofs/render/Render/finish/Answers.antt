@@ -1,8 +1,6 @@
-use Rattle.std.proofs.Common.{◌≡◌, ◌<◌, [], length, refl, sym, ap, ◌∙◌, ℕ, List, take, subst, arith, rules}
-use Rattle.std.proofs.lemmas.List.{get_or_default, get_or-set_other}
-use Rattle.mpm_port.specs.Texts.{appended}
+use Rattle.std.proofs.Common.{◌≡◌, ◌<◌, ◌++◌, [], length, refl, sym, ap, ◌∙◌, ℕ, List, take, subst, arith, rules}
+use Rattle.std.proofs.lemmas.List.{append-nil, get_or_default, get_or-set_other}
 use Rattle.mpm_render.specs.Shown.{line_of}
-use Rattle.mpm_render.proofs.Grows.{appended_nil}
 use Rattle.mpm_render.specs.Puts.{PutsEach, texts_closed}
 use Rattle.mpm_render.proofs.Putting.{each_none, each_closed, stops_closed, all_texts}
 use Rattle.mpm_render.proofs.Closings.{closings, closings_none, none_below, all_stay, written_closed, err_closed, written_more}
@@ -10,7 +8,7 @@ use Rattle.mpm_render.proofs.render.Render.finish.Goals as goal
 
 pub loop-place-init : goal.loop-place-init
 loop-place-init g c = record {
-  written = sym (ap (appended _) (closings_none (line_of c.args.self.now)) ∙ appended_nil _);
+  written = sym (ap (λ t. g.S.Sink.written c.args.sink.now ++ t) (closings_none (line_of c.args.self.now)) ∙ append-nil (g.S.Sink.written c.args.sink.now));
   puts = each_none g.S.Sink.took (texts_closed c.args.self.now) c.args.sink.now;
   faults = refl;
   trace = ap (λ kept. kept.trace) c.self.view_is;
@@ -49,7 +47,7 @@ pub returns-clause-ok : goal.returns-clause-ok
 returns-clause-ok g c os first s =
     let inv = c.loop-place.invariant in
     let all : c.loop-place.place ≡ 12 = omega arith in
-    written_closed c.args.self.now _ _ first os (inv.written ∙ ap (λ n. appended (g.S.Sink.written c.args.sink.now) (closings (line_of c.args.self.now) n)) all) s
+    written_closed c.args.self.now _ _ first os (inv.written ∙ ap (λ n. g.S.Sink.written c.args.sink.now ++ closings (line_of c.args.self.now) n) all) s
 
 pub returns-in_err-close-clause-stops : goal.returns-in_err-close-clause-stops
 returns-in_err-close-clause-stops g c =

@@ -7,7 +7,7 @@ pub loop-number-init : goal.loop-number-init
 loop-number-init g c = record {
   written = zeros_at_first c.args.self.now.drive c.args.self.now.kind c.args.first (g.D.Drives.disks c.args.drives.now);
   calls = omega arith;
-  leaves = leaves_itself g.D.Drives.attached g.D.Drives.disks g.D.Drives.failed_names g.D.Drives.unsynced c.args.self.now.drive c.args.cache.now c.args.drives.now c.requires.coherent;
+  leaves = leaves_itself g.D.Drives.disks g.D.Drives.told g.D.Drives.failed_names g.D.Drives.unsynced c.args.self.now.drive c.args.cache.now c.args.drives.now c.requires.coherent;
   unsynced = λ some. absurd (omega (arith, some));
   faults = refl;
 }
@@ -27,7 +27,7 @@ loop-number-preserved g c = record {
   written = zeros_one_more c.args.self.now.drive c.args.self.now.kind c.args.first c.loop-number.number (g.D.Drives.disks c.args.drives.now)
       (g.D.Drives.disks c.loop-number.drives) (g.D.Drives.disks c.put.new.drives) c.loop-number.invariant.written c.in-Ok.ensures.puts.ok;
   calls = omega (arith, c.put.ensures.calls, c.loop-number.invariant.calls);
-  leaves = leaves_over g.D.Drives.attached g.D.Drives.disks g.D.Drives.failed_names g.D.Drives.unsynced c.args.self.now.drive c.args.cache.now c.loop-number.cache c.put.new.cache
+  leaves = leaves_over g.D.Drives.disks g.D.Drives.told g.D.Drives.failed_names g.D.Drives.unsynced c.args.self.now.drive c.args.cache.now c.loop-number.cache c.put.new.cache
       c.args.drives.now c.loop-number.drives c.put.new.drives c.loop-number.invariant.leaves c.put.ensures.leaves;
   unsynced = λ some. c.put.ensures.unsynced;
   faults = c.in-Ok.ensures.cause.stays ∙ c.loop-number.invariant.faults;

@@ -1,6 +1,0 @@
-use Rattle.mpm.proofs.Known.{Taken}
-use Rattle.mpm.proofs.files.append_first.Given as goal
-
-abbrev pub invariant-loop : goal.invariant-loop
-invariant-loop g l =
-    Taken (g.R.Read.remaining l.initial.file) (g.R.Read.remaining l.file) l.initial.out.items l.out.items l.room l.limit

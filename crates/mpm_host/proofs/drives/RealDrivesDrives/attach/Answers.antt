@@ -1,0 +1,12 @@
+use Rattle.std.proofs.Common.{◌≡◌, ◌<◌, ◌∙◌, length, ap, arith, rules}
+use Rattle.mpm_host.specs.Attached.{RealDisks, after_attach}
+use Rattle.mpm_host.proofs.Holding.{attaches}
+use Rattle.mpm_host.proofs.drives.RealDrivesDrives.attach.Goals as goal
+
+pub returns-in-Ok-clause-ok : goal.returns-in-Ok-clause-ok
+returns-in-Ok-clause-ok c =
+    let same = ap (λ (disks : RealDisks). length disks.held) c.self.view_is in
+    let within : c.args.drive < length c.args.self.now.held = omega (arith, c.self.invariant, same, c.if-place-ge16.false, c.from-place.ensures) in
+    let named : c.in-Ok.image.name ≡ c.args.name.now = search rules in
+    attaches c.args.self.now c.hold.new.self c.args.drive c.args.name.now c.in-Ok.image within named
+    (c.hold.ensures ∙ ap (λ place. after_attach c.args.self.now place c.in-Ok.image) c.from-place.ensures)

@@ -1,0 +1,45 @@
+-- What one step of a machine leaves, and where it stops.
+use Rattle.std.specs.Prelude.{◌≡◌, ℕ, ◌+◌, Bool, true, List, Option}
+use Rattle.mpm_port.specs.Disks.{Disks}
+use Rattle.mpm_mount.specs.Directories.{Directory}
+use Rattle.mpm_drives.specs.Images.{Images}
+use Rattle.mpm_render.specs.Outputs.{rendered}
+use Rattle.mpm_render.specs.Shown.{Kept}
+use Rattle.mpm_opens.specs.Opens.{AreOpen}
+use Rattle.mpm_system.specs.Whole.{IsWhole, NoCompletions}
+use Rattle.mpm_machine.specs.declared.machine.Machine.{Machine}
+use Rattle.mpm_machine.specs.declared.machine.StepFault.{StepFault}
+use Rattle.mpm_machine.specs.State.{State}
+use Rattle.mpm_machine.specs.Faults.{EndsBy}
+use Rattle.mpm_machine.specs.Due.{NobodyDue}
+use Rattle.mpm_machine.specs.Interpreting.{Interprets}
+use Rattle.mpm_machine.specs.Mounting.{KeepsMounted}
+use Rattle.mpm_machine.specs.Failing.{StopsWithImages}
+use Rattle.mpm_machine.specs.After.{next, ShowsBefore}
+
+-- it was done: it is counted, the machine is whole, nobody is left to be answered, nobody's end is due, no two locks are of one record,
+-- an interpreter that acts goes on with the segment that it has, and the disk's turns have as many steps as before
+pub record LeavesMachine (old new : Machine) : Type 0 where
+  pub count : new.system.steps ≡ old.system.steps + 1
+  pub whole : IsWhole new.system
+  pub no_completions : NoCompletions new.system
+  pub due : NobodyDue new.system.kernel
+  pub locks : AreOpen new.bdos.opens
+  pub interprets : Interprets old.system → Interprets new.system
+  pub turn_steps : new.system.kernel.disk.turn_steps ≡ old.system.kernel.disk.turn_steps
+
+-- it stopped, as the step of a state. Where the sink failed, all of the steps before it was written, and then a first part of what it
+-- writes, which isn't empty; each image stands for what is on its drive after it. Where a drive failed nothing of it was written, and what
+-- is kept to be written is that of the state; the image of the call's drive stands for what it is within the turn, and each other one
+-- for what the call found
+pub record StopsStep (fault : StepFault) (trace : Bool) (kept : Kept) (written : List ℕ) (disks : Disks) (mounted : List (Option Directory)) (s : State) (first : List ℕ) : Type 0 where
+  pub text : EndsBy fault written first (rendered trace s.outputs) (rendered trace (next s).outputs)
+  pub shown : ShowsBefore fault kept written s first
+  pub images : StopsWithImages fault disks mounted s
+
+-- whether it was done or not: each drive is that of the same name, of the same kind and size, an image that is no mounted drive's is as it
+-- was, no name joined the failed ones, and a drive that isn't synced isn't so still
+pub record LeavesDrives {D : Type 0} (disks : D → Disks) (told : D → Images) (failed : D → List (List ℕ)) (owes : D → ℕ → Bool) (mounted mounted' : List (Option Directory)) (old new : D) : Type 0 where
+  pub keeps : KeepsMounted (told old) (told new) (disks old) (disks new) mounted mounted'
+  pub names : failed new ≡ failed old
+  pub unsynced : (number : ℕ) → owes old number ≡ true → owes new number ≡ true
