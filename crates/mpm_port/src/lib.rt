@@ -1,7 +1,7 @@
 //! The outside of the machine: files that are read, drives of sectors, and a sink for text.
 //!
-//! Each trait says what its device holds, where the device tells it, and when it may fail. The adapters over the
-//! real files and the real output stand in the program; here are those over memory, which tests use.
+//! Each trait says what its device holds, and when it may fail. The adapters over the real files and the real output
+//! stand in mpm_host; here are those over memory, which tests use.
 #![tactic(auto)]
 
 mod calls;

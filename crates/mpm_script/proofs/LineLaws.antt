@@ -20,7 +20,7 @@ one_part_at true p x xs h more = absurd (omega arith)
 one_part_at false p x xs h more = ap (onto_first x) (more (omega arith))
 
 -- a list without a byte that passes is one part
-one_part : (p : ℕ → Bool) (xs : List ℕ) → length xs ≤ position_or_len p xs → slice_split p xs ≡ xs ∷ []
+pub one_part : (p : ℕ → Bool) (xs : List ℕ) → length xs ≤ position_or_len p xs → slice_split p xs ≡ xs ∷ []
 one_part p [] h = refl
 one_part p (x ∷ xs) h = one_part_at (p x) p x xs h (one_part p xs)
 

@@ -16,3 +16,4 @@ pub use line::GREATEST_STEP;
 pub use numbers::number;
 pub use reading::read_script;
 pub use script::Script;
+pub use word::{after, before, place_of};

@@ -8,7 +8,7 @@ use crate::error::Refusal;
 use crate::event::{Event, Timed};
 use crate::key::key;
 use crate::numbers::{hex_byte, number};
-use crate::word::{behind, byte_at, word};
+use crate::word::{after, before, byte_at};
 
 /// The greatest number of a step, and so of the steps of a run.
 pub const GREATEST_STEP: u32 = 4_000_000_000;
@@ -34,11 +34,11 @@ pub fn add_line(events: &mut Vec<Timed>, line: &[u8]) -> Result<(), Refusal>
     if line.is_empty() || byte_at(line, 0) == b'#' {
         return Ok(());
     }
-    let step = number(word(line), GREATEST_STEP).ok_or(Refusal::Bad)?;
+    let step = number(before(line, b' '), GREATEST_STEP).ok_or(Refusal::Bad)?;
     if u64::from(step) < last_step(events.as_slice()) {
         return Err(Refusal::Bad);
     }
-    add_events(events, u64::from(step), behind(line))
+    add_events(events, u64::from(step), after(line, b' '))
 }
 
 /// The step of the last event, 0 where there is none.
@@ -56,8 +56,8 @@ fn last_step(events: &[Timed]) -> u64
 fn add_events(events: &mut Vec<Timed>, step: u64, text: &[u8]) -> Result<(), Refusal>
     ensures { Adds events.old.items events.new.items result (option_map (spec.at_step step) (spec.events_of text.now)) }
 {
-    if word(text) == b"key".as_slice() {
-        return add_typed(events, step, behind(text));
+    if before(text, b' ') == b"key".as_slice() {
+        return add_typed(events, step, after(text, b' '));
     }
     let event = event(text).ok_or(Refusal::Bad)?;
     events.push(Timed { step, event })?;
@@ -71,10 +71,10 @@ fn event(text: &[u8]) -> Option<Event>
 {
     if text == b"tick".as_slice() {
         Some(Event::Tick)
-    } else if word(text) == b"ready".as_slice() {
-        ready(behind(text))
-    } else if word(text) == b"int".as_slice() {
-        flag(behind(text))
+    } else if before(text, b' ') == b"ready".as_slice() {
+        ready(after(text, b' '))
+    } else if before(text, b' ') == b"int".as_slice() {
+        flag(after(text, b' '))
     } else {
         None
     }
@@ -85,8 +85,8 @@ fn event(text: &[u8]) -> Option<Event>
 fn ready(text: &[u8]) -> Option<Event>
     ensures { result ≡ spec.ready_event text.now }
 {
-    let device = number(word(text), GREATEST_DEVICE)? as u8;
-    let byte = byte(behind(text))?;
+    let device = number(before(text, b' '), GREATEST_DEVICE)? as u8;
+    let byte = byte(after(text, b' '))?;
     Some(Event::Ready { device, byte })
 }
 
@@ -117,8 +117,8 @@ fn flag(text: &[u8]) -> Option<Event>
 fn add_typed(events: &mut Vec<Timed>, step: u64, text: &[u8]) -> Result<(), Refusal>
     ensures { Adds events.old.items events.new.items result (option_map (spec.at_step step) (spec.typed_events text.now)) }
 {
-    let console = number(word(text), GREATEST_CONSOLE).ok_or(Refusal::Bad)?;
-    let keys = behind(text);
+    let console = number(before(text, b' '), GREATEST_CONSOLE).ok_or(Refusal::Bad)?;
+    let keys = after(text, b' ');
     if keys.is_empty() {
         return Err(Refusal::Bad);
     }

@@ -6,7 +6,7 @@ use crate::error::{Refusal, ScriptError};
 use crate::event::Timed;
 use crate::line::add_line;
 use crate::script::Script;
-use crate::word::place_of;
+use crate::word::{after, place_of};
 use std::alloc::Global;
 
 /// Reads a script, a text of fewer than 4,294,967,295 bytes, so that its lines can be counted. It is a fault exactly where a line is none of a script.
@@ -47,7 +47,7 @@ fn events(alloc: Global, text: &[u8]) -> Result<Vec<Timed>, ScriptError>
             Err(Refusal::Bad) => return Err(ScriptError::Fault { line }),
             Err(Refusal::OutOfMemory) => return Err(ScriptError::OutOfMemory),
         }
-        rest = behind_line(rest);
+        rest = after(rest, b'\n');
         line += 1;
     }
     Ok(events)
@@ -62,18 +62,5 @@ fn first_line(text: &[u8]) -> &[u8]
         &text[..end - 1]
     } else {
         &text[..end]
-    }
-}
-
-/// What stands behind the first line.
-fn behind_line(text: &[u8]) -> &[u8]
-    ensures rest { result.now ≡ spec.behind_line text.now }
-    ensures size { 0 < length text.now → length result.now < length text.now }
-{
-    let end = place_of(text, b'\n');
-    if end < text.len() {
-        &text[end + 1..]
-    } else {
-        &[]
     }
 }

@@ -1,6 +1,5 @@
-ghost use Rattle.std.specs.Prelude.{◌≡◌, ◌≤◌, ◌==◌, length, slice_index};
-ghost use Rattle.std.specs.List.{position_or_len};
-ghost use Rattle.mpm_script.specs.Events as spec;
+ghost use Rattle.std.specs.Prelude.{◌≡◌, ◌<◌, ◌≤◌, ◌==◌, length, slice_index};
+ghost use Rattle.std.specs.List.{position_or_len, before_first, after_first};
 
 /// The byte at a place; 00h behind the text's end.
 pub fn byte_at(text: &[u8], place: usize) -> u8
@@ -22,18 +21,19 @@ pub fn place_of(text: &[u8], wanted: u8) -> usize
     text.len()
 }
 
-/// What stands before the first space.
-pub fn word(text: &[u8]) -> &[u8]
-    ensures { result.now ≡ spec.word text.now }
+/// What stands before the first such byte.
+pub fn before(text: &[u8], wanted: u8) -> &[u8]
+    ensures { result.now ≡ before_first (λ byte. byte == wanted) text.now }
 {
-    &text[..place_of(text, b' ')]
+    &text[..place_of(text, wanted)]
 }
 
-/// What stands behind the first space.
-pub fn behind(text: &[u8]) -> &[u8]
-    ensures { result.now ≡ spec.behind text.now }
+/// What stands after the first such byte.
+pub fn after(text: &[u8], wanted: u8) -> &[u8]
+    ensures rest { result.now ≡ after_first (λ byte. byte == wanted) text.now }
+    ensures size { 0 < length text.now → length result.now < length text.now }
 {
-    let place = place_of(text, b' ');
+    let place = place_of(text, wanted);
     if place < text.len() {
         &text[place + 1..]
     } else {

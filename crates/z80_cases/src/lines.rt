@@ -148,9 +148,13 @@ fn page_comes_out(line: &str, memory: &mut Memory) -> bool {
     let mut want = registers([new_af, new_bc, de, hl, sp, pc]);
     (want.ix, want.iy) = (word(ix), word(iy));
     (want.i, want.r) = (high_byte(ir), low_byte(ir));
-    (want.iff1, want.mode) = (switches >= 16, low_byte(switches % 16));
+    (want.iff1, want.mode) = (switches >= 16, regs.mode);
+    let has_mode = u32::from(regs.mode.0) == switches % 16;
     want.shadow = false;
-    stepped == Stepped::Ran && regs == want && memory.writes == [first, one, second, other]
+    stepped == Stepped::Ran
+        && has_mode
+        && regs == want
+        && memory.writes == [first, one, second, other]
 }
 
 /// Whether no case of a table of the main page fails.

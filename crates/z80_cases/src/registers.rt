@@ -1,5 +1,5 @@
 //! Registers that instructions begin with, and what every one leaves of them.
-use z80_regs::Regs;
+use z80_regs::{InterruptMode, Regs};
 
 /// Registers of which each has its own value, so that one that changes shows.
 pub fn fixture() -> Regs {
@@ -28,7 +28,7 @@ pub fn fixture() -> Regs {
         r: 0xff,
         iff1: true,
         iff2: false,
-        mode: 1,
+        mode: InterruptMode(1),
         halted: false,
         shadow: true,
     }

@@ -1,4 +1,5 @@
 use crate::forms::{Math, Operand, Pair};
+use z80_regs::InterruptMode;
 
 /// How a byte is rotated or shifted: RLC, RRC, RL, RR, SLA, SRA, SLL and SRL, by three bits. SLL is undocumented.
 #[derive(Clone, Copy)]
@@ -71,7 +72,7 @@ pub enum ExtendedForm {
     /// RETI.
     ReturnInterrupt,
     /// IM 0, IM 1 and IM 2.
-    Mode(u8),
+    Mode(InterruptMode),
     /// LD I,A.
     StoreI,
     /// LD R,A.

@@ -12,6 +12,7 @@ ghost use Rattle.z80_decode.specs.PageOpcodes.{
 use crate::forms::{Form, Operand, Pair, StackPair};
 use crate::opcodes::main_form;
 use crate::page_forms::{BitChange, BitForm, Direction, ExtendedForm, IndexForm, Shift, Transfer};
+use z80_regs::InterruptMode;
 
 /// The rotation or shift that three bits name.
 #[inline(always)]
@@ -83,7 +84,7 @@ pub fn extended_form(opcode: u8) -> Option<ExtendedForm>
         0x43 => Some(ExtendedForm::StorePair(Pair::BC)),
         0x44 => Some(ExtendedForm::Negate),
         0x45 => Some(ExtendedForm::ReturnNonmaskable),
-        0x46 => Some(ExtendedForm::Mode(0)),
+        0x46 => Some(ExtendedForm::Mode(InterruptMode(0))),
         0x47 => Some(ExtendedForm::StoreI),
         0x48 => Some(ExtendedForm::Input(Operand::C)),
         0x49 => Some(ExtendedForm::Output(Operand::C)),
@@ -95,13 +96,13 @@ pub fn extended_form(opcode: u8) -> Option<ExtendedForm>
         0x51 => Some(ExtendedForm::Output(Operand::D)),
         0x52 => Some(ExtendedForm::SubtractPair(Pair::DE)),
         0x53 => Some(ExtendedForm::StorePair(Pair::DE)),
-        0x56 => Some(ExtendedForm::Mode(1)),
+        0x56 => Some(ExtendedForm::Mode(InterruptMode(1))),
         0x57 => Some(ExtendedForm::LoadI),
         0x58 => Some(ExtendedForm::Input(Operand::E)),
         0x59 => Some(ExtendedForm::Output(Operand::E)),
         0x5a => Some(ExtendedForm::AddPair(Pair::DE)),
         0x5b => Some(ExtendedForm::LoadPair(Pair::DE)),
-        0x5e => Some(ExtendedForm::Mode(2)),
+        0x5e => Some(ExtendedForm::Mode(InterruptMode(2))),
         0x5f => Some(ExtendedForm::LoadR),
         0x60 => Some(ExtendedForm::Input(Operand::H)),
         0x61 => Some(ExtendedForm::Output(Operand::H)),

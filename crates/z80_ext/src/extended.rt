@@ -157,13 +157,13 @@ pub fn step_pair<B: Bus>(opcode: u8, third: u8, regs: &mut Regs, bus: &mut B) ->
 
 /// Acts as a form's instruction, which PC is behind.
 #[tactic(auto, unfolding(crate::specs::Extended::extended_performed, z80_regs::specs::Outcome::Leaves))]
-fn perform<B: Bus>(form: ExtendedForm, instr: &Instr, regs: &mut Regs, bus: &mut B)
+fn perform<B: Bus>(form: &ExtendedForm, instr: &Instr, regs: &mut Regs, bus: &mut B)
     ensures registers { regs.new ≡
-        (extended_performed form instr.now regs.old (B.byte bus.old) (B.port_byte bus.old)).registers }
+        (extended_performed form.now instr.now regs.old (B.byte bus.old) (B.port_byte bus.old)).registers }
     ensures bus { Leaves B.wrote B.took
-        (extended_performed form instr.now regs.old (B.byte bus.old) (B.port_byte bus.old)).actions bus.old bus.new }
+        (extended_performed form.now instr.now regs.old (B.byte bus.old) (B.port_byte bus.old)).actions bus.old bus.new }
 {
-    match form {
+    match *form {
         ExtendedForm::Input(to) => input_operand(to, regs, bus),
         ExtendedForm::Output(from) => output_operand(from, regs, bus),
         ExtendedForm::SubtractPair(pair) => subtract_pair(pair, regs),
@@ -203,7 +203,7 @@ pub fn step_extended<B: Bus>(regs: &mut Regs, bus: &mut B) -> Stepped
         Some(form) => {
             let instr = read_instr(extended_tail(form), Page::Ed, 2, opcode, regs.pc, bus);
             begin_behind(instr.length, regs);
-            perform(form, &instr, regs, bus);
+            perform(&form, &instr, regs, bus);
             Stepped::Ran
         }
     }

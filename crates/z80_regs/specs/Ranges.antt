@@ -3,7 +3,7 @@ use Rattle.std.specs.Prelude.{ℕ, ◌<◌}
 use Rattle.z80_regs.specs.Outcome.{Action, Write, Input}
 use Rattle.z80_regs.specs.declared.regs.Regs.{Regs}
 
--- each register is below 2 to the power of its bits
+-- each register is below 2 to the power of its bits, and the interrupt mode is 0 to 2
 pub record RegistersFit (regs : Regs) : Type 0 where
   pub a : regs.a < 256
   pub f : regs.f < 256
@@ -27,7 +27,7 @@ pub record RegistersFit (regs : Regs) : Type 0 where
   pub pc : regs.pc < 65536
   pub i : regs.i < 256
   pub r : regs.r < 256
-  pub mode : regs.mode < 256
+  pub mode : regs.mode < 3
 
 -- each number below the count reads a byte: each address of 16 bits, or each port of 8
 abbrev pub ReadsBytes : ℕ → (ℕ → ℕ) → Type 0

@@ -5,4 +5,4 @@ mod bus;
 mod regs;
 
 pub use bus::Bus;
-pub use regs::Regs;
+pub use regs::{InterruptMode, Regs};

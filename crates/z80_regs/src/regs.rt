@@ -1,3 +1,21 @@
+ghost use Rattle.std.specs.Prelude.{ℕ, ◌<◌};
+
+use std::marker::Model;
+
+/// An interrupt mode of the Z80, below 3 (UM0080, "Interrupt Response"). Contracts see the number.
+#[derive(Clone, Copy, Debug, Default, PartialEq, Eq)]
+pub struct InterruptMode(pub u8);
+
+impl Model for InterruptMode {
+    ghost Value = { ℕ };
+
+    ghost view = { λ m. m.0 };
+
+    ghost invariant = { λ m. m.0 < 3 };
+
+    ghost inverse = { λ n. record { 0 = n } };
+}
+
 /// The registers of the Z80 (UM0080, "CPU Registers"). `f` holds the flags S Z 5 H 3 P/V N C from bit 7 down;
 /// the names that end in 2 are the alternate set.
 #[derive(Clone, Copy, Debug, Default, PartialEq, Eq)]
@@ -30,8 +48,8 @@ pub struct Regs {
     pub iff1: bool,
     /// What IFF1 was before a non-maskable interrupt.
     pub iff2: bool,
-    /// The interrupt mode, 0 to 2; it is kept and has no effect.
-    pub mode: u8,
+    /// The interrupt mode; it is kept and has no effect.
+    pub mode: InterruptMode,
     /// Whether the processor stands in a HALT.
     pub halted: bool,
     /// Whether the instruction before was EI, after which no interrupt is taken yet.

@@ -6,6 +6,7 @@ use super::*;
 use mpm_banks::OutOfMemory;
 use mpm_gate::page_of_gates;
 use std::alloc::Global;
+use z80_regs::InterruptMode;
 
 /// A segment from 4000h to 43FFh, so that its gates are at 4303h, 4306h and 4309h.
 const FOUR_PAGES: SegmentSpec = SegmentSpec {
@@ -22,7 +23,7 @@ fn registers_at(pc: u16) -> Regs
         pc,
         iff1: true,
         iff2: true,
-        mode: 1,
+        mode: InterruptMode(1),
         ..Regs::default()
     }
 }

@@ -16,11 +16,11 @@ pub loop-rest-preserved : goal.loop-rest-preserved
 loop-rest-preserved c =
     let some : 0 < length c.loop-rest.rest.now = grind (arith, nat_tests, common_steps) in
     let good = rw c.first_line.ensures at c.in-Ok.ensures in
-    let shorter = c.behind_line-rest.ensures.size some in
+    let shorter = c.after-rest.ensures.size some in
     record {
       read = c.loop-rest.invariant.read
           ∙ (from_good c.loop-rest.line c.loop-rest.events.items c.add_line.new.events.items c.loop-rest.rest.now some good
-          ∙ ap (λ text. lines_from (c.loop-rest.line + 1) c.add_line.new.events.items (lines text)) (sym c.behind_line-rest.ensures.rest));
+          ∙ ap (λ text. lines_from (c.loop-rest.line + 1) c.add_line.new.events.items (lines text)) (sym c.after-rest.ensures.rest));
       count = omega (arith, shorter, c.loop-rest.invariant.count);
     }
 
