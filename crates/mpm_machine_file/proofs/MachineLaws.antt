@@ -15,7 +15,7 @@ use Rattle.mpm_machine_file.specs.Fields.{only_keys, number_at, number_or, text_
 use Rattle.mpm_machine_file.specs.Segments.{segment_keys, segment_of, most_segments, segments_of, segments_in}
 use Rattle.mpm_machine_file.specs.Drives.{drive_keys, letter_of, kind_of, drive_of, all_differ, by_letter, drives_of, drives_in}
 use Rattle.mpm_machine_file.specs.Residents.{residents_in}
-use Rattle.mpm_machine_file.specs.MachineFiles.{machine_keys, ticks_of, machine_of, document_of, whole_file_of, IsSegment, IsDrive, IsMachine}
+use Rattle.mpm_machine_file.specs.MachineFiles.{machine_keys, ticks_of, machine_of, document_of, machine_of_text, IsSegment, IsDrive, IsMachine}
 use Rattle.mpm_script.proofs.Finds.{bind_some}
 use Rattle.mpm_machine_file.proofs.LimitLaws.{IsBetween, between_test, number_at_limits, number_or_limits, text_at_limits, text_if_limits, all_of_each, counted_limits}
 use Rattle.std.specs.List.Sorted.{IsStrictlyIncreasing}
@@ -180,6 +180,6 @@ machine_limits table file e =
       script = text_if_limits (codes "script") table script.0 script.1;
     })
 
-pub whole_file_limits : (text : List ℕ) (file : MachineFile) → whole_file_of text ≡ Some file → IsMachine file
-unfolding whole_file_of
-whole_file_limits text file e = let table = bind_some (document_of text) machine_of file e in machine_limits table.0 file table.2
+pub text_limits : (text : List ℕ) (file : MachineFile) → machine_of_text text ≡ Some file → IsMachine file
+unfolding machine_of_text
+text_limits text file e = let table = bind_some (document_of text) machine_of file e in machine_limits table.0 file table.2

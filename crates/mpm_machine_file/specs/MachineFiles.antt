@@ -61,19 +61,9 @@ machine_of table = do
 unfoldable pub document_of : List ℕ → Option Members
 document_of text = if is_utf8 text then parse_document text else None
 
--- the machine file that a text is, whichever parts it asks for
-unfoldable pub whole_file_of : List ℕ → Option MachineFile
-whole_file_of text = document_of text >>= machine_of
-
--- no part is asked for that isn't built yet: no spooler and no scheduler
-unfoldable pub is_built : MachineFile → Bool
-is_built file = not file.spool && not file.sched
-
--- the machine file that a text is, of parts that are built
+-- the machine file that a text is
 unfoldable pub machine_of_text : List ℕ → Option MachineFile
-machine_of_text text = do
-  file ← whole_file_of text
-  if is_built file then Some file else None
+machine_of_text text = document_of text >>= machine_of
 
 -- a segment of at least 4 pages that ends below C000h
 pub record IsSegment (segment : SegmentSpec) : Type 0 where

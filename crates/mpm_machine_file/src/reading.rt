@@ -17,8 +17,7 @@ use crate::segments::{most_segments, segments};
 use std::alloc::Global;
 use toml::Table;
 
-/// Reads a machine file: a TOML document in UTF-8. It is a fault exactly where the text isn't one, or asks for a part that
-/// isn't built yet: the spooler or the scheduler.
+/// Reads a machine file: a TOML document in UTF-8. It is a fault exactly where the text isn't one.
 ///
 /// These are its keys, and no others may stand in it. Those marked * must be there.
 ///
@@ -35,32 +34,19 @@ use toml::Table;
 /// | `segment` * | an array of 1 to 8 tables, of 1 to 16 where the version is 2: `base` * 0 to 188, `pages` * 4 to 192, together at most 192 | |
 /// | `drive` | an array of at most 16 tables: `letter` * `A` to `P`, `kind` * `ibm3740`, `hd4` or `hd8`, `image` * the name of a file, not empty; letters differ, images differ | none |
 /// | `residents` | in version 2 alone: an array of different texts, each `spool` or `sched` | empty |
-#[tactic(auto, unfolding(crate::specs::MachineFiles::machine_of_text))]
+#[tactic(auto, using(crate::proofs::MachineLaws::text_limits))]
 pub fn read_machine(alloc: Global, text: &[u8]) -> Result<MachineFile, MachineError>
     ensures ok { IfOk result (λ file. spec.machine_of_text text.now ≡ Some file) }
     ensures fault { result ≡ Err MachineError.Fault → spec.machine_of_text text.now ≡ None }
     ensures limits { IfOk result spec.IsMachine }
 {
-    let file = whole_file(alloc, text)?;
-    if is_built(&file) {
-        Ok(file)
-    } else {
-        Err(MachineError::Fault)
-    }
+    machine_in(alloc, text)
 }
 
-/// Whether all parts that a file asks for are built.
-#[tactic(auto, unfolding(crate::specs::MachineFiles::is_built))]
-fn is_built(file: &MachineFile) -> bool
-    ensures { result ≡ spec.is_built file.now }
-{
-    !file.spool && !file.sched
-}
-
-/// Reads a machine file, whichever parts it asks for.
-#[tactic(auto, unfolding(crate::specs::MachineFiles::whole_file_of))]
-pub(crate) fn whole_file(alloc: Global, text: &[u8]) -> Result<MachineFile, MachineError>
-    ensures { Reads result (spec.whole_file_of text.now) }
+/// The machine file that a text is.
+#[tactic(auto, unfolding(crate::specs::MachineFiles::machine_of_text))]
+fn machine_in(alloc: Global, text: &[u8]) -> Result<MachineFile, MachineError>
+    ensures { Reads result (spec.machine_of_text text.now) }
 {
     let table = document(alloc, text)?;
     machine(alloc, &table)

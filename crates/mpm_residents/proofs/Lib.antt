@@ -1,6 +1,5 @@
 pub mod InterpreterLaws
 pub mod Filling
 pub mod StandingLaws
-pub mod Runs
 pub mod Refilling
 pub mod examples

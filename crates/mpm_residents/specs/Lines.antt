@@ -1,24 +1,11 @@
 -- What a line means that is typed at a terminal. (MP/M II User's Guide, "Terminal Message Processor"; Programmer's Guide,
 -- "Function 150: Send CLI Command".)
-use Rattle.std.specs.Prelude.{ℕ, ◌-◌, ◌<◌, Bool, not, ◌==◌, ◌&&◌, if◌then◌else◌, List, length, take, drop, map, slice_index, position, take_while, bytes_eq, codes, decimal, Option, Some, None}
+use Rattle.std.specs.Prelude.{ℕ, ◌-◌, ◌<◌, Bool, ◌==◌, ◌&&◌, if◌then◌else◌, List, length, take, drop, map, slice_index, position, bytes_eq, codes, decimal, Option, Some, None}
 use Rattle.std.specs.Char.{is_ascii_alphabetic, to_ascii_uppercase, to_ascii_lowercase}
-use Rattle.std.specs.List.{range_with_len, prefix_len, suffix_len}
-use Rattle.mpm_base.specs.Texts.{ends_text}
+use Rattle.std.specs.List.{range_with_len}
+use Rattle.mpm_messages.specs.Texts.{text_in, without_front, stripped}
 use Rattle.mpm_residents.specs.declared.tmp.line.LineForm.{LineForm}
 use Rattle.mpm_residents.specs.declared.tmp.line.LineForm.TheVariants.{Empty, Drive, User, Command}
-
-abbrev pub is_space : ℕ → Bool
-is_space byte = byte == 32
-
--- a text without the spaces at its front, at its end, and at both
-abbrev pub without_front : List ℕ → List ℕ
-without_front text = drop (prefix_len is_space text) text
-
-abbrev pub without_end : List ℕ → List ℕ
-without_end text = take (length text - suffix_len is_space text) text
-
-unfoldable pub stripped : List ℕ → List ℕ
-stripped line = without_end (without_front line)
 
 -- a letter in either case, and `:`
 abbrev pub is_drive : List ℕ → Bool
@@ -61,9 +48,6 @@ IsForm (Drive drive) = drive < 26
 IsForm (User user) = user < 16
 IsForm _ = Unit {0}
 
--- the text of a command goes on with a byte
-abbrev pub is_text : ℕ → Bool
-is_text byte = not (ends_text byte)
-
+-- the text of a command, between the spaces around it
 unfoldable pub command_text : List ℕ → List ℕ
-command_text line = take_while is_text (stripped line)
+command_text line = text_in (stripped line)

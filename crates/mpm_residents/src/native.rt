@@ -4,6 +4,8 @@ ghost use Rattle.mpm_residents.specs.Interpreters.{Counts};
 
 use crate::{Act, Cli, Tmp};
 use mpm_base::{Call, Reply};
+use mpm_sched::Sched;
+use mpm_spool::Spool;
 
 /// A process of the system.
 #[derive(Drop)]
@@ -12,6 +14,10 @@ pub enum Native {
     Tmp { tmp: Tmp },
     /// The command line interpreter.
     Cli { cli: Cli },
+    /// The print spooler.
+    Spool { spool: Spool },
+    /// The scheduler of commands.
+    Sched { sched: Sched },
 }
 
 /// The terminal message processor of console 0, as it begins.
@@ -42,6 +48,14 @@ impl Native {
                 Act::Ask
             }
             Native::Cli { cli } => cli.next(call),
+            Native::Spool { spool } => {
+                spool.next(call);
+                Act::Ask
+            }
+            Native::Sched { sched } => {
+                sched.next(call);
+                Act::Ask
+            }
         }
     }
 
@@ -50,8 +64,10 @@ impl Native {
         ensures { result ≡ is_interpreter self.now }
     {
         match self {
-            Native::Tmp { .. } => false,
             Native::Cli { .. } => true,
+            Native::Tmp { .. } => false,
+            Native::Spool { .. } => false,
+            Native::Sched { .. } => false,
         }
     }
 
@@ -62,6 +78,8 @@ impl Native {
         match self {
             Native::Tmp { tmp } => tmp.function(),
             Native::Cli { cli } => cli.function(),
+            Native::Spool { spool } => spool.function(),
+            Native::Sched { sched } => sched.function(),
         }
     }
 
@@ -72,6 +90,8 @@ impl Native {
         match self {
             Native::Tmp { tmp } => tmp.took(reply),
             Native::Cli { cli } => cli.took(reply),
+            Native::Spool { spool } => spool.took(reply),
+            Native::Sched { sched } => sched.took(reply),
         }
     }
 }

@@ -3,13 +3,15 @@ ghost use Rattle.std.specs.Prelude.{◌≡◌, ◌<◌, ◌++◌, ◌∷◌, [],
 use crate::{Act, Cli, Native, Tmp};
 use arrayvec::ArrayVec;
 use mpm_base::{Call, Pid, Reply};
+use mpm_sched::Sched;
+use mpm_spool::Spool;
 use std::marker::Model;
 
-/// The residents that act, by their slots, of which the first is 0: nine at most, an interpreter and a terminal message
-/// processor for each of eight consoles.
+/// The residents that act, by their slots, of which the first is 0: eleven at most, an interpreter, a terminal message
+/// processor for each of eight consoles, a spooler and a scheduler.
 #[derive(Drop)]
 pub struct Residents {
-    natives: ArrayVec<Native, 9>,
+    natives: ArrayVec<Native, 11>,
 }
 
 impl Model for Residents {
@@ -24,8 +26,10 @@ impl Model for Residents {
 impl Residents {
     ghost use Rattle.mpm_residents.specs.Terminals.{opening};
     ghost use Rattle.mpm_residents.specs.Natives.{native_act, native_call, native_in, interprets_if_there, answer_taken, IsNativeAct};
-    ghost use Rattle.mpm_residents.specs.declared.native.Native.TheVariants.{Tmp as Terminal, Cli as Interpreter};
+    ghost use Rattle.mpm_residents.specs.declared.native.Native.TheVariants.{Tmp as Terminal, Cli as Interpreter, Spool as Spooler, Sched as Scheduler};
     ghost use Rattle.mpm_residents.specs.Interpreters.{opening as opening_interpreter, Counts};
+    ghost use Rattle.mpm_sched.specs.Schedulers.{opening as opening_scheduler};
+    ghost use Rattle.mpm_spool.specs.Spoolers.{opening as opening_spooler};
 
     /// None.
     pub fn none() -> Residents
@@ -39,7 +43,7 @@ impl Residents {
     /// The command line interpreter of a system with so many consoles, one at least, comes into the next slot.
     pub fn add_interpreter(&mut self, consoles: u8)
         requires some { 0 < consoles }
-        requires room { length self.old < 9 }
+        requires room { length self.old < 11 }
         ensures { self.new ≡ self.old ++ Interpreter (opening_interpreter consoles) ∷ [] }
     {
         self.natives.push(Native::Cli {
@@ -49,11 +53,32 @@ impl Residents {
 
     /// The terminal message processor of a console comes into the next slot.
     pub fn add_terminal(&mut self, console: u8)
-        requires { length self.old < 9 }
+        requires { length self.old < 11 }
         ensures { self.new ≡ self.old ++ Terminal (opening console) ∷ [] }
     {
         self.natives.push(Native::Tmp {
             tmp: Tmp::new(console),
+        });
+    }
+
+    /// The print spooler comes into the next slot.
+    pub fn add_spooler(&mut self)
+        requires { length self.old < 11 }
+        ensures { self.new ≡ self.old ++ Spooler opening_spooler ∷ [] }
+    {
+        self.natives.push(Native::Spool {
+            spool: Spool::new(),
+        });
+    }
+
+    /// The scheduler, whose queue has a number, comes into the next slot.
+    pub fn add_scheduler(&mut self, queue: u8)
+        requires queue { queue < 32 }
+        requires room { length self.old < 11 }
+        ensures { self.new ≡ self.old ++ Scheduler (opening_scheduler queue) ∷ [] }
+    {
+        self.natives.push(Native::Sched {
+            sched: Sched::new(queue),
         });
     }
 

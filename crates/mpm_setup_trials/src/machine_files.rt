@@ -6,7 +6,7 @@ use std::test::Fail;
 /// A machine file of those keys alone that must stand.
 const LEAST: &str = "version = 1\nconsoles = 1\n[[segment]]\nbase = 0\npages = 192\n";
 
-/// A machine file of all keys, in another order, with the greatest values that are built.
+/// A machine file of all keys, in another order, with the greatest values.
 const MOST: &str = "
 second = 59
 minute = 58
@@ -18,7 +18,7 @@ printers = 4
 consoles = 8
 version = 2
 script = 'keys.txt'
-residents = []
+residents = ['sched', 'spool']
 segment = [{ base = 64, pages = 8 }, { pages = 4, base = 188 }]
 drive = [
     { letter = 'P', kind = 'hd8', image = 'p.img' },
@@ -82,8 +82,8 @@ fn has_most(file: &MachineFile) -> bool {
         && has_segments(file, &[(64, 8), (188, 4)])
         && has_drives(file, &drives)
         && script.as_str() == "keys.txt"
-        && !file.spool
-        && !file.sched
+        && file.spool
+        && file.sched
 }
 
 /// Whether a machine has sixteen drives, by their letters.

@@ -13,4 +13,6 @@ pub mod ResidentLaws
 pub mod SendingLaws
 pub mod LoadingLaws
 pub mod PlacedLaws
+pub mod QueuedLaws
 pub mod OpeningLaws
+pub mod ResidingLaws

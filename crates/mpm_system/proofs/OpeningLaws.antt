@@ -1,15 +1,16 @@
 -- A machine as it is run: the command queue, the command line interpreter, the terminal message processors.
-use Rattle.std.proofs.Common.{◌≡◌, ◌∙◌, ℕ, ◌+◌, ◌<◌, ◌≤◌, false, List, [], ◌∷◌, ◌++◌, Option, Some, None, codes, refl, sym, ap, subst, arith, add-one, length, length-append}
+use Rattle.std.proofs.lemmas.Bool.{false≢true}
+use Rattle.std.proofs.Common.{◌≡◌, ◌∙◌, ℕ, ◌+◌, ◌<◌, ◌≤◌, Bool, true, false, is_some, ap₂, List, [], ◌∷◌, ◌++◌, Option, Some, None, codes, refl, sym, ap, subst, arith, add-one, length, length-append}
 use Rattle.mpm_procs.specs.Table.{Lives, process_in, lowest_free}
 use Rattle.mpm_procs.specs.declared.process.Process.{Process}
 use Rattle.mpm_procs.specs.declared.process.NewProcess.{NewProcess}
 use Rattle.mpm_procs.proofs.MapLaws.{lives_added, lives_changed, free_below}
-use Rattle.mpm_queues.specs.Queues.{make_error}
+use Rattle.mpm_queues.specs.Queues.{Queues, make_error, no_queues}
 use Rattle.mpm_kernel.specs.Kernel.{Kernel, IsSound, CompletedLive, with_changed, new_kernel, dispatched}
 use Rattle.mpm_dispatcher.specs.Dispatch.{admitted, in_slot, picked, new_dispatcher}
 use Rattle.mpm_kernel.specs.Queueing.{OnlySystems, with_queue, with_system_queue}
 use Rattle.mpm_kernel.proofs.SoundLaws.{sound_changed, sound_admitted, sound_picked, live_kept}
-use Rattle.mpm_kernel.proofs.SystemQueues.{sound_system_queue, only_systems_new, may_make_new}
+use Rattle.mpm_kernel.proofs.SystemQueues.{sound_system_queue, only_systems_new}
 use Rattle.mpm_kernel.proofs.HomeLaws.{SameHomes, homes_stay, homes_both, homes_changed, homes_admitted, lives_on}
 use Rattle.mpm_kernel.specs.Consoling.{given}
 use Rattle.mpm_kernel.proofs.GivingLaws.{sound_gave}
@@ -23,11 +24,12 @@ use Rattle.mpm_script.specs.declared.event.Timed.{Timed}
 use Rattle.mpm_machine_file.specs.declared.machine_file.MachineFile.{MachineFile}
 use Rattle.mpm_system.specs.declared.system.System.{System}
 use Rattle.mpm_system.specs.Whole.{IsWhole, NoCompletions}
-use Rattle.mpm_system.specs.Opening.{resident_process, with_interpreter, terminal_name, with_terminal, with_terminals, command_queue, with_command_queue, begun_by_interpreter, with_interpreting, with_residents, moment_of, booted, opened}
+use Rattle.mpm_system.specs.Opening.{resident_process, with_begun, with_resident, with_interpreter, terminal_name, terminal_process, Begun, with_terminal, with_terminals, command_queue, with_command_queue, command_queues, OnlyHas, begun_by_interpreter, with_interpreting, with_residents, moment_of, booted, opened}
+use Rattle.mpm_system.proofs.QueuedLaws.{room_of, command_room, has_command}
 use Rattle.mpm_system.proofs.WholeLaws.{whole_kernel, whole_residents}
 
 -- what is so of a kernel in which a resident begins, whose process is then another one of no segment
-record Begins (old new : Kernel) : Type 0 where
+pub record Begins (old new : Kernel) : Type 0 where
   pub sound : IsSound new
   pub homes : SameHomes old new
   pub live : CompletedLive old → CompletedLive new
@@ -89,19 +91,24 @@ begins_interpreter (Some p) kernel s free =
     begins_changed kernel (dispatched (admitted p new) kernel) p _ (begins_admitted kernel p new s free (omega (arith, s.units.some)) refl)
     (lives_begun kernel p new s free) refl refl (omega arith) (omega arith) refl refl refl
 
-begins_queue : (kernel : Kernel) → IsSound kernel → OnlySystems kernel → make_error kernel.queues command_queue 130 15 ≡ None
-    → Begins kernel (with_command_queue kernel)
+interpreter_has : (slot : Option ℕ) (kernel : Kernel) (queues : Queues) → OnlyHas queues kernel → OnlyHas queues (with_interpreter slot kernel)
+unfolding with_interpreter
+interpreter_has None kernel queues only = only
+interpreter_has (Some p) kernel queues only = record { systems = record { all = only.systems.all }; are = only.are }
+
+pub begins_queue : (kernel : Kernel) (name : Name8) (width count : ℕ) → IsSound kernel → OnlySystems kernel → make_error kernel.queues name width count ≡ None
+    → Begins kernel (with_system_queue kernel name width count)
 unfolding with_system_queue with_queue
-begins_queue kernel s only none = record {
-  sound = sound_system_queue kernel command_queue 130 15 s only none;
-  homes = homes_stay kernel (with_command_queue kernel) refl;
+begins_queue kernel name width count s only none = record {
+  sound = sound_system_queue kernel name width count s only none;
+  homes = homes_stay kernel (with_system_queue kernel name width count) refl;
   live = λ live. live;
   completed = refl;
   consoles = refl;
   disk = refl;
 }
 
-begins_both : (old middle new : Kernel) → Begins old middle → Begins middle new → Begins old new
+pub begins_both : (old middle new : Kernel) → Begins old middle → Begins middle new → Begins old new
 begins_both old middle new one other = record {
   sound = other.sound;
   homes = homes_both old middle new one.homes other.homes;
@@ -111,22 +118,13 @@ begins_both old middle new one other = record {
   disk = other.disk ∙ one.disk;
 }
 
-begins_first : (kernel : Kernel) → IsSound kernel → OnlySystems kernel → make_error kernel.queues command_queue 130 15 ≡ None
+begins_first : (kernel : Kernel) → IsSound kernel → OnlyHas no_queues kernel
     → Begins kernel (with_interpreter (lowest_free (with_command_queue kernel).dispatcher.procs) (with_command_queue kernel))
-begins_first kernel s only none =
-    let queued = begins_queue kernel s only none in
+begins_first kernel s only =
+    let queued = begins_queue kernel command_queue 130 15 s only.systems (room_of kernel no_queues command_queue 130 15 only command_room) in
     begins_both kernel (with_command_queue kernel) _ queued (begins_interpreter _ (with_command_queue kernel) queued.sound refl)
 
-pub record Begun (old new : System) : Type 0 where
-  pub whole : IsWhole new
-  pub completed : new.kernel.dispatcher.completed ≡ old.kernel.dispatcher.completed
-  pub consoles : length new.kernel.units.consoles ≡ length old.kernel.units.consoles
-  pub disk : new.kernel.disk ≡ old.kernel.disk
-  pub steps : new.steps ≡ old.steps
-  pub records : new.records ≡ old.records
-  pub owed : new.owed ≡ old.owed
-
-begun_kernel : (system : System) (kernel : Kernel) → IsWhole system → Begins system.kernel kernel → Begun system (record system { kernel = kernel })
+pub begun_kernel : (system : System) (kernel : Kernel) → IsWhole system → Begins system.kernel kernel → Begun system (record system { kernel = kernel })
 begun_kernel system kernel w b = record {
   whole = whole_kernel system kernel w b.sound (b.live w.live) b.homes;
   completed = b.completed;
@@ -137,37 +135,66 @@ begun_kernel system kernel w b = record {
   owed = refl;
 }
 
-first_begun : (system : System) → IsWhole system → OnlySystems system.kernel → make_error system.kernel.queues command_queue 130 15 ≡ None
-    → Begun system (begun_by_interpreter system)
+first_begun : (system : System) → IsWhole system → OnlyHas no_queues system.kernel → Begun system (begun_by_interpreter system)
 unfolding begun_by_interpreter
-first_begun system w only none = begun_kernel system _ w (begins_first system.kernel w.sound only none)
+first_begun system w only = begun_kernel system _ w (begins_first system.kernel w.sound only)
 
-pub interpreting_begun : (consoles : ℕ) (system : System) → IsWhole system → OnlySystems system.kernel → make_error system.kernel.queues command_queue 130 15 ≡ None
-    → Begun system (with_interpreting consoles (begun_by_interpreter system))
-interpreting_begun consoles system w only none =
-    let first = first_begun system w only none in
-    record { whole = whole_residents _ _ first.whole; completed = first.completed; consoles = first.consoles; disk = first.disk; steps = first.steps; records = first.records; owed = first.owed }
+pub begun_residing : (old new : System) (residents : List Native) → Begun old new → Begun old (record new { residents = residents })
+begun_residing old new residents b =
+    record { whole = whole_residents new residents b.whole; completed = b.completed; consoles = b.consoles; disk = b.disk; steps = b.steps; records = b.records; owed = b.owed }
 
--- a terminal message processor
+pub begun_still : (system : System) → IsWhole system → Begun system system
+begun_still system w = record { whole = w; completed = refl; consoles = refl; disk = refl; steps = refl; records = refl; owed = refl }
 
-terminal_by : (slot : Option ℕ) (console : ℕ) (system : System) → IsWhole system → lowest_free system.kernel.dispatcher.procs ≡ slot → console < length system.kernel.units.consoles
-    → Begun system (with_terminal slot console system)
-unfolding with_terminal resident_process
-terminal_by None console system w free below = record { whole = w; completed = refl; consoles = refl; disk = refl; steps = refl; records = refl; owed = refl }
-terminal_by (Some p) console system w free below =
-    let new = resident_process (terminal_name console) 198 console in
+pub begun_both : (old middle new : System) → Begun old middle → Begun middle new → Begun old new
+begun_both old middle new one other = record {
+  whole = other.whole;
+  completed = other.completed ∙ one.completed;
+  consoles = other.consoles ∙ one.consoles;
+  disk = other.disk ∙ one.disk;
+  steps = other.steps ∙ one.steps;
+  records = other.records ∙ one.records;
+  owed = other.owed ∙ one.owed;
+}
+
+pub interpreting_begun : (consoles : ℕ) (system : System) → IsWhole system → OnlyHas no_queues system.kernel → Begun system (with_interpreting consoles (begun_by_interpreter system))
+interpreting_begun consoles system w only = begun_residing system (begun_by_interpreter system) _ (first_begun system w only)
+
+-- a resident that begins in a slot, with a console that is there
+
+residing : (slot : Option ℕ) (new : NewProcess) (native : Native) (system : System) → IsWhole system → lowest_free system.kernel.dispatcher.procs ≡ slot → new.console < length system.kernel.units.consoles
+    → new.seg ≡ None → Begun system (with_resident slot new native system)
+unfolding with_resident with_begun
+residing None new native system w free below none = begun_still system w
+residing (Some p) new native system w free below none =
     let s = w.sound in
     let begun = dispatched (admitted p new) system.kernel in
+    let admits = begins_admitted system.kernel p new s free below none in
     let lives_now = lives_begun system.kernel p new s free in
-    let fit = (begins_admitted system.kernel p new s free below refl).sound.fit p lives_now in
-    let b = begins_changed system.kernel begun p (record (process_in begun.dispatcher.procs p) { error_mode = 255 })
-    (begins_admitted system.kernel p new s free below refl) lives_now refl refl fit.some fit.few refl refl refl in
-    let changed = begun_kernel system _ w b in
-    record { whole = whole_residents _ _ changed.whole; completed = changed.completed; consoles = changed.consoles; disk = changed.disk; steps = changed.steps; records = changed.records; owed = changed.owed }
+    let fit = admits.sound.fit p lives_now in
+    let b = begins_changed system.kernel begun p (record (process_in begun.dispatcher.procs p) { error_mode = 255 }) admits lives_now refl refl fit.some fit.few refl refl refl in
+    begun_residing system (record system { kernel = with_changed begun p (record (process_in begun.dispatcher.procs p) { error_mode = 255 }) }) _ (begun_kernel system _ w b)
+
+pub resident_begun : (name : Name8) (priority console : ℕ) (native : Native) (system : System) → IsWhole system → console < length system.kernel.units.consoles
+    → Begun system (with_resident (lowest_free system.kernel.dispatcher.procs) (resident_process name priority console) native system)
+unfolding resident_process
+resident_begun name priority console native system w below =
+    residing (lowest_free system.kernel.dispatcher.procs) (resident_process name priority console) native system w refl below refl
 
 pub terminal_begun : (console : ℕ) (system : System) → IsWhole system → console < length system.kernel.units.consoles
     → Begun system (with_terminal (lowest_free system.kernel.dispatcher.procs) console system)
-terminal_begun console system w below = terminal_by (lowest_free system.kernel.dispatcher.procs) console system w refl below
+terminal_begun console system w below = resident_begun (terminal_name console) 198 console (Tmp (opening console)) system w below
+
+-- the queues stay
+
+begun_has : (slot : Option ℕ) (new : NewProcess) (kernel : Kernel) (queues : Queues) → OnlyHas queues kernel → OnlyHas queues (with_begun slot new kernel)
+unfolding with_begun
+begun_has None new kernel queues only = only
+begun_has (Some p) new kernel queues only = record { systems = record { all = only.systems.all }; are = only.are }
+
+pub resident_has : (slot : Option ℕ) (new : NewProcess) (native : Native) (system : System) (queues : Queues) → OnlyHas queues system.kernel → OnlyHas queues (with_resident slot new native system).kernel
+unfolding with_resident
+resident_has slot new native system queues only = begun_has slot new system.kernel queues only
 
 -- one for each console
 
@@ -194,41 +221,32 @@ one_begun old now consoles none is =
     ap (λ (s : System). length s.residents) is
     ∙ ap (λ (residents : List Native). length (residents ++ Cli (opening_interpreter consoles) ∷ [])) (residents_begun old ∙ none)
 
-few_terminal : (slot : Option ℕ) (console : ℕ) (system : System) → length (with_terminal slot console system).residents ≤ length system.residents + 1
-unfolding with_terminal
-few_terminal None console system = omega arith
-few_terminal (Some p) console system = omega (arith, length-append system.residents (Tmp (opening console) ∷ []))
+pub few_resident : (slot : Option ℕ) (new : NewProcess) (native : Native) (system : System) → length (with_resident slot new native system).residents ≤ length system.residents + 1
+unfolding with_resident
+few_resident None new native system = omega arith
+few_resident (Some p) new native system = omega (arith, length-append system.residents (native ∷ []))
 
 -- some have begun
 pub record BegunSo (start now : System) (n : ℕ) : Type 0 where
   pub is : now ≡ with_terminals n start
-  pub whole : IsWhole now
-  pub completed : now.kernel.dispatcher.completed ≡ start.kernel.dispatcher.completed
-  pub consoles : length now.kernel.units.consoles ≡ length start.kernel.units.consoles
-  pub disk : now.kernel.disk ≡ start.kernel.disk
-  pub steps : now.steps ≡ start.steps
-  pub records : now.records ≡ start.records
+  pub begun : Begun start now
   pub few : length now.residents ≤ length start.residents + n
-  pub owed : now.owed ≡ start.owed
+  pub has : (queues : Queues) → OnlyHas queues start.kernel → OnlyHas queues now.kernel
 
 pub begun_none : (start : System) → IsWhole start → BegunSo start start 0
-begun_none start w = record { is = sym (no_terminals start); whole = w; completed = refl; consoles = refl; disk = refl; steps = refl; records = refl; few = omega arith; owed = refl }
+begun_none start w = record { is = sym (no_terminals start); begun = begun_still start w; few = omega arith; has = λ queues only. only }
 
 pub begun_more : (start now next : System) (n : ℕ) → BegunSo start now n → n < length start.kernel.units.consoles
     → next ≡ with_terminal (lowest_free now.kernel.dispatcher.procs) n now → BegunSo start next (n + 1)
 begun_more start now next n so below is =
-    let P : System → Type 0 = λ s. Begun now s in
-    let b : Begun now next = subst P (sym is) (terminal_begun n now so.whole (omega (arith, below, so.consoles))) in
+    let slot = lowest_free now.kernel.dispatcher.procs in
     record {
       is = is ∙ ap (λ (s : System). with_terminal (lowest_free s.kernel.dispatcher.procs) n s) so.is ∙ sym (more_terminals n start);
-      whole = b.whole;
-      completed = b.completed ∙ so.completed;
-      consoles = b.consoles ∙ so.consoles;
-      disk = b.disk ∙ so.disk;
-      steps = b.steps ∙ so.steps;
-      records = b.records ∙ so.records;
-      few = omega (arith, so.few, few_terminal (lowest_free now.kernel.dispatcher.procs) n now, ap (λ (s : System). length s.residents) is);
-      owed = b.owed ∙ so.owed;
+      begun = subst (λ (s : System). Begun start s) (sym is)
+          (begun_both start now _ so.begun (terminal_begun n now so.begun.whole (omega (arith, below, so.begun.consoles))));
+      few = omega (arith, so.few, few_resident slot (terminal_process n) (Tmp (opening n)) now, ap (λ (s : System). length s.residents) is);
+      has = λ queues only.
+          subst (λ (s : System). OnlyHas queues s.kernel) (sym is) (resident_has slot (terminal_process n) (Tmp (opening n)) now queues (so.has queues only));
     }
 
 -- and it is picked who runs
@@ -268,9 +286,11 @@ sound_begun old now console p a is = subst IsSound (sym is) (sound_gave console 
 
 -- the system as it is reached
 
-pub sound_queued : (kernel queued : Kernel) → IsSound kernel → OnlySystems kernel → make_error kernel.queues command_queue 130 15 ≡ None
-    → queued ≡ with_command_queue kernel → IsSound queued
-sound_queued kernel queued s only none is = subst IsSound (sym is) (begins_queue kernel s only none).sound
+pub command_fits : (kernel : Kernel) → OnlyHas no_queues kernel → make_error kernel.queues command_queue 130 15 ≡ None
+command_fits kernel only = room_of kernel no_queues command_queue 130 15 only command_room
+
+pub sound_queued : (kernel queued : Kernel) → IsSound kernel → OnlyHas no_queues kernel → queued ≡ with_command_queue kernel → IsSound queued
+sound_queued kernel queued s only is = subst IsSound (sym is) (begins_queue kernel command_queue 130 15 s only.systems (command_fits kernel only)).sound
 
 interpreter : NewProcess
 interpreter = resident_process (record { 0 = codes "cli     " }) 190 0
@@ -308,69 +328,62 @@ no_interpreter old queued now new queue is none =
     ∙ ap (λ o. record old { kernel = with_interpreter o queued }) (sym none)
     ∙ begun_is old queued queue
 
-terminal : ℕ → NewProcess
-terminal console = resident_process (terminal_name console) 198 console
+-- a resident, as it is reached
 
-terminal_at : (old : System) (p console : ℕ) → with_terminal (Some p) console old
-    ≡ record old {
-      kernel = with_changed (dispatched (admitted p (terminal console)) old.kernel) p (record (process_in (dispatched (admitted p (terminal console)) old.kernel).dispatcher.procs p) { error_mode = 255 });
-      residents = old.residents ++ Tmp (opening console) ∷ [];
-    }
-unfolding with_terminal terminal
-terminal_at old p console = refl
+pub process_begun : (old now : Kernel) (p : ℕ) (new : NewProcess) (process : Process) → now ≡ dispatched (in_slot new (lowest_free old.dispatcher.procs)) old → lowest_free old.dispatcher.procs ≡ Some p
+    → process ≡ process_in now.dispatcher.procs p → with_changed now p (record process { error_mode = 255 }) ≡ with_begun (lowest_free old.dispatcher.procs) new old
+unfolding with_begun
+process_begun old now p new process is free same =
+    ap (λ x. with_changed now p (record x { error_mode = 255 })) same
+    ∙ ap (λ (k : Kernel). with_changed k p (record (process_in k.dispatcher.procs p) { error_mode = 255 })) (is ∙ ap (λ o. dispatched (in_slot new o) old) free)
+    ∙ ap (λ o. with_begun o new old) (sym free)
 
-pub terminal_here : (old : System) (now : Kernel) (residents : List Native) (p console : ℕ) (new : NewProcess) (name : Name8) (process : Process)
-    → now ≡ dispatched (in_slot new (lowest_free old.kernel.dispatcher.procs)) old.kernel → lowest_free old.kernel.dispatcher.procs ≡ Some p → name ≡ terminal_name console
-    → new ≡ resident_process name 198 console
-    → process ≡ process_in now.dispatcher.procs p → residents ≡ old.residents ++ Tmp (opening console) ∷ []
-    → record old { kernel = with_changed now p (record process { error_mode = 255 }); residents = residents }
-    ≡ with_terminal (lowest_free old.kernel.dispatcher.procs) console old
-unfolding terminal
-terminal_here old now residents p console new name process is free called made same more =
-    let there : now ≡ dispatched (admitted p (terminal console)) old.kernel =
-    is ∙ ap (λ o. dispatched (in_slot new o) old.kernel) free ∙ ap (λ n. dispatched (admitted p n) old.kernel) (made ∙ ap (λ n. resident_process n 198 console) called) in
-    ap (λ x. record old { kernel = with_changed now p (record x { error_mode = 255 }); residents = residents }) same
-    ∙ ap (λ (k : Kernel). record old { kernel = with_changed k p (record (process_in k.dispatcher.procs p) { error_mode = 255 }); residents = residents }) there
-    ∙ ap (λ r. record old {
-      kernel = with_changed (dispatched (admitted p (terminal console)) old.kernel) p (record (process_in (dispatched (admitted p (terminal console)) old.kernel).dispatcher.procs p) { error_mode = 255 });
-      residents = r;
-    }) more
-    ∙ sym (terminal_at old p console)
-    ∙ ap (λ o. with_terminal o console old) (sym free)
+pub process_refused : (old now : Kernel) (new : NewProcess) → now ≡ dispatched (in_slot new (lowest_free old.dispatcher.procs)) old → lowest_free old.dispatcher.procs ≡ None
+    → now ≡ with_begun (lowest_free old.dispatcher.procs) new old
+unfolding with_begun
+process_refused old now new is none = is ∙ ap (λ o. dispatched (in_slot new o) old) none ∙ ap (λ o. with_begun o new old) (sym none)
 
-pub no_terminal : (old : System) (now : Kernel) (console : ℕ) (new : NewProcess) → now ≡ dispatched (in_slot new (lowest_free old.kernel.dispatcher.procs)) old.kernel
-    → lowest_free old.kernel.dispatcher.procs ≡ None → record old { kernel = now } ≡ with_terminal (lowest_free old.kernel.dispatcher.procs) console old
-unfolding with_terminal
-no_terminal old now console new is none =
-    ap (λ k. record old { kernel = k }) (is ∙ ap (λ o. dispatched (in_slot new o) old.kernel) none) ∙ ap (λ o. with_terminal o console old) (sym none)
+pub resident_here : (old : System) (kernel : Kernel) (residents : List Native) (slot : Option ℕ) (begun : Bool) (new is : NewProcess) (native : Native) → kernel ≡ with_begun slot new old.kernel
+    → begun ≡ is_some slot → begun ≡ true → residents ≡ old.residents ++ native ∷ [] → new ≡ is → record old { kernel = kernel; residents = residents } ≡ with_resident slot is native old
+unfolding with_resident
+resident_here old kernel residents None begun new is native there some yes_so more same = absurd (false≢true (sym some ∙ yes_so))
+resident_here old kernel residents (Some p) begun new is native there some yes_so more same =
+    ap₂ (λ k r. record old { kernel = k; residents = r }) (there ∙ ap (λ n. with_begun (Some p) n old.kernel) same) more
+
+pub resident_refused : (old : System) (kernel : Kernel) (slot : Option ℕ) (begun : Bool) (new is : NewProcess) (native : Native) → kernel ≡ with_begun slot new old.kernel
+    → begun ≡ is_some slot → begun ≡ false → new ≡ is → record old { kernel = kernel } ≡ with_resident slot is native old
+unfolding with_resident
+resident_refused old kernel None begun new is native there some none same =
+    ap (λ k. record old { kernel = k }) (there ∙ ap (λ n. with_begun None n old.kernel) same)
+resident_refused old kernel (Some p) begun new is native there some none same = absurd (false≢true (sym none ∙ some))
 
 -- all of it
 
-pub first_here : (old afterwards : System) (consoles : ℕ) → IsWhole old → OnlySystems old.kernel → make_error old.kernel.queues command_queue 130 15 ≡ None
-    → afterwards ≡ with_interpreting consoles (begun_by_interpreter old) → Begun old afterwards
-first_here old afterwards consoles w only none is = subst (λ s. Begun old s) (sym is) (interpreting_begun consoles old w only none)
+pub first_here : (old afterwards : System) (consoles : ℕ) → IsWhole old → OnlyHas no_queues old.kernel → afterwards ≡ with_interpreting consoles (begun_by_interpreter old) → Begun old afterwards
+first_here old afterwards consoles w only is = subst (λ s. Begun old s) (sym is) (interpreting_begun consoles old w only)
 
-pub residents_here : (old first afterwards : System) (kernel : Kernel) (consoles : ℕ) → first ≡ with_interpreting consoles (begun_by_interpreter old) → afterwards ≡ with_terminals consoles first
-    → kernel ≡ dispatched (picked false) afterwards.kernel → record afterwards { kernel = kernel } ≡ with_residents consoles old
-unfolding with_residents
-residents_here old first afterwards kernel consoles is was picks =
-    ap (λ k. record afterwards { kernel = k }) picks
-    ∙ ap (λ (b : System). record b { kernel = dispatched (picked false) b.kernel }) (was ∙ ap (with_terminals consoles) is)
+first_has : (old : System) (consoles : ℕ) → IsWhole old → OnlyHas no_queues old.kernel → OnlyHas command_queues (with_interpreting consoles (begun_by_interpreter old)).kernel
+unfolding begun_by_interpreter
+first_has old consoles w only =
+    let queued = with_command_queue old.kernel in
+    interpreter_has (lowest_free queued.dispatcher.procs) queued command_queues (has_command old.kernel w.sound only)
+
+pub command_here : (old afterwards : System) (consoles : ℕ) → IsWhole old → OnlyHas no_queues old.kernel → afterwards ≡ with_interpreting consoles (begun_by_interpreter old)
+    → OnlyHas command_queues afterwards.kernel
+command_here old afterwards consoles w only is = subst (λ (s : System). OnlyHas command_queues s.kernel) (sym is) (first_has old consoles w only)
 
 -- the machine of a machine file, before that
 
 pub record Boots (file : MachineFile) (system : System) : Type 0 where
   pub consoles : file.consoles ≡ length system.kernel.units.consoles
-  pub queues : OnlySystems system.kernel
-  pub room : make_error system.kernel.queues command_queue 130 15 ≡ None
+  pub queues : OnlyHas no_queues system.kernel
   pub nobody : system.residents ≡ []
 
 booted_so : (file : MachineFile) (events : List Timed) → Boots file (booted file events)
 unfolding booted new_kernel new_dispatcher
 booted_so file events = record {
   consoles = sym (many_new file.consoles file.printers (moment_of file));
-  queues = record { all = λ q made. (only_systems_new file.consoles file.printers (moment_of file)).all q made };
-  room = may_make_new file.consoles file.printers (moment_of file) command_queue 130 15 (omega arith) (omega arith);
+  queues = record { systems = record { all = λ q made. (only_systems_new file.consoles file.printers (moment_of file)).all q made }; are = refl };
   nobody = refl;
 }
 
@@ -378,6 +391,6 @@ pub boots : (file : MachineFile) (events : List Timed) (system : System) → sys
 boots file events system is = subst (Boots file) (sym is) (booted_so file events)
 
 pub opened_here : (file : MachineFile) (events : List Timed) (system afterwards : System) → system ≡ booted file events
-    → afterwards ≡ with_residents file.consoles system → afterwards ≡ opened file events
+    → afterwards ≡ with_residents file.consoles file.spool file.sched system → afterwards ≡ opened file events
 unfolding opened
-opened_here file events system afterwards is was = was ∙ ap (with_residents file.consoles) is
+opened_here file events system afterwards is was = was ∙ ap (with_residents file.consoles file.spool file.sched) is

@@ -1,6 +1,6 @@
 -- How a program is laid out in its segment, and how its process begins. (MP/M II System Guide, "Memory Segment Base Page
 -- Initialization".)
-use Rattle.std.specs.Prelude.{◌≡◌, ℕ, zero, suc, ◌+◌, ◌-◌, ◌*◌, ◌<◌, ◌≤◌, Bool, true, false, List, [], ◌∷◌, ◌++◌, Option, Some, None, length, count_by, codes}
+use Rattle.std.specs.Prelude.{◌≡◌, ℕ, zero, suc, ◌+◌, ◌-◌, ◌*◌, ◌<◌, ◌≤◌, Bool, true, false, List, [], ◌∷◌, ◌++◌, Option, Some, None, length, count_by, codes, if◌then◌else◌}
 use Rattle.mpm_base.specs.declared.number.Name8.{Name8}
 use Rattle.mpm_base.specs.declared.segment.SegmentSpec.{SegmentSpec}
 use Rattle.mpm_banks.specs.Gates.{last_page}
@@ -15,11 +15,15 @@ use Rattle.mpm_procs.specs.declared.process.NewProcess.{NewProcess}
 use Rattle.mpm_kernel.specs.Kernel.{Kernel, with_changed, new_kernel, dispatched}
 use Rattle.mpm_dispatcher.specs.Dispatch.{admitted, picked}
 use Rattle.mpm_kernel.specs.Disk.{in_turns}
-use Rattle.mpm_kernel.specs.Queueing.{with_system_queue}
+use Rattle.mpm_kernel.specs.Queueing.{with_system_queue, OnlySystems}
+use Rattle.mpm_queues.specs.Queues.{Queues, no_queues, made}
 use Rattle.mpm_kernel.specs.Consoling.{given}
 use Rattle.mpm_residents.specs.Terminals.{opening}
 use Rattle.mpm_residents.specs.Interpreters.{opening as opening_interpreter}
-use Rattle.mpm_residents.specs.declared.native.Native.TheVariants.{Tmp, Cli}
+use Rattle.mpm_residents.specs.declared.native.Native.{Native}
+use Rattle.mpm_residents.specs.declared.native.Native.TheVariants.{Tmp, Cli, Spool, Sched}
+use Rattle.mpm_sched.specs.Schedulers.{opening as opening_scheduler}
+use Rattle.mpm_spool.specs.Spoolers.{opening as opening_spooler}
 use Rattle.mpm_clock.specs.declared.moment.Moment.{Moment}
 use Rattle.mpm_script.specs.declared.event.Timed.{Timed}
 use Rattle.mpm_machine_file.specs.declared.machine_file.MachineFile.{MachineFile}
@@ -127,8 +131,22 @@ unfoldable pub resident_process : Name8 → ℕ → ℕ → NewProcess
 resident_process name priority console =
     record { name = name; priority = priority; console = console; seg = None; pc = 0; sp = 0; dma = 0; user = 0; drive = 0 }
 
--- the process of the command line interpreter begins in a slot, and is ready. Residents take extended errors as answers; the
--- interpreter reads sixteen records at a time.
+-- it begins in a slot, and is ready. Residents take extended errors as answers
+unfoldable pub with_begun : Option ℕ → NewProcess → Kernel → Kernel
+with_begun None new kernel = kernel
+with_begun (Some p) new kernel =
+    let begun = dispatched (admitted p new) kernel in with_changed begun p (record (process_in begun.dispatcher.procs p) { error_mode = 255 })
+
+-- a resident begins in a slot: its process, and what acts in it
+abbrev pub with_native : Option ℕ → Native → List Native → List Native
+with_native None native natives = natives
+with_native (Some p) native natives = natives ++ native ∷ []
+
+unfoldable pub with_resident : Option ℕ → NewProcess → Native → System → System
+with_resident slot new native system = record system { kernel = with_begun slot new system.kernel; residents = with_native slot native system.residents }
+
+-- the process of the command line interpreter begins in a slot, and is ready; it reads
+-- sixteen records at a time.
 unfoldable pub with_interpreter : Option ℕ → Kernel → Kernel
 with_interpreter None kernel = kernel
 with_interpreter (Some p) kernel =
@@ -139,15 +157,22 @@ with_interpreter (Some p) kernel =
 abbrev pub terminal_name : ℕ → Name8
 terminal_name console = record { 0 = codes "Tmp" ++ ((48 + console) ∷ codes "    ") }
 
--- a terminal message processor begins in a slot, for a console, and is ready
-unfoldable pub with_terminal : Option ℕ → ℕ → System → System
-with_terminal None console system = system
-with_terminal (Some p) console system =
-    let begun = dispatched (admitted p (resident_process (terminal_name console) 198 console)) system.kernel in
-    record system {
-      kernel = with_changed begun p (record (process_in begun.dispatcher.procs p) { error_mode = 255 });
-      residents = system.residents ++ Tmp (opening console) ∷ [];
-    }
+-- a terminal message processor begins in a slot, for a console
+abbrev pub terminal_process : ℕ → NewProcess
+terminal_process console = resident_process (terminal_name console) 198 console
+
+abbrev pub with_terminal : Option ℕ → ℕ → System → System
+with_terminal slot console system = with_resident slot (terminal_process console) (Tmp (opening console)) system
+
+-- what is so of a system in which residents have begun: it is whole, and its steps, records, completions, consoles and disk are as they were
+pub record Begun (old new : System) : Type 0 where
+  pub whole : IsWhole new
+  pub completed : new.kernel.dispatcher.completed ≡ old.kernel.dispatcher.completed
+  pub consoles : length new.kernel.units.consoles ≡ length old.kernel.units.consoles
+  pub disk : new.kernel.disk ≡ old.kernel.disk
+  pub steps : new.steps ≡ old.steps
+  pub records : new.records ≡ old.records
+  pub owed : new.owed ≡ old.owed
 
 -- one for each console, by number, each in the lowest free slot
 unfoldable pub with_terminals : ℕ → System → System
@@ -172,13 +197,82 @@ begun_by_interpreter system =
 abbrev pub with_interpreting : ℕ → System → System
 with_interpreting consoles system = record system { residents = system.residents ++ Cli (opening_interpreter consoles) ∷ [] }
 
--- what a machine has as it is run, beside what its file says: these, and a terminal message processor for each console behind
--- them; the first of the ready list runs
-unfoldable pub with_residents : ℕ → System → System
-with_residents consoles system =
-    let begun = with_terminals consoles (with_interpreting consoles (begun_by_interpreter system)) in
-    record begun { kernel = dispatched (picked false) begun.kernel }
+-- the spooler's queues, which are the system's: one for lists of files, of 128 bytes, with room for 8, and one by which it is stopped, of one
+-- byte, with room for one
+abbrev pub spool_queue : Name8
+spool_queue = record { 0 = codes "SPOOL   " }
+
+abbrev pub stop_queue : Name8
+stop_queue = record { 0 = codes "STOPSPLR" }
+
+abbrev pub with_spool_queues : Kernel → Kernel
+with_spool_queues kernel = with_system_queue (with_system_queue kernel spool_queue 128 8) stop_queue 1 1
+
+abbrev pub spooler_name : Name8
+spooler_name = record { 0 = codes "Spool   " }
+
+abbrev pub spooler_process : NewProcess
+spooler_process = resident_process spooler_name 200 0
+
+-- the spooler, where a machine has one: its queues, and then its process
+unfoldable pub with_spooler : Bool → System → System
+with_spooler false system = system
+with_spooler true system =
+    let queued = record system { kernel = with_spool_queues system.kernel } in
+    with_resident (lowest_free queued.kernel.dispatcher.procs) spooler_process (Spool opening_spooler) queued
+
+-- the scheduler's queue, which is the system's: messages of 128 bytes, with room for 8. It has the next number, 3 where there is a spooler
+abbrev pub schedule_queue : Name8
+schedule_queue = record { 0 = codes "SCHED   " }
+
+abbrev pub schedule_number : Bool → ℕ
+schedule_number spool = if spool then 3 else 1
+
+abbrev pub with_schedule_queue : Kernel → Kernel
+with_schedule_queue kernel = with_system_queue kernel schedule_queue 128 8
+
+abbrev pub scheduler_name : Name8
+scheduler_name = record { 0 = codes "Sched   " }
+
+abbrev pub scheduler_process : NewProcess
+scheduler_process = resident_process scheduler_name 195 0
+
+-- the scheduler, where a machine has one, of a queue of a number: its queue, and then its process
+unfoldable pub with_scheduler : Bool → ℕ → System → System
+with_scheduler false queue system = system
+with_scheduler true queue system =
+    let queued = record system { kernel = with_schedule_queue system.kernel } in
+    with_resident (lowest_free queued.kernel.dispatcher.procs) scheduler_process (Sched (opening_scheduler queue)) queued
+
+-- the queues of a system that has none of its own yet, with the command queue, and with the spooler's behind it
+abbrev pub command_queues : Queues
+command_queues = made no_queues 0 command_queue 130 15
+
+abbrev pub spooling_queues : Bool → Queues
+spooling_queues false = command_queues
+spooling_queues true = made (made command_queues 1 spool_queue 128 8) 2 stop_queue 1 1
+
+-- and with the scheduler's behind those
+abbrev pub resident_queues : Bool → Bool → Queues
+resident_queues spool false = spooling_queues spool
+resident_queues spool true = made (spooling_queues spool) (schedule_number spool) schedule_queue 128 8
+
+-- a kernel has these queues, and all of them are the system's
+pub record OnlyHas (queues : Queues) (kernel : Kernel) : Type 0 where
+  pub systems : OnlySystems kernel
+  pub are : kernel.queues ≡ queues
+
+-- what a machine has as it is run, beside what its file says: these, a terminal message processor for each console in the slots after
+-- the interpreter's, and then the spooler and the scheduler, where they are asked for
+unfoldable pub begun_residents : ℕ → Bool → Bool → System → System
+begun_residents consoles spool sched system =
+    with_scheduler sched (schedule_number spool) (with_spooler spool (with_terminals consoles (with_interpreting consoles (begun_by_interpreter system))))
+
+-- and then the first of the ready list runs
+unfoldable pub with_residents : ℕ → Bool → Bool → System → System
+with_residents consoles spool sched system =
+    let begun = begun_residents consoles spool sched system in record begun { kernel = dispatched (picked false) begun.kernel }
 
 -- the machine of a machine file and of the events of its script, as it is run
 unfoldable pub opened : MachineFile → List Timed → System
-opened file events = with_residents file.consoles (booted file events)
+opened file events = with_residents file.consoles file.spool file.sched (booted file events)

@@ -1,4 +1,4 @@
-ghost use Rattle.std.specs.Prelude.{◌≡◌, ◌+◌, ◌<◌, IfOk, false, None, ◌-◌, ◌≤◌, length, Some, IsSome, []};
+ghost use Rattle.std.specs.Prelude.{◌≡◌, ◌+◌, ◌<◌, IfOk, false, None, ◌-◌, ◌≤◌, length, Some, IsSome, is_some, []};
 ghost use Rattle.mpm_banks.specs.Memory.{HasSegment, segment_of};
 ghost use Rattle.mpm_procs.specs.Table.{lowest_free};
 ghost use Rattle.mpm_kernel.specs.Kernel.{IsSound, dispatched};
@@ -6,9 +6,8 @@ ghost use Rattle.mpm_dispatcher.specs.Dispatch.{admitted, picked};
 ghost use Rattle.mpm_kernel.specs.Consoling.{given};
 ghost use Rattle.mpm_service.specs.Disk.{no_service};
 ghost use Rattle.mpm_machine_file.specs.MachineFiles.{IsMachine};
-ghost use Rattle.mpm_kernel.specs.Queueing.{OnlySystems};
-ghost use Rattle.mpm_queues.specs.Queues.{make_error};
-ghost use Rattle.mpm_system.specs.Opening.{terminal_name as name_of_terminal, resident_process as process_of_resident, moment_of as moment_said, program_file as program_said, laid_out, placed_process as process_placed, booted, IsBare, MayPlace, with_placed, command_queue, with_residents, begun_by_interpreter, with_interpreting, with_terminals, with_terminal};
+ghost use Rattle.mpm_queues.specs.Queues.{Queues as QueueTable, no_queues};
+ghost use Rattle.mpm_system.specs.Opening.{terminal_name as name_of_terminal, resident_process as process_of_resident, moment_of as moment_said, program_file as program_said, laid_out, placed_process as process_placed, booted, IsBare, MayPlace, with_placed, OnlyHas, command_queues, spooling_queues, with_residents, begun_residents, begun_by_interpreter, with_interpreting, with_terminals, with_terminal, with_spooler, with_scheduler, with_spool_queues, with_begun, schedule_number as number_of_schedule, Begun};
 ghost use Rattle.mpm_system.specs.Whole.{IsWhole, NoCompletions};
 
 use crate::owed::Owed;
@@ -34,10 +33,19 @@ const COMMAND_LENGTH: u16 = 130;
 
 const COMMANDS: u16 = 15;
 
-/// The priorities of the command line interpreter and of the terminal message processors.
+/// The length of the messages of the spooler's queue and of the scheduler's, and how many each has room for.
+const LIST_LENGTH: u16 = 128;
+
+const LISTS: u16 = 8;
+
+/// The priorities of the command line interpreter, of the terminal message processors, of the spooler and of the scheduler.
 const INTERPRETER_PRIORITY: u8 = 190;
 
 const TERMINAL_PRIORITY: u8 = 198;
+
+const SPOOLER_PRIORITY: u8 = 200;
+
+const SCHEDULER_PRIORITY: u8 = 195;
 
 /// The error mode of a process that takes extended errors as answers.
 const ANSWERS_ERRORS: u8 = 0xFF;
@@ -86,30 +94,42 @@ impl System {
     }
 
     /// What a machine has as it is run, beside what its file says: the command queue, the process of the command line
-    /// interpreter, and a terminal message processor for each console. The first of the ready list runs.
-    pub fn begin_residents(&mut self, consoles: u8)
+    /// interpreter, a terminal message processor for each console, and the spooler and the scheduler, where they are asked
+    /// for, with their queues. The first of the ready list runs.
+    pub fn begin_residents(&mut self, consoles: u8, spool: bool, sched: bool)
         requires whole { IsWhole self.old }
         requires no_completions { NoCompletions self.old }
         requires consoles { consoles ≡ length self.old.kernel.units.consoles }
-        requires queues { OnlySystems self.old.kernel }
-        requires room { make_error self.old.kernel.queues command_queue 130 15 ≡ None }
+        requires queues { OnlyHas no_queues self.old.kernel }
         requires nobody { self.old.residents ≡ [] }
-        ensures system { self.new ≡ with_residents consoles self.old }
+        ensures system { self.new ≡ with_residents consoles spool sched self.old }
         ensures whole { IsWhole self.new }
         ensures no_completions { NoCompletions self.new }
         ensures disk { self.new.kernel.disk ≡ self.old.kernel.disk }
         ensures steps { self.new.steps ≡ self.old.steps }
     {
+        self.begin_all(consoles, spool, sched);
+        self.kernel.pick(false);
+    }
+
+    /// The residents begin, each in the lowest free slot.
+    fn begin_all(&mut self, consoles: u8, spool: bool, sched: bool)
+        requires whole { IsWhole self.old }
+        requires consoles { consoles ≡ length self.old.kernel.units.consoles }
+        requires queues { OnlyHas no_queues self.old.kernel }
+        requires nobody { self.old.residents ≡ [] }
+        ensures { self.new ≡ begun_residents consoles spool sched self.old }
+    {
         self.begin_interpreting(consoles);
         self.begin_terminals(consoles);
-        self.kernel.pick(false);
+        self.begin_spooler(spool);
+        self.begin_scheduler(sched, spool);
     }
 
     /// The command line interpreter begins, for so many consoles: its process, and what acts in it.
     fn begin_interpreting(&mut self, consoles: u8)
         requires whole { IsWhole self.old }
-        requires queues { OnlySystems self.old.kernel }
-        requires room { make_error self.old.kernel.queues command_queue 130 15 ≡ None }
+        requires queues { OnlyHas no_queues self.old.kernel }
         requires some { 0 < consoles }
         requires nobody { self.old.residents ≡ [] }
         ensures { self.new ≡ with_interpreting consoles (begun_by_interpreter self.old) }
@@ -121,8 +141,7 @@ impl System {
     /// The command queue is made, and the process of the command line interpreter begins.
     fn begin_interpreter(&mut self)
         requires whole { IsWhole self.old }
-        requires queues { OnlySystems self.old.kernel }
-        requires room { make_error self.old.kernel.queues command_queue 130 15 ≡ None }
+        requires queues { OnlyHas no_queues self.old.kernel }
         ensures { self.new ≡ begun_by_interpreter self.old }
     {
         self.kernel
@@ -141,12 +160,9 @@ impl System {
         requires consoles { consoles ≡ length self.old.kernel.units.consoles }
         requires first { length self.old.residents ≤ 1 }
         ensures system { self.new ≡ with_terminals consoles self.old }
-        ensures whole { IsWhole self.new }
-        ensures completed { self.new.kernel.dispatcher.completed ≡ self.old.kernel.dispatcher.completed }
-        ensures records { self.new.records ≡ self.old.records }
-        ensures disk { self.new.kernel.disk ≡ self.old.kernel.disk }
-        ensures owed { self.new.owed ≡ self.old.owed }
-        ensures steps { self.new.steps ≡ self.old.steps }
+        ensures begun { Begun self.old self.new }
+        ensures few { length self.new.residents ≤ length self.old.residents + consoles }
+        ensures queues { (queues : QueueTable) → OnlyHas queues self.old.kernel → OnlyHas queues self.new.kernel }
     {
         for console in 0..consoles {
             self.begin_terminal(console);
@@ -157,14 +173,82 @@ impl System {
     fn begin_terminal(&mut self, console: u8)
         requires whole { IsWhole self.old }
         requires console { console < length self.old.kernel.units.consoles }
-        requires room { length self.old.residents < 9 }
+        requires room { length self.old.residents < 11 }
         ensures { self.new ≡ with_terminal (lowest_free self.old.kernel.dispatcher.procs) console self.old }
     {
         let new = resident_process(terminal_name(console), TERMINAL_PRIORITY, console);
-        if let Ok(p) = self.kernel.admit(new) {
-            self.kernel.process_mut(p).error_mode = ANSWERS_ERRORS;
+        if begin_process(&mut self.kernel, new) {
             self.residents.add_terminal(console);
         }
+    }
+
+    /// The spooler begins, where there is one: its queues are made, and then its process.
+    fn begin_spooler(&mut self, spool: bool)
+        requires whole { IsWhole self.old }
+        requires queues { OnlyHas command_queues self.old.kernel }
+        requires room { length self.old.residents < 11 }
+        ensures { self.new ≡ with_spooler spool self.old }
+    {
+        if !spool {
+            return;
+        }
+        make_spool_queues(&mut self.kernel);
+        let new = resident_process(Name8(*b"Spool   "), SPOOLER_PRIORITY, 0);
+        if begin_process(&mut self.kernel, new) {
+            self.residents.add_spooler();
+        }
+    }
+
+    /// The scheduler begins, where there is one, beside a spooler or not: its queue is made, and then its process.
+    fn begin_scheduler(&mut self, sched: bool, spool: bool)
+        requires whole { IsWhole self.old }
+        requires queues { OnlyHas (spooling_queues spool) self.old.kernel }
+        requires room { length self.old.residents < 11 }
+        ensures { self.new ≡ with_scheduler sched (number_of_schedule spool) self.old }
+    {
+        if !sched {
+            return;
+        }
+        self.kernel
+            .system_queue(Name8(*b"SCHED   "), LIST_LENGTH, LISTS);
+        let new = resident_process(Name8(*b"Sched   "), SCHEDULER_PRIORITY, 0);
+        if begin_process(&mut self.kernel, new) {
+            self.residents.add_scheduler(schedule_number(spool));
+        }
+    }
+}
+
+/// The number of the scheduler's queue: it is made after the command queue and the spooler's two.
+fn schedule_number(spool: bool) -> u8
+    ensures number { result ≡ number_of_schedule spool }
+    ensures below { result < 32 }
+{
+    if spool { 3 } else { 1 }
+}
+
+/// The spooler's queues are made.
+fn make_spool_queues(kernel: &mut Kernel)
+    requires sound { IsSound kernel.old }
+    requires queues { OnlyHas command_queues kernel.old }
+    ensures { kernel.new ≡ with_spool_queues kernel.old }
+{
+    kernel.system_queue(Name8(*b"SPOOL   "), LIST_LENGTH, LISTS);
+    kernel.system_queue(Name8(*b"STOPSPLR"), 1, 1);
+}
+
+/// The process of a resident begins, where a slot is free, and takes extended errors as answers.
+fn begin_process(kernel: &mut Kernel, new: NewProcess) -> bool
+    requires sound { IsSound kernel.old }
+    requires console { new.console < length kernel.old.units.consoles }
+    ensures kernel { kernel.new ≡ with_begun (lowest_free kernel.old.dispatcher.procs) new kernel.old }
+    ensures begun { result ≡ is_some (lowest_free kernel.old.dispatcher.procs) }
+{
+    match kernel.admit(new) {
+        Ok(p) => {
+            kernel.process_mut(p).error_mode = ANSWERS_ERRORS;
+            true
+        }
+        Err(NoSlot) => false,
     }
 }
 

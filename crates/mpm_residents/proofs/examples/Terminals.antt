@@ -4,7 +4,8 @@ use Rattle.std.proofs.Common.{◌≡◌, [], ◌∷◌, ◌++◌, refl}
 use Rattle.std.specs.Prelude.{⊤, List, ℕ, codes}
 use Rattle.std.specs.Fmt.{digits}
 use Rattle.mpm_base.specs.Calls.{asking, answering}
-use Rattle.mpm_residents.specs.Lines.{stripped, user_number, user_of, text_form, form_of, command_text}
+use Rattle.mpm_messages.specs.Texts.{stripped}
+use Rattle.mpm_residents.specs.Lines.{user_number, user_of, text_form, form_of, command_text}
 use Rattle.mpm_residents.specs.Terminals.{Terminal, opening, prompt, next_call, took}
 use Rattle.mpm_residents.specs.declared.tmp.line.LineForm.TheVariants.{Empty, Drive, User, Command}
 use Rattle.mpm_residents.specs.declared.tmp.Row.{Row}

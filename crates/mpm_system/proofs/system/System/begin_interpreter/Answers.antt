@@ -1,14 +1,14 @@
 use Rattle.std.proofs.Common.{arith}
-use Rattle.mpm_system.proofs.OpeningLaws.{sound_queued, admitted_here, interpreter_here, no_interpreter}
+use Rattle.mpm_system.proofs.OpeningLaws.{command_fits, sound_queued, admitted_here, interpreter_here, no_interpreter}
 use Rattle.mpm_system.proofs.system.System.begin_interpreter.Goals as goal
 
 pub admit-requires : goal.admit-requires
 admit-requires c =
-    sound_queued c.args.self.now.kernel c.system_queue.new.self c.requires.whole.sound c.requires.queues c.requires.room c.system_queue.ensures.kernel
+    sound_queued c.args.self.now.kernel c.system_queue.new.self c.requires.whole.sound c.requires.queues c.system_queue.ensures.kernel
 
 pub process_mut-process-requires : goal.process_mut-process-requires
 process_mut-process-requires c =
-    let sound = sound_queued c.args.self.now.kernel c.system_queue.new.self c.requires.whole.sound c.requires.queues c.requires.room c.system_queue.ensures.kernel in
+    let sound = sound_queued c.args.self.now.kernel c.system_queue.new.self c.requires.whole.sound c.requires.queues c.system_queue.ensures.kernel in
     (admitted_here c.system_queue.new.self c.admit.new.self c.in-Ok.p c.resident_process-new.result sound
     (omega (arith, c.resident_process-new.ensures.console, sound.units.some)) c.in-Ok.ensures.slot c.admit.ensures.kernel).lives
 
@@ -21,3 +21,7 @@ pub returns-in_default : goal.returns-in_default
 returns-in_default c =
     no_interpreter c.args.self.now c.system_queue.new.self c.admit.new.self c.resident_process-new.result c.system_queue.ensures.kernel c.admit.ensures.kernel
     c.in_default.ensures.refused
+
+pub system_queue-requires : goal.system_queue-requires
+system_queue-requires c =
+    record { sound = c.requires.whole.sound; boot = c.requires.queues.systems; room = command_fits c.args.self.now.kernel c.requires.queues }

@@ -1,18 +1,22 @@
-use Rattle.std.proofs.Common.{arith}
-use Rattle.mpm_system.proofs.OpeningLaws.{admitted_here, terminal_here, no_terminal}
+use Rattle.std.proofs.Common.{◌∙◌, ap, arith}
+use Rattle.mpm_procs.specs.Table.{lowest_free}
+use Rattle.mpm_residents.specs.declared.native.Native.TheVariants.{Tmp}
+use Rattle.mpm_residents.specs.Terminals.{opening}
+use Rattle.mpm_system.specs.Opening.{resident_process, terminal_process}
+use Rattle.mpm_system.proofs.OpeningLaws.{resident_here, resident_refused}
 use Rattle.mpm_system.proofs.system.System.begin_terminal.Goals as goal
 
-pub process_mut-requires : goal.process_mut-requires
-process_mut-requires c =
-    (admitted_here c.args.self.now.kernel c.admit.new.self c.in-Ok.p c.resident_process-new.result c.requires.whole.sound
-    (omega (arith, c.resident_process-new.ensures.console, c.requires.console)) c.in-Ok.ensures.slot c.admit.ensures.kernel).lives
+pub begin_process-requires-clause-console : goal.begin_process-requires-clause-console
+begin_process-requires-clause-console c = omega (arith, c.resident_process-new.ensures.console, c.requires.console)
 
-pub returns-in-Ok : goal.returns-in-Ok
-returns-in-Ok c =
-    terminal_here c.args.self.now c.admit.new.self c.add_terminal.new.self c.in-Ok.p c.args.console c.resident_process-new.result c.terminal_name.result
-    c.process_mut.result.now c.admit.ensures.kernel c.in-Ok.ensures.slot c.terminal_name.ensures c.resident_process-new.ensures.process
-    c.process_mut.ensures.value c.add_terminal.ensures
+pub returns-then-begin_process : goal.returns-then-begin_process
+returns-then-begin_process c =
+    resident_here c.args.self.now c.begin_process.new.kernel c.add_terminal.new.self (lowest_free c.args.self.now.kernel.dispatcher.procs) c.begin_process.result c.resident_process-new.result
+    (terminal_process c.args.console) (Tmp (opening c.args.console)) c.begin_process.ensures.kernel c.begin_process.ensures.begun c.if-begin_process.true c.add_terminal.ensures
+    (c.resident_process-new.ensures.process ∙ ap (λ name. resident_process name 198 c.args.console) c.terminal_name.ensures)
 
-pub returns-in_default : goal.returns-in_default
-returns-in_default c =
-    no_terminal c.args.self.now c.admit.new.self c.args.console c.resident_process-new.result c.admit.ensures.kernel c.in_default.ensures.refused
+pub returns-else-begin_process : goal.returns-else-begin_process
+returns-else-begin_process c =
+    resident_refused c.args.self.now c.begin_process.new.kernel (lowest_free c.args.self.now.kernel.dispatcher.procs) c.begin_process.result c.resident_process-new.result
+    (terminal_process c.args.console) (Tmp (opening c.args.console)) c.begin_process.ensures.kernel c.begin_process.ensures.begun c.if-begin_process.false
+    (c.resident_process-new.ensures.process ∙ ap (λ name. resident_process name 198 c.args.console) c.terminal_name.ensures)

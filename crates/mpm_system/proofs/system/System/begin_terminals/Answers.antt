@@ -7,11 +7,11 @@ pub loop-console-init : goal.loop-console-init
 loop-console-init c = begun_none c.args.self.now c.requires.whole
 
 pub begin_terminal-requires-clause-whole : goal.begin_terminal-requires-clause-whole
-begin_terminal-requires-clause-whole c = c.loop-console.invariant.whole
+begin_terminal-requires-clause-whole c = c.loop-console.invariant.begun.whole
 
 pub begin_terminal-requires-clause-console : goal.begin_terminal-requires-clause-console
 begin_terminal-requires-clause-console c =
-    omega (arith, c.loop-console-test.true, c.requires.consoles, c.loop-console.invariant.consoles)
+    omega (arith, c.loop-console-test.true, c.requires.consoles, c.loop-console.invariant.begun.consoles)
 
 pub begin_terminal-requires-clause-room : goal.begin_terminal-requires-clause-room
 begin_terminal-requires-clause-room c =
@@ -26,11 +26,11 @@ pub returns-clause-system : goal.returns-clause-system
 returns-clause-system c =
     c.loop-console.invariant.is ∙ ap (λ n. with_terminals n c.args.self.now) (omega arith)
 
-pub returns-clause-whole : goal.returns-clause-whole
-returns-clause-whole c = c.loop-console.invariant.whole
+pub returns-clause-begun : goal.returns-clause-begun
+returns-clause-begun c = c.loop-console.invariant.begun
 
-pub returns-clause-completed : goal.returns-clause-completed
-returns-clause-completed c = c.loop-console.invariant.completed
+pub returns-clause-few : goal.returns-clause-few
+returns-clause-few c = omega (arith, c.loop-console.invariant.few)
 
-pub returns-clause-steps : goal.returns-clause-steps
-returns-clause-steps c = c.loop-console.invariant.steps
+pub returns-clause-queues : goal.returns-clause-queues
+returns-clause-queues c = c.loop-console.invariant.has

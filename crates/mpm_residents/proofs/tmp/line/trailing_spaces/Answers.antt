@@ -1,8 +1,0 @@
-use Rattle.std.proofs.Common.{rules}
-use Rattle.mpm_residents.specs.Lines.{is_space}
-use Rattle.mpm_residents.proofs.Runs.{ends_with}
-use Rattle.mpm_residents.proofs.tmp.line.trailing_spaces.Goals as goal
-
-pub returns-clause-count : goal.returns-clause-count
-returns-clause-count c =
-    ends_with is_space c.args.text.now c.loop-end.end c.loop-end.invariant.0 c.loop-end.invariant.1 (search rules)

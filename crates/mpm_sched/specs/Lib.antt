@@ -1,0 +1,5 @@
+pub mod Dates
+pub mod Entries
+pub mod Schedules
+pub mod Schedulers
+pub mod Keeping

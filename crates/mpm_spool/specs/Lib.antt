@@ -1,0 +1,2 @@
+pub mod SpoolLists
+pub mod Spoolers
