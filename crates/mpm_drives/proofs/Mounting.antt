@@ -1,6 +1,6 @@
 -- The drives that are mounted, one after another.
 use Rattle.std.proofs.Common.{◌≡◌, ◌≢◌, ◌∙◌, ℕ, ◌+◌, ◌<◌, Bool, false, List, [], ◌∷◌, ◌++◌, length, take, drop, get_or, append_assoc, Option, Some, true, sym, ap, subst, inl, inr, arith}
-use Rattle.std.specs.Prelude.{IfSome, IsSomeAnd, Err}
+use Rattle.std.specs.Prelude.{◌⊎◌, IfSome, IsSomeAnd, Ok, Err}
 use Rattle.std.proofs.lemmas.Bool.{cases_eq}
 use Rattle.std.proofs.lemmas.List.{take_more, take-append-drop}
 use Rattle.std.proofs.lemmas.List.Elements.{All-push, recursion_from_All}
@@ -11,14 +11,16 @@ use Rattle.mpm_machine_file.specs.Drives.{all_differ}
 use Rattle.mpm_machine_file.specs.MachineFiles.{IsDrive}
 use Rattle.mpm_machine_file.proofs.OrderLaws.{IsApart, AreApart, letters_differ, apart_from_differ}
 use Rattle.mpm_mount.specs.Directories.{Directory}
+use Rattle.mpm_mount.specs.Drives.{Drive}
 use Rattle.mpm_drives.specs.declared.error.BootError.{BootError}
 use Rattle.mpm_drives.specs.declared.error.BootError.TheVariants.{Image, DiskFault, OutOfMemory}
 use Rattle.mpm_mount.specs.declared.errors.MountError.{MountError}
 use Rattle.mpm_mount.specs.declared.errors.MountError.TheVariants.{Image as BadImage}
 use Rattle.mpm_mount.specs.Mounting.{IsMounted, IsImageFault, Counts}
-use Rattle.mpm_drives.specs.Images.{Images, HasFault}
-use Rattle.mpm_drives.specs.Mounted.{number_of, IsMountedAs, AreMounted, AreSynced, OnlyDrive, SameBeside}
-use Rattle.mpm_drives.specs.Stopping.{Failures, StopsAt, IsFirst, Stops}
+use Rattle.mpm_mount.specs.Images.{files_of}
+use Rattle.mpm_drives.specs.Images.{Images}
+use Rattle.mpm_drives.specs.Mounted.{number_of, IsMountedAs, AreMounted, AreSynced, OnlyDrive, SameBeside, AsksNothing}
+use Rattle.mpm_drives.specs.Stopping.{Failures, IsAtFault, IsFaultless, StopsAt, IsFirst, Stops}
 use Rattle.mpm_drives.proofs.Telling.{brought_mounted, brought_fault, faultless_brought}
 
 -- drives before one of some that don't clash have other numbers
@@ -93,10 +95,10 @@ failures_same f f' n n' faults names =
     ap (λ (k : ℕ). let failures : Failures = record { faults = k; names = n } in failures) faults
     ∙ ap (λ (k : List (List ℕ)). let failures : Failures = record { faults = f'; names = k } in failures) names
 
-pub stops_from : (one other : Images) (spec : DriveSpec) (before old new : Failures) (error : BootError) → one ≡ other → before ≡ old
-    → StopsAt one spec before new error → StopsAt other spec old new error
-stops_from one other spec before old new error told is stops =
-    subst (λ (f : Failures). StopsAt other spec f new error) is (subst (λ (images : Images). StopsAt images spec before new error) told stops)
+pub stops_from : (x : Disks) (one other : Images) (spec : DriveSpec) (before old new : Failures) (error : BootError) → one ≡ other → before ≡ old
+    → StopsAt x one spec before new error → StopsAt x other spec old new error
+stops_from x one other spec before old new error told is stops =
+    subst (λ (f : Failures). StopsAt x other spec f new error) is (subst (λ (images : Images). StopsAt x images spec before new error) told stops)
 
 -- one drive, as it was attached and mounted
 
@@ -115,14 +117,16 @@ mounted_as x y z images spec name d is attaches same number kind mounted =
           (brought_mounted (y.image (number_of spec)) (images spec.image) spec.kind d brought mounted);
     }
 
-pub fault_as : (x y : Disks) (images : Images) (spec : DriveSpec) (name : List ℕ) (error : MountError) (cause place : ℕ) → name ≡ spec.image
-    → error ≡ BadImage cause place → Attaches (number_of spec) name (images name) x y
+pub fault_as : (x y z : Disks) (images : Images) (spec : DriveSpec) (name : List ℕ) (error : MountError) (cause place : ℕ) → name ≡ spec.image
+    → error ≡ BadImage cause place → Attaches (number_of spec) name (images name) x y → z ≡ y
     → IfSome (y.image (number_of spec)) (λ image. IsImageFault image spec.kind error)
-    → HasFault (images spec.image) spec.kind (record { cause = cause; place = place })
-fault_as x y images spec name error cause place is fault attaches has =
+    → IsAtFault z images spec (record { cause = cause; place = place })
+fault_as x y z images spec name error cause place is fault attaches same has =
     let Q : MountError → Type 0 = λ e. IfSome (y.image (number_of spec)) (λ image. IsImageFault image spec.kind e) in
-    brought_fault (y.image (number_of spec)) (images spec.image) spec.kind (record { cause = cause; place = place })
-    (subst (λ (n : List ℕ). IsSomeAnd (y.image (number_of spec)) (Brings (images n))) is attaches.image) (subst Q fault has)
+    let here : z.image (number_of spec) ≡ y.image (number_of spec) = ap (λ (disks : Disks). disks.image (number_of spec)) same in
+    subst (λ (o : Option (List ℕ)). IsSomeAnd o (λ image. Brings (images spec.image) image × (files_of image spec.kind ≡ Err (record { cause = cause; place = place })))) (sym here)
+    (brought_fault (y.image (number_of spec)) (images spec.image) spec.kind (record { cause = cause; place = place })
+    (subst (λ (n : List ℕ). IsSomeAnd (y.image (number_of spec)) (Brings (images n))) is attaches.image) (subst Q fault has))
 
 pub count_as : (A : Type 0) (before now : ℕ) (error : MountError) (cause place : ℕ) → error ≡ BadImage cause place → Counts {A = A} before now (Err error) → now ≡ before
 count_as A before now error cause place fault counts =
@@ -139,29 +143,46 @@ parted specs i spec within is =
     sym (take-append-drop (i + 1) specs)
     ∙ (ap (λ t. t ++ drop (i + 1) specs) (taken_more specs i spec within is) ∙ append_assoc (take i specs) (spec ∷ []) (drop (i + 1) specs))
 
--- where it is so of one, those before it are mounted
+-- where it is so of one, those before it are mounted, and so their images have no fault
+faultless_as : (x : Disks) (images : Images) (spec : DriveSpec) (d : Directory) → IsMountedAs x images spec d → IsFaultless x images spec
+faultless_as x images spec d mounted =
+    subst (λ (n : ℕ). IsSomeAnd (x.image n) (λ image. Brings (images spec.image) image × ((files : Drive) × (files_of image spec.kind ≡ Ok files)))) mounted.number
+    (faultless_brought (x.image d.drive) (images spec.image) spec.kind d mounted.image)
+
 first_behind : (x : Disks) (images : Images) (P : DriveSpec → Type 0) (front : List DriveSpec) (ds : List Directory) (spec : DriveSpec)
-    (rest : List DriveSpec) → AreMounted x images front ds → P spec → IsFirst images P (front ++ (spec ∷ rest))
+    (rest : List DriveSpec) → AreMounted x images front ds → P spec → IsFirst (IsFaultless x images) P (front ++ (spec ∷ rest))
 unfolding IsFirst
 first_behind x images P [] [] spec rest mounted here = inl here
 first_behind x images P [] (d ∷ ds) spec rest mounted here = absurd mounted
 first_behind x images P (first ∷ front) [] spec rest mounted here = absurd mounted
 first_behind x images P (first ∷ front) (d ∷ ds) spec rest mounted here =
-    inr (faultless_brought (x.image d.drive) (images first.image) first.kind d mounted.0.image, first_behind x images P front ds spec rest mounted.1 here)
+    inr (faultless_as x images first d mounted.0, first_behind x images P front ds spec rest mounted.1 here)
 
 stops_behind : (x : Disks) (images : Images) (front : List DriveSpec) (ds : List Directory) (spec : DriveSpec) (rest : List DriveSpec)
-    (old new : Failures) (error : BootError) → AreMounted x images front ds → StopsAt images spec old new error → Stops images (front ++ (spec ∷ rest)) old new error
+    (old new : Failures) (error : BootError) → AreMounted x images front ds → StopsAt x images spec old new error → Stops x images (front ++ (spec ∷ rest)) old new error
 stops_behind x images front ds spec rest old new (Image drive cause place) mounted stops =
-    first_behind x images (λ s. StopsAt images s old new (Image drive cause place)) front ds spec rest mounted stops
+    first_behind x images (λ s. StopsAt x images s old new (Image drive cause place)) front ds spec rest mounted stops
 stops_behind x images front ds spec rest old new DiskFault mounted stops =
-    first_behind x images (λ s. StopsAt images s old new DiskFault) front ds spec rest mounted stops
+    first_behind x images (λ s. StopsAt x images s old new DiskFault) front ds spec rest mounted stops
 stops_behind x images front ds spec rest old new OutOfMemory mounted stops = stops
 
 pub stops_at : (x : Disks) (images : Images) (specs front : List DriveSpec) (ds : List Directory) (spec : DriveSpec) (rest : List DriveSpec)
-    (old new : Failures) (error : BootError) → specs ≡ front ++ (spec ∷ rest) → AreMounted x images front ds → StopsAt images spec old new error
-    → Stops images specs old new error
+    (old new : Failures) (error : BootError) → specs ≡ front ++ (spec ∷ rest) → AreMounted x images front ds → StopsAt x images spec old new error
+    → Stops x images specs old new error
 stops_at x images specs front ds spec rest old new error is mounted stops =
-    subst (λ (s : List DriveSpec). Stops images s old new error) (sym is) (stops_behind x images front ds spec rest old new error mounted stops)
+    subst (λ (s : List DriveSpec). Stops x images s old new error) (sym is) (stops_behind x images front ds spec rest old new error mounted stops)
+
+-- no write was asked for
+pub asks_more : (specs front : List DriveSpec) (spec : DriveSpec) (rest : List DriveSpec) (x y z : ℕ → Bool) → specs ≡ front ++ (spec ∷ rest) → AsksNothing specs x y
+    → (z (number_of spec) ≡ true → y (number_of spec) ≡ true) → ((other : ℕ) → other ≢ number_of spec → z other ≡ y other) → AsksNothing specs x z
+asks_more specs front spec rest x y z is asks here others = record {
+  write = λ number asked. asks.write number (at number (cases_eq number (number_of spec)) asked);
+  sync = λ number apart. others number (not_listed specs front spec rest is number apart) ∙ asks.sync number apart;
+}
+  where
+    at : (number : ℕ) → (number ≡ number_of spec) ⊎ (number ≢ number_of spec) → z number ≡ true → y number ≡ true
+    at number (inl same) asked = subst (λ (n : ℕ). y n ≡ true) (sym same) (here (subst (λ (n : ℕ). z n ≡ true) same asked))
+    at number (inr other) asked = sym (others number other) ∙ asked
 
 -- a drive that is synced stays so as one is, which is it or another
 pub stays : (old now : ℕ → Bool) (drive : ℕ) → now drive ≡ false → ((other : ℕ) → other ≢ drive → now other ≡ old other) → (number : ℕ) → old number ≡ false → now number ≡ false

@@ -1,13 +1,13 @@
 -- What attaching a drive and mounting it leave of the images.
 use Rattle.std.proofs.Common.{◌≡◌, ◌∙◌, ℕ, List, Option, Some, None, ap}
-use Rattle.std.specs.Prelude.{IfSome, IsSomeAnd, Err}
+use Rattle.std.specs.Prelude.{IfSome, IsSomeAnd, Ok, Err}
 use Rattle.mpm_base.specs.declared.kind.Kind.{Kind}
 use Rattle.mpm_port.specs.Disks.{Disks, ToldImage, Brings, Attaches}
 use Rattle.mpm_mount.specs.declared.errors.ImageFault.{ImageFault}
 use Rattle.mpm_mount.specs.Directories.{Directory}
+use Rattle.mpm_mount.specs.Drives.{Drive}
 use Rattle.mpm_mount.specs.Images.{files_of}
 use Rattle.mpm_mount.specs.Mounting.{IsMounted, drive_in}
-use Rattle.mpm_drives.specs.Images.{HasFault, IsFaultless}
 use Rattle.mpm_drives.specs.Mounted.{OnlyDrive}
 
 -- an image that was brought is mounted, or has a fault
@@ -18,13 +18,14 @@ brought_mounted None told kind d some mounted = absurd some
 brought_mounted (Some image) told kind d some mounted = (some, mounted)
 
 pub brought_fault : (o : Option (List ℕ)) (told : ToldImage) (kind : Kind) (fault : ImageFault) → IsSomeAnd o (Brings told) → IfSome o (λ image. files_of image kind ≡ Err fault)
-    → HasFault told kind fault
+    → IsSomeAnd o (λ image. Brings told image × (files_of image kind ≡ Err fault))
 brought_fault None told kind fault some has = absurd some
-brought_fault (Some image) told kind fault some has = record { image = image; brought = some; stands = has }
+brought_fault (Some image) told kind fault some has = (some, has)
 
-pub faultless_brought : (o : Option (List ℕ)) (told : ToldImage) (kind : Kind) (d : Directory) → IsSomeAnd o (λ image. Brings told image × IsMounted image kind d) → IsFaultless told kind
+pub faultless_brought : (o : Option (List ℕ)) (told : ToldImage) (kind : Kind) (d : Directory) → IsSomeAnd o (λ image. Brings told image × IsMounted image kind d)
+    → IsSomeAnd o (λ image. Brings told image × ((files : Drive) × (files_of image kind ≡ Ok files)))
 faultless_brought None told kind d some = absurd some
-faultless_brought (Some image) told kind d some = (drive_in image d, record { image = image; brought = some.0; stands = some.1.files })
+faultless_brought (Some image) told kind d some = (some.0, (drive_in image d, some.1.files))
 
 -- the other drives stay
 

@@ -1,8 +1,7 @@
 -- What an image that an attach brings stands for, by what is told of it before.
-use Rattle.std.specs.Prelude.{◌≡◌, ℕ, List, Ok, Err}
+use Rattle.std.specs.Prelude.{◌≡◌, ℕ, List, Ok}
 use Rattle.mpm_base.specs.declared.kind.Kind.{Kind}
 use Rattle.mpm_port.specs.Disks.{ToldImage, Brings}
-use Rattle.mpm_mount.specs.declared.errors.ImageFault.{ImageFault}
 use Rattle.mpm_mount.specs.Drives.{Drive}
 use Rattle.mpm_mount.specs.Images.{files_of}
 
@@ -15,13 +14,3 @@ pub record HasFiles (told : ToldImage) (kind : Kind) (files : Drive) : Type 0 wh
   pub image : List ℕ
   pub brought : Brings told image
   pub stands : files_of image kind ≡ Ok files
-
--- or one that has this first fault
-pub record HasFault (told : ToldImage) (kind : Kind) (fault : ImageFault) : Type 0 where
-  pub image : List ℕ
-  pub brought : Brings told image
-  pub stands : files_of image kind ≡ Err fault
-
--- or one that stands for some files
-abbrev pub IsFaultless : ToldImage → Kind → Type 0
-IsFaultless told kind = (files : Drive) × HasFiles told kind files

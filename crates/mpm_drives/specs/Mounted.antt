@@ -1,5 +1,5 @@
 -- The drives of a machine: as its machine file lists them, as they are mounted, and by what is on them.
-use Rattle.std.specs.Prelude.{◌≡◌, ◌≢◌, ℕ, ◌-◌, Bool, false, List, [], ◌∷◌, Option, Some, None, IsSomeAnd, map, replicate, slice_set, unwrap_or}
+use Rattle.std.specs.Prelude.{◌≡◌, ◌≢◌, ℕ, ◌-◌, Bool, true, false, List, [], ◌∷◌, Option, Some, None, IsSomeAnd, map, replicate, slice_set, unwrap_or}
 use Rattle.std.specs.List.{All, AllZip}
 use Rattle.mpm_port.specs.Disks.{Disks, Brings}
 use Rattle.mpm_machine_file.specs.declared.lists.DriveSpec.{DriveSpec}
@@ -62,3 +62,12 @@ pub record OnlyDrive (number : ℕ) (disks disks' : Disks) : Type 0 where
 pub record SameBeside (specs : List DriveSpec) (disks disks' : Disks) : Type 0 where
   pub images : (number : ℕ) → All (λ spec. number_of spec ≢ number) specs → disks'.image number ≡ disks.image number
   pub names : (number : ℕ) → All (λ spec. number_of spec ≢ number) specs → disks'.name_of number ≡ disks.name_of number
+
+-- no write was asked for: a drive that isn't synced wasn't so before
+abbrev pub AsksNoWrite : (ℕ → Bool) → (ℕ → Bool) → Type 0
+AsksNoWrite unsynced unsynced' = (number : ℕ) → unsynced' number ≡ true → unsynced number ≡ true
+
+-- as the drives of a machine file were attached and mounted, and no other drive was synced
+pub record AsksNothing (specs : List DriveSpec) (unsynced unsynced' : ℕ → Bool) : Type 0 where
+  pub write : AsksNoWrite unsynced unsynced'
+  pub sync : (number : ℕ) → All (λ spec. number_of spec ≢ number) specs → unsynced' number ≡ unsynced number

@@ -1,7 +1,7 @@
 ghost use Rattle.std.specs.Prelude.{◌≡◌, ◌≢◌, true, false, [], ℕ, All, IfOk, IfErr, OnOk};
 ghost use Rattle.mpm_machine_file.specs.Drives.{all_differ};
 ghost use Rattle.mpm_machine_file.specs.MachineFiles.{IsDrive};
-ghost use Rattle.mpm_drives.specs.Mounted.{number_of, IsMountedAs, AreMounted, AreSynced, OnlyDrive, SameBeside};
+ghost use Rattle.mpm_drives.specs.Mounted.{number_of, IsMountedAs, AreMounted, AreSynced, OnlyDrive, SameBeside, AsksNothing};
 ghost use Rattle.mpm_drives.specs.Stopping.{StopsAt, Stops};
 
 use crate::error::BootError;
@@ -37,7 +37,7 @@ impl MountedDrives {
     }
 
     /// Attaches and mounts the drives that a machine file lists, one after another up to the first that can't be; they are
-    /// listed by letter. No image changes, and no other drive; behind a success each of these is synced.
+    /// listed by letter. No write is asked for, and no other drive changes; after a success each of these is synced.
     ///
     /// # Errors
     /// `BootError::Image` comes exactly where that drive is the first whose image has a fault, `BootError::DiskFault` only
@@ -52,13 +52,13 @@ impl MountedDrives {
         ensures mounted { IfOk result (λ mounted. AreMounted (D.disks drives.new) (D.told drives.old) specs.now mounted) }
         ensures count { OnOk result (D.faults drives.new ≡ D.faults drives.old) }
         ensures names { OnOk result (D.failed_names drives.new ≡ D.failed_names drives.old) }
-        ensures err { IfErr result (λ error. Stops (D.told drives.old) specs.now
+        ensures err { IfErr result (λ error. Stops (D.disks drives.new) (D.told drives.old) specs.now
             (record { faults = D.faults drives.old; names = D.failed_names drives.old })
             (record { faults = D.faults drives.new; names = D.failed_names drives.new }) error) }
         ensures told { D.told drives.new ≡ D.told drives.old }
         ensures beside { SameBeside specs.now (D.disks drives.old) (D.disks drives.new) }
         ensures fresh { IfOk result (λ mounted. AreSynced (D.unsynced drives.new) mounted) }
-        ensures unsynced { (number : ℕ) → All (λ spec. number_of spec ≢ number) specs.now → D.unsynced drives.new number ≡ D.unsynced drives.old number }
+        ensures asks { AsksNothing specs.now (D.unsynced drives.old) (D.unsynced drives.new) }
         ensures none { specs.now ≡ [] → drives.new ≡ drives.old }
     {
         let mut items = Vec::new(alloc);
@@ -92,10 +92,11 @@ fn mount_drive<D: Drives>(
     ensures mounted { IfOk result (λ mounted. IsMountedAs (D.disks drives.new) (D.told drives.old) spec.now mounted) }
     ensures count { OnOk result (D.faults drives.new ≡ D.faults drives.old) }
     ensures names { OnOk result (D.failed_names drives.new ≡ D.failed_names drives.old) }
-    ensures err { IfErr result (λ error. StopsAt (D.told drives.old) spec.now
+    ensures err { IfErr result (λ error. StopsAt (D.disks drives.new) (D.told drives.old) spec.now
         (record { faults = D.faults drives.old; names = D.failed_names drives.old })
         (record { faults = D.faults drives.new; names = D.failed_names drives.new }) error) }
     ensures fresh { OnOk result (D.unsynced drives.new (number_of spec.now) ≡ false) }
+    ensures asks { D.unsynced drives.new (number_of spec.now) ≡ true → D.unsynced drives.old (number_of spec.now) ≡ true }
     ensures unsynced { (other : ℕ) → other ≢ number_of spec.now → D.unsynced drives.new other ≡ D.unsynced drives.old other }
     ensures only { OnlyDrive (number_of spec.now) (D.disks drives.old) (D.disks drives.new) }
     ensures told { D.told drives.new ≡ D.told drives.old }

@@ -1,6 +1,6 @@
 -- A machine as it begins: it is whole, and nobody is left to be handed out.
 -- the openings
-use Rattle.std.proofs.Common.{◌∙◌, ℕ, zero, suc, ◌+◌, ◌≤◌, false, List, All, length, refl, sym, ap, subst, arith, add-one}
+use Rattle.std.proofs.Common.{◌∙◌, ℕ, ◌≤◌, false, List, All, length, refl, sym, ap, arith}
 use Rattle.mpm_dispatcher.specs.Dispatch.{picked}
 use Rattle.mpm_script.specs.declared.event.Timed.{Timed}
 use Rattle.mpm_script.specs.Events.{IsTimed}
@@ -8,12 +8,12 @@ use Rattle.mpm_machine_file.specs.declared.machine_file.MachineFile.{MachineFile
 use Rattle.mpm_machine_file.specs.MachineFiles.{IsMachine}
 use Rattle.mpm_service.specs.Disk.{DiskService}
 use Rattle.mpm_kernel.specs.Kernel.{dispatched}
-use Rattle.mpm_system.specs.declared.system.System.{System}
 use Rattle.mpm_system.specs.Whole.{IsWhole, NoCompletions}
-use Rattle.mpm_system.specs.Opening.{with_terminals, begun_by_interpreter, with_interpreting, with_residents, booted, opened, opening_system}
+use Rattle.mpm_system.specs.Opening.{Begun, begun_residents, with_residents, booted, opened, opening_system}
 use Rattle.mpm_system.proofs.SizeLaws.{memory_new}
 use Rattle.mpm_system.proofs.PlacedLaws.{booted_is_bare, opening_is_bare}
-use Rattle.mpm_system.proofs.OpeningLaws.{Begun, BegunSo, interpreting_begun, no_terminals, more_terminals, begun_none, begun_more, boots, whole_picked, no_completions_picked}
+use Rattle.mpm_system.proofs.OpeningLaws.{boots, whole_picked, no_completions_picked}
+use Rattle.mpm_system.proofs.ResidingLaws.{all_begun}
 
 -- a machine as a program begins
 pub opening_whole : (program : List ℕ) → length program ≤ 48512 → IsWhole (opening_system program)
@@ -23,40 +23,23 @@ pub opening_handed : (program : List ℕ) → length program ≤ 48512 → NoCom
 opening_handed program few = (opening_is_bare program few).no_completions
 
 -- a machine as it is run
-terminals_begun : (n : ℕ) (start : System) → IsWhole start → n ≤ length start.kernel.units.consoles → BegunSo start (with_terminals n start) n
-terminals_begun zero start w few = subst (λ s. BegunSo start s 0) (sym (no_terminals start)) (begun_none start w)
-terminals_begun (suc n) start w few =
-    let others = terminals_begun n start w (omega (arith, few)) in
-    let more = begun_more start (with_terminals n start) (with_terminals (n + 1) start) n others (omega (arith, few)) (more_terminals n start) in
-    subst (λ k. BegunSo start (with_terminals k start) k) (add-one n) more
-
 residents_begun : (file : MachineFile) (events : List Timed) → IsMachine file → All IsTimed events
-    → Begun (booted file events) (with_terminals file.consoles (with_interpreting file.consoles (begun_by_interpreter (booted file events))))
+    → Begun (booted file events) (begun_residents file.consoles file.spool file.sched (booted file events))
 residents_begun file events is script =
     let bare = booted_is_bare file events is.some_console is.consoles is.printers (omega (arith, is.segments)) script (memory_new file.segments is.some_segment is.segments is.each_segment) in
     let so = boots file events (booted file events) refl in
-    let first = interpreting_begun file.consoles (booted file events) bare.whole so.queues so.room in
-    let all = terminals_begun file.consoles (with_interpreting file.consoles (begun_by_interpreter (booted file events))) first.whole (omega (arith, so.consoles, first.consoles)) in
-    record {
-      whole = all.whole;
-      completed = all.completed ∙ first.completed;
-      consoles = all.consoles ∙ first.consoles;
-      disk = all.disk ∙ first.disk;
-      steps = all.steps ∙ first.steps;
-      records = all.records ∙ first.records;
-      owed = all.owed ∙ first.owed;
-    }
+    all_begun file.consoles file.spool file.sched (booted file events) bare.whole so.queues so.consoles
 
 pub opened_whole : (file : MachineFile) (events : List Timed) → IsMachine file → All IsTimed events → IsWhole (opened file events)
 unfolding opened with_residents
 opened_whole file events is script =
-    let afterwards = with_terminals file.consoles (with_interpreting file.consoles (begun_by_interpreter (booted file events))) in
+    let afterwards = begun_residents file.consoles file.spool file.sched (booted file events) in
     whole_picked afterwards (dispatched (picked false) afterwards.kernel) (residents_begun file events is script).whole refl
 
 pub opened_handed : (file : MachineFile) (events : List Timed) → IsMachine file → All IsTimed events → NoCompletions (opened file events)
 unfolding opened with_residents
 opened_handed file events is script =
-    let afterwards = with_terminals file.consoles (with_interpreting file.consoles (begun_by_interpreter (booted file events))) in
+    let afterwards = begun_residents file.consoles file.spool file.sched (booted file events) in
     let bare = booted_is_bare file events is.some_console is.consoles is.printers (omega (arith, is.segments)) script (memory_new file.segments is.some_segment is.segments is.each_segment) in
     let begun = residents_begun file events is script in
     no_completions_picked afterwards (dispatched (picked false) afterwards.kernel) refl

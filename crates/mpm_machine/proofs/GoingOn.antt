@@ -15,7 +15,7 @@ use Rattle.mpm_procs.specs.Table.{process_in, call_of}
 use Rattle.mpm_procs.specs.declared.process.Process.{Process}
 use Rattle.mpm_residents.specs.Natives.{native_in, native_took, answer_taken, interprets, interprets_if_there}
 use Rattle.mpm_residents.specs.declared.native.Native.{Native}
-use Rattle.mpm_residents.specs.declared.native.Native.TheVariants.{Tmp, Cli}
+use Rattle.mpm_residents.specs.declared.native.Native.TheVariants.{Tmp, Cli, Spool, Sched}
 use Rattle.mpm_system.specs.Calling.{asking}
 use Rattle.mpm_system.specs.Sending.{chains}
 use Rattle.mpm_system.specs.Whole.{IsWhole}
@@ -85,6 +85,8 @@ taken_first (first ∷ others) native reply is = ap (λ (o : Option Native). opt
 same_kind : (native : Native) (reply : Answer) → interprets (native_took native reply) ≡ interprets native
 same_kind (Tmp tmp) reply = refl
 same_kind (Cli cli) reply = refl
+same_kind (Spool spool) reply = refl
+same_kind (Sched sched) reply = refl
 
 kinds_stay : (residents : List Native) (q : ℕ) (native : Native) (reply : Answer) (p : ℕ) → slice_get residents q ≡ Some native
     → interprets_if_there (slice_get (slice_set residents q (native_took native reply)) p) ≡ interprets_if_there (slice_get residents p)

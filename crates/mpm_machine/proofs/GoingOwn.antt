@@ -27,9 +27,9 @@ use Rattle.mpm_procs.proofs.MapLaws.{free_is_dead, lives_added_other, process_ad
 use Rattle.mpm_procs.specs.Table.{lives, Lives, process_in, call_of, lowest_free, added}
 use Rattle.mpm_procs.specs.declared.process.NewProcess.{NewProcess}
 use Rattle.mpm_procs.specs.declared.process.Process.{Process}
-use Rattle.mpm_residents.specs.Natives.{native_in, native_call, interprets_if_there}
+use Rattle.mpm_residents.specs.Natives.{native_in, native_call, interprets, interprets_if_there}
 use Rattle.mpm_residents.specs.declared.native.Native.{Native}
-use Rattle.mpm_residents.specs.declared.native.Native.TheVariants.{Tmp, Cli}
+use Rattle.mpm_residents.specs.declared.native.Native.TheVariants.{Tmp, Cli, Spool, Sched}
 use Rattle.mpm_base.specs.declared.functions.TheConstants.{PRINT_STRING, READ_QUEUE, OPEN_QUEUE, CONDITIONAL_WRITE_QUEUE, SET_GET_USER_CODE, OPEN_FILE, CLOSE_FILE, READ_SEQUENTIAL, COMPUTE_FILE_SIZE}
 use Rattle.mpm_banks.specs.Memory.{Memory, HasSegment, segment_of, with_bytes}
 use Rattle.mpm_banks.specs.Ranges.{range_of, range_bytes}
@@ -71,7 +71,7 @@ use Rattle.mpm_machine.specs.Serving.{served_to_all}
 use Rattle.mpm_machine.specs.Step.{acted, acted_by, gate_before, running_segment}
 use Rattle.mpm_machine.proofs.GoingOn.{acts_with, acts_took, another, own_call}
 use Rattle.mpm_machine.proofs.GoingParts.{same_place, goes_at_gate, goes_said, goes_spoke, goes_taking, goes_to_all, goes_ended, own_asked, others_call}
-use Rattle.mpm_machine.proofs.InterpretingLaws.{no_terminal, same_resident}
+use Rattle.mpm_machine.proofs.InterpretingLaws.{no_interpreter, same_resident}
 use Rattle.mpm_machine.proofs.KeepingLaws.{begun_for_disk}
 use Rattle.mpm_machine.proofs.OwnLaws.{KeepsOwn, AwaitsNothing, awaits_now, own_itself, own_same, is_reserving, interprets_with, interprets_taken, interprets_reserved, awaits_less}
 
@@ -570,14 +570,21 @@ its_own p cli system i is =
     let zero_is : p ≡ 0 = i.acting.alone p (ap interprets_if_there is) in
     (sym zero_is, same_resident cli i.acting.cli (sym is ∙ ap (native_in system.residents) zero_is ∙ i.acting.acts))
 
+-- a resident that isn't the interpreter asks
+goes_asking : (native : Native) (p : ℕ) (system : System) → native_in system.residents p ≡ Some native → interprets native ≡ false → IsWhole system → Lives system.kernel.dispatcher.procs p
+    → IsReady system.kernel.dispatcher p → Interprets system → Interprets (native_step Ask (native_call native) p (asking p (native_call native) system)).system
+goes_asking native p system is asks w h ready a =
+    let call = native_call native in
+    let other : 0 ≢ p = λ zero_is. absurd (no_interpreter native a.acting.cli asks (sym is ∙ ap (native_in system.residents) (sym zero_is) ∙ a.acting.acts)) in
+    let kept = keeps_asked p call system w h in
+    goes_asks call p (asking p call system) kept.call kept.whole kept.lives (kept.ready ready) other (others_call p call system other a)
+
 pub goes_resided : (native : Option Native) (p : ℕ) (system : System) → native_in system.residents p ≡ native → IsWhole system → Lives system.kernel.dispatcher.procs p
     → IsReady system.kernel.dispatcher p → Interprets system → Interprets (resided native p system).system
 goes_resided None p system is w h ready a = a
-goes_resided (Some (Tmp tmp)) p system is w h ready a =
-    let call = native_call (Tmp tmp) in
-    let other : 0 ≢ p = λ zero_is. absurd (no_terminal (Tmp tmp) a.acting.cli refl (sym is ∙ ap (native_in system.residents) (sym zero_is) ∙ a.acting.acts)) in
-    let kept = keeps_asked p call system w h in
-    goes_asks call p (asking p call system) kept.call kept.whole kept.lives (kept.ready ready) other (others_call p call system other a)
+goes_resided (Some (Tmp tmp)) p system is w h ready a = goes_asking (Tmp tmp) p system is refl w h ready a
+goes_resided (Some (Spool spool)) p system is w h ready a = goes_asking (Spool spool) p system is refl w h ready a
+goes_resided (Some (Sched sched)) p system is w h ready a = goes_asking (Sched sched) p system is refl w h ready a
 goes_resided (Some (Cli cli)) p system is w h ready a =
     let own = its_own p cli system a is in
     let P : ℕ → Interpreter → Type 0 = λ q c. Lives system.kernel.dispatcher.procs q → IsReady system.kernel.dispatcher q → Interprets (native_step (next_act c) (next_call c) q (asking q (next_call c) system)).system in

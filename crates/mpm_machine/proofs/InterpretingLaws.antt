@@ -32,7 +32,7 @@ use Rattle.mpm_residents.specs.declared.cli.table.Row.TheVariants.{ReadCommand, 
 use Rattle.mpm_residents.proofs.StandingLaws.{hands_at, counts_at}
 use Rattle.mpm_residents.specs.Natives.{native_in, native_act, native_call, interprets_if_there, interprets}
 use Rattle.mpm_residents.specs.declared.native.Native.{Native}
-use Rattle.mpm_residents.specs.declared.native.Native.TheVariants.{Tmp, Cli}
+use Rattle.mpm_residents.specs.declared.native.Native.TheVariants.{Tmp, Cli, Spool, Sched}
 use Rattle.mpm_gate.specs.Gates.{IsHome}
 use Rattle.mpm_system.specs.declared.system.System.{System}
 use Rattle.mpm_system.specs.Whole.{IsWhole, silent, speaking}
@@ -189,13 +189,15 @@ own_at Give memory cli seg at s has hands = absurd hands
 pub same_resident : (one other : Interpreter) → Some (Cli one) ≡ Some (Cli other) → one ≡ other
 same_resident one other is = cc
 
-pub no_terminal : (native : Native) (cli : Interpreter) → interprets native ≡ false → Some native ≡ Some (Cli cli) → ⊥
-no_terminal native cli not is = false≢true (sym not ∙ ap interprets_if_there is)
+pub no_interpreter : (native : Native) (cli : Interpreter) → interprets native ≡ false → Some native ≡ Some (Cli cli) → ⊥
+no_interpreter native cli not is = false≢true (sym not ∙ ap interprets_if_there is)
 
 own_by : (native : Native) (who : ℕ) (system : System) (i : Interprets system) (seg at : ℕ) → native_in system.residents who ≡ Some native
     → HandsAt (native_act native) (length (native_call native).bytes) seg at → IsOwn system.memory seg at
 unfolding next_act next_call
 own_by (Tmp tmp) who system i seg at acts hands = absurd hands
+own_by (Spool spool) who system i seg at acts hands = absurd hands
+own_by (Sched sched) who system i seg at acts hands = absurd hands
 own_by (Cli cli) who system i seg at acts hands =
     let zero : who ≡ 0 = i.acting.alone who (ap interprets_if_there acts) in
     let same : cli ≡ i.acting.cli = same_resident cli i.acting.cli (sym acts ∙ ap (native_in system.residents) zero ∙ i.acting.acts) in

@@ -20,9 +20,9 @@ use Rattle.mpm_kernel.proofs.SoundLaws.{runner_lives}
 use Rattle.mpm_gate.specs.declared.gate.Gate.{Gate}
 use Rattle.mpm_gate.specs.declared.gate.Gate.TheVariants.{End, Call, Return}
 use Rattle.mpm_procs.specs.Table.{Lives, process_in}
-use Rattle.mpm_residents.specs.Natives.{native_in, native_call, interprets_if_there}
+use Rattle.mpm_residents.specs.Natives.{native_in, native_call, interprets, interprets_if_there}
 use Rattle.mpm_residents.specs.declared.native.Native.{Native}
-use Rattle.mpm_residents.specs.declared.native.Native.TheVariants.{Tmp, Cli}
+use Rattle.mpm_residents.specs.declared.native.Native.TheVariants.{Tmp, Cli, Spool, Sched}
 use Rattle.mpm_script.specs.declared.event.Event.{Event}
 use Rattle.mpm_xdos.specs.Aborting.{waits_to_end, target}
 use Rattle.z80_regs.specs.Outcome.{Outcome}
@@ -38,7 +38,7 @@ use Rattle.mpm_system.specs.Whole.{Change, IsWhole, speaking}
 use Rattle.mpm_system.specs.declared.system.System.{System}
 use Rattle.mpm_machine.proofs.Containment.{ended_alike, to_all_alike, event_alike, elsewhere_at}
 use Rattle.mpm_machine.proofs.GoingOn.{taken_first, first_stays}
-use Rattle.mpm_machine.proofs.InterpretingLaws.{no_terminal, same_resident}
+use Rattle.mpm_machine.proofs.InterpretingLaws.{no_interpreter, same_resident}
 use Rattle.mpm_machine.proofs.LoadedRows.{hands, IsLoadedAs, answered_so, handed_so}
 use Rattle.mpm_machine.proofs.OwnLaws.{occupied_or_own}
 use Rattle.mpm_machine.proofs.ResidingLaws.{residents_stay}
@@ -310,15 +310,21 @@ loads_next cli file system n = loads_at cli.row cli file system refl n
 
 -- what the running process does
 
+loads_asking : (native : Native) (p : ℕ) (file : List ℕ) (system : System) → native_in system.residents p ≡ Some native → interprets native ≡ false → (i : Interprets system)
+    → IsLoading file system → IsLoading file (native_step Ask (native_call native) p (asking p (native_call native) system)).system
+loads_asking native p file system is asks_so i h =
+    let call = native_call native in
+    let asks = asking p call system in
+    let other : 0 ≢ p = λ zero_is. absurd (no_interpreter native i.acting.cli asks_so (sym is ∙ ap (native_in system.residents) (sym zero_is) ∙ i.acting.acts)) in
+    rests_loading file system (native_step Ask call p asks).system i
+    (rests_both system asks (native_step Ask call p asks).system (rests_alike system asks refl (same_bytes_itself system.memory)) (rests_asks call p asks other)) h
+
 loads_resided : (native : Option Native) (p : ℕ) (file : List ℕ) (system : System) → IsMemory system.memory → native_in system.residents p ≡ native → (i : Interprets system) → IsReading file system
     → IsLoading file system → IsLoading file (resided native p system).system
 loads_resided None p file system m is i reads h = h
-loads_resided (Some (Tmp tmp)) p file system m is i reads h =
-    let call = native_call (Tmp tmp) in
-    let asks = asking p call system in
-    let other : 0 ≢ p = λ zero_is. absurd (no_terminal (Tmp tmp) i.acting.cli refl (sym is ∙ ap (native_in system.residents) (sym zero_is) ∙ i.acting.acts)) in
-    rests_loading file system (native_step Ask call p asks).system i
-    (rests_both system asks (native_step Ask call p asks).system (rests_alike system asks refl (same_bytes_itself system.memory)) (rests_asks call p asks other)) h
+loads_resided (Some (Tmp tmp)) p file system m is i reads h = loads_asking (Tmp tmp) p file system is refl i h
+loads_resided (Some (Spool spool)) p file system m is i reads h = loads_asking (Spool spool) p file system is refl i h
+loads_resided (Some (Sched sched)) p file system m is i reads h = loads_asking (Sched sched) p file system is refl i h
 loads_resided (Some (Cli cli)) p file system m is i reads h =
     let zero_is : p ≡ 0 = i.acting.alone p (ap interprets_if_there is) in
     let acts : native_in system.residents 0 ≡ Some (Cli cli) = ap (native_in system.residents) (sym zero_is) ∙ is in

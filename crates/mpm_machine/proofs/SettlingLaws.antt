@@ -21,14 +21,16 @@ use Rattle.mpm_directories.specs.Places.{directory_at}
 use Rattle.mpm_bdos.specs.Syncing.{mounted_count}
 use Rattle.mpm_bdos.specs.Turns.{KeepsUnsynced, drive_served, labelled, images_of}
 use Rattle.mpm_system.specs.declared.system.System.{System}
+use Rattle.mpm_machine.specs.declared.machine.Machine.{Machine}
 use Rattle.mpm_machine.specs.declared.machine.StepFault.{StepFault}
 use Rattle.mpm_machine.specs.declared.machine.StepFault.TheVariants.{DiskFault, WriteFault}
 use Rattle.mpm_machine.specs.State.{State}
 use Rattle.mpm_machine.specs.Files.{Files, Between, Within, StandsServed, StandsForFiles, filing_in}
 use Rattle.mpm_machine.specs.Faults.{Counts, HaveCause, EndsBy, OnDiskFault}
 use Rattle.mpm_machine.specs.Mounting.{HasNoDrive, KeepsMounted}
-use Rattle.mpm_machine.specs.Failing.{FailsWithin, HaveImages, HaveImagesOf}
-use Rattle.mpm_machine.specs.Settling.{at_end, carried_out, carried, HasCarried, left_of, StopsCarrying, StopsAtEnd, StopsSettling, Called, TurnsCall, SyncsTo}
+use Rattle.mpm_machine.specs.Failing.{Left, FailsWithin, HaveImages, HaveImagesOf}
+use Rattle.mpm_machine.specs.Settling.{at_end, carried_out, carried, HasCarried, left_of, StopsCarrying}
+use Rattle.mpm_machine.specs.AtEnd.{EndsRun, StopsAtEnd, StopsSettling, Called, TurnsCall, SyncsTo}
 
 -- the images stand for what is on the drives where no call is in service
 between_stand : (served : Option Served) (kept : Filed) (disks : Disks) (filing : Filing) → StandsServed served kept disks (Between filing)
@@ -67,6 +69,17 @@ pub settled_stand : (s : State) (disk : DiskService) (kept : Filed) (disks : Dis
 unfolding carried
 settled_stand s disk kept disks stands = end_stands s.files s.system disk.served kept disks stands.stands
 
+-- all of it
+pub ends_run : {A : Type 0} (r : Result A StepFault) (machine : Machine) (s : State) (o m : Outside) (old : System) (disks now : Disks) (trace trace' : Bool) (written first : List ℕ)
+    → old ≡ s.system → HasCarried s.files o m old machine.system machine.bdos disks → now ≡ disks → trace' ≡ trace → OnOk r (written ≡ first ++ closed trace' (carried s).outputs)
+    → OnOk r (EndsRun trace machine written now s first)
+ends_run (Ok x) machine s o m old disks now trace trace' written first same has synced traces text = record {
+  text = subst (λ (t : Bool). written ≡ first ++ closed t (carried s).outputs) traces text;
+  system = carried_system s o m old machine.system machine.bdos disks same has;
+  files = carried_files s o m old machine.system machine.bdos disks now same has synced;
+}
+ends_run (Err e) machine s o m old disks now trace trace' written first same has synced traces text = tt
+
 pub carried_images : (s : State) (o m : Outside) (old new : System) (kept : Filed) (disks now : Disks) → old ≡ s.system
     → HasCarried s.files o m old new kept disks → now ≡ disks → HaveImages now kept.mounted (filing_in (carried s).files).drives
 carried_images s o m old new kept disks now same has synced = record {
@@ -91,36 +104,45 @@ ends_from : (written first : List ℕ) (trace : Bool) (more from : List Output) 
 ends_from written first trace more from to ends =
     widened written first (rendered trace from) (rendered trace (more ++ from)) to to (rendered_onward trace more from) (begins_refl to) ends
 
-pub stops_carrying : (fault : StepFault) (s : State) (o m : Outside) (old : System) (mounted : List (Option Directory)) (disks : Disks) (first : List ℕ) → old ≡ s.system
-    → m.kept.trace ≡ o.kept.trace → Shows o.kept o.written s.outputs first → StopsCarrying fault s.files o m old mounted disks
-    → StopsAtEnd fault m.kept m.written disks mounted s first
+abbrev left_at : Outside → Disks → List (Option Directory) → Left
+left_at seen disks mounted = record { kept = seen.kept; written = seen.written; disks = disks; mounted = mounted }
+
+pub stops_carrying : (fault : StepFault) (s : State) (o m : Outside) (old : System) (mounted : List (Option Directory)) (disks : Disks) (first : List ℕ) (kept : Filed) (before behind : Called)
+    → old ≡ s.system → m.kept.trace ≡ o.kept.trace → Shows o.kept o.written s.outputs first → StopsCarrying fault s.files o m old mounted disks → TurnsCall old kept before behind
+    → StopsAtEnd fault (left_at m disks mounted) kept before behind s first
 unfolding carried
-stops_carrying WriteFault s o m old mounted disks first same trace shows stops =
+stops_carrying WriteFault s o m old mounted disks first kept before behind same trace shows stops calls =
     let P : System → Type 0 = λ system. EndsBetween m.written first (rendered o.kept.trace s.outputs) (closed o.kept.trace ((at_end s.files system).change.emitted ++ s.outputs)) in
     let Q : Bool → Type 0 = λ t. EndsBetween m.written first (rendered t s.outputs) (closed t (carried s).outputs) in
     let R : System → Type 0 = λ system. HaveImages disks mounted (filing_in (at_end s.files system).files).drives in (
       subst Q (sym trace) (subst P same (ends_closed m.written first o.kept.trace s.outputs ((at_end s.files old).change.emitted ++ s.outputs) (stops.0.part s.outputs first shows))),
       subst R same stops.1,
     )
-stops_carrying DiskFault s o m old mounted disks first same trace shows stops =
+stops_carrying DiskFault s o m old mounted disks first kept before behind same trace shows stops calls =
     inl (record {
       shown = subst (λ (seen : Outside). Shows seen.kept seen.written s.outputs first) (sym stops.0) shows;
       images = subst (λ (system : System). HaveImagesOf (FailsWithin (left_of s.files system.kernel.disk.served)) disks mounted) same stops.1;
+      calls = subst (λ (system : System). TurnsCall system kept before behind) same calls;
     })
 
 -- or as the drives were synced, or lines closed
 
-pub stops_closing : (fault : StepFault) (s : State) (m n : Outside) (mounted : List (Option Directory)) (disks : Disks) (first : List ℕ) → n.kept.trace ≡ m.kept.trace
+pub stops_closing : (fault : StepFault) (s : State) (m n : Outside) (mounted : List (Option Directory)) (disks : Disks) (first : List ℕ) (kept : Filed) (before between now : Called)
+    → TurnsCall s.system kept before between → SyncsTo fault mounted between now → n.kept.trace ≡ m.kept.trace
     → Shows m.kept m.written (carried s).outputs first → OnDiskFault fault (n ≡ m)
     → EndsBy fault n.written first (rendered m.kept.trace (carried s).outputs) (closed m.kept.trace (carried s).outputs)
-    → HaveImages disks mounted (filing_in (carried s).files).drives → StopsAtEnd fault n.kept n.written disks mounted s first
+    → HaveImages disks mounted (filing_in (carried s).files).drives → StopsAtEnd fault (left_at n disks mounted) kept before now s first
 unfolding carried
-stops_closing WriteFault s m n mounted disks first trace shows same ends images =
+stops_closing WriteFault s m n mounted disks first kept before between now turns syncs trace shows same ends images =
     let Q : Bool → Type 0 = λ t. EndsBetween n.written first (rendered t s.outputs) (closed t (carried s).outputs) in
     let emitted : List Output = (at_end s.files s.system).change.emitted in
     (subst Q (sym trace) (ends_from n.written first m.kept.trace emitted s.outputs (closed m.kept.trace (carried s).outputs) ends), images)
-stops_closing DiskFault s m n mounted disks first trace shows same ends images =
-    inr (record { shown = subst (λ (seen : Outside). Shows seen.kept seen.written (carried s).outputs first) (sym same) shows; images = images })
+stops_closing DiskFault s m n mounted disks first kept before between now turns syncs trace shows same ends images =
+    inr (record {
+      shown = subst (λ (seen : Outside). Shows seen.kept seen.written (carried s).outputs first) (sym same) shows;
+      images = images;
+      calls = record { between = between; turns = turns; syncs = syncs };
+    })
 
 pub seen_same : {S : Type 0} (written : S → List ℕ) (faults : S → ℕ) (kept kept' : Kept) (sink sink' : S) → (kept' ≡ kept) × (sink' ≡ sink)
     → seen written faults kept' sink' ≡ seen written faults kept sink
@@ -242,12 +264,14 @@ pub err_seen : {A S : Type 0} (r : Result A StepFault) (written : S → List ℕ
 err_seen (Ok x) written faults kept kept' sink sink' same = tt
 err_seen (Err fault) written faults kept kept' sink sink' same = on_fault fault _ _ (seen_same written faults kept kept' sink sink') same
 
-pub err_stops : {A : Type 0} (r : Result A StepFault) (s : State) (m n : Outside) (mounted : List (Option Directory)) (disks : Disks) (first : List ℕ) → n.kept.trace ≡ m.kept.trace
+pub err_stops : {A : Type 0} (r : Result A StepFault) (s : State) (m n : Outside) (mounted : List (Option Directory)) (disks : Disks) (first : List ℕ) (kept : Filed) (before between now : Called)
+    → TurnsCall s.system kept before between → IfErr r (λ fault. SyncsTo fault mounted between now) → n.kept.trace ≡ m.kept.trace
     → Shows m.kept m.written (carried s).outputs first → IfErr r (λ fault. OnDiskFault fault (n ≡ m))
     → IfErr r (λ fault. EndsBy fault n.written first (rendered m.kept.trace (carried s).outputs) (closed m.kept.trace (carried s).outputs))
-    → HaveImages disks mounted (filing_in (carried s).files).drives → IfErr r (λ fault. StopsAtEnd fault n.kept n.written disks mounted s first)
-err_stops (Ok x) s m n mounted disks first trace shows same ends images = tt
-err_stops (Err fault) s m n mounted disks first trace shows same ends images = stops_closing fault s m n mounted disks first trace shows same ends images
+    → HaveImages disks mounted (filing_in (carried s).files).drives → IfErr r (λ fault. StopsAtEnd fault (left_at n disks mounted) kept before now s first)
+err_stops (Ok x) s m n mounted disks first kept before between now turns syncs trace shows same ends images = tt
+err_stops (Err fault) s m n mounted disks first kept before between now turns syncs trace shows same ends images =
+    stops_closing fault s m n mounted disks first kept before between now turns syncs trace shows same ends images
 
 pub ok_so : {A E : Type 0} (r : Result A E) (P Q : Type 0) → (P → Q) → OnOk r P → OnOk r Q
 ok_so (Ok x) P Q so p = so p

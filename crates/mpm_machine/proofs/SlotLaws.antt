@@ -1,7 +1,7 @@
 -- The residents of a machine as it is run stand in their slots.
-use Rattle.std.proofs.Common.{◌≡◌, ◌≢◌, ◌∙◌, ℕ, zero, suc, ◌+◌, ◌<◌, ◌≤◌, Bool, true, false, not, List, [], ◌∷◌, ◌++◌, length, Option, Some, None, if◌then◌else◌, inl, inr, codes, refl, sym, ap, subst, arith, add-one, get_or-set_same}
+use Rattle.std.proofs.Common.{◌≡◌, ◌≢◌, ◌∙◌, ℕ, zero, suc, ◌+◌, ◌<◌, ◌≤◌, Bool, true, false, not, List, [], ◌∷◌, ◌++◌, length, Option, Some, None, if◌then◌else◌, inl, inr, codes, refl, sym, ap, subst, arith, add-zero, add-one, get_or-set_same}
 use Rattle.std.specs.Prelude.{slice_get, nat_lt}
-use Rattle.std.proofs.lemmas.Bool.{cases_lt, false≢true}
+use Rattle.std.proofs.lemmas.Bool.{cases_lt, cases_eq, false≢true}
 use Rattle.std.proofs.lemmas.List.{length-map, length_push}
 use Rattle.std.proofs.lemmas.Bool.Decides.{nat_tests}
 use Rattle.std.proofs.lemmas.List.Sums.{position_or_len_is}
@@ -15,13 +15,18 @@ use Rattle.mpm_procs.specs.declared.process.NewProcess.{NewProcess}
 use Rattle.mpm_procs.specs.Opening.{opening as opening_process}
 use Rattle.mpm_procs.proofs.MapLaws.{call_after, call_added_other, slots_none, nobody_lives, lives_changed, lives_added, lives_added_other, process_changed, process_kept, process_added, process_added_other, slots_added}
 use Rattle.mpm_dispatcher.specs.Dispatch.{ready, picked, new_dispatcher}
+use Rattle.mpm_dispatcher.specs.declared.dispatcher.Dispatcher.{Dispatcher}
 use Rattle.mpm_kernel.specs.Disk.{in_turns}
-use Rattle.mpm_kernel.specs.Kernel.{new_kernel, dispatched}
+use Rattle.mpm_kernel.specs.Kernel.{Kernel, new_kernel, dispatched}
+use Rattle.mpm_base.specs.declared.number.Name8.{Name8}
+use Rattle.mpm_base.proofs.CountLaws.{one_if, one_if_true, one_if_false, at_most_one}
+use Rattle.mpm_sched.specs.Schedulers.{opening as opening_scheduler}
+use Rattle.mpm_spool.specs.Spoolers.{opening as opening_spooler}
 use Rattle.mpm_kernel.specs.Queueing.{with_queue, with_system_queue}
 use Rattle.mpm_kernel.proofs.SoundLaws.{free_is_unlisted}
 use Rattle.mpm_residents.specs.Terminals.{opening}
 use Rattle.mpm_residents.specs.declared.native.Native.{Native}
-use Rattle.mpm_residents.specs.declared.native.Native.TheVariants.{Tmp, Cli}
+use Rattle.mpm_residents.specs.declared.native.Native.TheVariants.{Tmp, Cli, Spool, Sched}
 use Rattle.mpm_residents.specs.Interpreters.{opening as opening_interpreter}
 use Rattle.mpm_script.specs.declared.event.Timed.{Timed}
 use Rattle.mpm_machine_file.specs.declared.machine_file.MachineFile.{MachineFile}
@@ -30,7 +35,7 @@ use Rattle.mpm_banks.specs.Memory.{Memory, HasSegment}
 use Rattle.mpm_banks.specs.Allocations.{new_segment, new_memory}
 use Rattle.mpm_base.specs.declared.segment.SegmentSpec.{SegmentSpec}
 use Rattle.mpm_machine_file.specs.MachineFiles.{IsMachine}
-use Rattle.mpm_residents.specs.Natives.{native_in, interprets_if_there}
+use Rattle.mpm_residents.specs.Natives.{native_in, interprets, interprets_if_there}
 use Rattle.mpm_residents.proofs.StandingLaws.{stands_opening}
 use Rattle.mpm_gate.specs.Gates.{IsHome}
 use Rattle.mpm_service.specs.Disk.{DiskService, no_service}
@@ -38,11 +43,12 @@ use Rattle.mpm_service.specs.Places.{at_disk}
 use Rattle.mpm_service.proofs.PlaceLaws.{at_none}
 use Rattle.mpm_system.specs.declared.system.System.{System}
 use Rattle.mpm_system.specs.Whole.{IsWhole, NoCompletions}
-use Rattle.mpm_system.specs.Opening.{resident_process, with_interpreter, terminal_name, with_terminal, with_terminals, with_command_queue, begun_by_interpreter, with_interpreting, with_residents, moment_of, booted, opened}
+use Rattle.mpm_system.specs.Opening.{resident_process, with_begun, with_resident, with_interpreter, terminal_name, terminal_process, with_terminal, with_terminals, with_command_queue, begun_by_interpreter, with_interpreting, spool_queue, stop_queue, with_spool_queues, spooler_name, spooler_process, with_spooler, schedule_queue, schedule_number, with_schedule_queue, scheduler_name, scheduler_process, with_scheduler, command_queues, spooling_queues, resident_queues, OnlyHas, begun_residents, with_residents, moment_of, booted, opened}
 use Rattle.mpm_system.proofs.PlacedLaws.{home_bare}
-use Rattle.mpm_system.proofs.OpeningLaws.{Begun, interpreting_begun, terminal_begun, boots}
+use Rattle.mpm_system.proofs.OpeningLaws.{interpreting_begun, command_here, boots}
+use Rattle.mpm_system.proofs.ResidingLaws.{terminals_begun, spool_begun, spooler_begun, spooler_has, schedule_begun, scheduler_has, all_begun}
 use Rattle.mpm_machine.specs.Interpreting.{sets_or_chains, Interprets}
-use Rattle.mpm_machine.specs.Slots.{HasInterpreter, HasTerminal, HasResidents}
+use Rattle.mpm_machine.specs.Slots.{HasInterpreter, HasResident, HasTerminal, HasResidents}
 
 -- the lowest free slot, where all below it have a process
 if_in : (b : Bool) (p : ℕ) → b ≡ true → (if b then Some p else None) ≡ Some p
@@ -104,117 +110,239 @@ call_there table p new process slots within = call_after (added table p new) p p
 call_as_before : (table : Table) (p q : ℕ) (new : NewProcess) (process : Process) → q ≢ p → call_of (begun_in table p new process) q ≡ call_of table q
 call_as_before table p q new process apart = call_after (added table p new) p q process ∙ call_added_other table p q new apart
 
--- some of the terminal message processors have begun
-pub record Lodges (consoles n : ℕ) (system : System) : Type 0 where
+-- a resident that begins in the lowest free slot: who is there stays, and it is there too
+module _ (system : System) (w : IsWhole system) (p : ℕ) (few : p < 32) (free : lowest_free system.kernel.dispatcher.procs ≡ Some p) (new : NewProcess) (native : Native) where
+  abbrev with_it : System
+  with_it = with_resident (Some p) new native system
+
+  resident_stays : (q : ℕ) (named : Name8) (other : Native) → q ≢ p → HasResident q named other system → HasResident q named other with_it
+  unfolding with_resident with_begun
+  resident_stays q named other apart has =
+      let table = system.kernel.dispatcher.procs in
+      let process = record (process_in (added table p new) p) { error_mode = 255 } in
+      record {
+        lives = lives_as_before table p q new process apart ∙ has.lives;
+        name = ap (λ (x : Process). x.name) (same_as_before table p q new process apart) ∙ has.name;
+        resident = front system.residents (native ∷ []) q other has.resident;
+      }
+
+  resident_there : (named : Name8) → new.name ≡ named → length system.residents ≡ p → HasResident p named native with_it
+  unfolding with_resident with_begun
+  resident_there named is many =
+      let table = system.kernel.dispatcher.procs in
+      let slots = w.sound.slots in
+      let process = record (process_in (added table p new) p) { error_mode = 255 } in
+      record {
+        lives = lives_there table p new process (omega (arith, few, slots.alive));
+        name = ap (λ (x : Process). x.name) (same_there table p new process slots few) ∙ name_there table p new slots few ∙ is;
+        resident = ap (slice_get (system.residents ++ native ∷ [])) (sym many) ∙ last system.residents native;
+      }
+
+  interpreter_stays : (consoles : ℕ) → 0 ≢ p → HasInterpreter consoles system → HasInterpreter consoles with_it
+  unfolding with_resident with_begun
+  interpreter_stays consoles apart has =
+      let table = system.kernel.dispatcher.procs in
+      let process = record (process_in (added table p new) p) { error_mode = 255 } in
+      record {
+        lives = lives_as_before table p 0 new process apart ∙ has.lives;
+        name = ap (λ (x : Process). x.name) (same_as_before table p 0 new process apart) ∙ has.name;
+        ready = list_of_inserted_other system.kernel.dispatcher.lists ready (record { slot = p; priority = new.priority }) 0 w.sound.table (omega arith)
+            few (free_is_unlisted system.kernel p w.sound free) (grind (arith, nat_tests)) ∙ has.ready;
+        resides = ap (λ (x : Process). x.seg) (same_as_before table p 0 new process apart) ∙ has.resides;
+        answers = ap (λ (x : Process). x.error_mode) (same_as_before table p 0 new process apart) ∙ has.answers;
+        goes_on = ap (λ (x : Process). x.abort_due) (same_as_before table p 0 new process apart) ∙ has.goes_on;
+        calls = ap (λ (c : Taken). c.function) (call_as_before table p 0 new process apart) ∙ has.calls;
+        resident = front system.residents (native ∷ []) 0 (Cli (opening_interpreter consoles)) has.resident;
+      }
+
+  free_stays : (q : ℕ) → q ≢ p → lives with_it.kernel.dispatcher.procs q ≡ lives system.kernel.dispatcher.procs q
+  unfolding with_resident with_begun
+  free_stays q apart =
+      let table = system.kernel.dispatcher.procs in
+      lives_as_before table p q new (record (process_in (added table p new) p) { error_mode = 255 }) apart
+
+  taken_there : lives with_it.kernel.dispatcher.procs p ≡ true
+  unfolding with_resident with_begun
+  taken_there =
+      let table = system.kernel.dispatcher.procs in
+      lives_there table p new (record (process_in (added table p new) p) { error_mode = 255 }) (omega (arith, few, w.sound.slots.alive))
+
+  more_residents : length with_it.residents ≡ length system.residents + 1
+  unfolding with_resident
+  more_residents = length_push system.residents native
+
+-- so many residents have begun, in the lowest slots: the interpreter, terminal message processors for the first consoles, and perhaps others
+pub record Lodges (consoles n count : ℕ) (system : System) : Type 0 where
   pub interpreter : HasInterpreter consoles system
   pub terminals : (console : ℕ) → console < n → HasTerminal console system
-  pub free : (q : ℕ) → n < q → lives system.kernel.dispatcher.procs q ≡ false
-  pub residents : length system.residents ≡ n + 1
+  pub some : 0 < count
+  pub above : n < count
+  pub taken : (q : ℕ) → q < count → lives system.kernel.dispatcher.procs q ≡ true
+  pub free : (q : ℕ) → count ≤ q → lives system.kernel.dispatcher.procs q ≡ false
+  pub residents : length system.residents ≡ count
 
--- all slots below have one
-taken_below : (consoles n : ℕ) (system : System) → Lodges consoles n system → (k : ℕ) → k < n + 1 → lives system.kernel.dispatcher.procs k ≡ true
-taken_below consoles n system has zero less = has.interpreter.lives
-taken_below consoles n system has (suc k) less =
-    ap (λ j. lives system.kernel.dispatcher.procs j) (sym (add-one k)) ∙ (has.terminals k (omega (arith, less))).lives
+next_slot : (consoles n count : ℕ) (system : System) → HasSlots system.kernel.dispatcher.procs → count < 32 → Lodges consoles n count system → lowest_free system.kernel.dispatcher.procs ≡ Some count
+next_slot consoles n count system slots few has =
+    lowest_is system.kernel.dispatcher.procs count (omega (arith, few, slots.alive)) has.taken (has.free count (omega arith))
 
-next_slot : (consoles n : ℕ) (system : System) → HasSlots system.kernel.dispatcher.procs → n < 8 → Lodges consoles n system → lowest_free system.kernel.dispatcher.procs ≡ Some (n + 1)
-next_slot consoles n system slots few has =
-    lowest_is system.kernel.dispatcher.procs (n + 1) (omega (arith, few, slots.alive)) (taken_below consoles n system has) (has.free (n + 1) (omega arith))
+lodges_next : (consoles n count : ℕ) (system : System) (new : NewProcess) (native : Native) → IsWhole system → count < 32 → lowest_free system.kernel.dispatcher.procs ≡ Some count → Lodges consoles n count system
+    → Lodges consoles n (count + 1) (with_resident (Some count) new native system)
+lodges_next consoles n count system new native w few free has = record {
+  interpreter = interpreter_stays system w count few free new native consoles (λ e. absurd (omega (arith, e, has.some))) has.interpreter;
+  terminals = λ k less. resident_stays system w count few free new native (k + 1) (terminal_name k) (Tmp (opening k)) (λ e. absurd (omega (arith, e, less, has.above))) (has.terminals k less);
+  some = omega arith;
+  above = omega (arith, has.above);
+  taken = λ q less. elim (cases_lt q count) [
+    | inl below ↦ free_stays system w count few free new native q (λ e. absurd (omega (arith, e, below))) ∙ has.taken q below
+    | inr past ↦
+        let same : q ≡ count = omega (arith, less, past) in
+        subst (λ (k : ℕ). lives (with_resident (Some count) new native system).kernel.dispatcher.procs k ≡ true) (sym same) (taken_there system w count few free new native)
+  ];
+  free = λ q more. free_stays system w count few free new native q (λ e. absurd (omega (arith, e, more))) ∙ has.free q (omega (arith, more));
+  residents = more_residents system w count few free new native ∙ ap (λ m. m + 1) has.residents;
+}
 
-not_last : (k n : ℕ) → k < n → k + 1 ≢ n + 1
-not_last k n less = λ e. absurd (omega (arith, less, e))
+-- the terminal message processors, as many as there are consoles
 
-not_zero : (n : ℕ) → 0 ≢ n + 1
-not_zero n = λ e. absurd (omega (arith, e))
+terminal_called : (console : ℕ) → (terminal_process console).name ≡ terminal_name console
+unfolding resident_process
+terminal_called console = refl
 
-newest : (consoles n k : ℕ) (system : System) → IsWhole system → n < 8 → Lodges consoles n system → k ≡ n
-    → HasTerminal k (with_terminal (Some (n + 1)) n system)
-unfolding with_terminal resident_process
-newest consoles n k system w few has e =
-    let p = n + 1 in
-    let table = system.kernel.dispatcher.procs in
-    let slots = w.sound.slots in
-    let new = resident_process (terminal_name n) 198 n in
-    let process = record (process_in (added table p new) p) { error_mode = 255 } in
-    let P : ℕ → Type 0 = λ j. HasTerminal j (with_terminal (Some (n + 1)) n system) in
-    subst P (sym e) (record {
-      lives = lives_there table p new process (omega (arith, few, slots.alive));
-      name = ap (λ (x : Process). x.name) (same_there table p new process slots (omega (arith, few))) ∙ name_there table p new slots (omega (arith, few));
-      resident = ap (slice_get (system.residents ++ Tmp (opening n) ∷ [])) (sym has.residents) ∙ last system.residents (Tmp (opening n));
-    })
-
-lodges_at : (consoles n : ℕ) (system : System) → IsWhole system → n < 8 → lowest_free system.kernel.dispatcher.procs ≡ Some (n + 1) → Lodges consoles n system
-    → Lodges consoles (n + 1) (with_terminal (Some (n + 1)) n system)
-unfolding with_terminal resident_process
-lodges_at consoles n system w few free has =
-    let p = n + 1 in
-    let table = system.kernel.dispatcher.procs in
-    let slots = w.sound.slots in
-    let new = resident_process (terminal_name n) 198 n in
-    let process = record (process_in (added table p new) p) { error_mode = 255 } in
+lodges_terminal : (consoles n : ℕ) (system : System) → IsWhole system → n < 8 → lowest_free system.kernel.dispatcher.procs ≡ Some (n + 1) → Lodges consoles n (n + 1) system
+    → Lodges consoles (n + 1) (n + 1 + 1) (with_terminal (Some (n + 1)) n system)
+lodges_terminal consoles n system w few free has =
+    let next = lodges_next consoles n (n + 1) system (terminal_process n) (Tmp (opening n)) w (omega (arith, few)) free has in
     record {
-      interpreter = record {
-        lives = lives_as_before table p 0 new process (not_zero n) ∙ has.interpreter.lives;
-        name = ap (λ (x : Process). x.name) (same_as_before table p 0 new process (not_zero n)) ∙ has.interpreter.name;
-        ready = list_of_inserted_other system.kernel.dispatcher.lists ready (record { slot = p; priority = 198 }) 0 w.sound.table (omega arith)
-            (omega (arith, few)) (free_is_unlisted system.kernel p w.sound free) (grind (arith, nat_tests)) ∙ has.interpreter.ready;
-        resides = ap (λ (x : Process). x.seg) (same_as_before table p 0 new process (not_zero n)) ∙ has.interpreter.resides;
-        answers = ap (λ (x : Process). x.error_mode) (same_as_before table p 0 new process (not_zero n)) ∙ has.interpreter.answers;
-        goes_on = ap (λ (x : Process). x.abort_due) (same_as_before table p 0 new process (not_zero n)) ∙ has.interpreter.goes_on;
-        calls = ap (λ (c : Taken). c.function) (call_as_before table p 0 new process (not_zero n)) ∙ has.interpreter.calls;
-        resident = front system.residents (Tmp (opening n) ∷ []) 0 (Cli (opening_interpreter consoles)) has.interpreter.resident;
-      };
+      interpreter = next.interpreter;
       terminals = λ k less. elim (cases_lt k n) [
-        | inl below ↦ record {
-          lives = lives_as_before table p (k + 1) new process (not_last k n below) ∙ (has.terminals k below).lives;
-          name = ap (λ (x : Process). x.name) (same_as_before table p (k + 1) new process (not_last k n below)) ∙ (has.terminals k below).name;
-          resident = front system.residents (Tmp (opening n) ∷ []) (k + 1) (Tmp (opening k)) (has.terminals k below).resident;
-        }
-        | inr past ↦ newest consoles n k system w few has (omega (arith, less, past))
+        | inl below ↦ next.terminals k below
+        | inr past ↦
+            let same : k ≡ n = omega (arith, less, past) in
+            subst (λ (j : ℕ). HasTerminal j (with_terminal (Some (n + 1)) n system)) (sym same)
+            (resident_there system w (n + 1) (omega (arith, few)) free (terminal_process n) (Tmp (opening n)) (terminal_name n) (terminal_called n) has.residents)
       ];
-      free = λ q more. lives_as_before table p q new process (λ e. absurd (omega (arith, e, more))) ∙ has.free q (omega (arith, more));
-      residents = length_push system.residents (Tmp (opening n)) ∙ ap (λ m. m + 1) has.residents;
+      some = next.some;
+      above = omega arith;
+      taken = next.taken;
+      free = next.free;
+      residents = next.residents;
     }
 
-lodges_more : (consoles n : ℕ) (system : System) → IsWhole system → n < 8 → Lodges consoles n system
-    → Lodges consoles (n + 1) (with_terminal (lowest_free system.kernel.dispatcher.procs) n system)
+lodges_more : (consoles n : ℕ) (system : System) → IsWhole system → n < 8 → Lodges consoles n (n + 1) system
+    → Lodges consoles (n + 1) (n + 1 + 1) (with_terminal (lowest_free system.kernel.dispatcher.procs) n system)
 lodges_more consoles n system w few has =
-    let free = next_slot consoles n system w.sound.slots few has in
-    let P : Option ℕ → Type 0 = λ o. Lodges consoles (n + 1) (with_terminal o n system) in
-    subst P (sym free) (lodges_at consoles n system w few free has)
+    let free = next_slot consoles n (n + 1) system w.sound.slots (omega (arith, few)) has in
+    subst (λ (o : Option ℕ). Lodges consoles (n + 1) (n + 1 + 1) (with_terminal o n system)) (sym free) (lodges_terminal consoles n system w few free has)
 
--- as many as there are consoles
-
-record LodgesWhole (consoles n : ℕ) (start system : System) : Type 0 where
-  pub begun : Begun start system
-  pub lodges : Lodges consoles n system
-
-all_lodge : (consoles n : ℕ) (start : System) → IsWhole start → n ≤ length start.kernel.units.consoles → Lodges consoles 0 start → LodgesWhole consoles n start (with_terminals n start)
+all_lodge : (consoles n : ℕ) (start : System) → IsWhole start → n ≤ length start.kernel.units.consoles → Lodges consoles 0 1 start → Lodges consoles n (n + 1) (with_terminals n start)
 unfolding with_terminals
-all_lodge consoles zero start w few has = record { begun = record { whole = w; completed = refl; consoles = refl; disk = refl; steps = refl; records = refl; owed = refl }; lodges = has }
+all_lodge consoles zero start w few has = has
 all_lodge consoles (suc n) start w few has =
     let others = all_lodge consoles n start w (omega (arith, few)) has in
+    let begun = (terminals_begun n start w (omega (arith, few))).begun in
     let system = with_terminals n start in
-    let whole = others.begun.whole in
-    let more = terminal_begun n system whole (omega (arith, few, others.begun.consoles)) in
-    record {
-      begun = record {
-        whole = more.whole;
-        completed = more.completed ∙ others.begun.completed;
-        consoles = more.consoles ∙ others.begun.consoles;
-        disk = more.disk ∙ others.begun.disk;
-        steps = more.steps ∙ others.begun.steps;
-        records = more.records ∙ others.begun.records;
-        owed = more.owed ∙ others.begun.owed;
+    subst (λ (k : ℕ). Lodges consoles k (k + 1) (with_terminal (lowest_free system.kernel.dispatcher.procs) n system)) (add-one n)
+    (lodges_more consoles n system begun.whole (omega (arith, few, begun.whole.sound.units.consoles, begun.consoles)) others)
+
+-- the spooler and the scheduler behind them
+
+lodges_kernel : (consoles n count : ℕ) (system : System) (kernel : Kernel) → kernel.dispatcher ≡ system.kernel.dispatcher → Lodges consoles n count system → Lodges consoles n count (record system { kernel = kernel })
+lodges_kernel consoles n count system kernel same has =
+    let P : Dispatcher → Type 0 = λ d. Lodges consoles n count (record system { kernel = record kernel { dispatcher = d } }) in
+    subst P (sym same) (record {
+      interpreter = record {
+        lives = has.interpreter.lives;
+        name = has.interpreter.name;
+        ready = has.interpreter.ready;
+        resides = has.interpreter.resides;
+        answers = has.interpreter.answers;
+        goes_on = has.interpreter.goes_on;
+        calls = has.interpreter.calls;
+        resident = has.interpreter.resident;
       };
-      lodges = subst (λ k. Lodges consoles k (with_terminal (lowest_free system.kernel.dispatcher.procs) n system)) (add-one n)
-          (lodges_more consoles n system whole (omega (arith, few, whole.sound.units.consoles, others.begun.consoles)) others.lodges);
+      terminals = λ k less. let there = has.terminals k less in record { lives = there.lives; name = there.name; resident = there.resident };
+      some = has.some;
+      above = has.above;
+      taken = has.taken;
+      free = has.free;
+      residents = has.residents;
+    })
+
+queue_beside : (kernel : Kernel) (name : Name8) (width count : ℕ) → (with_system_queue kernel name width count).dispatcher ≡ kernel.dispatcher
+unfolding with_system_queue with_queue
+queue_beside kernel name width count = refl
+
+-- one that begins behind the others, in the slot that is the lowest free one
+resident_kernel : (q : ℕ) (named : Name8) (other : Native) (system : System) (kernel : Kernel) → kernel.dispatcher ≡ system.kernel.dispatcher → HasResident q named other system
+    → HasResident q named other (record system { kernel = kernel })
+resident_kernel q named other system kernel same has =
+    let P : Dispatcher → Type 0 = λ d. HasResident q named other (record system { kernel = record kernel { dispatcher = d } }) in
+    subst P (sym same) (record { lives = has.lives; name = has.name; resident = has.resident })
+
+record LodgesOne (consoles n count : ℕ) (named : Name8) (native : Native) (old system : System) : Type 0 where
+  lodges : Lodges consoles n (count + 1) system
+  there : HasResident count named native system
+  stays : (q : ℕ) (who : Name8) (other : Native) → q ≢ count → HasResident q who other old → HasResident q who other system
+
+one_lodges : (consoles n count : ℕ) (named : Name8) (priority : ℕ) (native : Native) (system : System) → IsWhole system → count < 32 → Lodges consoles n count system
+    → LodgesOne consoles n count named native system (with_resident (lowest_free system.kernel.dispatcher.procs) (resident_process named priority 0) native system)
+unfolding resident_process
+one_lodges consoles n count named priority native system w few has =
+    let free = next_slot consoles n count system w.sound.slots few has in
+    let new = resident_process named priority 0 in
+    subst (λ (o : Option ℕ). LodgesOne consoles n count named native system (with_resident o new native system)) (sym free) (record {
+      lodges = lodges_next consoles n count system new native w few free has;
+      there = resident_there system w count few free new native named refl has.residents;
+      stays = λ q who other apart there. resident_stays system w count few free new native q who other apart there;
+    })
+
+record LodgesSpooler (consoles : ℕ) (spool : Bool) (system : System) : Type 0 where
+  lodges : Lodges consoles consoles (consoles + 1 + one_if spool) system
+  spooler : spool ≡ true → HasResident (consoles + 1) spooler_name (Spool opening_spooler) system
+
+spooler_lodges : (consoles : ℕ) (spool : Bool) (system : System) → IsWhole system → OnlyHas command_queues system.kernel → consoles < 9 → Lodges consoles consoles (consoles + 1) system
+    → LodgesSpooler consoles spool (with_spooler spool system)
+unfolding with_spooler
+spooler_lodges consoles false system w only few has =
+    record { lodges = subst (λ (k : ℕ). Lodges consoles consoles k system) (sym (add-zero (consoles + 1))) has; spooler = λ e. absurd (cc) }
+spooler_lodges consoles true system w only few has =
+    let kernel = with_spool_queues system.kernel in
+    let queued = record system { kernel = kernel } in
+    let beside = queue_beside (with_system_queue system.kernel spool_queue 128 8) stop_queue 1 1 ∙ queue_beside system.kernel spool_queue 128 8 in
+    let one = one_lodges consoles consoles (consoles + 1) spooler_name 200 (Spool opening_spooler) queued (spool_begun system w only).whole (omega (arith, few)) (lodges_kernel consoles consoles (consoles + 1) system kernel beside has) in
+    record { lodges = one.lodges; spooler = λ e. one.there }
+
+record LodgesAll (consoles : ℕ) (spool sched : Bool) (system : System) : Type 0 where
+  lodges : Lodges consoles consoles (consoles + 1 + one_if spool + one_if sched) system
+  spooler : spool ≡ true → HasResident (consoles + 1) spooler_name (Spool opening_spooler) system
+  scheduler : sched ≡ true → HasResident (consoles + 1 + one_if spool) scheduler_name (Sched (opening_scheduler (schedule_number spool))) system
+
+scheduler_lodges : (consoles : ℕ) (spool sched : Bool) (system : System) → IsWhole system → OnlyHas (spooling_queues spool) system.kernel → consoles < 9 → LodgesSpooler consoles spool system
+    → LodgesAll consoles spool sched (with_scheduler sched (schedule_number spool) system)
+unfolding with_scheduler
+scheduler_lodges consoles spool false system w only few has = record {
+  lodges = subst (λ (k : ℕ). Lodges consoles consoles k system) (sym (add-zero (consoles + 1 + one_if spool))) has.lodges;
+  spooler = has.spooler;
+  scheduler = λ e. absurd (cc);
+}
+scheduler_lodges consoles spool true system w only few has =
+    let kernel = with_schedule_queue system.kernel in
+    let queued = record system { kernel = kernel } in
+    let count = consoles + 1 + one_if spool in
+    let beside = queue_beside system.kernel schedule_queue 128 8 in
+    let one = one_lodges consoles consoles count scheduler_name 195 (Sched (opening_scheduler (schedule_number spool))) queued (schedule_begun spool system w only).whole
+    (omega (arith, few, at_most_one spool)) (lodges_kernel consoles consoles count system kernel beside has.lodges) in
+    record {
+      lodges = one.lodges;
+      spooler = λ e. one.stays (consoles + 1) spooler_name (Spool opening_spooler) (λ same. absurd (omega (arith, same, one_if_true spool e)))
+          (resident_kernel (consoles + 1) spooler_name (Spool opening_spooler) system kernel beside (has.spooler e));
+      scheduler = λ e. one.there;
     }
 
 -- before them, the interpreter alone
 
 placed : (file : MachineFile) (events : List Timed)
-    → Lodges file.consoles 0 (record (booted file events) {
+    → Lodges file.consoles 0 1 (record (booted file events) {
       kernel = with_interpreter (Some 0) (with_command_queue (in_turns file.disk_turn (new_kernel file.consoles file.printers (moment_of file))));
       residents = Cli (opening_interpreter file.consoles) ∷ [];
     })
@@ -234,29 +362,48 @@ placed file events =
         resident = refl;
       };
       terminals = λ k less. absurd (omega (arith, less));
+      some = omega arith;
+      above = omega arith;
+      taken = λ q less.
+          let first : q ≡ 0 = omega (arith, less) in
+          subst (λ (k : ℕ). lives (begun_in no_processes 0 new process) k ≡ true) (sym first) (lives_there no_processes 0 new process (omega (arith, slots_none.alive)));
       free = λ q more. lives_as_before no_processes 0 q new process (λ e. absurd (omega (arith, e, more))) ∙ nobody_lives q;
       residents = refl;
     }
 
-interpreter_first : (file : MachineFile) (events : List Timed) → Lodges file.consoles 0 (with_interpreting file.consoles (begun_by_interpreter (booted file events)))
+interpreter_first : (file : MachineFile) (events : List Timed) → Lodges file.consoles 0 1 (with_interpreting file.consoles (begun_by_interpreter (booted file events)))
 unfolding begun_by_interpreter booted new_kernel new_dispatcher with_system_queue with_queue
 interpreter_first file events =
     let free = lowest_is no_processes 0 (omega (arith, slots_none.alive)) (λ k less. absurd (omega (arith, less))) (nobody_lives 0) in
     let kernel = with_command_queue (in_turns file.disk_turn (new_kernel file.consoles file.printers (moment_of file))) in
-    let P : Option ℕ → Type 0 = λ o. Lodges file.consoles 0 (record (booted file events) { kernel = with_interpreter o kernel; residents = Cli (opening_interpreter file.consoles) ∷ [] }) in
+    let P : Option ℕ → Type 0 = λ o. Lodges file.consoles 0 1 (record (booted file events) { kernel = with_interpreter o kernel; residents = Cli (opening_interpreter file.consoles) ∷ [] }) in
     subst P (sym free) (placed file events)
 
 -- no segment changes
 
-terminal_memory : (slot : Option ℕ) (console : ℕ) (system : System) → (with_terminal slot console system).memory ≡ system.memory
-unfolding with_terminal
-terminal_memory None console system = refl
-terminal_memory (Some p) console system = refl
+resident_memory : (slot : Option ℕ) (new : NewProcess) (native : Native) (system : System) → (with_resident slot new native system).memory ≡ system.memory
+unfolding with_resident
+resident_memory slot new native system = refl
 
 terminals_memory : (n : ℕ) (system : System) → (with_terminals n system).memory ≡ system.memory
 unfolding with_terminals
 terminals_memory zero system = refl
-terminals_memory (suc n) system = terminal_memory (lowest_free (with_terminals n system).kernel.dispatcher.procs) n (with_terminals n system) ∙ terminals_memory n system
+terminals_memory (suc n) system =
+    resident_memory (lowest_free (with_terminals n system).kernel.dispatcher.procs) (terminal_process n) (Tmp (opening n)) (with_terminals n system) ∙ terminals_memory n system
+
+spooler_memory : (spool : Bool) (system : System) → (with_spooler spool system).memory ≡ system.memory
+unfolding with_spooler
+spooler_memory false system = refl
+spooler_memory true system =
+    let queued = record system { kernel = with_spool_queues system.kernel } in
+    resident_memory (lowest_free queued.kernel.dispatcher.procs) spooler_process (Spool opening_spooler) queued
+
+scheduler_memory : (sched : Bool) (queue : ℕ) (system : System) → (with_scheduler sched queue system).memory ≡ system.memory
+unfolding with_scheduler
+scheduler_memory false queue system = refl
+scheduler_memory true queue system =
+    let queued = record system { kernel = with_schedule_queue system.kernel } in
+    resident_memory (lowest_free queued.kernel.dispatcher.procs) scheduler_process (Sched (opening_scheduler queue)) queued
 
 first_memory : (file : MachineFile) (events : List Timed) → (with_interpreting file.consoles (begun_by_interpreter (booted file events))).memory ≡ new_memory file.segments
 unfolding begun_by_interpreter booted
@@ -266,54 +413,97 @@ first_memory file events = refl
 
 -- the residents of a machine as it is run, with as many consoles and with the memory of its beginning
 record Opens (file : MachineFile) (system : System) : Type 0 where
-  pub residents : HasResidents file.consoles system
+  pub residents : HasResidents file.consoles file.spool file.sched system
   pub consoles : file.consoles ≡ length system.kernel.units.consoles
   pub memory : system.memory ≡ new_memory file.segments
 
-picked_too : (n : ℕ) (system : System) → Lodges n n system → HasResidents n (record system { kernel = dispatched (picked false) system.kernel })
-picked_too n system has = record {
-  interpreter = record {
-    lives = has.interpreter.lives;
-    name = has.interpreter.name;
-    ready = has.interpreter.ready;
-    resides = has.interpreter.resides;
-    answers = has.interpreter.answers;
-    goes_on = has.interpreter.goes_on;
-    calls = has.interpreter.calls;
-    resident = has.interpreter.resident;
-  };
-  terminals = λ k less.
-      let there = has.terminals k less in record { lives = there.lives; name = there.name; resident = there.resident };
-  only = has.residents;
-}
+stays_picked : (q : ℕ) (named : Name8) (native : Native) (system : System) → HasResident q named native system → HasResident q named native (record system { kernel = dispatched (picked false) system.kernel })
+stays_picked q named native system has = record { lives = has.lives; name = has.name; resident = has.resident }
+
+picked_too : (consoles : ℕ) (spool sched : Bool) (system : System) → LodgesAll consoles spool sched system → OnlyHas (resident_queues spool sched) system.kernel
+    → HasResidents consoles spool sched (record system { kernel = dispatched (picked false) system.kernel })
+picked_too consoles spool sched system has only =
+    let first = has.lodges.interpreter in
+    record {
+      interpreter = record {
+        lives = first.lives;
+        name = first.name;
+        ready = first.ready;
+        resides = first.resides;
+        answers = first.answers;
+        goes_on = first.goes_on;
+        calls = first.calls;
+        resident = first.resident;
+      };
+      terminals = λ k less. stays_picked (k + 1) (terminal_name k) (Tmp (opening k)) system (has.lodges.terminals k less);
+      spooler = λ e. stays_picked (consoles + 1) spooler_name (Spool opening_spooler) system (has.spooler e);
+      scheduler = λ e. stays_picked (consoles + 1 + one_if spool) scheduler_name (Sched (opening_scheduler (schedule_number spool))) system (has.scheduler e);
+      only = has.lodges.residents;
+      queues = record { systems = record { all = only.systems.all }; are = only.are };
+    }
 
 opened_lodges : (file : MachineFile) (events : List Timed) → IsWhole (booted file events) → Opens file (opened file events)
-unfolding opened with_residents
+unfolding opened with_residents begun_residents
 opened_lodges file events w =
-    let boots_so = boots file events (booted file events) refl in
-    let first = interpreting_begun file.consoles (booted file events) w boots_so.queues boots_so.room in
-    let start = with_interpreting file.consoles (begun_by_interpreter (booted file events)) in
-    let all = all_lodge file.consoles file.consoles start first.whole (omega (arith, boots_so.consoles, first.consoles)) (interpreter_first file events) in
+    let old = booted file events in
+    let consoles = file.consoles in
+    let so = boots file events old refl in
+    let start = with_interpreting consoles (begun_by_interpreter old) in
+    let first = interpreting_begun consoles old w so.queues in
+    let many : consoles ≤ length start.kernel.units.consoles = omega (arith, so.consoles, first.consoles) in
+    let few : consoles < 9 = omega (arith, so.consoles, w.sound.units.consoles) in
+    let turn = terminals_begun consoles start first.whole many in
+    let terminals = with_terminals consoles start in
+    let has = turn.has command_queues (command_here old start consoles w so.queues refl) in
+    let spooled = with_spooler file.spool terminals in
+    let spooler = spooler_lodges consoles file.spool terminals turn.begun.whole has few (all_lodge consoles consoles start first.whole many (interpreter_first file events)) in
+    let whole = (spooler_begun file.spool terminals turn.begun.whole has).whole in
+    let spooling = spooler_has file.spool terminals turn.begun.whole has in
+    let begun = with_scheduler file.sched (schedule_number file.spool) spooled in
     record {
-      residents = picked_too file.consoles (with_terminals file.consoles start) all.lodges;
-      consoles = boots_so.consoles ∙ sym (all.begun.consoles ∙ first.consoles);
-      memory = terminals_memory file.consoles start ∙ first_memory file events;
+      residents = picked_too consoles file.spool file.sched begun (scheduler_lodges consoles file.spool file.sched spooled whole spooling few spooler)
+          (scheduler_has file.sched file.spool (schedule_number file.spool) spooled whole spooling);
+      consoles = so.consoles ∙ sym (all_begun consoles file.spool file.sched old w so.queues so.consoles).consoles;
+      memory = scheduler_memory file.sched (schedule_number file.spool) spooled ∙ spooler_memory file.spool terminals ∙ terminals_memory consoles start ∙ first_memory file events;
     }
 
 pub has_residents : (file : MachineFile) (events : List Timed) (bare afterwards : System) → bare ≡ booted file events → IsWhole bare
-    → afterwards ≡ opened file events → HasResidents file.consoles afterwards
+    → afterwards ≡ opened file events → HasResidents file.consoles file.spool file.sched afterwards
 has_residents file events bare afterwards is w was =
-    subst (HasResidents file.consoles) (sym was) (opened_lodges file events (subst IsWhole is w)).residents
+    subst (HasResidents file.consoles file.spool file.sched) (sym was) (opened_lodges file events (subst IsWhole is w)).residents
 
 -- the interpreter acts there, with each segment as its machine file has it
 
-in_slot_zero : (consoles : ℕ) (system : System) → HasResidents consoles system → (p : ℕ) → interprets_if_there (native_in system.residents p) ≡ true → p ≡ 0
-in_slot_zero consoles system has zero acts = refl
-in_slot_zero consoles system has (suc k) acts = elim (cases_lt k consoles) [
+no_other : (native : Native) (residents : List Native) (p : ℕ) → interprets native ≡ false → native_in residents p ≡ Some native → interprets_if_there (native_in residents p) ≡ true → ⊥
+no_other native residents p asks is acts = false≢true (sym asks ∙ sym (ap interprets_if_there is) ∙ acts)
+
+nobody_behind : (residents : List Native) (p : ℕ) → length residents ≤ p → interprets_if_there (native_in residents p) ≡ true → ⊥
+nobody_behind residents p past acts = false≢true (sym (ap interprets_if_there (slice_get_past residents p past)) ∙ acts)
+
+no_scheduler : (consoles : ℕ) (spool sched b : Bool) (system : System) → sched ≡ b → HasResidents consoles spool sched system → (p : ℕ) → consoles + 1 + one_if spool ≤ p
+    → interprets_if_there (native_in system.residents p) ≡ true → ⊥
+no_scheduler consoles spool sched false system e has p behind acts = nobody_behind system.residents p (omega (arith, behind, has.only, one_if_false sched e)) acts
+no_scheduler consoles spool sched true system e has p behind acts = elim (cases_eq p (consoles + 1 + one_if spool)) [
+  | inl same ↦
+      no_other (Sched (opening_scheduler (schedule_number spool))) system.residents p refl (ap (native_in system.residents) same ∙ (has.scheduler e).resident) acts
+  | inr other ↦ nobody_behind system.residents p (omega (arith, behind, other, has.only, one_if_true sched e)) acts
+]
+
+no_spooler : (consoles : ℕ) (spool sched b : Bool) (system : System) → spool ≡ b → HasResidents consoles spool sched system → (p : ℕ) → consoles + 1 ≤ p
+    → interprets_if_there (native_in system.residents p) ≡ true → ⊥
+no_spooler consoles spool sched false system e has p behind acts = no_scheduler consoles spool sched sched system refl has p (omega (arith, behind, one_if_false spool e)) acts
+no_spooler consoles spool sched true system e has p behind acts = elim (cases_eq p (consoles + 1)) [
+  | inl same ↦ no_other (Spool opening_spooler) system.residents p refl (ap (native_in system.residents) same ∙ (has.spooler e).resident) acts
+  | inr other ↦ no_scheduler consoles spool sched sched system refl has p (omega (arith, behind, other, one_if_true spool e)) acts
+]
+
+in_slot_zero : (consoles : ℕ) (spool sched : Bool) (system : System) → HasResidents consoles spool sched system → (p : ℕ) → interprets_if_there (native_in system.residents p) ≡ true → p ≡ 0
+in_slot_zero consoles spool sched system has zero acts = refl
+in_slot_zero consoles spool sched system has (suc k) acts = elim (cases_lt k consoles) [
   | inl less ↦
       let tmp : native_in system.residents (suc k) ≡ Some (Tmp (opening k)) = ap (native_in system.residents) (sym (add-one k)) ∙ (has.terminals k less).resident in
-      absurd (false≢true (sym (ap interprets_if_there tmp) ∙ acts))
-  | inr past ↦ absurd (false≢true (sym (ap interprets_if_there (slice_get_past system.residents (suc k) (omega (arith, past, has.only)))) ∙ acts))
+      absurd (no_other (Tmp (opening k)) system.residents (suc k) refl tmp acts)
+  | inr past ↦ absurd (no_spooler consoles spool sched spool system refl has (suc k) (omega (arith, past)) acts)
 ]
 
 few_segments : (segments : List SegmentSpec) → length segments ≤ 16 → length (new_memory segments).segments ≤ 16
@@ -333,7 +523,7 @@ interprets_at file system turn_steps machine opens w none idle =
       acting = record {
         cli = opening_interpreter file.consoles;
         acts = slot.resident;
-        alone = in_slot_zero file.consoles system opens.residents;
+        alone = in_slot_zero file.consoles file.spool file.sched system opens.residents;
         lives = slot.lives;
         resides = slot.resides;
         answers = slot.answers;

@@ -2,6 +2,7 @@
 -- Programmer's Guide, "BDOS Error Handling".)
 use Rattle.std.specs.Prelude.{◌≡◌, ℕ, ◌+◌, ◌<◌, ◌≤◌, ◌&&◌, ◌||◌, Bool, true, false, List, Option, Some, None, is_some, option_map, slice_set, if◌then◌else◌}
 use Rattle.mpm_port.specs.Disks.{Disks}
+use Rattle.mpm_render.specs.Shown.{Kept}
 use Rattle.mpm_procs.specs.Table.{call_of}
 use Rattle.mpm_mount.specs.Drives.{Drive}
 use Rattle.mpm_mount.specs.Directories.{Directory}
@@ -87,6 +88,16 @@ works_in_turn system = is_some system.kernel.disk.served && is_work (turn_answer
 
 unfoldable pub does_work : System → Bool
 does_work system = works_at_once (file_caller system) system || works_in_turn system
+
+-- what is there where a machine stopped: what is kept to be written and what was, the images, and the directories in memory
+pub record Left : Type 0 where
+  pub kept : Kept
+  pub written : List ℕ
+  pub disks : Disks
+  pub mounted : List (Option Directory)
+
+abbrev pub leaving : {S D : Type 0} → (S → List ℕ) → (D → Disks) → Kept → S → D → List (Option Directory) → Left
+leaving written disks kept sink drives mounted = record { kept = kept; written = written sink; disks = disks drives; mounted = mounted }
 
 -- each image stands, with a directory of the drive and the kind of the one that is mounted, for what is on its drive
 pub record HaveImages (disks : Disks) (mounted : List (Option Directory)) (drives : List (Option Drive)) : Type 0 where

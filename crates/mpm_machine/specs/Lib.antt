@@ -21,6 +21,8 @@ pub mod Filed
 pub mod Failing
 pub mod Contained
 pub mod After
+pub mod AtEnd
 pub mod OneStep
 pub mod Quietly
 pub mod Settling
+pub mod Housing

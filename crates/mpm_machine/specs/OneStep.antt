@@ -1,29 +1,29 @@
--- What one step of a machine leaves, and where it stops.
-use Rattle.std.specs.Prelude.{◌≡◌, ℕ, ◌+◌, Bool, true, List, Option}
+-- What a step of a machine leaves, or n steps, and where they stop.
+use Rattle.std.specs.Prelude.{◌≡◌, ℕ, ◌+◌, ◌-◌, ◌<◌, Bool, true, List, Option}
 use Rattle.mpm_port.specs.Disks.{Disks}
 use Rattle.mpm_mount.specs.Directories.{Directory}
 use Rattle.mpm_drives.specs.Images.{Images}
 use Rattle.mpm_render.specs.Outputs.{rendered}
-use Rattle.mpm_render.specs.Shown.{Kept}
 use Rattle.mpm_opens.specs.Opens.{AreOpen}
 use Rattle.mpm_system.specs.Whole.{IsWhole, NoCompletions}
 use Rattle.mpm_machine.specs.declared.machine.Machine.{Machine}
 use Rattle.mpm_machine.specs.declared.machine.StepFault.{StepFault}
+use Rattle.mpm_machine.specs.declared.machine.RunFault.{RunFault}
 use Rattle.mpm_machine.specs.State.{State}
 use Rattle.mpm_machine.specs.Faults.{EndsBy}
 use Rattle.mpm_machine.specs.Due.{NobodyDue}
 use Rattle.mpm_machine.specs.Interpreting.{Interprets}
 use Rattle.mpm_machine.specs.Mounting.{KeepsMounted}
-use Rattle.mpm_machine.specs.Failing.{StopsWithImages}
-use Rattle.mpm_machine.specs.After.{next, ShowsBefore}
+use Rattle.mpm_machine.specs.Failing.{Left, StopsWithImages}
+use Rattle.mpm_machine.specs.After.{next, after, ShowsBefore, EndsInStep}
 
--- it was done: it is counted, the machine is whole, nobody is left to be answered, nobody's end is due, no two locks are of one record,
--- an interpreter that acts goes on with the segment that it has, and the disk's turns have as many steps as before
-pub record LeavesMachine (old new : Machine) : Type 0 where
-  pub count : new.system.steps ≡ old.system.steps + 1
+-- so many were done: they are counted, the machine is whole, nobody is left to be answered, nobody's end is due, no two locks are of one
+-- record, an interpreter that acts goes on with the segment that it has, and the disk's turns have as many steps as before
+pub record LeavesMachine (steps : ℕ) (old new : Machine) : Type 0 where
+  pub count : new.system.steps ≡ old.system.steps + steps
   pub whole : IsWhole new.system
   pub no_completions : NoCompletions new.system
-  pub due : NobodyDue new.system.kernel
+  pub due : 0 < steps → NobodyDue new.system.kernel
   pub locks : AreOpen new.bdos.opens
   pub interprets : Interprets old.system → Interprets new.system
   pub turn_steps : new.system.kernel.disk.turn_steps ≡ old.system.kernel.disk.turn_steps
@@ -32,12 +32,18 @@ pub record LeavesMachine (old new : Machine) : Type 0 where
 -- writes, which isn't empty; each image stands for what is on its drive after it. Where a drive failed nothing of it was written, and what
 -- is kept to be written is that of the state; the image of the call's drive stands for what it is within the turn, and each other one
 -- for what the call found
-pub record StopsStep (fault : StepFault) (trace : Bool) (kept : Kept) (written : List ℕ) (disks : Disks) (mounted : List (Option Directory)) (s : State) (first : List ℕ) : Type 0 where
-  pub text : EndsBy fault written first (rendered trace s.outputs) (rendered trace (next s).outputs)
-  pub shown : ShowsBefore fault kept written s first
-  pub images : StopsWithImages fault disks mounted s
+pub record StopsStep (fault : StepFault) (trace : Bool) (left : Left) (s : State) (first : List ℕ) : Type 0 where
+  pub text : EndsBy fault left.written first (rendered trace s.outputs) (rendered trace (next s).outputs)
+  pub shown : ShowsBefore fault left.kept left.written s first
+  pub images : StopsWithImages fault left.disks left.mounted s
 
--- whether it was done or not: each drive is that of the same name, of the same kind and size, an image that is no mounted drive's is as it
+-- one of n steps stopped so, as that of the state after those before it
+pub record StopsRun (error : RunFault) (trace : Bool) (left : Left) (n : ℕ) (s : State) (first : List ℕ) : Type 0 where
+  pub text : EndsInStep error.fault trace left.written first s n error.step
+  pub shown : ShowsBefore error.fault left.kept left.written (after (error.step - 1 - s.system.steps) s) first
+  pub images : StopsWithImages error.fault left.disks left.mounted (after (error.step - 1 - s.system.steps) s)
+
+-- whether they were done or not: each drive is that of the same name, of the same kind and size, an image that is no mounted drive's is as it
 -- was, no name joined the failed ones, and a drive that isn't synced isn't so still
 pub record LeavesDrives {D : Type 0} (disks : D → Disks) (told : D → Images) (failed : D → List (List ℕ)) (owes : D → ℕ → Bool) (mounted mounted' : List (Option Directory)) (old new : D) : Type 0 where
   pub keeps : KeepsMounted (told old) (told new) (disks old) (disks new) mounted mounted'

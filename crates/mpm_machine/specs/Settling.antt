@@ -1,20 +1,15 @@
 -- The end of a run: the call in service is carried to its end without further steps, as if in the last one; who waits for the disk has
 -- no effect, and nobody enters service. (This project's own.)
-use Rattle.std.specs.Prelude.{◌≡◌, ℕ, ◌+◌, ◌*◌, ◌≤◌, ◌⊎◌, Bool, List, Option, Some, None, IsSome}
+use Rattle.std.specs.Prelude.{◌≡◌, ℕ, List, Option, Some, None}
 use Rattle.mpm_port.specs.Disks.{Disks}
 use Rattle.mpm_mount.specs.Directories.{Directory}
-use Rattle.mpm_render.specs.Outputs.{rendered, closed}
-use Rattle.mpm_render.specs.Shown.{Kept, Shows, EndsBetween}
-use Rattle.mpm_service.specs.Ahead.{turns_left, unserved}
+use Rattle.mpm_service.specs.Ahead.{unserved}
 use Rattle.mpm_service.specs.declared.service.Served.{Served}
 use Rattle.mpm_kernel.specs.Disk.{with_disk}
 use Rattle.mpm_directories.specs.Direct.{Directly}
 use Rattle.mpm_requests.specs.Filing.{Situation}
 use Rattle.mpm_bdos.specs.Outcomes.{file_call}
 use Rattle.mpm_bdos.specs.Serving.{Kept as Filed}
-use Rattle.mpm_directories.specs.Places.{directory_at}
-use Rattle.mpm_bdos.specs.Syncing.{AreSynced, StopsAtDrive, mounted_count}
-use Rattle.mpm_bdos.specs.Turns.{KeepsUnsynced, drive_served}
 use Rattle.mpm_output.specs.Outside.{Outside}
 use Rattle.mpm_output.specs.Writing.{Wrote, Stopped}
 use Rattle.mpm_system.specs.declared.system.System.{System}
@@ -83,61 +78,3 @@ StopsCarrying WriteFault files before behind old mounted disks =
     Stopped before behind (at_end files old).change.emitted × HaveImages disks mounted (filing_in (at_end files old).files).drives
 StopsCarrying DiskFault files before behind old mounted disks =
     (behind ≡ before) × HaveImagesOf (FailsWithin (left_of files old.kernel.disk.served)) disks mounted
-
--- the end of a run stopped: a drive failed in a turn of the call in service, and nothing of the end was written, or as it was synced,
--- behind all that the call brings about
-pub record StopsInTurn (kept : Kept) (written : List ℕ) (disks : Disks) (mounted : List (Option Directory)) (s : State) (first : List ℕ) : Type 0 where
-  pub shown : Shows kept written s.outputs first
-  pub images : HaveImagesOf (FailsWithin (left_of s.files s.system.kernel.disk.served)) disks mounted
-
-pub record StopsInSync (kept : Kept) (written : List ℕ) (disks : Disks) (mounted : List (Option Directory)) (s : State) (first : List ℕ) : Type 0 where
-  pub shown : Shows kept written (carried s).outputs first
-  pub images : HaveImages disks mounted (filing_in (carried s).files).drives
-
--- where the sink failed, a first part of what the end adds was written
-abbrev pub StopsAtEnd : StepFault → Kept → List ℕ → Disks → List (Option Directory) → State → List ℕ → Type 0
-StopsAtEnd WriteFault kept written disks mounted s first =
-    EndsBetween written first (rendered kept.trace s.outputs) (closed kept.trace (carried s).outputs) × HaveImages disks mounted (filing_in (carried s).files).drives
-StopsAtEnd DiskFault kept written disks mounted s first = StopsInTurn kept written disks mounted s first ⊎ StopsInSync kept written disks mounted s first
-
--- of the drives: which aren't synced, and how often one was called
-pub record Called : Type 0 where
-  pub unsynced : ℕ → Bool
-  pub calls : ℕ
-
-abbrev pub called : {D : Type 0} → (D → ℕ → Bool) → D → ℕ → Called
-called unsynced drives calls = record { unsynced = unsynced drives; calls = calls }
-
--- the turns that were left call the drive of the call in service, at most 20 times each, and sync none; without a call in service none
--- is called
-pub record TurnsCall (system : System) (kept : Filed) (before behind : Called) : Type 0 where
-  pub unsynced : KeepsUnsynced (drive_served kept.service) before.unsynced behind.unsynced
-  pub calls : behind.calls ≤ before.calls + 20 * turns_left system.kernel.disk
-  pub idle : system.kernel.disk.served ≡ None → behind ≡ before
-
--- each mounted drive is synced by one call, and no other is
-pub record SyncsAll (mounted : List (Option Directory)) (before behind : Called) : Type 0 where
-  pub synced : AreSynced behind.unsynced mounted
-  pub beside : (number : ℕ) → directory_at mounted number ≡ None → behind.unsynced number ≡ before.unsynced number
-  pub calls : behind.calls ≡ before.calls + mounted_count mounted
-
--- or those before one that failed are, in order of their letters
-pub record SyncsUpTo (mounted : List (Option Directory)) (before behind : Called) : Type 0 where
-  pub stops : StopsAtDrive mounted before.unsynced behind.unsynced before.calls behind.calls
-  pub beside : (number : ℕ) → directory_at mounted number ≡ None → behind.unsynced number ≡ before.unsynced number
-
--- where the sink fails as lines are closed all were synced
-abbrev pub SyncsTo : StepFault → List (Option Directory) → Called → Called → Type 0
-SyncsTo WriteFault mounted before behind = SyncsAll mounted before behind
-SyncsTo DiskFault mounted before behind = SyncsUpTo mounted before behind
-
--- that came behind the turns
-pub record BehindTurns (system : System) (kept : Filed) (Syncs : Called → Called → Type 0) (before behind : Called) : Type 0 where
-  pub between : Called
-  pub turns : TurnsCall system kept before between
-  pub syncs : Syncs between behind
-
--- the end of a run stopped in a turn of the call in service, and no drive was synced, or after the turns
-abbrev pub StopsSettling : StepFault → List (Option Directory) → Filed → Called → Called → System → Type 0
-StopsSettling fault mounted kept before behind system =
-    (IsSome system.kernel.disk.served × TurnsCall system kept before behind) ⊎ BehindTurns system kept (SyncsTo fault mounted) before behind

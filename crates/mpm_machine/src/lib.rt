@@ -10,6 +10,7 @@ mod due;
 mod file_calls;
 mod filing;
 mod finish;
+mod housing;
 mod interrupts;
 mod machine;
 mod procedures;
@@ -17,5 +18,6 @@ mod residing;
 mod settling;
 mod stepping;
 
+pub use housing::Home;
 pub use machine::{Machine, RunFault, StepFault};
 pub use mpm_drives::BootError;

@@ -1,4 +1,4 @@
-ghost use Rattle.std.specs.Prelude.{◌≡◌, ◌≢◌, ℕ, ◌+◌, ◌-◌, ◌*◌, ◌<◌, ◌≤◌, true, false, List, [], All, Option, Some, None, IfOk, OnOk, IfErr, OnErr, MatchOption, length, option_map};
+ghost use Rattle.std.specs.Prelude.{◌≡◌, ℕ, ◌+◌, ◌-◌, ◌*◌, ◌<◌, ◌≤◌, true, false, List, [], Option, Some, None, IfOk, OnOk, IfErr, OnErr, MatchOption, length, option_map};
 ghost use Rattle.mpm_script.specs.declared.line.TheConstants.{GREATEST_STEP};
 
 use crate::filing::{bdos_of, work};
@@ -47,10 +47,9 @@ impl Machine {
     ghost use Rattle.mpm_kernel.specs.Kernel.{HasConsole};
     ghost use Rattle.mpm_consoles.specs.Consoles.{console_at};
     ghost use Rattle.mpm_machine_file.specs.MachineFiles.{IsMachine};
-    ghost use Rattle.mpm_drives.specs.Mounted.{SameBeside, number_of, placed};
+    ghost use Rattle.mpm_drives.specs.Mounted.{SameBeside, AsksNothing, placed};
     ghost use Rattle.mpm_port.specs.Disks.{Disks};
     ghost use Rattle.mpm_drives.specs.Stopping.{Stops};
-    ghost use Rattle.mpm_opens.specs.Opens.{AreOpen};
     ghost use Rattle.mpm_directories.specs.Places.{directory_at, in_places};
     ghost use Rattle.mpm_bdos.specs.Serving.{nothing_kept};
     ghost use Rattle.mpm_bdos.specs.Syncing.{AreSynced};
@@ -65,16 +64,16 @@ impl Machine {
     ghost use Rattle.mpm_machine.specs.Due.{NobodyDue};
     ghost use Rattle.mpm_machine.specs.Slots.{HasResidents};
     ghost use Rattle.mpm_machine.specs.Interpreting.{Interprets};
-    ghost use Rattle.mpm_system.specs.Opening.{booted, opened, IsBare, MayPlace, with_placed, opening_system, command_queue, with_residents};
-    ghost use Rattle.mpm_kernel.specs.Queueing.{OnlySystems};
-    ghost use Rattle.mpm_queues.specs.Queues.{make_error};
-    ghost use Rattle.mpm_machine.specs.OneStep.{LeavesMachine, StopsStep, LeavesDrives};
+    ghost use Rattle.mpm_system.specs.Opening.{booted, opened, IsBare, MayPlace, with_placed, opening_system, OnlyHas, with_residents};
+    ghost use Rattle.mpm_queues.specs.Queues.{no_queues};
+    ghost use Rattle.mpm_machine.specs.OneStep.{LeavesMachine, StopsStep, StopsRun, LeavesDrives};
     ghost use Rattle.mpm_machine.specs.After.{next, after, IsOfSome, IsStepOf, HasSteppedTo, StopsBy, ShowsBefore, EndsInStep};
     ghost use Rattle.mpm_machine.specs.Mounting.{HasMounted, HasNoDrive, HasDrives, KeepsMounted, OpensOn, untouched};
-    ghost use Rattle.mpm_machine.specs.Failing.{HaveImagesOf, StopsOn, StopsWithImages, does_work, turns_done, working_in};
+    ghost use Rattle.mpm_machine.specs.Failing.{leaving, HaveImagesOf, StopsOn, StopsWithImages, does_work, turns_done, working_in};
 
     /// The machine of a machine file, and of its script's events, as it is run: the command queue, the command line
-    /// interpreter, and a terminal message processor for each console. Its drives are attached to their images and mounted,
+    /// interpreter, a terminal message processor for each console, and the spooler and the scheduler with their queues, where
+    /// the file asks for them. Its drives are attached to their images and mounted,
     /// one after another in order of their letters, and synced then; no image changes, and no other drive.
     ///
     /// # Errors
@@ -88,7 +87,7 @@ impl Machine {
     ) -> Result<Machine, BootError>
         requires { IsMachine file.now }
         ensures opening { IfOk result (λ machine. machine.system ≡ opened file.now script) }
-        ensures residents { IfOk result (λ machine. HasResidents file.now.consoles machine.system) }
+        ensures residents { IfOk result (λ machine. HasResidents file.now.consoles file.now.spool file.now.sched machine.system) }
         ensures interprets { IfOk result (λ machine. Interprets machine.system) }
         ensures start { IfOk result (λ machine. machine.system.steps ≡ 0) }
         ensures whole { IfOk result (λ machine. IsWhole machine.system) }
@@ -100,39 +99,38 @@ impl Machine {
         ensures holds { IfOk result (λ machine. HoldsDrives D.disks machine.system.kernel machine.bdos drives.new) }
         ensures count { OnOk result (D.faults drives.new ≡ D.faults drives.old) }
         ensures names { OnOk result (D.failed_names drives.new ≡ D.failed_names drives.old) }
-        ensures err { IfErr result (λ error. Stops (D.told drives.old) file.now.drives
+        ensures err { IfErr result (λ error. Stops (D.disks drives.new) (D.told drives.old) file.now.drives
             (record { faults = D.faults drives.old; names = D.failed_names drives.old })
             (record { faults = D.faults drives.new; names = D.failed_names drives.new }) error) }
         ensures told { D.told drives.new ≡ D.told drives.old }
         ensures beside { SameBeside file.now.drives (D.disks drives.old) (D.disks drives.new) }
         ensures fresh { IfOk result (λ machine. AreSynced (D.unsynced drives.new) machine.bdos.mounted) }
-        ensures unsynced { (number : ℕ) → All (λ spec. number_of spec ≢ number) file.now.drives → D.unsynced drives.new number ≡ D.unsynced drives.old number }
+        ensures asks { AsksNothing file.now.drives (D.unsynced drives.old) (D.unsynced drives.new) }
         ensures none { file.now.drives ≡ [] → drives.new ≡ drives.old }
     {
         let mut machine = match Machine::boot_bare(alloc, file, script, drives) {
             Ok(machine) => machine,
             Err(error) => return Err(error),
         };
-        machine.begin_residents(file.consoles);
+        machine.begin_residents(file.consoles, file.spool, file.sched);
         Ok(machine)
     }
 
     /// What a machine has as it is run, beside what its file says.
-    fn begin_residents(&mut self, consoles: u8)
+    fn begin_residents(&mut self, consoles: u8, spool: bool, sched: bool)
         requires whole { IsWhole self.old.system }
         requires no_completions { NoCompletions self.old.system }
         requires consoles { consoles ≡ length self.old.system.kernel.units.consoles }
-        requires queues { OnlySystems self.old.system.kernel }
-        requires room { make_error self.old.system.kernel.queues command_queue 130 15 ≡ None }
+        requires queues { OnlyHas no_queues self.old.system.kernel }
         requires nobody { self.old.system.residents ≡ [] }
-        ensures system { self.new.system ≡ with_residents consoles self.old.system }
+        ensures system { self.new.system ≡ with_residents consoles spool sched self.old.system }
         ensures whole { IsWhole self.new.system }
         ensures no_completions { NoCompletions self.new.system }
         ensures disk { self.new.system.kernel.disk ≡ self.old.system.kernel.disk }
         ensures steps { self.new.system.steps ≡ self.old.system.steps }
         ensures bdos { self.new.bdos ≡ self.old.bdos }
     {
-        self.system.begin_residents(consoles);
+        self.system.begin_residents(consoles, spool, sched);
     }
 
     /// The machine of a machine file, and of its script's events, without processes: `place` puts programs into it. Its drives
@@ -156,13 +154,13 @@ impl Machine {
         ensures holds { IfOk result (λ machine. HoldsDrives D.disks machine.system.kernel machine.bdos drives.new) }
         ensures count { OnOk result (D.faults drives.new ≡ D.faults drives.old) }
         ensures names { OnOk result (D.failed_names drives.new ≡ D.failed_names drives.old) }
-        ensures err { IfErr result (λ error. Stops (D.told drives.old) file.now.drives
+        ensures err { IfErr result (λ error. Stops (D.disks drives.new) (D.told drives.old) file.now.drives
             (record { faults = D.faults drives.old; names = D.failed_names drives.old })
             (record { faults = D.faults drives.new; names = D.failed_names drives.new }) error) }
         ensures told { D.told drives.new ≡ D.told drives.old }
         ensures beside { SameBeside file.now.drives (D.disks drives.old) (D.disks drives.new) }
         ensures fresh { IfOk result (λ machine. AreSynced (D.unsynced drives.new) machine.bdos.mounted) }
-        ensures unsynced { (number : ℕ) → All (λ spec. number_of spec ≢ number) file.now.drives → D.unsynced drives.new number ≡ D.unsynced drives.old number }
+        ensures asks { AsksNothing file.now.drives (D.unsynced drives.old) (D.unsynced drives.new) }
         ensures none { file.now.drives ≡ [] → drives.new ≡ drives.old }
     {
         let mounted = match MountedDrives::mount(alloc, file.drives.as_slice(), drives) {
@@ -302,9 +300,9 @@ impl Machine {
             → OnOk result (StandsWithDrives self.new render.new (S.written sink.new) (D.disks drives.new) (next s) first) }
         ensures model { (s : State) → IsAt self.old (D.disks drives.old) s → OnOk result (IsAt self.new (D.disks drives.new) (next s)) }
         ensures stops { (s : State) (first : List ℕ) → StandsWithDrives self.old render.old (S.written sink.old) (D.disks drives.old) s first
-            → IfErr result (λ fault. StopsStep fault render.old.trace render.new (S.written sink.new) (D.disks drives.new) self.new.bdos.mounted s first) }
+            → IfErr result (λ fault. StopsStep fault render.old.trace (leaving S.written D.disks render.new sink.new drives.new self.new.bdos.mounted) s first) }
         ensures law { (s : State) → s.system ≡ self.old.system → IsStepOf s }
-        ensures leaves { OnOk result (LeavesMachine self.old self.new) }
+        ensures leaves { OnOk result (LeavesMachine 1 self.old self.new) }
         ensures holds { OnOk result (HoldsDrives D.disks self.new.system.kernel self.new.bdos drives.new) }
         ensures drives { LeavesDrives D.disks D.told D.failed_names D.unsynced self.old.bdos.mounted self.new.bdos.mounted drives.old drives.new }
         ensures trace { render.new.trace ≡ render.old.trace }
@@ -394,31 +392,18 @@ impl Machine {
         ensures ok { (s : State) (first : List ℕ) → StandsWithDrives self.old render.old (S.written sink.old) (D.disks drives.old) s first
             → OnOk result (StandsWithDrives self.new render.new (S.written sink.new) (D.disks drives.new) (after n s) first) }
         ensures model { (s : State) → IsAt self.old (D.disks drives.old) s → OnOk result (IsAt self.new (D.disks drives.new) (after n s)) }
-        ensures err { (s : State) (first : List ℕ) → StandsWithDrives self.old render.old (S.written sink.old) (D.disks drives.old) s first
-            → IfErr result (λ error. EndsInStep error.fault render.old.trace (S.written sink.new) first s n error.step) }
-        ensures shown { (s : State) (first : List ℕ) → StandsWithDrives self.old render.old (S.written sink.old) (D.disks drives.old) s first
-            → IfErr result (λ error. ShowsBefore error.fault render.new (S.written sink.new) (after (error.step - 1 - s.system.steps) s) first) }
-        ensures images { (s : State) (first : List ℕ) → StandsWithDrives self.old render.old (S.written sink.old) (D.disks drives.old) s first
-            → IfErr result (λ error. StopsWithImages error.fault (D.disks drives.new) self.new.bdos.mounted (after (error.step - 1 - s.system.steps) s)) }
+        ensures stops { (s : State) (first : List ℕ) → StandsWithDrives self.old render.old (S.written sink.old) (D.disks drives.old) s first
+            → IfErr result (λ error. StopsRun error render.old.trace (leaving S.written D.disks render.new sink.new drives.new self.new.bdos.mounted) n s first) }
         ensures each { (s : State) → s.system ≡ self.old.system → (k : ℕ) → k < n → IsStepOf (after k s) }
-        ensures due { 0 < n → OnOk result (NobodyDue self.new.system.kernel) }
-        ensures interprets { Interprets self.old.system → OnOk result (Interprets self.new.system) }
-        ensures locks { OnOk result (AreOpen self.new.bdos.opens) }
-        ensures whole { OnOk result (IsWhole self.new.system) }
-        ensures no_completions { OnOk result (NoCompletions self.new.system) }
-        ensures count { OnOk result (self.new.system.steps ≡ self.old.system.steps + n) }
+        ensures leaves { OnOk result (LeavesMachine n self.old self.new) }
+        ensures holds { OnOk result (HoldsDrives D.disks self.new.system.kernel self.new.bdos drives.new) }
+        ensures drives { LeavesDrives D.disks D.told D.failed_names D.unsynced self.old.bdos.mounted self.new.bdos.mounted drives.old drives.new }
         ensures trace { render.new.trace ≡ render.old.trace }
         ensures cause { HaveCause of_run (counts S.faults D.faults sink.old drives.old) (counts S.faults D.faults sink.new drives.new) result }
-        ensures keeps { KeepsMounted (D.told drives.old) (D.told drives.new) (D.disks drives.old) (D.disks drives.new) self.old.bdos.mounted self.new.bdos.mounted }
-        ensures holds { OnOk result (HoldsDrives D.disks self.new.system.kernel self.new.bdos drives.new) }
-        ensures names { D.failed_names drives.new ≡ D.failed_names drives.old }
-        ensures unsynced { (number : ℕ) → D.unsynced drives.old number ≡ true → D.unsynced drives.new number ≡ true }
-        ensures bare { HasNoDrive self.old.bdos.mounted → HasNoDrive self.new.bdos.mounted }
-        ensures still { n ≡ 0 → drives.new ≡ drives.old }
-        ensures none { HasNoDrive self.old.bdos.mounted → drives.new ≡ drives.old }
-        ensures unfailing { HasNoDrive self.old.bdos.mounted → IfErr result (λ error. error.fault ≡ StepFault.WriteFault) }
 
-        // Where turns have steps, a step calls a drive at most 20 times.
+        // Without a step no drive is called, nor where none is mounted. Where turns have steps, a step calls a drive at most 20 times.
+        ensures still { n ≡ 0 → drives.new ≡ drives.old }
+        ensures none { HasNoDrive self.old.bdos.mounted → IfErr result (λ error. error.fault ≡ StepFault.WriteFault) × (drives.new ≡ drives.old) × HasNoDrive self.new.bdos.mounted }
         ensures few { 0 < self.old.system.kernel.disk.turn_steps → steps.new ≤ steps.old + 20 * n }
     {
         let mut left = n;

@@ -31,9 +31,10 @@ impl Machine {
     ghost use Rattle.mpm_machine.specs.Holding.{HoldsKept, HoldsDrives};
     ghost use Rattle.mpm_machine.specs.Faults.{counts, HaveCause, itself, EndsBy, OnDiskFault};
     ghost use Rattle.mpm_machine.specs.Mounting.{HasNoDrive, KeepsMounted};
-    ghost use Rattle.mpm_machine.specs.Failing.{HaveImages};
+    ghost use Rattle.mpm_machine.specs.Failing.{leaving, HaveImages};
     ghost use Rattle.mpm_machine.specs.After.{EndKeeps};
-    ghost use Rattle.mpm_machine.specs.Settling.{carried, carried_out, turns_passed, HasCarried, StopsCarrying, StopsAtEnd, StopsSettling, called, TurnsCall, SyncsAll, SyncsTo, BehindTurns};
+    ghost use Rattle.mpm_machine.specs.Settling.{carried_out, turns_passed, HasCarried, StopsCarrying};
+    ghost use Rattle.mpm_machine.specs.AtEnd.{EndsRun, StopsAtEnd, StopsSettling, called, TurnsCall, SyncsAll, SyncsTo, BehindTurns};
 
     /// The end of a run: the call in service is carried to its end, each drive is synced, in order of the letters, and unfinished lines
     /// are closed. Where a drive fails nothing more is written, and the lines are left to `Render::finish`. Only `Render::finish` may
@@ -49,15 +50,11 @@ impl Machine {
         requires no_completions { NoCompletions self.old.system }
         requires holds { HoldsDrives D.disks self.old.system.kernel self.old.bdos drives.old }
         ensures ok { (s : State) (first : List ℕ) → StandsWithDrives self.old render.old (S.written sink.old) (D.disks drives.old) s first
-            → OnOk result (S.written sink.new ≡ first ++ closed render.old.trace (carried s).outputs) }
-        ensures system { (s : State) (first : List ℕ) → StandsWithDrives self.old render.old (S.written sink.old) (D.disks drives.old) s first
-            → OnOk result (self.new.system ≡ (carried s).system) }
+            → OnOk result (EndsRun render.old.trace self.new (S.written sink.new) (D.disks drives.new) s first) }
+        ensures stops { (s : State) (first : List ℕ) → StandsWithDrives self.old render.old (S.written sink.old) (D.disks drives.old) s first
+            → IfErr result (λ fault. StopsAtEnd fault (leaving S.written D.disks render.new sink.new drives.new self.new.bdos.mounted) self.old.bdos
+            (called D.unsynced drives.old steps.old) (called D.unsynced drives.new steps.new) s first) }
         ensures whole { OnOk result (IsWhole self.new.system) }
-        ensures files { (s : State) (first : List ℕ) → StandsWithDrives self.old render.old (S.written sink.old) (D.disks drives.old) s first
-            → OnOk result (StandsForFiles self.new.system.kernel.disk self.new.bdos (D.disks drives.new) (carried s).files) }
-        ensures err { (s : State) (first : List ℕ) → StandsWithDrives self.old render.old (S.written sink.old) (D.disks drives.old) s first
-            → IfErr result (λ fault. StopsAtEnd fault render.new (S.written sink.new) (D.disks drives.new) self.new.bdos.mounted s first) }
-
         ensures trace { render.new.trace ≡ render.old.trace }
         ensures cause { HaveCause itself (counts S.faults D.faults sink.old drives.old) (counts S.faults D.faults sink.new drives.new) result }
         ensures keeps { KeepsMounted (D.told drives.old) (D.told drives.new) (D.disks drives.old) (D.disks drives.new) self.old.bdos.mounted self.new.bdos.mounted }
@@ -66,13 +63,12 @@ impl Machine {
         // before the one that fails are then; or, where all are, as lines are closed. Each turn that is left calls a drive at most 20
         // times, and each drive is synced by one call. Where no call is in service no image changes.
         ensures synced { OnOk result (BehindTurns self.old.system self.old.bdos (SyncsAll self.new.bdos.mounted) (called D.unsynced drives.old steps.old) (called D.unsynced drives.new steps.new)) }
-        ensures stops { IfErr result (λ fault. StopsSettling fault self.new.bdos.mounted self.old.bdos
+        ensures syncs { IfErr result (λ fault. StopsSettling fault self.new.bdos.mounted self.old.bdos
             (called D.unsynced drives.old steps.old) (called D.unsynced drives.new steps.new) self.old.system) }
         ensures calls { steps.new ≤ steps.old + 20 * turns_left self.old.system.kernel.disk + mounted_count self.old.bdos.mounted }
         ensures idle { self.old.system.kernel.disk.served ≡ None → SameDrives D.disks D.told D.failed_names drives.old drives.new }
         ensures names { D.failed_names drives.new ≡ D.failed_names drives.old }
-        ensures none { HasNoDrive self.old.bdos.mounted → drives.new ≡ drives.old }
-        ensures unfailing { HasNoDrive self.old.bdos.mounted → IfErr result (λ fault. fault ≡ StepFault.WriteFault) }
+        ensures none { HasNoDrive self.old.bdos.mounted → IfErr result (λ fault. fault ≡ StepFault.WriteFault) × (drives.new ≡ drives.old) }
     {
         match self.carry(drives, render, sink, steps) {
             Ok(()) => self.close(drives, render, sink, steps),

@@ -26,7 +26,7 @@ use Rattle.mpm_machine.specs.Files.{Between, StandsForFiles}
 use Rattle.mpm_machine.specs.Mounting.{HasDrives, HasNoDrive, OpensOn, untouched}
 use Rattle.mpm_machine.proofs.MountedLaws.{none_mounted}
 use Rattle.mpm_machine.proofs.DriveLaws.{nothing_mounted}
-use Rattle.mpm_drives.specs.Stopping.{Failures, StopsAt, IsFirst, Stops}
+use Rattle.mpm_drives.specs.Stopping.{Failures, IsFaultless, StopsAt, IsFirst, Stops}
 use Rattle.mpm_top.proofs.StatusLaws.{always_disk}
 use Rattle.mpm_top.specs.Beginnings.{Host, Failed, system_of, script_name, drives_listed, begun, input_of, Holds, Scripted, Starts, StartsOf, Begins, BeginsOf}
 use Rattle.mpm_top.specs.Endings.{Unread, LacksScript, LacksDrive, Ends, EndsAfter, IsNoMachine, IsRefusal, IsEarly, status_of, UnlessDiskFault}
@@ -97,76 +97,76 @@ starts_of_file host bytes file events system x kept is scripted was opens listed
 
 -- the script that a machine file names wasn't read
 
-by_status : (host : Host) (bytes name : List ℕ) (old new : Failed) (status : Status) → script_name Run bytes ≡ Some name
-    → Unread host.contents name old.files new.files status → EndsAfter host Run (λ content. content ≡ bytes) old new status
-by_status host bytes name old new Ran is unread = absurd unread
-by_status host bytes name old new Usage is unread = absurd unread
-by_status host bytes name old new MachineFault is unread = absurd unread
-by_status host bytes name old new (ScriptFault line) is unread = record { bytes = bytes; contents_are = refl; script = name; named = is; unread = unread }
-by_status host bytes name old new (ImageFault drive cause place) is unread = absurd unread
-by_status host bytes name old new (TooLong what) is unread = record { bytes = bytes; contents_are = refl; script = name; named = is; unread = unread }
-by_status host bytes name old new ReadFault is unread = record { bytes = bytes; contents_are = refl; script = name; named = is; unread = unread }
-by_status host bytes name old new (DiskFault step) is unread = absurd unread
-by_status host bytes name old new (WriteFault step) is unread = absurd unread
-by_status host bytes name old new OutOfMemory is unread = unread
+by_status : (disks : Disks) (host : Host) (bytes name : List ℕ) (old new : Failed) (status : Status) → script_name Run bytes ≡ Some name
+    → Unread host.contents name old.files new.files status → EndsAfter disks host Run (λ content. content ≡ bytes) old new status
+by_status disks host bytes name old new Ran is unread = absurd unread
+by_status disks host bytes name old new Usage is unread = absurd unread
+by_status disks host bytes name old new MachineFault is unread = absurd unread
+by_status disks host bytes name old new (ScriptFault line) is unread = record { bytes = bytes; contents_are = refl; script = name; named = is; unread = unread }
+by_status disks host bytes name old new (ImageFault drive cause place) is unread = absurd unread
+by_status disks host bytes name old new (TooLong what) is unread = record { bytes = bytes; contents_are = refl; script = name; named = is; unread = unread }
+by_status disks host bytes name old new ReadFault is unread = record { bytes = bytes; contents_are = refl; script = name; named = is; unread = unread }
+by_status disks host bytes name old new (DiskFault step) is unread = absurd unread
+by_status disks host bytes name old new (WriteFault step) is unread = absurd unread
+by_status disks host bytes name old new OutOfMemory is unread = unread
 
-unread_after : (host : Host) (bytes : List ℕ) (script : Option (List ℕ)) (old new : Failed) (status : Status) → script_name Run bytes ≡ script
-    → IsSome script → IfSome script (λ name. Unread host.contents name old.files new.files status) → EndsAfter host Run (λ content. content ≡ bytes) old new status
-unread_after host bytes None old new status is some unread = absurd (cc)
-unread_after host bytes (Some name) old new status is some unread = by_status host bytes name old new status is unread
+unread_after : (disks : Disks) (host : Host) (bytes : List ℕ) (script : Option (List ℕ)) (old new : Failed) (status : Status) → script_name Run bytes ≡ script
+    → IsSome script → IfSome script (λ name. Unread host.contents name old.files new.files status) → EndsAfter disks host Run (λ content. content ≡ bytes) old new status
+unread_after disks host bytes None old new status is some unread = absurd (cc)
+unread_after disks host bytes (Some name) old new status is some unread = by_status disks host bytes name old new status is unread
 
-pub ends_unread : (host : Host) (bytes : List ℕ) (file : MachineFile) (old new : Failed) (status : Status) → machine_of_text bytes ≡ Some file
-    → IsSome file.script → IfSome file.script (λ name. Unread host.contents name old.files new.files status) → EndsAfter host Run (λ content. content ≡ bytes) old new status
-ends_unread host bytes file old new status is some unread =
-    unread_after host bytes file.script old new status (script_of_file bytes file is) some unread
+pub ends_unread : (disks : Disks) (host : Host) (bytes : List ℕ) (file : MachineFile) (old new : Failed) (status : Status) → machine_of_text bytes ≡ Some file
+    → IsSome file.script → IfSome file.script (λ name. Unread host.contents name old.files new.files status) → EndsAfter disks host Run (λ content. content ≡ bytes) old new status
+ends_unread disks host bytes file old new status is some unread =
+    unread_after disks host bytes file.script old new status (script_of_file bytes file is) some unread
 
 -- its drives weren't mounted
 
-lacks_drive : (host : Host) (bytes : List ℕ) (file : MachineFile) (events : List Timed) (old new : Failed) (error : BootError) → machine_of_text bytes ≡ Some file
-    → Scripted host.contents file.script events → Stops host.images file.drives old.drives new.drives error
-    → LacksDrive host Run (λ content. content ≡ bytes) old new error
-lacks_drive host bytes file events old new error is scripted stops = record {
+lacks_drive : (disks : Disks) (host : Host) (bytes : List ℕ) (file : MachineFile) (events : List Timed) (old new : Failed) (error : BootError) → machine_of_text bytes ≡ Some file
+    → Scripted host.contents file.script events → Stops disks host.images file.drives old.drives new.drives error
+    → LacksDrive disks host Run (λ content. content ≡ bytes) old new error
+lacks_drive disks host bytes file events old new error is scripted stops = record {
   bytes = bytes;
   events = events;
   system = opened file events;
   contents_are = refl;
   scripted = subst (λ (script : Option (List ℕ)). Scripted host.contents script events) (sym (script_of_file bytes file is)) scripted;
   is = system_of_file bytes events file is;
-  stops = subst (λ (specs : List DriveSpec). Stops host.images specs old.drives new.drives error) (sym (drives_of_file bytes file is)) stops;
+  stops = subst (λ (specs : List DriveSpec). Stops disks host.images specs old.drives new.drives error) (sym (drives_of_file bytes file is)) stops;
 }
 
-ends_by : (host : Host) (bytes : List ℕ) (file : MachineFile) (events : List Timed) (old new : Failed) (error : BootError) → machine_of_text bytes ≡ Some file
-    → Scripted host.contents file.script events → Stops host.images file.drives old.drives new.drives error
-    → EndsAfter host Run (λ content. content ≡ bytes) old new (status_of error)
-ends_by host bytes file events old new (Image drive cause place) is scripted stops =
-    lacks_drive host bytes file events old new (Image drive cause place) is scripted stops
-ends_by host bytes file events old new DriveFailed is scripted stops = inl (refl, lacks_drive host bytes file events old new DriveFailed is scripted stops)
-ends_by host bytes file events old new NoMemory is scripted stops = tt
+ends_by : (disks : Disks) (host : Host) (bytes : List ℕ) (file : MachineFile) (events : List Timed) (old new : Failed) (error : BootError) → machine_of_text bytes ≡ Some file
+    → Scripted host.contents file.script events → Stops disks host.images file.drives old.drives new.drives error
+    → EndsAfter disks host Run (λ content. content ≡ bytes) old new (status_of error)
+ends_by disks host bytes file events old new (Image drive cause place) is scripted stops =
+    lacks_drive disks host bytes file events old new (Image drive cause place) is scripted stops
+ends_by disks host bytes file events old new DriveFailed is scripted stops = inl (refl, lacks_drive disks host bytes file events old new DriveFailed is scripted stops)
+ends_by disks host bytes file events old new NoMemory is scripted stops = tt
 
-pub ends_unmounted : (host : Host) (bytes : List ℕ) (file : MachineFile) (events : List Timed) (old new : Failed) (error : BootError) (status : Status)
+pub ends_unmounted : (disks : Disks) (host : Host) (bytes : List ℕ) (file : MachineFile) (events : List Timed) (old new : Failed) (error : BootError) (status : Status)
     → status ≡ status_of error → machine_of_text bytes ≡ Some file → Scripted host.contents file.script events
-    → Stops host.images file.drives old.drives new.drives error → EndsAfter host Run (λ content. content ≡ bytes) old new status
-ends_unmounted host bytes file events old new error status same is scripted stops =
-    subst (λ (s : Status). EndsAfter host Run (λ content. content ≡ bytes) old new s) (sym same) (ends_by host bytes file events old new error is scripted stops)
+    → Stops disks host.images file.drives old.drives new.drives error → EndsAfter disks host Run (λ content. content ≡ bytes) old new status
+ends_unmounted disks host bytes file events old new error status same is scripted stops =
+    subst (λ (s : Status). EndsAfter disks host Run (λ content. content ≡ bytes) old new s) (sym same) (ends_by disks host bytes file events old new error is scripted stops)
 
 -- where an image has a fault, no drive failed
-first_same : (images : Images) (specs : List DriveSpec) (old new : Failures) (drive cause place : ℕ)
-    → IsFirst images (λ spec. StopsAt images spec old new (Image drive cause place)) specs → new ≡ old
+first_same : (disks : Disks) (images : Images) (specs : List DriveSpec) (old new : Failures) (drive cause place : ℕ)
+    → IsFirst (IsFaultless disks images) (λ spec. StopsAt disks images spec old new (Image drive cause place)) specs → new ≡ old
 unfolding IsFirst
-first_same images [] old new drive cause place first = absurd first
-first_same images (spec ∷ specs) old new drive cause place (inl stops) = stops.2
-first_same images (spec ∷ specs) old new drive cause place (inr later) = first_same images specs old new drive cause place later.1
+first_same disks images [] old new drive cause place first = absurd first
+first_same disks images (spec ∷ specs) old new drive cause place (inl stops) = stops.2
+first_same disks images (spec ∷ specs) old new drive cause place (inr later) = first_same disks images specs old new drive cause place later.1
 
-no_disk_fault : (images : Images) (specs : List DriveSpec) (old new : Failures) (error : BootError) (P : Type 0) → Stops images specs old new error → (new ≡ old → P)
+no_disk_fault : (disks : Disks) (images : Images) (specs : List DriveSpec) (old new : Failures) (error : BootError) (P : Type 0) → Stops disks images specs old new error → (new ≡ old → P)
     → UnlessDiskFault (status_of error) P
-no_disk_fault images specs old new (Image drive cause place) P stops p = p (first_same images specs old new drive cause place stops)
-no_disk_fault images specs old new DriveFailed P stops p = tt
-no_disk_fault images specs old new NoMemory P stops p = p stops
+no_disk_fault disks images specs old new (Image drive cause place) P stops p = p (first_same disks images specs old new drive cause place stops)
+no_disk_fault disks images specs old new DriveFailed P stops p = tt
+no_disk_fault disks images specs old new NoMemory P stops p = p stops
 
-pub unless_disk : (images : Images) (specs : List DriveSpec) (old new : Failures) (error : BootError) (status : Status) (P : Type 0) → status ≡ status_of error
-    → Stops images specs old new error → (new ≡ old → P) → UnlessDiskFault status P
-unless_disk images specs old new error status P same stops p =
-    subst (λ (s : Status). UnlessDiskFault s P) (sym same) (no_disk_fault images specs old new error P stops p)
+pub unless_disk : (disks : Disks) (images : Images) (specs : List DriveSpec) (old new : Failures) (error : BootError) (status : Status) (P : Type 0) → status ≡ status_of error
+    → Stops disks images specs old new error → (new ≡ old → P) → UnlessDiskFault status P
+unless_disk disks images specs old new error status P same stops p =
+    subst (λ (s : Status). UnlessDiskFault s P) (sym same) (no_disk_fault disks images specs old new error P stops p)
 
 -- a program's bytes name no script, and its machine is that of the file that holds them
 
@@ -233,9 +233,9 @@ script_lacks host form name bytes old new status from_file lacks = record {
   unread = lacks.unread;
 }
 
-drive_lacks : (host : Host) (form : Form) (name bytes : List ℕ) (old new : Failed) (error : BootError) → Holds host.contents (input_of form) name bytes
-    → LacksDrive host form (λ content. content ≡ bytes) old new error → LacksDrive host form (Holds host.contents (input_of form) name) old new error
-drive_lacks host form name bytes old new error from_file lacks = record {
+drive_lacks : (disks : Disks) (host : Host) (form : Form) (name bytes : List ℕ) (old new : Failed) (error : BootError) → Holds host.contents (input_of form) name bytes
+    → LacksDrive disks host form (λ content. content ≡ bytes) old new error → LacksDrive disks host form (Holds host.contents (input_of form) name) old new error
+drive_lacks disks host form name bytes old new error from_file lacks = record {
   bytes = lacks.bytes;
   events = lacks.events;
   system = lacks.system;
@@ -245,35 +245,35 @@ drive_lacks host form name bytes old new error from_file lacks = record {
   stops = lacks.stops;
 }
 
-ends_after : (host : Host) (form : Form) (name bytes : List ℕ) (old new : Failed) (status : Status) → Holds host.contents (input_of form) name bytes
-    → EndsAfter host form (λ content. content ≡ bytes) old new status → EndsAfter host form (Holds host.contents (input_of form) name) old new status
+ends_after : (disks : Disks) (host : Host) (form : Form) (name bytes : List ℕ) (old new : Failed) (status : Status) → Holds host.contents (input_of form) name bytes
+    → EndsAfter disks host form (λ content. content ≡ bytes) old new status → EndsAfter disks host form (Holds host.contents (input_of form) name) old new status
 unfolding begins_of_contents
-ends_after host form name bytes old new Ran from_file ends = (ends.0, begins_of_contents host form name bytes ends.0 from_file ends.1)
-ends_after host form name bytes old new Usage from_file ends = ends
-ends_after host form name bytes old new MachineFault from_file ends =
+ends_after disks host form name bytes old new Ran from_file ends = (ends.0, begins_of_contents host form name bytes ends.0 from_file ends.1)
+ends_after disks host form name bytes old new Usage from_file ends = ends
+ends_after disks host form name bytes old new MachineFault from_file ends =
     record { bytes = ends.bytes; contents_are = subst (Holds host.contents (input_of form) name) (sym ends.contents_are) from_file; none = ends.none }
-ends_after host form name bytes old new (ScriptFault line) from_file ends = script_lacks host form name bytes old.files new.files (ScriptFault line) from_file ends
-ends_after host form name bytes old new (ImageFault drive cause place) from_file ends = drive_lacks host form name bytes old new (Image drive cause place) from_file ends
-ends_after host form name bytes old new (TooLong what) from_file ends = script_lacks host form name bytes old.files new.files (TooLong what) from_file ends
-ends_after host form name bytes old new ReadFault from_file ends = script_lacks host form name bytes old.files new.files ReadFault from_file ends
-ends_after host form name bytes old new (DiskFault step) from_file (inl ends) = inl (ends.0, drive_lacks host form name bytes old new DriveFailed from_file ends.1)
-ends_after host form name bytes old new (DiskFault step) from_file (inr loses) = inr (record {
+ends_after disks host form name bytes old new (ScriptFault line) from_file ends = script_lacks host form name bytes old.files new.files (ScriptFault line) from_file ends
+ends_after disks host form name bytes old new (ImageFault drive cause place) from_file ends = drive_lacks disks host form name bytes old new (Image drive cause place) from_file ends
+ends_after disks host form name bytes old new (TooLong what) from_file ends = script_lacks host form name bytes old.files new.files (TooLong what) from_file ends
+ends_after disks host form name bytes old new ReadFault from_file ends = script_lacks host form name bytes old.files new.files ReadFault from_file ends
+ends_after disks host form name bytes old new (DiskFault step) from_file (inl ends) = inl (ends.0, drive_lacks disks host form name bytes old new DriveFailed from_file ends.1)
+ends_after disks host form name bytes old new (DiskFault step) from_file (inr loses) = inr (record {
   start = loses.start;
   begins = begins_of_contents host form name bytes loses.start from_file loses.begins;
   some = loses.some;
   rose = loses.rose;
   names = loses.names;
 })
-ends_after host form name bytes old new (WriteFault step) from_file ends = (ends.0, begins_of_contents host form name bytes ends.0 from_file ends.1)
-ends_after host form name bytes old new OutOfMemory from_file ends = tt
+ends_after disks host form name bytes old new (WriteFault step) from_file ends = (ends.0, begins_of_contents host form name bytes ends.0 from_file ends.1)
+ends_after disks host form name bytes old new OutOfMemory from_file ends = tt
 
-pub ends_with_contents : (host : Host) (form which : Form) (name bytes : List ℕ) (old new : Failed) {M : Type 0} (result : Result M Status) → form ≡ which
+pub ends_with_contents : (disks : Disks) (host : Host) (form which : Form) (name bytes : List ℕ) (old new : Failed) {M : Type 0} (result : Result M Status) → form ≡ which
     → Holds host.contents (input_of form) name bytes
-    → IfErr result (λ status. EndsAfter host which (λ content. content ≡ bytes) old new status) → IfErr result (λ status. Ends host form name old new status)
-ends_with_contents host form which name bytes old new (Ok machine) is from_file ends = tt
-ends_with_contents host form which name bytes old new (Err status) is from_file ends =
-    subst (λ (f : Form). Ends host f name old new status) (sym is)
-    (inr (ends_after host which name bytes old new status (subst (λ (f : Form). Holds host.contents (input_of f) name bytes) is from_file) ends))
+    → IfErr result (λ status. EndsAfter disks host which (λ content. content ≡ bytes) old new status) → IfErr result (λ status. Ends disks host form name old new status)
+ends_with_contents disks host form which name bytes old new (Ok machine) is from_file ends = tt
+ends_with_contents disks host form which name bytes old new (Err status) is from_file ends =
+    subst (λ (f : Form). Ends disks host f name old new status) (sym is)
+    (inr (ends_after disks host which name bytes old new status (subst (λ (f : Form). Holds host.contents (input_of f) name bytes) is from_file) ends))
 
 -- a program's machine has no drive
 pub program_starts : (host : Host) (bytes : List ℕ) (disks : Disks) (system : System) (kept : Filed) → system ≡ opening_system bytes → kept ≡ nothing_kept (in_places [])

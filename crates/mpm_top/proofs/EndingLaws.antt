@@ -1,6 +1,6 @@
 -- Where files are known, a command ends as they say.
 use Rattle.std.proofs.Common.{◌≡◌, ◌∙◌, ℕ, ◌<◌, ◌≤◌, List, [], ◌∷◌, ◌++◌, Option, Some, None, IsSome, MatchOption, length, option_map, option_and_then, nat_lt, inl, inr, refl, sym, ap, subst, arith}
-use Rattle.std.specs.Prelude.{⊤, Result}
+use Rattle.std.specs.Prelude.{⊤, IsSomeAnd, Result, Ok, Err}
 use Rattle.std.proofs.lemmas.List.{length-append}
 use Rattle.std.proofs.lemmas.Option.{same_Some}
 use Rattle.std.proofs.lemmas.Bool.{cond-true, cond-false, lt-ltb, le-ltb}
@@ -22,10 +22,10 @@ use Rattle.mpm_mount.specs.declared.errors.ImageFault.{ImageFault as FaultOfImag
 use Rattle.mpm_mount.specs.Drives.{Drive}
 use Rattle.mpm_mount.specs.Images.{files_of}
 use Rattle.mpm_drives.specs.declared.error.BootError.TheVariants.{Image, DiskFault as DriveFailed}
-use Rattle.mpm_port.specs.Disks.{ToldImage, Untold, Missing, Bytes}
-use Rattle.mpm_drives.specs.Images.{Images, HasFiles, HasFault}
+use Rattle.mpm_port.specs.Disks.{Disks, ToldImage, Untold, Missing, Bytes, Brings}
+use Rattle.mpm_drives.specs.Images.{Images, HasFiles}
 use Rattle.mpm_drives.specs.Mounted.{NumberedDrive, AreDrivesOf, number_of}
-use Rattle.mpm_drives.specs.Stopping.{Failures, StopsAt, IsFirst}
+use Rattle.mpm_drives.specs.Stopping.{Failures, IsFaultless, StopsAt, IsFirst}
 use Rattle.mpm_machine.specs.State.{State}
 use Rattle.mpm_top.specs.Beginnings.{Contents, Host, Failed, command_on, input_of, room_for, system_of, script_name, drives_listed, Holds, Scripted, Begins}
 use Rattle.mpm_top.specs.Promises.{Seen, EndsKnown}
@@ -137,37 +137,45 @@ drives_run images (spec ∷ specs) [] status are e = absurd are
 drives_run images (spec ∷ specs) (d ∷ drives) status are e =
     drives_run images specs drives status are.1 (attached_run spec (images spec.image) d.files (ending_drives images specs) status are.0.files e)
 
-attached_fault : (spec : DriveSpec) (image : ToldImage) (fault : FaultOfImage) (rest : Option Status) (status : Status) → HasFault image spec.kind fault
-    → ending_attached spec image rest ≡ Some status → ImageFault (number_of spec) fault.cause fault.place ≡ status
-attached_fault spec Untold fault rest status has e = absurd (cc)
-attached_fault spec Missing fault rest status has e = absurd has.brought
-attached_fault spec (Bytes bytes) fault rest status has e =
-    same_Some (ImageFault (number_of spec) fault.cause fault.place) status
-    (sym (ap (λ (r : Result Drive FaultOfImage). ending_mounted spec r rest) (ap (λ b. files_of b spec.kind) (sym has.brought) ∙ has.stands)) ∙ e)
+faultless_run : (spec : DriveSpec) (told : ToldImage) (found : Option (List ℕ)) (rest : Option Status) (status : Status)
+    → IsSomeAnd found (λ image. Brings told image × ((files : Drive) × (files_of image spec.kind ≡ Ok files))) → ending_attached spec told rest ≡ Some status → rest ≡ Some status
+faultless_run spec told None rest status has e = absurd has
+faultless_run spec told (Some image) rest status has e =
+    attached_run spec told has.1.0 rest status (record { image = image; brought = has.0; stands = has.1.1 }) e
 
-first_fault_is : (images : Images) (specs : List DriveSpec) (old new : Failures) (drive cause place : ℕ) (status : Status)
-    → IsFirst images (λ spec. StopsAt images spec old new (Image drive cause place)) specs → ending_drives images specs ≡ Some status
+attached_fault : (spec : DriveSpec) (told : ToldImage) (found : Option (List ℕ)) (fault : FaultOfImage) (rest : Option Status) (status : Status)
+    → IsSomeAnd found (λ image. Brings told image × (files_of image spec.kind ≡ Err fault)) → ending_attached spec told rest ≡ Some status
+    → ImageFault (number_of spec) fault.cause fault.place ≡ status
+attached_fault spec told None fault rest status has e = absurd has
+attached_fault spec Untold (Some image) fault rest status has e = absurd (cc)
+attached_fault spec Missing (Some image) fault rest status has e = absurd has.0
+attached_fault spec (Bytes bytes) (Some image) fault rest status has e =
+    same_Some (ImageFault (number_of spec) fault.cause fault.place) status
+    (sym (ap (λ (r : Result Drive FaultOfImage). ending_mounted spec r rest) (ap (λ b. files_of b spec.kind) (sym has.0) ∙ has.1)) ∙ e)
+
+first_fault_is : (disks : Disks) (images : Images) (specs : List DriveSpec) (old new : Failures) (drive cause place : ℕ) (status : Status)
+    → IsFirst (IsFaultless disks images) (λ spec. StopsAt disks images spec old new (Image drive cause place)) specs → ending_drives images specs ≡ Some status
     → ImageFault drive cause place ≡ status
 unfolding ending_drives IsFirst
-first_fault_is images [] old new drive cause place status first e = absurd first
-first_fault_is images (spec ∷ specs) old new drive cause place status (inl stops) e =
+first_fault_is disks images [] old new drive cause place status first e = absurd first
+first_fault_is disks images (spec ∷ specs) old new drive cause place status (inl stops) e =
     ap (λ (d : ℕ). ImageFault d cause place) stops.0
-    ∙ attached_fault spec (images spec.image) (record { cause = cause; place = place }) (ending_drives images specs) status stops.1 e
-first_fault_is images (spec ∷ specs) old new drive cause place status (inr later) e =
-    first_fault_is images specs old new drive cause place status later.1
-    (attached_run spec (images spec.image) later.0.0 (ending_drives images specs) status later.0.1 e)
+    ∙ attached_fault spec (images spec.image) (disks.image (number_of spec)) (record { cause = cause; place = place }) (ending_drives images specs) status stops.1 e
+first_fault_is disks images (spec ∷ specs) old new drive cause place status (inr later) e =
+    first_fault_is disks images specs old new drive cause place status later.1
+    (faultless_run spec (images spec.image) (disks.image (number_of spec)) (ending_drives images specs) status later.0 e)
 
 -- no drive stops it where nothing fails
-first_never : (images : Images) (specs : List DriveSpec) (P : DriveSpec → Type 0) → ((spec : DriveSpec) → P spec → ⊥) → IsFirst images P specs → ⊥
+first_never : (specs : List DriveSpec) (Before P : DriveSpec → Type 0) → ((spec : DriveSpec) → P spec → ⊥) → IsFirst Before P specs → ⊥
 unfolding IsFirst
-first_never images [] P never first = absurd first
-first_never images (spec ∷ specs) P never (inl stops) = never spec stops
-first_never images (spec ∷ specs) P never (inr later) = first_never images specs P never later.1
+first_never [] Before P never first = absurd first
+first_never (spec ∷ specs) Before P never (inl stops) = never spec stops
+first_never (spec ∷ specs) Before P never (inr later) = first_never specs Before P never later.1
 
-no_drive_stops : (images : Images) (spec : DriveSpec) (old new : Failures) → new.names ≡ old.names → (Rose old.faults new.faults → ⊥)
-    → StopsAt images spec old new DriveFailed → ⊥
-no_drive_stops images spec old new same sound (inl joined) = nothing_joins old.names spec.image (sym same ∙ joined.0)
-no_drive_stops images spec old new same sound (inr rose) = sound rose.1
+no_drive_stops : (disks : Disks) (images : Images) (spec : DriveSpec) (old new : Failures) → new.names ≡ old.names → (Rose old.faults new.faults → ⊥)
+    → StopsAt disks images spec old new DriveFailed → ⊥
+no_drive_stops disks images spec old new same sound (inl joined) = nothing_joins old.names spec.image (sym same ∙ joined.0)
+no_drive_stops disks images spec old new same sound (inr rose) = sound rose.1
 
 -- what a script that wasn't read says
 unread_says : (contents : Contents) (drives : Option Status) (script : List ℕ) (old new : List (List ℕ)) (status result : Status) → Unread contents script old new result
@@ -224,11 +232,11 @@ begins_says host form name file s status begins told e =
     drives_run host.images (drives_listed form begins.bytes) begins.on status begins.drives
     (read_says host form name file begins.bytes begins.events s.system status begins.contents_are begins.scripted begins.is told e)
 
-image_says : (host : Host) (form : Form) (name file : List ℕ) (old new : Failed) (drive cause place : ℕ) (status : Status)
-    → LacksDrive host form (Holds host.contents (input_of form) name) old new (Image drive cause place) → host.contents name ≡ Some file
+image_says : (disks : Disks) (host : Host) (form : Form) (name file : List ℕ) (old new : Failed) (drive cause place : ℕ) (status : Status)
+    → LacksDrive disks host form (Holds host.contents (input_of form) name) old new (Image drive cause place) → host.contents name ≡ Some file
     → ending host form name ≡ Some status → ImageFault drive cause place ≡ status
-image_says host form name file old new drive cause place status lacks told e =
-    first_fault_is host.images (drives_listed form lacks.bytes) old.drives new.drives drive cause place status lacks.stops
+image_says disks host form name file old new drive cause place status lacks told e =
+    first_fault_is disks host.images (drives_listed form lacks.bytes) old.drives new.drives drive cause place status lacks.stops
     (read_says host form name file lacks.bytes lacks.events lacks.system status lacks.contents_are lacks.scripted lacks.is told e)
 
 no_machine_says : (host : Host) (form : Form) (name file : List ℕ) (status : Status) → IsNoMachine form (Holds host.contents (input_of form) name)
@@ -247,102 +255,102 @@ file_told host form name status e = was_some (host.contents name) (ending_by_con
 
 -- an ending that has its reason is the one that files and images tell, where it is none by a device
 
-told_ending : (host : Host) (form : Form) (name : List ℕ) (old new : Failed) (status result : Status)
-    → Ends host form name old new result → ending host form name ≡ Some status → new.files ≡ old.files
+told_ending : (disks : Disks) (host : Host) (form : Form) (name : List ℕ) (old new : Failed) (status result : Status)
+    → Ends disks host form name old new result → ending host form name ≡ Some status → new.files ≡ old.files
     → ((step : ℕ) → result ≡ DiskFault step → EndsAs status result) → ((step : ℕ) → result ≡ WriteFault step → EndsAs status result) → EndsAs status result
-told_ending host form name old new status Ran (inl nothing) e same disk write = absurd nothing
-told_ending host form name old new status Ran (inr begun) e same disk write =
+told_ending disks host form name old new status Ran (inl nothing) e same disk write = absurd nothing
+told_ending disks host form name old new status Ran (inr begun) e same disk write =
     let found = some_given (host.contents name) (file_told host form name status e) in
     inl (sym (begins_says host form name found.0 begun.0 status begun.1 found.1 e))
-told_ending host form name old new status Usage (inl nothing) e same disk write = absurd nothing
-told_ending host form name old new status Usage (inr nothing) e same disk write = absurd nothing
-told_ending host form name old new status MachineFault (inl nothing) e same disk write = absurd nothing
-told_ending host form name old new status MachineFault (inr fails) e same disk write =
+told_ending disks host form name old new status Usage (inl nothing) e same disk write = absurd nothing
+told_ending disks host form name old new status Usage (inr nothing) e same disk write = absurd nothing
+told_ending disks host form name old new status MachineFault (inl nothing) e same disk write = absurd nothing
+told_ending disks host form name old new status MachineFault (inr fails) e same disk write =
     let found = some_given (host.contents name) (file_told host form name status e) in
     inl (sym (no_machine_says host form name found.0 status fails found.1 e))
-told_ending host form name old new status (ScriptFault line) (inl nothing) e same disk write = absurd nothing
-told_ending host form name old new status (ScriptFault line) (inr lacks) e same disk write =
+told_ending disks host form name old new status (ScriptFault line) (inl nothing) e same disk write = absurd nothing
+told_ending disks host form name old new status (ScriptFault line) (inr lacks) e same disk write =
     let found = some_given (host.contents name) (file_told host form name status e) in
     lacks_says host form name found.0 old.files new.files status (ScriptFault line) lacks found.1 e same
-told_ending host form name old new status (ImageFault drive cause place) (inl nothing) e same disk write = absurd nothing
-told_ending host form name old new status (ImageFault drive cause place) (inr lacks) e same disk write =
+told_ending disks host form name old new status (ImageFault drive cause place) (inl nothing) e same disk write = absurd nothing
+told_ending disks host form name old new status (ImageFault drive cause place) (inr lacks) e same disk write =
     let found = some_given (host.contents name) (file_told host form name status e) in
-    inl (image_says host form name found.0 old new drive cause place status lacks found.1 e)
-told_ending host form name old new status (TooLong what) (inl long) e same disk write =
+    inl (image_says disks host form name found.0 old new drive cause place status lacks found.1 e)
+told_ending disks host form name old new status (TooLong what) (inl long) e same disk write =
     let found = some_given (host.contents name) (file_told host form name status e) in
     let beyond : room_for (input_of form) < length found.0 =
     subst (λ (told : Option (List ℕ)). MatchOption told ⊤ (λ file. room_for (input_of form) < length file)) found.1 long.1 in
     inl (same_Some (TooLong what) status (ap (λ w. Some (TooLong w)) long.0 ∙ sym (ending_long host form name found.0 found.1 beyond) ∙ e))
-told_ending host form name old new status (TooLong what) (inr lacks) e same disk write =
+told_ending disks host form name old new status (TooLong what) (inr lacks) e same disk write =
     let found = some_given (host.contents name) (file_told host form name status e) in
     lacks_says host form name found.0 old.files new.files status (TooLong what) lacks found.1 e same
-told_ending host form name old new status ReadFault (inl joined) e same disk write = absurd (nothing_joins old.files name (sym same ∙ joined))
-told_ending host form name old new status ReadFault (inr lacks) e same disk write =
+told_ending disks host form name old new status ReadFault (inl joined) e same disk write = absurd (nothing_joins old.files name (sym same ∙ joined))
+told_ending disks host form name old new status ReadFault (inr lacks) e same disk write =
     let found = some_given (host.contents name) (file_told host form name status e) in
     lacks_says host form name found.0 old.files new.files status ReadFault lacks found.1 e same
-told_ending host form name old new status (DiskFault step) ends e same disk write = disk step refl
-told_ending host form name old new status (WriteFault step) ends e same disk write = write step refl
-told_ending host form name old new status OutOfMemory ends e same disk write = inr refl
+told_ending disks host form name old new status (DiskFault step) ends e same disk write = disk step refl
+told_ending disks host form name old new status (WriteFault step) ends e same disk write = write step refl
+told_ending disks host form name old new status OutOfMemory ends e same disk write = inr refl
 
 -- a drive failed at an ending by one
 
-disk_failed : (host : Host) (form : Form) (name : List ℕ) (old new : Failed) (step : ℕ) → Ends host form name old new (DiskFault step)
+disk_failed : (disks : Disks) (host : Host) (form : Form) (name : List ℕ) (old new : Failed) (step : ℕ) → Ends disks host form name old new (DiskFault step)
     → new.drives.names ≡ old.drives.names → (Rose old.drives.faults new.drives.faults → ⊥) → ⊥
-disk_failed host form name old new step (inl nothing) same sound = absurd nothing
-disk_failed host form name old new step (inr (inl lacks)) same sound =
-    first_never host.images (drives_listed form lacks.1.bytes) _ (λ spec. no_drive_stops host.images spec old.drives new.drives same sound) lacks.1.stops
-disk_failed host form name old new step (inr (inr loses)) same sound = sound loses.rose
+disk_failed disks host form name old new step (inl nothing) same sound = absurd nothing
+disk_failed disks host form name old new step (inr (inl lacks)) same sound =
+    first_never (drives_listed form lacks.1.bytes) _ _ (λ spec. no_drive_stops disks host.images spec old.drives new.drives same sound) lacks.1.stops
+disk_failed disks host form name old new step (inr (inr loses)) same sound = sound loses.rose
 
-no_disk_fault : (host : Host) (form : Form) (name : List ℕ) (old new : Failed) (result : Status) (step : ℕ) → Ends host form name old new result
+no_disk_fault : (disks : Disks) (host : Host) (form : Form) (name : List ℕ) (old new : Failed) (result : Status) (step : ℕ) → Ends disks host form name old new result
     → result ≡ DiskFault step → new.drives.names ≡ old.drives.names → (Rose old.drives.faults new.drives.faults → ⊥) → ⊥
-no_disk_fault host form name old new result step ends is same sound =
-    disk_failed host form name old new step (subst (λ (s : Status). Ends host form name old new s) is ends) same sound
+no_disk_fault disks host form name old new result step ends is same sound =
+    disk_failed disks host form name old new step (subst (λ (s : Status). Ends disks host form name old new s) is ends) same sound
 
 -- where an image is missing, it doesn't begin
 
 zero_is : (step : ℕ) → step ≡ 0 → DiskFault step ≡ DiskFault 0
 zero_is step is = ap (λ (n : ℕ). DiskFault n) is
 
-missing_disk : (host : Host) (form : Form) (name : List ℕ) (old new : Failed) (step : ℕ) → Ends host form name old new (DiskFault step)
+missing_disk : (disks : Disks) (host : Host) (form : Form) (name : List ℕ) (old new : Failed) (step : ℕ) → Ends disks host form name old new (DiskFault step)
     → ending host form name ≡ Some (DiskFault 0) → DiskFault step ≡ DiskFault 0
-missing_disk host form name old new step (inl nothing) e = absurd nothing
-missing_disk host form name old new step (inr (inl lacks)) e = zero_is step lacks.0
-missing_disk host form name old new step (inr (inr loses)) e =
+missing_disk disks host form name old new step (inl nothing) e = absurd nothing
+missing_disk disks host form name old new step (inr (inl lacks)) e = zero_is step lacks.0
+missing_disk disks host form name old new step (inr (inr loses)) e =
     let found = some_given (host.contents name) (file_told host form name (DiskFault 0) e) in
     let none : DiskFault 0 ≡ Ran = begins_says host form name found.0 loses.start (DiskFault 0) loses.begins found.1 e in
     absurd (cc)
 
-missing_write : (host : Host) (form : Form) (name : List ℕ) (old new : Failed) (step : ℕ) → Ends host form name old new (WriteFault step)
+missing_write : (disks : Disks) (host : Host) (form : Form) (name : List ℕ) (old new : Failed) (step : ℕ) → Ends disks host form name old new (WriteFault step)
     → ending host form name ≡ Some (DiskFault 0) → ⊥
-missing_write host form name old new step (inl nothing) e = absurd nothing
-missing_write host form name old new step (inr begun) e =
+missing_write disks host form name old new step (inl nothing) e = absurd nothing
+missing_write disks host form name old new step (inr begun) e =
     let found = some_given (host.contents name) (file_told host form name (DiskFault 0) e) in
     let none : DiskFault 0 ≡ Ran = begins_says host form name found.0 begun.0 (DiskFault 0) begun.1 found.1 e in
     absurd (cc)
 
-missing_image : (host : Host) (form : Form) (name : List ℕ) (old new : Failed) (result : Status) → Ends host form name old new result
+missing_image : (disks : Disks) (host : Host) (form : Form) (name : List ℕ) (old new : Failed) (result : Status) → Ends disks host form name old new result
     → ending host form name ≡ Some (DiskFault 0) → new.files ≡ old.files → EndsAs (DiskFault 0) result
-missing_image host form name old new result ends e same =
-    let P : Status → Type 0 = λ s. Ends host form name old new s in
-    told_ending host form name old new (DiskFault 0) result ends e same
-    (λ step is. inl (is ∙ missing_disk host form name old new step (subst P is ends) e))
-    (λ step is. absurd (missing_write host form name old new step (subst P is ends) e))
+missing_image disks host form name old new result ends e same =
+    let P : Status → Type 0 = λ s. Ends disks host form name old new s in
+    told_ending disks host form name old new (DiskFault 0) result ends e same
+    (λ step is. inl (is ∙ missing_disk disks host form name old new step (subst P is ends) e))
+    (λ step is. absurd (missing_write disks host form name old new step (subst P is ends) e))
 
 -- where files and images are known, so it ends
 
-pub known_ending : (missing : List ℕ → Type 0) (command : Command) (old new : Seen) (result : Status) → Ends old.host command.form command.name old.failed new.failed result
+pub known_ending : (missing : List ℕ → Type 0) (command : Command) (old new : Seen) (result : Status) → Ends new.disks old.host command.form command.name old.failed new.failed result
     → ((step : ℕ) → result ≡ WriteFault step → Rose old.printed.faults new.printed.faults) → (missing command.name → EndsAs ReadFault result)
     → ((bytes script : List ℕ) → old.host.contents command.name ≡ Some bytes → length bytes ≤ room_for (input_of command.form)
     → script_name command.form bytes ≡ Some script → missing script → EndsAs ReadFault result)
     → EndsKnown missing command old new result
 known_ending missing command old new result ends write file script = record {
   first = λ wanted is files names sound drive_sound.
-      told_ending old.host command.form command.name old.failed new.failed wanted result ends is files
-      (λ step disk. absurd (no_disk_fault old.host command.form command.name old.failed new.failed result step ends disk names drive_sound))
+      told_ending new.disks old.host command.form command.name old.failed new.failed wanted result ends is files
+      (λ step disk. absurd (no_disk_fault new.disks old.host command.form command.name old.failed new.failed result step ends disk names drive_sound))
       (λ step wrote. absurd (sound (write step wrote)));
   file = file;
   script = script;
-  image = λ is files. missing_image old.host command.form command.name old.failed new.failed result ends is files;
+  image = λ is files. missing_image new.disks old.host command.form command.name old.failed new.failed result ends is files;
 }
 
 -- the command that is asked

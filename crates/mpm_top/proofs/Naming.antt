@@ -21,7 +21,7 @@ use Rattle.mpm_machine.specs.Mounting.{IsInPlace, HasDrives, KeepsMounted}
 use Rattle.mpm_machine.specs.Failing.{HaveImages}
 use Rattle.mpm_machine.proofs.FilingLaws.{label_none}
 use Rattle.mpm_machine.proofs.DriveLaws.{still_has_drives}
-use Rattle.mpm_top.specs.Runs.{IsLeft, StandFor, KeepsOthers}
+use Rattle.mpm_top.specs.Runs.{IsLeft, StandFor, KeepsUnmounted, KeepsOthers}
 
 -- what a device says of the names of its drives: an image that is known of such a name is the drive's
 abbrev pub Agree : Disks → Images → Type 0
@@ -85,33 +85,48 @@ stand_behind told told' x y one other specs drives agrees has keeps images =
 
 -- an image that the machine file doesn't list is as it was
 
-either_apart : (disks : Disks) (mounted : List (Option Directory)) (specs : List DriveSpec) (number : ℕ) (name : List ℕ) → AllByRecursion (IsInPlace disks mounted) specs
-    → AllByRecursion (λ spec. spec.image ≢ name) specs → (disks.name_of number ≢ Some name) ⊎ AllByRecursion (λ spec. number_of spec ≢ number) specs
+either_apart : (disks : Disks) (mounted : List (Option Directory)) (specs : List DriveSpec) (number : ℕ) (name : Option (List ℕ)) → AllByRecursion (IsInPlace disks mounted) specs
+    → AllByRecursion (λ spec. Some spec.image ≢ name) specs → (disks.name_of number ≢ name) ⊎ AllByRecursion (λ spec. number_of spec ≢ number) specs
 either_apart disks mounted [] number name each apart = inr tt
 either_apart disks mounted (spec ∷ specs) number name each apart =
     by_number (cases_eq (number_of spec) number) (either_apart disks mounted specs number name each.1 apart.1)
   where
-    by_number : (number_of spec ≡ number) ⊎ (number_of spec ≢ number) → (disks.name_of number ≢ Some name) ⊎ AllByRecursion (λ s. number_of s ≢ number) specs
-        → (disks.name_of number ≢ Some name) ⊎ AllByRecursion (λ s. number_of s ≢ number) (spec ∷ specs)
-    by_number (inl same) rest = inl (λ named. apart.0 (same_Some spec.image name (sym (ap disks.name_of (sym same) ∙ each.0.name) ∙ named)))
+    by_number : (number_of spec ≡ number) ⊎ (number_of spec ≢ number) → (disks.name_of number ≢ name) ⊎ AllByRecursion (λ s. number_of s ≢ number) specs
+        → (disks.name_of number ≢ name) ⊎ AllByRecursion (λ s. number_of s ≢ number) (spec ∷ specs)
+    by_number (inl same) rest = inl (λ named. apart.0 (sym (ap disks.name_of (sym same) ∙ each.0.name) ∙ named))
     by_number (inr differs) (inl named) = inl named
     by_number (inr differs) (inr all) = inr (differs, all)
 
-not_named : (disks : Disks) (mounted : List (Option Directory)) (specs : List DriveSpec) (number : ℕ) (name : List ℕ) → HasDrives disks specs mounted
-    → AllByRecursion (λ spec. spec.image ≢ name) specs → has_directory mounted number ≡ true → disks.name_of number ≢ Some name
+not_named : (disks : Disks) (mounted : List (Option Directory)) (specs : List DriveSpec) (number : ℕ) (name : Option (List ℕ)) → HasDrives disks specs mounted
+    → AllByRecursion (λ spec. Some spec.image ≢ name) specs → has_directory mounted number ≡ true → disks.name_of number ≢ name
 not_named disks mounted specs number name has apart there = by_either (either_apart disks mounted specs number name has.each apart)
   where
-    by_either : (disks.name_of number ≢ Some name) ⊎ AllByRecursion (λ spec. number_of spec ≢ number) specs → disks.name_of number ≢ Some name
+    by_either : (disks.name_of number ≢ name) ⊎ AllByRecursion (λ spec. number_of spec ≢ number) specs → disks.name_of number ≢ name
     by_either (inl named) = named
     by_either (inr all) = absurd (false≢true (sym (ap is_some (has.others number all)) ∙ there))
 
+some_apart : (specs : List DriveSpec) (name : List ℕ) → AllByRecursion (λ spec. spec.image ≢ name) specs → AllByRecursion (λ spec. Some spec.image ≢ Some name) specs
+some_apart [] name apart = tt
+some_apart (spec ∷ specs) name apart = ((λ same. apart.0 (same_Some spec.image name same)), some_apart specs name apart.1)
+
 pub others_behind : (told told' : Images) (x y : Disks) (one other : List (Option Directory)) (specs : List DriveSpec) → HasDrives x specs one → KeepsMounted told told' x y one other
-    → KeepsOthers told told' specs
+    → KeepsOthers told told' x y specs
 others_behind told told' x y one other specs has keeps = record {
-  others = λ name apart. keeps.told_are.others name (λ number there. not_named x one specs number name has apart there);
+  names = λ number unlisted. keeps.beside.names number;
+  images = λ number unlisted apart. keeps.beside.others number (λ one_of there. not_named x one specs one_of (x.name_of number) has apart there);
+  others = λ name apart. keeps.told_are.others name (λ number there. not_named x one specs number (Some name) has (some_apart specs name apart) there);
   still = keeps.told_are.still;
 }
 
 -- and so as the drives are mounted before that
-pub others_then : (before middle later : Images) (specs : List DriveSpec) → middle ≡ before → KeepsOthers middle later specs → KeepsOthers before later specs
-others_then before middle later specs same keeps = subst (λ (images : Images). KeepsOthers images later specs) same keeps
+pub others_then : (before middle later : Images) (x y z : Disks) (mounted : List (Option Directory)) (specs : List DriveSpec) → middle ≡ before → HasDrives y specs mounted
+    → KeepsUnmounted x y mounted → KeepsOthers middle later y z specs → KeepsOthers before later x z specs
+others_then before middle later x y z mounted specs same has boots keeps = record {
+  names = λ number unlisted. keeps.names number unlisted ∙ boots.names number (has.others number unlisted);
+  images = λ number unlisted apart.
+      let free = has.others number unlisted in
+      keeps.images number unlisted (subst (λ (name : Option (List ℕ)). AllByRecursion (λ spec. Some spec.image ≢ name) specs) (sym (boots.names number free)) apart)
+      ∙ boots.images number free;
+  others = λ name apart. keeps.others name apart ∙ ap (λ (images : Images). images name) same;
+  still = λ name none. sym (ap (λ (images : Images). images name) same) ∙ keeps.still name none;
+}

@@ -4,7 +4,6 @@ use Rattle.std.specs.Prelude.{OnOk, OnErr}
 use Rattle.mpm_port.specs.Causes.{Rose, HasCause}
 use Rattle.mpm_port.specs.Disks.{Disks}
 use Rattle.mpm_mount.specs.Drives.{Drive}
-use Rattle.mpm_mount.specs.Directories.{Directory}
 use Rattle.mpm_render.specs.Shown.{Kept, Shows, EndsBetween}
 use Rattle.mpm_render.specs.Outputs.{Output, rendered, closed}
 use Rattle.mpm_drives.specs.Mounted.{NumberedDrive}
@@ -14,8 +13,10 @@ use Rattle.mpm_machine.specs.declared.machine.StepFault.TheVariants.{WriteFault 
 use Rattle.mpm_machine.specs.Faults.{Counts, HasFailed}
 use Rattle.mpm_machine.specs.State.{State, StandsWithDrives}
 use Rattle.mpm_machine.specs.Files.{Files, StandsForFiles}
-use Rattle.mpm_machine.specs.Failing.{HaveImages, StopsOn}
-use Rattle.mpm_machine.specs.Settling.{carried, StopsAtEnd}
+use Rattle.mpm_bdos.specs.Serving.{Kept as Filed}
+use Rattle.mpm_machine.specs.Failing.{Left, HaveImages, StopsOn}
+use Rattle.mpm_machine.specs.Settling.{carried}
+use Rattle.mpm_machine.specs.AtEnd.{Called, StopsAtEnd}
 use Rattle.mpm_machine.specs.After.{next, after, ShowsBefore, EndsInStep}
 use Rattle.mpm_machine.proofs.NextLaws.{after_more}
 use Rattle.mpm_system.specs.declared.system.System.{System}
@@ -63,21 +64,21 @@ stops_in_step Stand SyncFailed trace trace' s steps old new written step drives 
     inl (record { later = ends.later; within = ends.within; text = closes; left = record { drives = drives; fails = on; stand = stand } })
 
 -- or at the end: as the sink failed, or a drive in a turn of the call in service, or as it was synced
-pub stops_at_end : (Stand : List (Option Drive) → Type 0) (fault : StepFault) (trace : Bool) (s : State) (steps : ℕ) (old new : Printed) (written : List ℕ) (kept : Kept) (disks : Disks) (mounted : List (Option Directory))
-    → (fault ≡ SinkFailed → new.text ≡ written) → kept.trace ≡ trace → ((t : State) → ShowsBefore fault kept written t old.text → ClosesAfter fault trace t old new)
-    → ((drives : List (Option Drive)) → HaveImages disks mounted drives → Stand drives) → StopsAtEnd fault kept written disks mounted (after steps s) old.text
+pub stops_at_end : (Stand : List (Option Drive) → Type 0) (fault : StepFault) (trace : Bool) (s : State) (steps : ℕ) (old new : Printed) (left : Left) (kept : Filed) (before behind : Called)
+    → (fault ≡ SinkFailed → new.text ≡ left.written) → left.kept.trace ≡ trace → ((t : State) → ShowsBefore fault left.kept left.written t old.text → ClosesAfter fault trace t old new)
+    → ((drives : List (Option Drive)) → HaveImages left.disks left.mounted drives → Stand drives) → StopsAtEnd fault left kept before behind (after steps s) old.text
     → StopsRun Stand fault trace s steps old new steps
-stops_at_end Stand SinkFailed trace s steps old new written kept disks mounted same traces closes stand stops =
+stops_at_end Stand SinkFailed trace s steps old new left kept before behind same traces closes stand stops =
     let P : List ℕ → Type 0 = λ w. EndsBetween w old.text (rendered trace (after steps s).outputs) (closed trace (carried (after steps s)).outputs) in
-    let Q : Bool → Type 0 = λ t. EndsBetween written old.text (rendered t (after steps s).outputs) (closed t (carried (after steps s)).outputs) in
+    let Q : Bool → Type 0 = λ t. EndsBetween left.written old.text (rendered t (after steps s).outputs) (closed t (carried (after steps s)).outputs) in
     inr (record { is = refl; text = subst P (sym (same refl)) (subst Q traces stops.0); stand = stand (drives_left (after steps s)) stops.1 })
-stops_at_end Stand SyncFailed trace s steps old new written kept disks mounted same traces closes stand (inl turn) =
+stops_at_end Stand SyncFailed trace s steps old new left kept before behind same traces closes stand (inl turn) =
     inr (inl (record {
       is = refl;
       text = closes (after steps s) turn.shown;
       left = record { drives = turn.images.drives; fails = turn.images.are; stand = stand turn.images.drives turn.images.images };
     }))
-stops_at_end Stand SyncFailed trace s steps old new written kept disks mounted same traces closes stand (inr sync) =
+stops_at_end Stand SyncFailed trace s steps old new left kept before behind same traces closes stand (inr sync) =
     inr (inr (record { is = refl; text = closes (carried (after steps s)) sync.shown; stand = stand (drives_left (after steps s)) sync.images }))
 
 -- a drive failed: the unfinished lines are closed, or the sink fails too
@@ -126,19 +127,19 @@ some_drive : (on : List NumberedDrive) → (on ≡ [] → ⊥) → 0 < length on
 some_drive [] none = absurd (none refl)
 some_drive (d ∷ on) none = omega arith
 
-ends_stopped : (host : Host) (form : Form) (name : List ℕ) (s : State) (old new : Failed) (fault : StepFault) (step sink sink' : ℕ) (begins : Begins host form name s)
+ends_stopped : (disks : Disks) (host : Host) (form : Form) (name : List ℕ) (s : State) (old new : Failed) (fault : StepFault) (step sink sink' : ℕ) (begins : Begins host form name s)
     → (begins.on ≡ [] → fault ≡ SinkFailed) → Causes fault (record { sink = sink; drives = old.drives.faults }) (record { sink = sink'; drives = new.drives.faults })
-    → new.drives.names ≡ old.drives.names → Ends host form name old new (ended_by fault step)
-ends_stopped host form name s old new SinkFailed step sink sink' begins some causes names = inr (s, begins)
-ends_stopped host form name s old new SyncFailed step sink sink' begins some causes names =
+    → new.drives.names ≡ old.drives.names → Ends disks host form name old new (ended_by fault step)
+ends_stopped disks host form name s old new SinkFailed step sink sink' begins some causes names = inr (s, begins)
+ends_stopped disks host form name s old new SyncFailed step sink sink' begins some causes names =
     inr (inr (record { start = s; begins = begins; some = some_drive begins.on (λ none. no_sink (some none)); rose = causes; names = names }))
   where
     no_sink : SyncFailed ≡ SinkFailed → ⊥
     no_sink e = cc
 
-pub ends_by_fault : (host : Host) (form : Form) (name : List ℕ) (s : State) (old new : Failed) (fault : StepFault) (step sink sink' : ℕ) (status : Status)
+pub ends_by_fault : (disks : Disks) (host : Host) (form : Form) (name : List ℕ) (s : State) (old new : Failed) (fault : StepFault) (step sink sink' : ℕ) (status : Status)
     → status ≡ ended_by fault step → (begins : Begins host form name s) → (begins.on ≡ [] → fault ≡ SinkFailed)
     → Causes fault (record { sink = sink; drives = old.drives.faults }) (record { sink = sink'; drives = new.drives.faults })
-    → new.drives.names ≡ old.drives.names → Ends host form name old new status
-ends_by_fault host form name s old new fault step sink sink' status is begins some causes names =
-    subst (λ (t : Status). Ends host form name old new t) (sym is) (ends_stopped host form name s old new fault step sink sink' begins some causes names)
+    → new.drives.names ≡ old.drives.names → Ends disks host form name old new status
+ends_by_fault disks host form name s old new fault step sink sink' status is begins some causes names =
+    subst (λ (t : Status). Ends disks host form name old new t) (sym is) (ends_stopped disks host form name s old new fault step sink sink' begins some causes names)

@@ -22,7 +22,7 @@ use Rattle.mpm_mount.specs.declared.errors.ImageFault.{ImageFault as FaultOfImag
 use Rattle.mpm_drives.specs.declared.error.BootError.{BootError}
 use Rattle.mpm_drives.specs.declared.error.BootError.TheVariants.{Image}
 use Rattle.mpm_drives.specs.Images.{Images}
-use Rattle.mpm_drives.specs.Stopping.{Failures, StopsAt, IsFirst, Stops}
+use Rattle.mpm_drives.specs.Stopping.{Failures, IsFaultless, StopsAt, IsFirst, Stops}
 use Rattle.mpm_drives.specs.Mounted.{NumberedDrive, AreMounted, IsDriveOf, IsMountedAs, placed}
 use Rattle.mpm_bdos.specs.Serving.{Kept as Filed}
 use Rattle.mpm_directories.specs.Places.{directory_at}
@@ -135,23 +135,27 @@ size_booted file disks images kept same has =
 apart : (files : Drive) (fault : FaultOfImage) (found : Result Drive FaultOfImage) → found ≡ Ok files → found ≡ Err fault → ⊥
 apart files fault found are is = absurd (cc)
 
-fault_nowhere : (images : Images) (image : List ℕ) (files : Drive) (old new : Failures) (drive cause place : ℕ) → images name_of_image ≡ Bytes image → files_of image Hd4 ≡ Ok files
-    → IsFirst images (λ spec. StopsAt images spec old new (Image drive cause place)) (its_drive ∷ []) → ⊥
-unfolding IsFirst
-fault_nowhere images image files old new drive cause place there are (inl stops) =
-    let fault : FaultOfImage = record { cause = cause; place = place } in
-    let has = stops.1 in
-    apart files fault (files_of image Hd4) are (subst (λ b. files_of b Hd4 ≡ Err fault) (brought_is (images name_of_image) image has.image there has.brought) has.stands)
-fault_nowhere images image files old new drive cause place there are (inr later) = absurd later.1
+at_no_fault : (found : Option (List ℕ)) (told : ToldImage) (image : List ℕ) (files : Drive) (fault : FaultOfImage) → told ≡ Bytes image → files_of image Hd4 ≡ Ok files
+    → IsSomeAnd found (λ brought. Brings told brought × (files_of brought Hd4 ≡ Err fault)) → ⊥
+at_no_fault None told image files fault there are has = has
+at_no_fault (Some brought) told image files fault there are has =
+    apart files fault (files_of image Hd4) are (subst (λ b. files_of b Hd4 ≡ Err fault) (brought_is told image brought there has.0) has.1)
 
-pub no_image_fault : (seed : ℕ) (file : MachineFile) (drives : MemoryDisks) (old new : Failures) (error : BootError) (drive cause place : ℕ) → error ≡ Image drive cause place → file ≡ machine
-    → drives ≡ drives_of seed → Stops (told_of drives) file.drives old new error → ⊥
-no_image_fault seed file drives old new error drive cause place is same was stops =
+fault_nowhere : (disks : Disks) (images : Images) (image : List ℕ) (files : Drive) (old new : Failures) (drive cause place : ℕ) → images name_of_image ≡ Bytes image
+    → files_of image Hd4 ≡ Ok files → IsFirst (IsFaultless disks images) (λ spec. StopsAt disks images spec old new (Image drive cause place)) (its_drive ∷ []) → ⊥
+unfolding IsFirst
+fault_nowhere disks images image files old new drive cause place there are (inl stops) =
+    at_no_fault (disks.image 0) (images name_of_image) image files (record { cause = cause; place = place }) there are stops.1
+fault_nowhere disks images image files old new drive cause place there are (inr later) = absurd later.1
+
+pub no_image_fault : (seed : ℕ) (disks : Disks) (file : MachineFile) (drives : MemoryDisks) (old new : Failures) (error : BootError) (drive cause place : ℕ)
+    → error ≡ Image drive cause place → file ≡ machine → drives ≡ drives_of seed → Stops disks (told_of drives) file.drives old new error → ⊥
+no_image_fault seed disks file drives old new error drive cause place is same was stops =
     let sound = has_files seed in
-    let P : MachineFile → Type 0 = λ f. Stops (told_of drives) f.drives old new (Image drive cause place) in
-    let Q : MemoryDisks → Type 0 = λ d. Stops (told_of d) machine.drives old new (Image drive cause place) in
-    let R : BootError → Type 0 = λ e. Stops (told_of drives) file.drives old new e in
-    fault_nowhere (told_of (drives_of seed)) (image_of seed) sound.0 old new drive cause place (image_there seed) sound.1
+    let P : MachineFile → Type 0 = λ f. Stops disks (told_of drives) f.drives old new (Image drive cause place) in
+    let Q : MemoryDisks → Type 0 = λ d. Stops disks (told_of d) machine.drives old new (Image drive cause place) in
+    let R : BootError → Type 0 = λ e. Stops disks (told_of drives) file.drives old new e in
+    fault_nowhere disks (told_of (drives_of seed)) (image_of seed) sound.0 old new drive cause place (image_there seed) sound.1
     (subst Q was (subst P same (subst R is stops)))
 
 -- its drive is drive A

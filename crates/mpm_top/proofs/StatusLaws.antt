@@ -95,7 +95,7 @@ ended_refusal fault step status is refusal = refuses fault step (subst IsRefusal
 writes_by : (Same : Type 0) (command : Command) (old new : Seen) (s : State) (fault : StepFault) (step : ℕ) (begins : Begins old.host command.form command.name s)
     → step ≤ command.steps
     → StopsRun (StandFor new.disks new.host.images (drives_listed command.form begins.bytes)) fault command.trace s command.steps old.printed new.printed step
-    → KeepsOthers old.host.images new.host.images (drives_listed command.form begins.bytes) → (step ≡ 0 → new.host.images ≡ old.host.images)
+    → KeepsOthers old.host.images new.host.images old.disks new.disks (drives_listed command.form begins.bytes) → (step ≡ 0 → new.host.images ≡ old.host.images)
     → Writes Same command old new (ended_by fault step)
 writes_by Same command old new s SinkFailed step begins within stops others early =
     record { start = s; begins = begins; within = within; stops = stops; others = others }
@@ -105,7 +105,7 @@ writes_by Same command old new s SyncFailed step begins within stops others earl
 pub writes_stopped : (Same : Type 0) (command : Command) (old new : Seen) (s : State) (fault : StepFault) (step : ℕ) (status : Status) → status ≡ ended_by fault step
     → (begins : Begins old.host command.form command.name s) → step ≤ command.steps
     → StopsRun (StandFor new.disks new.host.images (drives_listed command.form begins.bytes)) fault command.trace s command.steps old.printed new.printed step
-    → KeepsOthers old.host.images new.host.images (drives_listed command.form begins.bytes) → (step ≡ 0 → new.host.images ≡ old.host.images)
+    → KeepsOthers old.host.images new.host.images old.disks new.disks (drives_listed command.form begins.bytes) → (step ≡ 0 → new.host.images ≡ old.host.images)
     → Writes Same command old new status
 writes_stopped Same command old new s fault step status is begins within stops others early =
     subst (λ (t : Status). Writes Same command old new t) (sym is) (writes_by Same command old new s fault step begins within stops others early)

@@ -1,6 +1,6 @@
 -- Which drives are synced after a run: those that are mounted, as the others are attached as they were.
 use Rattle.std.proofs.Common.{◌≡◌, ◌≢◌, ◌∙◌, ℕ, false, Bool, List, [], ◌∷◌, Option, Some, None, IfSome, IfOk, Result, Ok, Err, inl, inr, refl, sym, ap, subst}
-use Rattle.std.specs.Prelude.{◌⊎◌, option_map}
+use Rattle.std.specs.Prelude.{◌⊎◌, length, option_map}
 use Rattle.std.specs.List.{All, AllByRecursion}
 use Rattle.std.proofs.lemmas.List.Elements.{All-from_recursion}
 use Rattle.std.proofs.lemmas.Option.{none-some}
@@ -8,13 +8,13 @@ use Rattle.mpm_base.specs.declared.kind.Kind.{Kind}
 use Rattle.mpm_port.specs.Disks.{Disks}
 use Rattle.mpm_machine_file.specs.declared.lists.DriveSpec.{DriveSpec}
 use Rattle.mpm_mount.specs.Directories.{Directory}
-use Rattle.mpm_drives.specs.Mounted.{number_of}
+use Rattle.mpm_drives.specs.Mounted.{number_of, SameBeside}
 use Rattle.mpm_directories.specs.Places.{directory_at}
 use Rattle.mpm_bdos.specs.Syncing.{AreSynced}
-use Rattle.mpm_bdos.specs.Turns.{labelled}
+use Rattle.mpm_bdos.specs.Turns.{StaysBeside, labelled}
 use Rattle.mpm_machine.specs.declared.machine.Machine.{Machine}
 use Rattle.mpm_machine.specs.Mounting.{HasNoDrive, IsInPlace, HasDrives}
-use Rattle.mpm_top.specs.Runs.{KeepsUnmounted, AreSyncedOf, SyncsAttached}
+use Rattle.mpm_top.specs.Runs.{KeepsUnmounted, IsAttachedAs, AreSyncedOf, SyncsAttached}
 
 -- what isn't mounted the machine file doesn't list, so that it is as it was
 
@@ -26,10 +26,15 @@ unlisted disks mounted (spec ∷ specs) number each free = (
   unlisted disks mounted specs number each.1 free,
 )
 
-pub keeps_unmounted : (specs : List DriveSpec) (before later : ℕ → Option ℕ) (disks : Disks) (mounted : List (Option Directory))
-    → ((number : ℕ) → All (λ spec. number_of spec ≢ number) specs → later number ≡ before number) → HasDrives disks specs mounted → KeepsUnmounted before later mounted
-keeps_unmounted specs before later disks mounted beside has number free =
-    beside number (All-from_recursion (λ spec. number_of spec ≢ number) specs (unlisted disks mounted specs number has.each free))
+pub keeps_unmounted : (specs : List DriveSpec) (disks now : Disks) (mounted : List (Option Directory)) → SameBeside specs disks now → HasDrives now specs mounted
+    → KeepsUnmounted disks now mounted
+keeps_unmounted specs disks now mounted beside has = record {
+  images = λ number free. beside.images number (apart number free);
+  names = λ number free. beside.names number (apart number free);
+}
+  where
+    apart : (number : ℕ) → directory_at mounted number ≡ None → All (λ spec. number_of spec ≢ number) specs
+    apart number free = All-from_recursion (λ spec. number_of spec ≢ number) specs (unlisted now mounted specs number has.each free)
 
 -- a drive that was mounted is so after steps
 
@@ -63,19 +68,25 @@ attached_or_synced : (directory : Option Directory) (P Q : Type 0) → (director
 attached_or_synced None P Q free synced = inl (free refl)
 attached_or_synced (Some d) P Q free synced = inr synced
 
-pub syncs_attached : (before later : ℕ → Option ℕ) (unsynced : ℕ → Bool) (mounted : List (Option Directory)) → KeepsUnmounted before later mounted → AreSynced unsynced mounted
-    → SyncsAttached before later unsynced
-syncs_attached before later unsynced mounted attaches synced number =
-    attached_or_synced (directory_at mounted number) (later number ≡ before number) (unsynced number ≡ false) (attaches number) (synced number)
+pub syncs_attached : (disks middle now : Disks) (unsynced : ℕ → Bool) (mounted : List (Option Directory)) → KeepsUnmounted disks middle mounted
+    → ((number : ℕ) → IsAttachedAs middle now number) → AreSynced unsynced mounted → SyncsAttached disks now unsynced
+syncs_attached disks middle now unsynced mounted keeps attached synced number =
+    attached_or_synced (directory_at mounted number) (IsAttachedAs disks now number) (unsynced number ≡ false)
+    (λ free. ((attached number).0 ∙ keeps.names number free, (attached number).1 ∙ ap (option_map length) (keeps.images number free))) (synced number)
+
+-- steps leave each attached as it was
+
+pub attached_still : (one other : List (Option Directory)) (x y z : Disks) (number : ℕ) → StaysBeside one x y → StaysBeside other y z → IsAttachedAs x z number
+attached_still one other x y z number first last = (last.names number ∙ first.names number, last.sizes number ∙ first.sizes number)
 
 -- where no drive was called
 
-pub still_attached : (attached : ℕ → Option ℕ) (unsynced : ℕ → Bool) → SyncsAttached attached attached unsynced
-still_attached attached unsynced number = inl refl
+pub still_attached : (disks : Disks) (unsynced : ℕ → Bool) → SyncsAttached disks disks unsynced
+still_attached disks unsynced number = inl (refl, refl)
 
-pub nothing_called : {E : Type 0} (result : Result Machine E) (before : ℕ → Option ℕ) → IfOk result (λ machine. KeepsUnmounted before before machine.bdos.mounted)
-nothing_called (Err error) before = tt
-nothing_called (Ok machine) before = λ number free. refl
+pub nothing_called : {E : Type 0} (result : Result Machine E) (disks : Disks) → IfOk result (λ machine. KeepsUnmounted disks disks machine.bdos.mounted)
+nothing_called (Err error) disks = tt
+nothing_called (Ok machine) disks = record { images = λ number free. refl; names = λ number free. refl }
 
 -- where none is mounted all are synced
 

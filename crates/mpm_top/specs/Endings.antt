@@ -1,7 +1,7 @@
 -- How a command ends, and why.
 use Rattle.std.specs.Prelude.{◌≡◌, ℕ, ◌<◌, ◌⊎◌, List, [], ◌∷◌, ◌++◌, Option, Some, None, Result, Ok, Err, length, MatchOption, ⊤, option_and_then, nat_lt, if◌then◌else◌}
 use Rattle.mpm_port.specs.Causes.{Rose}
-use Rattle.mpm_port.specs.Disks.{ToldImage, Untold, Missing, Bytes}
+use Rattle.mpm_port.specs.Disks.{Disks, ToldImage, Untold, Missing, Bytes}
 use Rattle.mpm_script.specs.declared.event.Timed.{Timed}
 use Rattle.mpm_script.specs.Scripts.{script_of}
 use Rattle.mpm_machine_file.specs.declared.lists.DriveSpec.{DriveSpec}
@@ -72,15 +72,15 @@ pub record LacksScript (contents : Contents) (form : Form) (Of : List ℕ → Ty
   pub named : script_name form bytes ≡ Some script
   pub unread : Unread contents script old new status
 
--- they are a machine file, and its script, if it names one, was read; but its drives weren't mounted
-pub record LacksDrive (host : Host) (form : Form) (Of : List ℕ → Type 0) (old new : Failed) (error : BootError) : Type 0 where
+-- they are a machine file, and its script, if it names one, was read; but its drives weren't mounted, which left these images
+pub record LacksDrive (disks : Disks) (host : Host) (form : Form) (Of : List ℕ → Type 0) (old new : Failed) (error : BootError) : Type 0 where
   pub bytes : List ℕ
   pub events : List Timed
   pub system : System
   pub contents_are : Of bytes
   pub scripted : Scripted host.contents (script_name form bytes) events
   pub is : system_of form bytes events ≡ Some system
-  pub stops : Stops host.images (drives_listed form bytes) old.drives new.drives error
+  pub stops : Stops disks host.images (drives_listed form bytes) old.drives new.drives error
 
 -- it began, and one of its drives failed later, which adds no failed name
 pub record LosesDrive (host : Host) (form : Form) (Of : List ℕ → Type 0) (old new : Failed) : Type 0 where
@@ -90,24 +90,24 @@ pub record LosesDrive (host : Host) (form : Form) (Of : List ℕ → Type 0) (ol
   pub rose : Rose old.drives.faults new.drives.faults
   pub names : new.drives.names ≡ old.drives.names
 
--- how such a command ends
-abbrev pub EndsAfter : Host → Form → (List ℕ → Type 0) → Failed → Failed → Status → Type 0
-EndsAfter host form Of old new Ran = (s : State) × BeginsOf host form Of s
-EndsAfter host form Of old new Usage = ⊥
-EndsAfter host form Of old new MachineFault = IsNoMachine form Of
-EndsAfter host form Of old new (ScriptFault line) = LacksScript host.contents form Of old.files new.files (ScriptFault line)
-EndsAfter host form Of old new (ImageFault drive cause place) = LacksDrive host form Of old new (Image drive cause place)
-EndsAfter host form Of old new (TooLong what) = LacksScript host.contents form Of old.files new.files (TooLong what)
-EndsAfter host form Of old new ReadFault = LacksScript host.contents form Of old.files new.files ReadFault
-EndsAfter host form Of old new (DiskFault step) = ((step ≡ 0) × LacksDrive host form Of old new DriveFailed) ⊎ LosesDrive host form Of old new
-EndsAfter host form Of old new (WriteFault step) = (s : State) × BeginsOf host form Of s
-EndsAfter host form Of old new OutOfMemory = Unit {0}
+-- how such a command ends, by the images that its drives have then
+abbrev pub EndsAfter : Disks → Host → Form → (List ℕ → Type 0) → Failed → Failed → Status → Type 0
+EndsAfter disks host form Of old new Ran = (s : State) × BeginsOf host form Of s
+EndsAfter disks host form Of old new Usage = ⊥
+EndsAfter disks host form Of old new MachineFault = IsNoMachine form Of
+EndsAfter disks host form Of old new (ScriptFault line) = LacksScript host.contents form Of old.files new.files (ScriptFault line)
+EndsAfter disks host form Of old new (ImageFault drive cause place) = LacksDrive disks host form Of old new (Image drive cause place)
+EndsAfter disks host form Of old new (TooLong what) = LacksScript host.contents form Of old.files new.files (TooLong what)
+EndsAfter disks host form Of old new ReadFault = LacksScript host.contents form Of old.files new.files ReadFault
+EndsAfter disks host form Of old new (DiskFault step) = ((step ≡ 0) × LacksDrive disks host form Of old new DriveFailed) ⊎ LosesDrive host form Of old new
+EndsAfter disks host form Of old new (WriteFault step) = (s : State) × BeginsOf host form Of s
+EndsAfter disks host form Of old new OutOfMemory = Unit {0}
 
 -- how a command of a form and a file ends: the file wasn't fetched, or it was, and then by its bytes
-abbrev pub Ends : Host → Form → List ℕ → Failed → Failed → Status → Type 0
-Ends host form name old new status =
+abbrev pub Ends : Disks → Host → Form → List ℕ → Failed → Failed → Status → Type 0
+Ends disks host form name old new status =
     Unfetched host.contents (input_of form) name old.files new.files status
-    ⊎ EndsAfter host form (Holds host.contents (input_of form) name) old new status
+    ⊎ EndsAfter disks host form (Holds host.contents (input_of form) name) old new status
 
 -- how a command ends whose files and images are known, if nothing fails and there is memory. The order is that of the refusals
 

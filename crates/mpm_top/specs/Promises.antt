@@ -4,6 +4,7 @@ use Rattle.std.specs.Prelude.{◌≡◌, ℕ, ◌≤◌, ◌⊎◌, Bool, List, 
 use Rattle.mpm_port.specs.Causes.{Rose}
 use Rattle.mpm_port.specs.Disks.{Disks}
 use Rattle.mpm_drives.specs.Images.{Images}
+use Rattle.mpm_drives.specs.Mounted.{AsksNoWrite}
 use Rattle.mpm_render.specs.Outputs.{closed}
 use Rattle.mpm_machine.specs.State.{State}
 use Rattle.mpm_machine.specs.After.{after}
@@ -38,14 +39,14 @@ seen contents unfetched disks told unsynced faults unattached written failures f
 
 -- All steps were done, and the end. There are bytes for each image that the machine file lists, those that are known of it where such are,
 -- and the model begins with them: what was written is exactly the text of its outputs, and each image stands for what is on its drive in
--- the end, and is synced. No other image has changed
+-- the end, and is synced. The image of a drive that it doesn't list is as it was, unless it has the name of a listed one
 pub record WritesAll (command : Command) (old new : Seen) : Type 0 where
   pub start : State
   pub begins : Begins old.host command.form command.name start
   pub text : new.printed.text ≡ old.printed.text ++ closed command.trace (carried (after command.steps start)).outputs
   pub images : StandFor new.disks new.host.images (drives_listed command.form begins.bytes) (drives_left (after command.steps start))
   pub synced : AreSyncedOf new.unsynced (drives_listed command.form begins.bytes)
-  pub others : KeepsOthers old.host.images new.host.images (drives_listed command.form begins.bytes)
+  pub others : KeepsOthers old.host.images new.host.images old.disks new.disks (drives_listed command.form begins.bytes)
 
 -- The output failed in a step: there are such bytes, and what was written is the text of the steps before it, and a first part of its own;
 -- each image stands for what is on its drive after it. Or it failed so in the end, after all steps
@@ -54,7 +55,7 @@ pub record WritesPart (command : Command) (old new : Seen) (step : ℕ) : Type 0
   pub begins : Begins old.host command.form command.name start
   pub within : step ≤ command.steps
   pub stops : StopsAt (StandFor new.disks new.host.images (drives_listed command.form begins.bytes)) command.trace start command.steps old.printed new.printed step
-  pub others : KeepsOthers old.host.images new.host.images (drives_listed command.form begins.bytes)
+  pub others : KeepsOthers old.host.images new.host.images old.disks new.disks (drives_listed command.form begins.bytes)
 
 -- A drive failed in a step, in a turn that was left to the call in service, or as it was synced: there are such bytes, what was written is
 -- the text of all before, and each image stands for what was then on its drive, that of the call which failed for what is within a turn
@@ -63,13 +64,15 @@ pub record WritesClosed (command : Command) (old new : Seen) (step : ℕ) : Type
   pub begins : Begins old.host command.form command.name start
   pub within : step ≤ command.steps
   pub stops : ClosesAt (StandFor new.disks new.host.images (drives_listed command.form begins.bytes)) command.trace start command.steps old.printed new.printed step
-  pub others : KeepsOthers old.host.images new.host.images (drives_listed command.form begins.bytes)
+  pub others : KeepsOthers old.host.images new.host.images old.disks new.disks (drives_listed command.form begins.bytes)
   pub early : step ≡ 0 → new.host.images ≡ old.host.images
 
--- It ended before the first step: nothing was written, as the output is as it was (`Same`), and so are the images
+-- It ended before the first step: nothing was written, as the output is as it was (`Same`), and so is what is known of images; and no write
+-- to a drive was asked for
 pub record WritesNothing (Same : Type 0) (old new : Seen) : Type 0 where
   pub text : Same
   pub images : new.host.images ≡ old.host.images
+  pub asks : AsksNoWrite old.unsynced new.unsynced
 
 -- So by how it ended
 abbrev pub Writes : Type 0 → Command → Seen → Seen → Status → Type 0
@@ -106,5 +109,5 @@ pub record EndsKnown (missing : List ℕ → Type 0) (command : Command) (old ne
 -- All that a command promises
 pub record Promises (Same : Type 0) (missing : List ℕ → Type 0) (command : Command) (old new : Seen) (status : Status) : Type 0 where
   pub writes : Writes Same command old new status
-  pub reason : Ends old.host command.form command.name old.failed new.failed status
+  pub reason : Ends new.disks old.host command.form command.name old.failed new.failed status
   pub known : EndsKnown missing command old new status

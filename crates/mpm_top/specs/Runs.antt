@@ -2,7 +2,7 @@
 use Rattle.std.specs.Prelude.{◌≡◌, ◌≢◌, ℕ, ◌+◌, ◌-◌, ◌<◌, ◌≤◌, ◌⊎◌, Bool, false, List, ◌++◌, Option, Some, None, Ok, ⊤, slice_index_or}
 use Rattle.std.specs.List.{AllByRecursion}
 use Rattle.mpm_port.specs.Causes.{Rose}
-use Rattle.mpm_port.specs.Disks.{Disks, Untold, Brings}
+use Rattle.mpm_port.specs.Disks.{Disks, Untold, Brings, size_of}
 use Rattle.mpm_render.specs.Outputs.{rendered, closed}
 use Rattle.mpm_render.specs.Shown.{EndsBetween}
 use Rattle.mpm_machine_file.specs.declared.lists.DriveSpec.{DriveSpec}
@@ -52,22 +52,31 @@ drives_of s = drives_in s.system.kernel.disk.served s.files
 abbrev pub drives_left : State → List (Option Drive)
 drives_left s = (filing_in (carried s).files).drives
 
--- a drive that isn't mounted is as it was, attached or not
-abbrev pub KeepsUnmounted : (ℕ → Option ℕ) → (ℕ → Option ℕ) → List (Option Directory) → Type 0
-KeepsUnmounted before later mounted = (number : ℕ) → directory_at mounted number ≡ None → later number ≡ before number
+-- a drive that isn't mounted has its image and its name, if it has any
+pub record KeepsUnmounted (disks now : Disks) (mounted : List (Option Directory)) : Type 0 where
+  pub images : (number : ℕ) → directory_at mounted number ≡ None → now.image number ≡ disks.image number
+  pub names : (number : ℕ) → directory_at mounted number ≡ None → now.name_of number ≡ disks.name_of number
+
+-- a drive has the name that it had, and an image of the same size, if it had one
+abbrev pub IsAttachedAs : Disks → Disks → ℕ → Type 0
+IsAttachedAs disks now number = (now.name_of number ≡ disks.name_of number) × (size_of now number ≡ size_of disks number)
 
 -- each drive of a machine file is synced: no write to it was asked for since
 abbrev pub AreSyncedOf : (ℕ → Bool) → List DriveSpec → Type 0
 AreSyncedOf unsynced specs = AllByRecursion (λ spec. unsynced (number_of spec) ≡ false) specs
 
 -- each drive is synced, or attached as it was
-abbrev pub SyncsAttached : (ℕ → Option ℕ) → (ℕ → Option ℕ) → (ℕ → Bool) → Type 0
-SyncsAttached before later unsynced = (number : ℕ) → (later number ≡ before number) ⊎ (unsynced number ≡ false)
+abbrev pub SyncsAttached : Disks → Disks → (ℕ → Bool) → Type 0
+SyncsAttached disks now unsynced = (number : ℕ) → IsAttachedAs disks now number ⊎ (unsynced number ≡ false)
 
--- what is known of the image of a name that a machine file doesn't list is as it was, and of which image something was known, it still is
-pub record KeepsOthers (before left : Images) (specs : List DriveSpec) : Type 0 where
-  pub others : (image : List ℕ) → AllByRecursion (λ spec. spec.image ≢ image) specs → left image ≡ before image
-  pub still : (image : List ℕ) → left image ≡ Untold → before image ≡ Untold
+-- a drive that a machine file doesn't list has its name, and its image too where no listed drive has that name; what is known of the image
+-- of a name that it doesn't list is as it was, and of which image something was known, it still is
+pub record KeepsOthers (told told' : Images) (disks now : Disks) (specs : List DriveSpec) : Type 0 where
+  pub names : (number : ℕ) → AllByRecursion (λ spec. number_of spec ≢ number) specs → now.name_of number ≡ disks.name_of number
+  pub images : (number : ℕ) → AllByRecursion (λ spec. number_of spec ≢ number) specs → AllByRecursion (λ spec. Some spec.image ≢ disks.name_of number) specs
+      → now.image number ≡ disks.image number
+  pub others : (image : List ℕ) → AllByRecursion (λ spec. spec.image ≢ image) specs → told' image ≡ told image
+  pub still : (image : List ℕ) → told' image ≡ Untold → told image ≡ Untold
 
 -- So many steps were done after a state, and the end: the text of all of that was written, with unfinished lines closed, and what is then
 -- on the drives stands

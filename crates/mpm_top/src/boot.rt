@@ -1,5 +1,5 @@
 ghost use Rattle.std.specs.Prelude.{◌≡◌, ◌≤◌, ◌↔◌, ℕ, List, Some, IsSome, IfSome, IfOk, IfErr, MatchResult, length};
-ghost use Rattle.mpm_port.specs.Disks.{size_of};
+ghost use Rattle.mpm_drives.specs.Mounted.{AsksNoWrite};
 ghost use Rattle.mpm_bdos.specs.Syncing.{AreSynced};
 ghost use Rattle.mpm_system.specs.Whole.{IsWhole, NoCompletions};
 ghost use Rattle.mpm_machine.specs.Holding.{HoldsDrives};
@@ -38,13 +38,14 @@ pub(crate) fn boot<F: Files, D: Drives>(
 ) -> Result<Machine, Status>
     ensures starts { IfOk result (λ machine. Starts (host F.contents D.told files.old drives.old) form name.now machine.system machine.bdos (D.disks drives.new)) }
     ensures holds { IfOk result (λ machine. HoldsDrives D.disks machine.system.kernel machine.bdos drives.new) }
-    ensures sizes { IfOk result (λ machine. KeepsUnmounted (size_of (D.disks drives.old)) (size_of (D.disks drives.new)) machine.bdos.mounted) }
+    ensures beside { IfOk result (λ machine. KeepsUnmounted (D.disks drives.old) (D.disks drives.new) machine.bdos.mounted) }
+    ensures asks { AsksNoWrite (D.unsynced drives.old) (D.unsynced drives.new) }
     ensures fresh { IfOk result (λ machine. AreSynced (D.unsynced drives.new) machine.bdos.mounted) }
     ensures whole { IfOk result (λ machine. IsWhole machine.system) }
     ensures no_completions { IfOk result (λ machine. NoCompletions machine.system) }
     ensures start { IfOk result (λ machine. machine.system.steps ≡ 0) }
     ensures early { IfErr result (λ status. IsEarly status) }
-    ensures reason { IfErr result (λ status. Ends (host F.contents D.told files.old drives.old) form name.now
+    ensures reason { IfErr result (λ status. Ends (D.disks drives.new) (host F.contents D.told files.old drives.old) form name.now
         (failed F.failed_names D.faults D.failed_names files.old drives.old) (failed F.failed_names D.faults D.failed_names files.new drives.new) status) }
     ensures names { MatchResult result (λ _. F.failed_names files.new ≡ F.failed_names files.old)
         (λ status. UnlessReadFault status (F.failed_names files.new ≡ F.failed_names files.old)) }
@@ -121,13 +122,14 @@ fn boot_machine<F: Files, D: Drives>(
     ensures starts { IfOk result (λ machine. StartsOf (host F.contents D.told files.old drives.old) Form.Run (λ content. content ≡ bytes.now)
         machine.system machine.bdos (D.disks drives.new)) }
     ensures holds { IfOk result (λ machine. HoldsDrives D.disks machine.system.kernel machine.bdos drives.new) }
-    ensures sizes { IfOk result (λ machine. KeepsUnmounted (size_of (D.disks drives.old)) (size_of (D.disks drives.new)) machine.bdos.mounted) }
+    ensures beside { IfOk result (λ machine. KeepsUnmounted (D.disks drives.old) (D.disks drives.new) machine.bdos.mounted) }
+    ensures asks { AsksNoWrite (D.unsynced drives.old) (D.unsynced drives.new) }
     ensures fresh { IfOk result (λ machine. AreSynced (D.unsynced drives.new) machine.bdos.mounted) }
     ensures whole { IfOk result (λ machine. IsWhole machine.system) }
     ensures no_completions { IfOk result (λ machine. NoCompletions machine.system) }
     ensures start { IfOk result (λ machine. machine.system.steps ≡ 0) }
     ensures early { IfErr result (λ status. IsEarly status) }
-    ensures reason { IfErr result (λ status. EndsAfter (host F.contents D.told files.old drives.old) Form.Run (λ content. content ≡ bytes.now)
+    ensures reason { IfErr result (λ status. EndsAfter (D.disks drives.new) (host F.contents D.told files.old drives.old) Form.Run (λ content. content ≡ bytes.now)
         (failed F.failed_names D.faults D.failed_names files.old drives.old) (failed F.failed_names D.faults D.failed_names files.new drives.new) status) }
     ensures names { MatchResult result (λ _. F.failed_names files.new ≡ F.failed_names files.old)
         (λ status. UnlessReadFault status (F.failed_names files.new ≡ F.failed_names files.old)) }

@@ -1,6 +1,5 @@
 ghost use Rattle.std.specs.Prelude.{◌≡◌, ◌≢◌, ◌≤◌, ◌<◌, ◌↔◌, [], ℕ, List, Some, None, OnOk, IfErr, MatchResult, length, slice_index_or};
 ghost use Rattle.mpm_script.specs.declared.line.TheConstants.{GREATEST_STEP};
-ghost use Rattle.mpm_port.specs.Disks.{size_of};
 ghost use Rattle.mpm_machine_file.specs.declared.lists.DriveSpec.{DriveSpec};
 ghost use Rattle.mpm_drives.specs.Mounted.{NumberedDrive, placed};
 ghost use Rattle.mpm_bdos.specs.Syncing.{AreSynced};
@@ -13,7 +12,7 @@ ghost use Rattle.mpm_machine.specs.Mounting.{HasDrives, HasNoDrive, untouched};
 ghost use Rattle.mpm_machine.specs.After.{ShowsBefore};
 ghost use Rattle.mpm_top.specs.Words.{Command, texts, command_of};
 ghost use Rattle.mpm_top.specs.Beginnings.{command_on, input_of as input_said, room_for, script_name, host, failed, begun};
-ghost use Rattle.mpm_top.specs.Runs.{printed, StandFor, KeepsOthers, SyncsAttached, RunsOut, StopsRun, ClosesAfter, Causes};
+ghost use Rattle.mpm_top.specs.Runs.{printed, StandFor, KeepsOthers, IsAttachedAs, SyncsAttached, RunsOut, StopsRun, ClosesAfter, Causes};
 ghost use Rattle.mpm_top.specs.Endings.{stopped_by, Ends, EndsAs, IsRefusal};
 ghost use Rattle.mpm_top.specs.Promises.{seen, Writes, Fails, Promises};
 ghost use Rattle.mpm_top.specs.Seeds.{seeded_of, EndsSeeded};
@@ -57,7 +56,7 @@ pub fn run_words<F: Files, D: Drives, S: Sink>(
     ensures fails { Fails (seen F.contents F.failed_names D.disks D.told D.unsynced D.faults D.failed_names S.written S.faults files.old drives.old sink.old)
         (seen F.contents F.failed_names D.disks D.told D.unsynced D.faults D.failed_names S.written S.faults files.new drives.new sink.new) result }
     ensures nothing { IsRefusal result → sink.new ≡ sink.old }
-    ensures synced { result ≡ Status.Ran → SyncsAttached (size_of (D.disks drives.old)) (size_of (D.disks drives.new)) (D.unsynced drives.new) }
+    ensures synced { result ≡ Status.Ran → SyncsAttached (D.disks drives.old) (D.disks drives.new) (D.unsynced drives.new) }
     ensures files { (other : List ℕ) → F.contents files.new other ≡ F.contents files.old other }
 
     // `gen`: the run of a seed's machine is reported in three lines, by the outputs of its model after those steps; files and drives are
@@ -98,13 +97,13 @@ fn run_command<F: Files, D: Drives, S: Sink>(
     ensures program { asked.form ≡ Form.Program → drives.new ≡ drives.old }
     ensures fails { Fails (seen F.contents F.failed_names D.disks D.told D.unsynced D.faults D.failed_names S.written S.faults files.old drives.old sink.old)
         (seen F.contents F.failed_names D.disks D.told D.unsynced D.faults D.failed_names S.written S.faults files.new drives.new sink.new) result }
-    ensures reason { Ends (host F.contents D.told files.old drives.old) asked.form name.now
+    ensures reason { Ends (D.disks drives.new) (host F.contents D.told files.old drives.old) asked.form name.now
         (failed F.failed_names D.faults D.failed_names files.old drives.old) (failed F.failed_names D.faults D.failed_names files.new drives.new) result }
     ensures missing { F.missing files.old name.now → EndsAs Status.ReadFault result }
     ensures missing_script { (bytes script : List ℕ) → F.contents files.old name.now ≡ Some bytes → length bytes ≤ room_for (input_said asked.form)
         → script_name asked.form bytes ≡ Some script → F.missing files.old script → EndsAs Status.ReadFault result }
     ensures nothing { IsRefusal result → sink.new ≡ sink.old }
-    ensures synced { result ≡ Status.Ran → SyncsAttached (size_of (D.disks drives.old)) (size_of (D.disks drives.new)) (D.unsynced drives.new) }
+    ensures synced { result ≡ Status.Ran → SyncsAttached (D.disks drives.old) (D.disks drives.new) (D.unsynced drives.new) }
     ensures files { (other : List ℕ) → F.contents files.new other ≡ F.contents files.old other }
 {
     match boot(alloc, name, asked.form, files, drives) {
@@ -169,9 +168,9 @@ fn run_to_end<D: Drives, S: Sink, L: Ledger>(
         → IfErr result (λ error. StopsRun (StandFor (D.disks drives.new) (D.told drives.new) specs) error.fault asked.trace (begun machine.old.system on) asked.steps
         (printed S.written S.faults sink.old) (printed S.written S.faults sink.new) error.step) }
     ensures others { (specs : List DriveSpec) → HasDrives (D.disks drives.old) specs machine.old.bdos.mounted
-        → KeepsOthers (D.told drives.old) (D.told drives.new) specs }
+        → KeepsOthers (D.told drives.old) (D.told drives.new) (D.disks drives.old) (D.disks drives.new) specs }
     ensures synced { OnOk result (AreSynced (D.unsynced drives.new) machine.old.bdos.mounted) }
-    ensures sizes { (number : ℕ) → size_of (D.disks drives.new) number ≡ size_of (D.disks drives.old) number }
+    ensures attached { (number : ℕ) → IsAttachedAs (D.disks drives.old) (D.disks drives.new) number }
     ensures within { IfErr result (λ error. error.step ≤ asked.steps) }
     ensures early { IfErr result (λ error. error.step ≡ 0 → D.told drives.new ≡ D.told drives.old) }
     ensures cause { MatchResult result (λ _. counts S.faults D.faults sink.new drives.new ≡ counts S.faults D.faults sink.old drives.old)

@@ -16,8 +16,8 @@ returns-in-Ok-mount-clause-only g c = attached_only (number_of c.args.spec.now) 
 pub returns-in-Err-Image-clause-err : goal.returns-in-Err-Image-clause-err
 returns-in-Err-Image-clause-err g c = (
   refl,
-  fault_as _ _ (g.D.Drives.told c.args.drives.now) c.args.spec.now c.as_str.result.now c.in-Err-Image.field-0 c.in-Err-Image.cause c.in-Err-Image.place c.as_str.ensures
-      c.in-Err-Image.field-0-is c.in-Ok.ensures.ok c.in-Err-Image.ensures.err,
+  fault_as _ _ _ (g.D.Drives.told c.args.drives.now) c.args.spec.now c.as_str.result.now c.in-Err-Image.field-0 c.in-Err-Image.cause c.in-Err-Image.place c.as_str.ensures
+      c.in-Err-Image.field-0-is c.in-Ok.ensures.ok c.in-Err-Image.ensures.same.images c.in-Err-Image.ensures.err,
   failures_same _ _ _ _
       (count_as Directory _ _ c.in-Err-Image.field-0 c.in-Err-Image.cause c.in-Err-Image.place c.in-Err-Image.field-0-is c.in-Err-Image.ensures.count ∙ c.in-Ok.ensures.count)
       (c.in-Err-Image.ensures.same.failed ∙ c.in-Ok.ensures.names),

@@ -1,7 +1,6 @@
 use Rattle.std.proofs.Common.{◌≡◌, ℕ, List, IfOk, sym, subst, refl}
 use Rattle.std.proofs.Math.Path.{fun_ext}
 use Rattle.std.specs.Prelude.{IfErr}
-use Rattle.mpm_port.specs.Disks.{size_of}
 use Rattle.mpm_top.specs.declared.status.Input.{Input}
 use Rattle.mpm_top.specs.declared.words.Form.TheVariants.{Program, Run}
 use Rattle.mpm_top.specs.Beginnings.{Contents, host, failed, Holds, StartsOf}
@@ -20,8 +19,8 @@ returns-in-Program-clause-starts g c =
     starts_with_contents found c.args.form Program c.args.name.now c.as_slice.result.now disks c.boot_program.result c.in-Program.is (subst P c.input.ensures from_file)
     (c.boot_program.ensures.starts found)
 
-pub returns-in-Program-clause-sizes : goal.returns-in-Program-clause-sizes
-returns-in-Program-clause-sizes g c = nothing_called c.boot_program.result (size_of (g.D.Drives.disks c.args.drives.now))
+pub returns-in-Program-clause-beside : goal.returns-in-Program-clause-beside
+returns-in-Program-clause-beside g c = nothing_called c.boot_program.result (g.D.Drives.disks c.args.drives.now)
 
 pub returns-in-Program-clause-fresh : goal.returns-in-Program-clause-fresh
 returns-in-Program-clause-fresh g c = none_synced c.boot_program.result (g.D.Drives.unsynced c.args.drives.now) c.boot_program.ensures.no_drive
@@ -54,13 +53,14 @@ returns-clause-reason g c =
     let found = host g.F.Files.contents g.D.Drives.told c.args.files.now c.args.drives.now in
     let from_file = subst (Holds found.contents c.input.result c.args.name.now) (sym c.as_slice-in-Run.ensures.value) c.in-Ok.ensures.contents_are in
     let P : Input → Type 0 = λ input. Holds found.contents input c.args.name.now c.as_slice-in-Run.result.now in
-    ends_with_contents found c.args.form Run c.args.name.now c.as_slice-in-Run.result.now
+    let disks = g.D.Drives.disks c.boot_machine.new.drives in
+    ends_with_contents disks found c.args.form Run c.args.name.now c.as_slice-in-Run.result.now
     (failed g.F.Files.failed_names g.D.Drives.faults g.D.Drives.failed_names c.args.files.now c.args.drives.now)
     (failed g.F.Files.failed_names g.D.Drives.faults g.D.Drives.failed_names c.boot_machine.new.files c.boot_machine.new.drives) c.boot_machine.result c.in-Run.is
     (subst P c.input.ensures from_file)
-    (subst (λ (names : List (List ℕ)). IfErr c.boot_machine.result (λ status. EndsAfter found Run (λ content. content ≡ c.as_slice-in-Run.result.now)
+    (subst (λ (names : List (List ℕ)). IfErr c.boot_machine.result (λ status. EndsAfter disks found Run (λ content. content ≡ c.as_slice-in-Run.result.now)
     (record { files = names; drives = record { faults = g.D.Drives.faults c.args.drives.now; names = g.D.Drives.failed_names c.args.drives.now } })
     (failed g.F.Files.failed_names g.D.Drives.faults g.D.Drives.failed_names c.boot_machine.new.files c.boot_machine.new.drives) status)) c.in-Ok.ensures.names
-    (subst (λ (contents : Contents). IfErr c.boot_machine.result (λ status. EndsAfter (record found { contents = contents }) Run (λ content. content ≡ c.as_slice-in-Run.result.now)
+    (subst (λ (contents : Contents). IfErr c.boot_machine.result (λ status. EndsAfter disks (record found { contents = contents }) Run (λ content. content ≡ c.as_slice-in-Run.result.now)
     (failed g.F.Files.failed_names g.D.Drives.faults g.D.Drives.failed_names c.fetch.new.files c.args.drives.now)
     (failed g.F.Files.failed_names g.D.Drives.faults g.D.Drives.failed_names c.boot_machine.new.files c.boot_machine.new.drives) status)) (fun_ext c.in-Ok.ensures.files) c.boot_machine.ensures.reason))

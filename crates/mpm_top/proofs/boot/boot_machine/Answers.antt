@@ -1,6 +1,4 @@
-use Rattle.std.proofs.Common.{◌∙◌, Err, length, sym, ap, refl}
-use Rattle.std.specs.Prelude.{option_map}
-use Rattle.mpm_port.specs.Disks.{size_of}
+use Rattle.std.proofs.Common.{◌∙◌, Err, sym, ap, refl}
 use Rattle.mpm_machine.proofs.SettlingLaws.{nobody_yet}
 use Rattle.mpm_top.specs.Beginnings.{host, failed}
 use Rattle.mpm_top.proofs.BootLaws.{no_machine, names_nothing, script_of_file, starts_of_file, ends_unread, ends_unmounted, unless_disk, refusal_early}
@@ -16,7 +14,7 @@ returns-in-Err-Fault-clause-missing g c script named missing = absurd (names_not
 
 pub returns-in-Err-clause-reason : goal.returns-in-Err-clause-reason
 returns-in-Err-clause-reason g c =
-    ends_unread (host g.F.Files.contents g.D.Drives.told c.args.files.now c.args.drives.now) c.args.bytes.now c.in-Ok.file
+    ends_unread (g.D.Drives.disks c.args.drives.now) (host g.F.Files.contents g.D.Drives.told c.args.files.now c.args.drives.now) c.args.bytes.now c.in-Ok.file
     (failed g.F.Files.failed_names g.D.Drives.faults g.D.Drives.failed_names c.args.files.now c.args.drives.now)
     (failed g.F.Files.failed_names g.D.Drives.faults g.D.Drives.failed_names c.read_script_of.new.files c.args.drives.now)
     c.in-Err.status c.in-Ok.ensures.ok c.in-Err.ensures.named c.in-Err.ensures.reason
@@ -41,10 +39,10 @@ returns-in-Ok-boot-clause-starts g c =
 pub returns-in-Ok-boot-clause-drives : goal.returns-in-Ok-boot-clause-drives
 returns-in-Ok-boot-clause-drives g c = λ i. record { faults = c.in-Ok-boot.ensures.count i; names = c.in-Ok-boot.ensures.names i }
 
-pub returns-in-Ok-boot-clause-sizes : goal.returns-in-Ok-boot-clause-sizes
-returns-in-Ok-boot-clause-sizes g c =
-    keeps_unmounted c.in-Ok.file.drives (size_of (g.D.Drives.disks c.args.drives.now)) (size_of (g.D.Drives.disks c.boot.new.drives)) (g.D.Drives.disks c.boot.new.drives)
-    c.in-Ok-boot.machine.bdos.mounted (λ number apart. ap (option_map length) (c.boot.ensures.beside.images number apart)) c.in-Ok-boot.ensures.drives
+pub returns-in-Ok-boot-clause-beside : goal.returns-in-Ok-boot-clause-beside
+returns-in-Ok-boot-clause-beside g c =
+    keeps_unmounted c.in-Ok.file.drives (g.D.Drives.disks c.args.drives.now) (g.D.Drives.disks c.boot.new.drives) c.in-Ok-boot.machine.bdos.mounted c.boot.ensures.beside
+    c.in-Ok-boot.ensures.drives
 
 pub returns-in-Ok-boot-clause-missing : goal.returns-in-Ok-boot-clause-missing
 returns-in-Ok-boot-clause-missing g c script named missing =
@@ -52,7 +50,7 @@ returns-in-Ok-boot-clause-missing g c script named missing =
 
 pub returns-clause-reason : goal.returns-clause-reason
 returns-clause-reason g c =
-    ends_unmounted (host g.F.Files.contents g.D.Drives.told c.args.files.now c.args.drives.now) c.args.bytes.now c.in-Ok.file c.in-Ok-read_script_of.script
+    ends_unmounted (g.D.Drives.disks c.boot.new.drives) (host g.F.Files.contents g.D.Drives.told c.args.files.now c.args.drives.now) c.args.bytes.now c.in-Ok.file c.in-Ok-read_script_of.script
     (failed g.F.Files.failed_names g.D.Drives.faults g.D.Drives.failed_names c.args.files.now c.args.drives.now)
     (failed g.F.Files.failed_names g.D.Drives.faults g.D.Drives.failed_names c.read_script_of.new.files c.boot.new.drives)
     c.in-Err-boot.error c.refusal.result c.refusal.ensures c.in-Ok.ensures.ok c.in-Ok-read_script_of.ensures.scripted c.in-Err-boot.ensures.err
@@ -63,4 +61,4 @@ returns-clause-missing g c script named missing =
 
 pub returns-clause-drives : goal.returns-clause-drives
 returns-clause-drives g c =
-    unless_disk (g.D.Drives.told c.args.drives.now) c.in-Ok.file.drives _ _ c.in-Err-boot.error c.refusal.result _ c.refusal.ensures c.in-Err-boot.ensures.err (λ same. same)
+    unless_disk (g.D.Drives.disks c.boot.new.drives) (g.D.Drives.told c.args.drives.now) c.in-Ok.file.drives _ _ c.in-Err-boot.error c.refusal.result _ c.refusal.ensures c.in-Err-boot.ensures.err (λ same. same)

@@ -1,6 +1,5 @@
 use Rattle.std.proofs.Common.{◌∙◌, ℕ, refl, sym, ap, subst, inr}
 use Rattle.mpm_machine.specs.Faults.{Counts, counts}
-use Rattle.mpm_port.specs.Disks.{size_of}
 use Rattle.mpm_drives.specs.Stopping.{Failures}
 use Rattle.mpm_top.specs.Beginnings.{host, failed, begun, command_on, drives_listed}
 use Rattle.mpm_top.specs.Runs.{Causes}
@@ -29,7 +28,7 @@ returns-in-Ok-run_to_end-clause-writes g c =
       synced =
           listed_synced (g.D.Drives.disks c.boot.new.drives) c.in-Ok.machine.bdos.mounted (g.D.Drives.unsynced c.run_to_end.new.drives) specs starts.listed.each
           c.in-Ok-run_to_end.ensures.synced;
-      others = others_then _ _ _ specs c.in-Ok.ensures.told (c.in-Ok-run_to_end.ensures.others specs starts.listed);
+      others = others_then _ _ _ _ (g.D.Drives.disks c.boot.new.drives) _ c.in-Ok.machine.bdos.mounted specs c.in-Ok.ensures.told starts.listed c.in-Ok.ensures.beside (c.in-Ok-run_to_end.ensures.others specs starts.listed);
     }
 
 pub returns-in-Ok-run_to_end-clause-fails : goal.returns-in-Ok-run_to_end-clause-fails
@@ -45,8 +44,8 @@ returns-in-Ok-run_to_end-clause-fails g c =
 
 pub returns-in-Ok-run_to_end-clause-synced : goal.returns-in-Ok-run_to_end-clause-synced
 returns-in-Ok-run_to_end-clause-synced g c is =
-    syncs_attached (size_of (g.D.Drives.disks c.args.drives.now)) (size_of (g.D.Drives.disks c.run_to_end.new.drives)) (g.D.Drives.unsynced c.run_to_end.new.drives) c.in-Ok.machine.bdos.mounted
-    (λ number free. c.in-Ok-run_to_end.ensures.sizes number ∙ c.in-Ok.ensures.sizes number free) c.in-Ok-run_to_end.ensures.synced
+    syncs_attached (g.D.Drives.disks c.args.drives.now) (g.D.Drives.disks c.boot.new.drives) (g.D.Drives.disks c.run_to_end.new.drives) (g.D.Drives.unsynced c.run_to_end.new.drives)
+    c.in-Ok.machine.bdos.mounted c.in-Ok.ensures.beside c.in-Ok-run_to_end.ensures.attached c.in-Ok-run_to_end.ensures.synced
 
 pub returns-in-Ok-run_to_end-clause-reason : goal.returns-in-Ok-run_to_end-clause-reason
 returns-in-Ok-run_to_end-clause-reason g c = inr (begun c.in-Ok.machine.system c.in-Ok.ensures.starts.drives, c.in-Ok.ensures.starts.begins)
@@ -75,7 +74,7 @@ returns-in-Ok-clause-reason g c =
     let fault = c.in-Err-run_to_end.error.fault in
     let now = counts g.S.Sink.faults g.D.Drives.faults c.run_to_end.new.sink c.run_to_end.new.drives in
     let Q : ℕ → Type 0 = λ n. Causes fault (record { sink = g.S.Sink.faults c.args.sink.now; drives = n }) now in
-    ends_by_fault found c.args.asked.form c.args.name.now (begun c.in-Ok.machine.system starts.drives)
+    ends_by_fault (g.D.Drives.disks c.run_to_end.new.drives) found c.args.asked.form c.args.name.now (begun c.in-Ok.machine.system starts.drives)
     (failed g.F.Files.failed_names g.D.Drives.faults g.D.Drives.failed_names c.args.files.now c.args.drives.now)
     (failed g.F.Files.failed_names g.D.Drives.faults g.D.Drives.failed_names c.boot.new.files c.run_to_end.new.drives)
     fault c.in-Err-run_to_end.error.step (g.S.Sink.faults c.args.sink.now) (g.S.Sink.faults c.run_to_end.new.sink) c.stopped.result c.stopped.ensures
@@ -92,7 +91,7 @@ returns-in-Ok-clause-writes g c =
     (seen g.F.Files.contents g.F.Files.failed_names g.D.Drives.disks g.D.Drives.told g.D.Drives.unsynced g.D.Drives.faults g.D.Drives.failed_names g.S.Sink.written g.S.Sink.faults c.boot.new.files c.run_to_end.new.drives c.run_to_end.new.sink)
     (begun c.in-Ok.machine.system starts.drives) c.in-Err-run_to_end.error.fault c.in-Err-run_to_end.error.step c.stopped.result c.stopped.ensures starts.begins
     c.in-Err-run_to_end.ensures.within (c.in-Err-run_to_end.ensures.stops specs starts.drives starts.listed starts.files)
-    (others_then _ _ _ specs c.in-Ok.ensures.told (c.in-Err-run_to_end.ensures.others specs starts.listed))
+    (others_then _ _ _ _ (g.D.Drives.disks c.boot.new.drives) _ c.in-Ok.machine.bdos.mounted specs c.in-Ok.ensures.told starts.listed c.in-Ok.ensures.beside (c.in-Err-run_to_end.ensures.others specs starts.listed))
     (λ zero. c.in-Err-run_to_end.ensures.early zero ∙ c.in-Ok.ensures.told)
 
 pub returns-in-Ok-clause-fails : goal.returns-in-Ok-clause-fails
@@ -135,7 +134,7 @@ returns-clause-writes g c =
     writes_early _ (command_on c.args.name.now c.args.asked)
     (seen g.F.Files.contents g.F.Files.failed_names g.D.Drives.disks g.D.Drives.told g.D.Drives.unsynced g.D.Drives.faults g.D.Drives.failed_names g.S.Sink.written g.S.Sink.faults c.args.files.now c.args.drives.now c.args.sink.now)
     (seen g.F.Files.contents g.F.Files.failed_names g.D.Drives.disks g.D.Drives.told g.D.Drives.unsynced g.D.Drives.faults g.D.Drives.failed_names g.S.Sink.written g.S.Sink.faults c.boot.new.files c.boot.new.drives c.args.sink.now)
-    c.in-Err.status c.in-Err.ensures.early (record { text = refl; images = c.in-Err.ensures.told })
+    c.in-Err.status c.in-Err.ensures.early (record { text = refl; images = c.in-Err.ensures.told; asks = c.boot.ensures.asks })
 
 pub returns-clause-fails : goal.returns-clause-fails
 returns-clause-fails g c =

@@ -3,7 +3,9 @@ use Rattle.mpm_render.specs.Outputs.{closed}
 use Rattle.mpm_machine.specs.Faults.{Counts, counts}
 use Rattle.mpm_machine.specs.State.{State}
 use Rattle.mpm_machine.specs.After.{after}
+use Rattle.mpm_machine.specs.Failing.{leaving}
 use Rattle.mpm_machine.specs.Settling.{carried}
+use Rattle.mpm_machine.specs.AtEnd.{called}
 use Rattle.mpm_system.specs.declared.system.System.{System}
 use Rattle.mpm_machine.proofs.SettlingLaws.{settled_stand}
 use Rattle.mpm_machine.proofs.DriveLaws.{keeps_both}
@@ -11,7 +13,7 @@ use Rattle.mpm_top.specs.Beginnings.{begun}
 use Rattle.mpm_top.specs.Runs.{printed, drives_left, StandFor}
 use Rattle.mpm_top.proofs.RunLaws.{first_state, stands_first, none_done, stops_in_step, stops_at_end, closed_alike, sink_stays, causes_stopped, causes_closed}
 use Rattle.mpm_top.proofs.Naming.{stand_behind, others_behind}
-use Rattle.mpm_top.proofs.Syncing.{synced_before}
+use Rattle.mpm_top.proofs.Syncing.{synced_before, attached_still}
 use Rattle.mpm_top.proofs.run.run_to_end.Goals as goal
 
 -- the run stopped
@@ -24,24 +26,24 @@ returns-in-Err-clause-stops g c specs on has stand =
     let fault = c.in-Err.error.fault in
     let step = c.in-Err.error.step in
     let there = after (step - 1 - s.system.steps) s in
-    let left = c.in-Err.ensures.images s first stands in
+    let left = c.in-Err.ensures.stops s first stands in
     let new = printed g.S.Sink.written g.S.Sink.faults c.close.new.sink in
     stops_in_step (StandFor (g.D.Drives.disks c.run.new.drives) (g.D.Drives.told c.run.new.drives) specs) fault c.args.asked.trace c.new-render.result.trace s c.args.asked.steps
-    (printed g.S.Sink.written g.S.Sink.faults c.args.sink.now) new (g.S.Sink.written c.run.new.sink) step left.drives (λ is. ap g.S.Sink.written (c.close.ensures.left is)) (sym c.new-render.ensures.trace)
-    (c.in-Err.ensures.err s first stands)
+    (printed g.S.Sink.written g.S.Sink.faults c.args.sink.now) new (g.S.Sink.written c.run.new.sink) step left.images.drives (λ is. ap g.S.Sink.written (c.close.ensures.left is)) (sym c.new-render.ensures.trace)
+    left.text
     (closed_alike fault c.run.new.render.trace c.args.asked.trace there first (g.S.Sink.faults c.run.new.sink) (g.S.Sink.faults c.args.sink.now) new
     (c.in-Err.ensures.trace ∙ c.new-render.ensures.trace)
     (sink_stays fault (counts g.S.Sink.faults g.D.Drives.faults c.args.sink.now c.args.drives.now) (counts g.S.Sink.faults g.D.Drives.faults c.run.new.sink c.run.new.drives) c.in-Err.ensures.cause.failed)
-    (c.close.ensures.closes there first (c.in-Err.ensures.shown s first stands)))
-    left.are
-    (stand_behind _ _ _ _ c.args.machine.now.bdos.mounted c.run.new.self.bdos.mounted specs left.drives (g.met.D.Drives.agrees c.run.new.drives) has c.in-Err.ensures.keeps left.images)
+    (c.close.ensures.closes there first left.shown))
+    left.images.are
+    (stand_behind _ _ _ _ c.args.machine.now.bdos.mounted c.run.new.self.bdos.mounted specs left.images.drives (g.met.D.Drives.agrees c.run.new.drives) has c.in-Err.ensures.drives.keeps left.images.images)
 
 pub returns-in-Err-clause-within : goal.returns-in-Err-clause-within
 returns-in-Err-clause-within g c =
     let first = g.S.Sink.written c.args.sink.now in
     let files = c.requires.holds.files in
     let stands = stands_first c.args.machine.now files c.new-render.result first (g.D.Drives.disks c.args.drives.now) (c.new-render.ensures.fresh first) c.requires.holds.stands in
-    let ends = c.in-Err.ensures.err (first_state c.args.machine.now.system files) first stands in
+    let ends = (c.in-Err.ensures.stops (first_state c.args.machine.now.system files) first stands).text in
     omega (arith, ends.within, c.requires.start)
 
 pub returns-in-Err-clause-early : goal.returns-in-Err-clause-early
@@ -49,14 +51,14 @@ returns-in-Err-clause-early g c zero =
     let first = g.S.Sink.written c.args.sink.now in
     let files = c.requires.holds.files in
     let stands = stands_first c.args.machine.now files c.new-render.result first (g.D.Drives.disks c.args.drives.now) (c.new-render.ensures.fresh first) c.requires.holds.stands in
-    let ends = c.in-Err.ensures.err (first_state c.args.machine.now.system files) first stands in
+    let ends = (c.in-Err.ensures.stops (first_state c.args.machine.now.system files) first stands).text in
     absurd (omega (arith, zero, ends.later))
 
 pub returns-in-Err-clause-others : goal.returns-in-Err-clause-others
-returns-in-Err-clause-others g c specs has = others_behind _ _ _ _ c.args.machine.now.bdos.mounted c.run.new.self.bdos.mounted specs has c.in-Err.ensures.keeps
+returns-in-Err-clause-others g c specs has = others_behind _ _ _ _ c.args.machine.now.bdos.mounted c.run.new.self.bdos.mounted specs has c.in-Err.ensures.drives.keeps
 
-pub returns-in-Err-clause-sizes : goal.returns-in-Err-clause-sizes
-returns-in-Err-clause-sizes g c = c.in-Err.ensures.keeps.beside.sizes
+pub returns-in-Err-clause-attached : goal.returns-in-Err-clause-attached
+returns-in-Err-clause-attached g c number = (c.in-Err.ensures.drives.keeps.beside.names number, c.in-Err.ensures.drives.keeps.beside.sizes number)
 
 pub returns-in-Err-clause-cause : goal.returns-in-Err-clause-cause
 returns-in-Err-clause-cause g c =
@@ -74,34 +76,36 @@ returns-in-Ok-settle-clause-runs g c specs on has stand =
     let stands = stands_first c.args.machine.now s.files c.new-render.result first (g.D.Drives.disks c.args.drives.now) (c.new-render.ensures.fresh first) stand in
     let there = after c.args.asked.steps s in
     let ran = c.in-Ok.ensures.ok s first stands in
+    let ended = c.in-Ok-settle.ensures.ok there first ran in
     let last = c.settle.new.self.bdos.mounted in
     record {
       text = subst (λ (t : Bool). g.S.Sink.written c.settle.new.sink ≡ first ++ closed t (carried there).outputs) (c.in-Ok.ensures.trace ∙ c.new-render.ensures.trace)
-          (c.in-Ok-settle.ensures.ok there first ran);
+          ended.text;
       stand = stand_behind _ _ _ _ c.args.machine.now.bdos.mounted last specs (drives_left there) (g.met.D.Drives.agrees c.settle.new.drives) has
-          (keeps_both _ _ _ _ _ _ c.args.machine.now.bdos.mounted c.run.new.self.bdos.mounted last c.in-Ok.ensures.keeps c.in-Ok-settle.ensures.keeps)
+          (keeps_both _ _ _ _ _ _ c.args.machine.now.bdos.mounted c.run.new.self.bdos.mounted last c.in-Ok.ensures.drives.keeps c.in-Ok-settle.ensures.keeps)
           (record {
             directories = last;
             labels = λ number. refl;
-            stand = settled_stand there c.settle.new.self.system.kernel.disk c.settle.new.self.bdos (g.D.Drives.disks c.settle.new.drives) (c.in-Ok-settle.ensures.files there first ran);
+            stand = settled_stand there c.settle.new.self.system.kernel.disk c.settle.new.self.bdos (g.D.Drives.disks c.settle.new.drives) ended.files;
           });
     }
 
 pub returns-in-Ok-settle-clause-synced : goal.returns-in-Ok-settle-clause-synced
 returns-in-Ok-settle-clause-synced g c =
     synced_before (g.D.Drives.unsynced c.settle.new.drives) c.args.machine.now.bdos.mounted c.settle.new.self.bdos.mounted
-    (λ number. c.in-Ok-settle.ensures.keeps.labels number ∙ c.in-Ok.ensures.keeps.labels number) c.in-Ok-settle.ensures.synced.syncs.synced
+    (λ number. c.in-Ok-settle.ensures.keeps.labels number ∙ c.in-Ok.ensures.drives.keeps.labels number) c.in-Ok-settle.ensures.synced.syncs.synced
 
-pub returns-in-Ok-settle-clause-sizes : goal.returns-in-Ok-settle-clause-sizes
-returns-in-Ok-settle-clause-sizes g c number = c.in-Ok-settle.ensures.keeps.beside.sizes number ∙ c.in-Ok.ensures.keeps.beside.sizes number
+pub returns-in-Ok-settle-clause-attached : goal.returns-in-Ok-settle-clause-attached
+returns-in-Ok-settle-clause-attached g c number =
+    attached_still _ _ _ _ _ number c.in-Ok.ensures.drives.keeps.beside c.in-Ok-settle.ensures.keeps.beside
 
 pub returns-in-Ok-settle-clause-others : goal.returns-in-Ok-settle-clause-others
 returns-in-Ok-settle-clause-others g c specs has =
     others_behind _ _ _ _ c.args.machine.now.bdos.mounted c.settle.new.self.bdos.mounted specs has
-    (keeps_both _ _ _ _ _ _ c.args.machine.now.bdos.mounted c.run.new.self.bdos.mounted c.settle.new.self.bdos.mounted c.in-Ok.ensures.keeps c.in-Ok-settle.ensures.keeps)
+    (keeps_both _ _ _ _ _ _ c.args.machine.now.bdos.mounted c.run.new.self.bdos.mounted c.settle.new.self.bdos.mounted c.in-Ok.ensures.drives.keeps c.in-Ok-settle.ensures.keeps)
 
 pub returns-in-Ok-settle-clause-none : goal.returns-in-Ok-settle-clause-none
-returns-in-Ok-settle-clause-none g c none = c.in-Ok-settle.ensures.none (c.in-Ok.ensures.bare none) ∙ c.in-Ok.ensures.none none
+returns-in-Ok-settle-clause-none g c none = let ran = c.in-Ok.ensures.none none in (c.in-Ok-settle.ensures.none ran.2).1 ∙ ran.1
 
 -- it stopped at its end
 
@@ -119,14 +123,16 @@ returns-clause-stops g c specs on has stand =
     let mid = counts g.S.Sink.faults g.D.Drives.faults c.run.new.sink c.run.new.drives in
     let stays : mid.sink ≡ old.sink = ap (λ (k : Counts). k.sink) c.in-Ok.ensures.cause.stays in
     stops_at_end (StandFor (g.D.Drives.disks c.settle.new.drives) (g.D.Drives.told c.settle.new.drives) specs) fault c.args.asked.trace s c.args.asked.steps
-    (printed g.S.Sink.written g.S.Sink.faults c.args.sink.now) new (g.S.Sink.written c.settle.new.sink) c.settle.new.render (g.D.Drives.disks c.settle.new.drives) last
+    (printed g.S.Sink.written g.S.Sink.faults c.args.sink.now) new
+    (leaving g.S.Sink.written g.D.Drives.disks c.settle.new.render c.settle.new.sink c.settle.new.drives last) c.run.new.self.bdos
+    (called g.D.Drives.unsynced c.run.new.drives c.run.new.steps) (called g.D.Drives.unsynced c.settle.new.drives c.settle.new.steps)
     (λ is. ap g.S.Sink.written (c.close-in-Err-settle.ensures.left is)) traces
     (λ t shows. closed_alike fault c.settle.new.render.trace c.args.asked.trace t first (g.S.Sink.faults c.settle.new.sink) (g.S.Sink.faults c.args.sink.now) new traces
     (λ is. sink_stays fault mid (counts g.S.Sink.faults g.D.Drives.faults c.settle.new.sink c.settle.new.drives) c.in-Err-settle.ensures.cause.failed is ∙ stays)
     (c.close-in-Err-settle.ensures.closes t first shows))
     (λ drives images. stand_behind _ _ _ _ c.args.machine.now.bdos.mounted last specs drives (g.met.D.Drives.agrees c.settle.new.drives) has
-    (keeps_both _ _ _ _ _ _ c.args.machine.now.bdos.mounted c.run.new.self.bdos.mounted last c.in-Ok.ensures.keeps c.in-Err-settle.ensures.keeps) images)
-    (c.in-Err-settle.ensures.err there first (c.in-Ok.ensures.ok s first stands))
+    (keeps_both _ _ _ _ _ _ c.args.machine.now.bdos.mounted c.run.new.self.bdos.mounted last c.in-Ok.ensures.drives.keeps c.in-Err-settle.ensures.keeps) images)
+    (c.in-Err-settle.ensures.stops there first (c.in-Ok.ensures.ok s first stands))
 
 pub returns-clause-early : goal.returns-clause-early
 returns-clause-early g c zero =
@@ -139,10 +145,10 @@ returns-clause-early g c zero =
 pub returns-clause-others : goal.returns-clause-others
 returns-clause-others g c specs has =
     others_behind _ _ _ _ c.args.machine.now.bdos.mounted c.settle.new.self.bdos.mounted specs has
-    (keeps_both _ _ _ _ _ _ c.args.machine.now.bdos.mounted c.run.new.self.bdos.mounted c.settle.new.self.bdos.mounted c.in-Ok.ensures.keeps c.in-Err-settle.ensures.keeps)
+    (keeps_both _ _ _ _ _ _ c.args.machine.now.bdos.mounted c.run.new.self.bdos.mounted c.settle.new.self.bdos.mounted c.in-Ok.ensures.drives.keeps c.in-Err-settle.ensures.keeps)
 
-pub returns-clause-sizes : goal.returns-clause-sizes
-returns-clause-sizes g c number = c.in-Err-settle.ensures.keeps.beside.sizes number ∙ c.in-Ok.ensures.keeps.beside.sizes number
+pub returns-clause-attached : goal.returns-clause-attached
+returns-clause-attached g c number = attached_still _ _ _ _ _ number c.in-Ok.ensures.drives.keeps.beside c.in-Err-settle.ensures.keeps.beside
 
 pub returns-clause-cause : goal.returns-clause-cause
 returns-clause-cause g c =
@@ -154,7 +160,7 @@ returns-clause-cause g c =
     c.in-Err-settle.ensures.cause.failed)
 
 pub returns-clause-none : goal.returns-clause-none
-returns-clause-none g c none = c.in-Err-settle.ensures.none (c.in-Ok.ensures.bare none) ∙ c.in-Ok.ensures.none none
+returns-clause-none g c none = let ran = c.in-Ok.ensures.none none in (c.in-Err-settle.ensures.none ran.2).1 ∙ ran.1
 
 pub returns-clause-unfailing : goal.returns-clause-unfailing
-returns-clause-unfailing g c none = c.in-Err-settle.ensures.unfailing (c.in-Ok.ensures.bare none)
+returns-clause-unfailing g c none = (c.in-Err-settle.ensures.none (c.in-Ok.ensures.none none).2).0

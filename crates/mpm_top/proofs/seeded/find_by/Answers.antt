@@ -13,7 +13,7 @@ find_of-requires-clause-drive c =
 
 pub unreachable-requires : goal.unreachable-requires
 unreachable-requires c =
-    no_image_fault c.args.asked.seed c.args.file.now c.args.drives.now _ _ c.in-Err-Image.field-0 _ _ _ c.in-Err-Image.field-0-is c.requires.machine c.requires.drives c.in-Err-Image.ensures.err
+    no_image_fault c.args.asked.seed (disks_of c.boot.new.drives) c.args.file.now c.args.drives.now _ _ c.in-Err-Image.field-0 _ _ _ c.in-Err-Image.field-0-is c.requires.machine c.requires.drives c.in-Err-Image.ensures.err
 
 pub returns-in-Ok : goal.returns-in-Ok
 returns-in-Ok c =

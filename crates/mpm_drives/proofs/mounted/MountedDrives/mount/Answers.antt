@@ -6,7 +6,7 @@ use Rattle.mpm_machine_file.specs.MachineFiles.{IsDrive}
 use Rattle.mpm_mount.specs.Directories.{Directory}
 use Rattle.mpm_drives.specs.Images.{Images}
 use Rattle.mpm_drives.specs.Mounted.{number_of, IsMountedAs, AreMounted, AreSynced}
-use Rattle.mpm_drives.proofs.Mounting.{beside_more, not_listed, others_differ, mounted_kept, mounted_more, stops_from, stops_at, failures_same, taken_more, parted, stays, synced_more}
+use Rattle.mpm_drives.proofs.Mounting.{beside_more, others_differ, mounted_kept, mounted_more, stops_from, stops_at, failures_same, taken_more, parted, stays, synced_more, asks_more}
 use Rattle.mpm_drives.proofs.mounted.MountedDrives.mount.Goals as goal
 
 pub returns-in-Err-clause-err : goal.returns-in-Err-clause-err
@@ -14,18 +14,22 @@ returns-in-Err-clause-err g c =
     let i = c.loop-spec.spec-index in
     let specs = c.args.specs.now in
     let spec = c.spec-item.result in
-    stops_at _ (g.D.Drives.told c.args.drives.now) specs (take i specs) c.loop-spec.items.items spec (drop (i + 1) specs) _ _ c.in-Err.error
-    (parted specs i spec (omega arith) c.spec-item.is) c.loop-spec.invariant.mounted
-    (stops_from (g.D.Drives.told c.loop-spec.drives) (g.D.Drives.told c.args.drives.now) spec _ _ _ c.in-Err.error c.loop-spec.invariant.told
+    let x = g.D.Drives.disks c.mount_drive.new.drives in
+    let images = g.D.Drives.told c.args.drives.now in
+    let parts = parted specs i spec (omega arith) c.spec-item.is in
+    let apart = others_differ specs (take i specs) spec (drop (i + 1) specs) parts (recursion_from_All IsDrive specs c.requires.each) c.requires.apart in
+    stops_at x images specs (take i specs) c.loop-spec.items.items spec (drop (i + 1) specs) _ _ c.in-Err.error parts
+    (mounted_kept (number_of spec) _ x images (take i specs) c.loop-spec.items.items c.in-Err.ensures.only apart c.loop-spec.invariant.mounted)
+    (stops_from x (g.D.Drives.told c.loop-spec.drives) (g.D.Drives.told c.args.drives.now) spec _ _ _ c.in-Err.error c.loop-spec.invariant.told
     (failures_same _ _ _ _ c.loop-spec.invariant.count c.loop-spec.invariant.names) c.in-Err.ensures.err)
 
-pub returns-in-Err-clause-unsynced : goal.returns-in-Err-clause-unsynced
-returns-in-Err-clause-unsynced g c number apart =
+pub returns-in-Err-clause-asks : goal.returns-in-Err-clause-asks
+returns-in-Err-clause-asks g c =
     let i = c.loop-spec.spec-index in
     let specs = c.args.specs.now in
     let spec = c.spec-item.result in
-    c.in-Err.ensures.unsynced number (not_listed specs (take i specs) spec (drop (i + 1) specs) (parted specs i spec (omega arith) c.spec-item.is) number apart)
-    ∙ c.loop-spec.invariant.unsynced number apart
+    asks_more specs (take i specs) spec (drop (i + 1) specs) _ _ _ (parted specs i spec (omega arith) c.spec-item.is) c.loop-spec.invariant.asks
+    c.in-Err.ensures.asks c.in-Err.ensures.unsynced
 
 pub loop-spec-preserved : goal.loop-spec-preserved
 loop-spec-preserved g c =
@@ -50,8 +54,7 @@ loop-spec-preserved g c =
       fresh = subst (AreSynced now) (sym pushed)
           (synced_more items c.in-Ok.mounted before_it now c.loop-spec.invariant.fresh (stays before_it now (number_of spec) c.in-Ok.ensures.fresh c.in-Ok.ensures.unsynced)
           (ap now c.in-Ok.ensures.mounted.number ∙ c.in-Ok.ensures.fresh));
-      unsynced = λ number apart.
-          c.in-Ok.ensures.unsynced number (not_listed specs (take i specs) spec (drop (i + 1) specs) parts number apart) ∙ c.loop-spec.invariant.unsynced number apart;
+      asks = asks_more specs (take i specs) spec (drop (i + 1) specs) _ _ _ parts c.loop-spec.invariant.asks c.in-Ok.ensures.asks c.in-Ok.ensures.unsynced;
       none = λ nothing. absurd (omega (arith, nothing));
       count = c.in-Ok.ensures.count ∙ c.loop-spec.invariant.count;
       names = c.in-Ok.ensures.names ∙ c.loop-spec.invariant.names;

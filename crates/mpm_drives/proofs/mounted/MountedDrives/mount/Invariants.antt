@@ -1,5 +1,5 @@
-use Rattle.std.proofs.Common.{◌≡◌, ◌≢◌, ℕ, All, take}
-use Rattle.mpm_drives.specs.Mounted.{number_of, AreMounted, AreSynced, SameBeside}
+use Rattle.std.proofs.Common.{◌≡◌, take}
+use Rattle.mpm_drives.specs.Mounted.{AreMounted, AreSynced, SameBeside, AsksNothing}
 use Rattle.mpm_drives.proofs.mounted.MountedDrives.mount.Given as goal
 
 abbrev pub invariant-loop-spec : goal.invariant-loop-spec
@@ -10,6 +10,6 @@ invariant-loop-spec g l = record {
   count : g.D.Drives.faults l.drives ≡ g.D.Drives.faults l.initial.drives;
   names : g.D.Drives.failed_names l.drives ≡ g.D.Drives.failed_names l.initial.drives;
   fresh : AreSynced (g.D.Drives.unsynced l.drives) l.items.items;
-  unsynced : (number : ℕ) → All (λ spec. number_of spec ≢ number) l.specs → g.D.Drives.unsynced l.drives number ≡ g.D.Drives.unsynced l.initial.drives number;
+  asks : AsksNothing l.specs (g.D.Drives.unsynced l.initial.drives) (g.D.Drives.unsynced l.drives);
   told : g.D.Drives.told l.drives ≡ g.D.Drives.told l.initial.drives;
 }

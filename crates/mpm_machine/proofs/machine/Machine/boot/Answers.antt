@@ -16,7 +16,6 @@ begin_residents-requires g c =
       no_completions = c.in-Ok.ensures.bare.no_completions;
       consoles = so.consoles;
       queues = so.queues;
-      room = so.room;
       nobody = so.nobody;
     }
 

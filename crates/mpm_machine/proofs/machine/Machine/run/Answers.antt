@@ -78,37 +78,32 @@ returns-in-Err g c =
     record {
       ok = λ s first stands. tt;
       model = λ s here. tt;
-      err = λ s first stands.
+      stops = λ s first stands.
           let P : Bool → Type 0 = λ trace. EndsInStep fault trace written first (after done s) (c.args.n - done) step in
           let Q : ℕ → Type 0 = λ most. EndsInStep fault c.loop-left.render.trace written first (after done s) most step in
-          ends_later fault c.args.render.now.trace written first s c.args.n done step so_far.few
-          (subst P so_far.trace (subst Q left (c.in-Err.ensures.err (after done s) first (so_far.stands s first stands))));
-      shown = λ s first stands. let there = so_far.stands s first stands in
-          so_later (λ t. ShowsBefore fault c.advance.new.render written t first) s done step
-          (c.in-Err.ensures.err (after done s) first there).later (c.in-Err.ensures.shown (after done s) first there);
-      images = λ s first stands. let there = so_far.stands s first stands in
-          so_later (StopsWithImages fault disks c.advance.new.self.bdos.mounted) s done step
-          (c.in-Err.ensures.err (after done s) first there).later (c.in-Err.ensures.images (after done s) first there);
+          let there = so_far.stands s first stands in
+          let ends = c.in-Err.ensures.err (after done s) first there in
+          record {
+            text = ends_later fault c.args.render.now.trace written first s c.args.n done step so_far.few (subst P so_far.trace (subst Q left ends));
+            shown = so_later (λ t. ShowsBefore fault c.advance.new.render written t first) s done step ends.later (c.in-Err.ensures.shown (after done s) first there);
+            images =
+                so_later (StopsWithImages fault disks c.advance.new.self.bdos.mounted) s done step ends.later (c.in-Err.ensures.images (after done s) first there);
+          };
       each = λ s is k below. step_in_run k s c.args.self.now.system is c.requires.whole c.requires.no_completions;
-      due = λ some. tt;
-      interprets = λ before. tt;
-      locks = tt;
-      whole = tt;
-      no_completions = tt;
-      count = tt;
+      leaves = tt;
       trace = c.in-Err.ensures.trace ∙ so_far.trace;
       cause = record {
         stays = tt;
         failed = subst (λ (old : Counts). HasFailed fault old (counts g.S.Sink.faults g.D.Drives.faults c.advance.new.sink c.advance.new.drives)) so_far.faults c.in-Err.ensures.cause.failed;
       };
-      keeps = keeps_both _ _ _ _ _ _ c.args.self.now.bdos.mounted c.loop-left.self.bdos.mounted c.advance.new.self.bdos.mounted so_far.keeps c.in-Err.ensures.keeps;
+      drives = record {
+        keeps = keeps_both _ _ _ _ _ _ c.args.self.now.bdos.mounted c.loop-left.self.bdos.mounted c.advance.new.self.bdos.mounted so_far.keeps c.in-Err.ensures.keeps;
+        names = c.in-Err.ensures.names ∙ so_far.names;
+        unsynced = λ number was. c.in-Err.ensures.unsynced number (so_far.unsynced number was);
+      };
       holds = tt;
-      names = c.in-Err.ensures.names ∙ so_far.names;
-      unsynced = λ number was. c.in-Err.ensures.unsynced number (so_far.unsynced number was);
-      bare = λ none. c.in-Err.ensures.bare (so_far.bare none);
       still = λ zero. absurd (omega (arith, zero, c.loop-left.invariant.is, c.loop-left-test.true));
-      none = λ none. c.in-Err.ensures.none (so_far.bare none) ∙ so_far.none none;
-      unfailing = λ none. c.in-Err.ensures.unfailing (so_far.bare none);
+      none = λ none. (c.in-Err.ensures.unfailing (so_far.bare none), c.in-Err.ensures.none (so_far.bare none) ∙ so_far.none none, c.in-Err.ensures.bare (so_far.bare none));
       few = λ turns. omega (arith, so_far.calls turns, so_far.is, c.in-Err.ensures.last_calls (omega (arith, turns, so_far.turn_steps)));
     }
 
@@ -126,25 +121,22 @@ returns g c =
       model = λ s here.
           let P : ℕ → Type 0 = λ k. IsAt c.loop-left.self (g.D.Drives.disks c.loop-left.drives) (after k s) in
           subst P all (so_far.model s here);
-      err = λ s first stands. tt;
-      shown = λ s first stands. tt;
-      images = λ s first stands. tt;
+      stops = λ s first stands. tt;
       each = λ s is k below. step_in_run k s c.args.self.now.system is c.requires.whole c.requires.no_completions;
-      due = λ some. so_far.due (omega (arith, some, all));
-      interprets = so_far.interprets;
-      locks = c.tell_sound.ensures;
-      whole = so_far.whole;
-      no_completions = so_far.no_completions;
-      count = omega (arith, so_far.steps, all);
+      leaves = record {
+        count = omega (arith, so_far.steps, all);
+        whole = so_far.whole;
+        no_completions = so_far.no_completions;
+        due = λ some. so_far.due (omega (arith, some, all));
+        locks = c.tell_sound.ensures;
+        interprets = so_far.interprets;
+        turn_steps = so_far.turn_steps;
+      };
       trace = so_far.trace;
       cause = record { stays = so_far.faults; failed = tt };
-      keeps = so_far.keeps;
+      drives = record { keeps = so_far.keeps; names = so_far.names; unsynced = so_far.unsynced };
       holds = so_far.holds;
-      names = so_far.names;
-      unsynced = so_far.unsynced;
-      bare = so_far.bare;
       still = λ zero. so_far.still (omega (arith, zero, so_far.few));
-      none = so_far.none;
-      unfailing = λ none. tt;
+      none = λ none. (tt, so_far.none none, so_far.bare none);
       few = λ turns. omega (arith, so_far.calls turns, so_far.few);
     }

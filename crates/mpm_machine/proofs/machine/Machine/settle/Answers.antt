@@ -1,12 +1,12 @@
-use Rattle.std.proofs.Common.{◌≡◌, ◌∙◌, ◌++◌, Bool, inl, subst, arith}
-use Rattle.std.specs.Prelude.{OnOk}
+use Rattle.std.proofs.Common.{◌∙◌, inl, subst, arith}
 use Rattle.mpm_mount.specs.Mounting.{SameDrives}
-use Rattle.mpm_render.specs.Outputs.{closed}
 use Rattle.mpm_output.specs.Outside.{seen}
 use Rattle.mpm_base.proofs.Results.{on_ok}
 use Rattle.mpm_machine.specs.Faults.{itself}
-use Rattle.mpm_machine.specs.Settling.{carried, called}
-use Rattle.mpm_machine.proofs.SettlingLaws.{carried_shows, carried_system, carried_files, carried_images, stops_carrying, err_seen, err_stops, syncs_after, keeps_synced, same_still, same_count, none_counted, sink_alone, cause_behind, ok_so}
+use Rattle.mpm_system.specs.declared.system.System.{System}
+use Rattle.mpm_machine.specs.Settling.{carried}
+use Rattle.mpm_machine.specs.AtEnd.{called, TurnsCall}
+use Rattle.mpm_machine.proofs.SettlingLaws.{carried_shows, ends_run, carried_images, stops_carrying, err_seen, err_stops, syncs_after, keeps_synced, same_still, same_count, none_counted, sink_alone, cause_behind, ok_so}
 use Rattle.mpm_machine.proofs.machine.Machine.settle.Goals as goal
 
 pub carry-requires-clause-holds : goal.carry-requires-clause-holds
@@ -14,30 +14,23 @@ carry-requires-clause-holds g c = c.requires.holds.calls
 
 pub returns-in-Ok-clause-ok : goal.returns-in-Ok-clause-ok
 returns-in-Ok-clause-ok g c s first stands =
-    let P : Bool → Type 0 = λ t. OnOk c.close.result (g.S.Sink.written c.close.new.sink ≡ first ++ closed t (carried s).outputs) in
-    subst P c.in-Ok.ensures.trace
-    (c.close.ensures.ok (carried s).outputs first
-    (carried_shows s _ _ _ _ _ _ first stands.system.parts (c.in-Ok.ensures.ok s.files stands.files) stands.system.shown))
-
-pub returns-in-Ok-clause-system : goal.returns-in-Ok-clause-system
-returns-in-Ok-clause-system g c s first stands =
-    on_ok c.close.result (carried_system s _ _ _ _ _ _ stands.system.parts (c.in-Ok.ensures.ok s.files stands.files))
+    let has = c.in-Ok.ensures.ok s.files stands.files in
+    ends_run c.close.result c.carry.new.self s _ _ _ _ _ c.args.render.now.trace c.carry.new.render.trace _ first stands.system.parts has c.close.ensures.drives.images c.in-Ok.ensures.trace
+    (c.close.ensures.ok (carried s).outputs first (carried_shows s _ _ _ _ _ _ first stands.system.parts has stands.system.shown))
 
 pub returns-in-Ok-clause-whole : goal.returns-in-Ok-clause-whole
 returns-in-Ok-clause-whole g c = on_ok c.close.result c.in-Ok.ensures.whole
 
-pub returns-in-Ok-clause-files : goal.returns-in-Ok-clause-files
-returns-in-Ok-clause-files g c s first stands =
-    on_ok c.close.result
-    (carried_files s _ _ _ _ _ _ _ stands.system.parts (c.in-Ok.ensures.ok s.files stands.files) c.close.ensures.drives.images)
-
-pub returns-in-Ok-clause-err : goal.returns-in-Ok-clause-err
-returns-in-Ok-clause-err g c s first stands =
+pub returns-in-Ok-clause-stops : goal.returns-in-Ok-clause-stops
+returns-in-Ok-clause-stops g c s first stands =
     let m = seen g.S.Sink.written g.S.Sink.faults c.carry.new.render c.carry.new.sink in
     let n = seen g.S.Sink.written g.S.Sink.faults c.close.new.render c.close.new.sink in
     let has = c.in-Ok.ensures.ok s.files stands.files in
     let shows = carried_shows s _ m _ _ _ _ first stands.system.parts has stands.system.shown in
-    err_stops c.close.result s m n c.carry.new.self.bdos.mounted (g.D.Drives.disks c.close.new.drives) first c.close.ensures.trace shows
+    let before = called g.D.Drives.unsynced c.args.drives.now c.args.steps.now in
+    let between = called g.D.Drives.unsynced c.carry.new.drives c.carry.new.steps in
+    err_stops c.close.result s m n c.carry.new.self.bdos.mounted (g.D.Drives.disks c.close.new.drives) first c.args.self.now.bdos before between _
+    (subst (λ (system : System). TurnsCall system c.args.self.now.bdos before between) stands.system.parts c.in-Ok.ensures.called) c.close.ensures.syncs c.close.ensures.trace shows
     (err_seen c.close.result g.S.Sink.written g.S.Sink.faults c.carry.new.render c.close.new.render c.carry.new.sink c.close.new.sink c.close.ensures.unwritten)
     (c.close.ensures.err (carried s).outputs first shows)
     (carried_images s _ m _ _ _ _ _ stands.system.parts has c.close.ensures.drives.images)
@@ -56,10 +49,10 @@ pub returns-in-Ok-clause-names : goal.returns-in-Ok-clause-names
 returns-in-Ok-clause-names g c = c.close.ensures.drives.failed ∙ c.in-Ok.ensures.names
 
 pub returns-in-Ok-clause-none : goal.returns-in-Ok-clause-none
-returns-in-Ok-clause-none g c none = c.close.ensures.none (none_counted c.carry.new.self.bdos.mounted (c.in-Ok.ensures.bare none)) ∙ c.in-Ok.ensures.none none
-
-pub returns-in-Ok-clause-unfailing : goal.returns-in-Ok-clause-unfailing
-returns-in-Ok-clause-unfailing g c none = sink_alone c.close.result c.carry.new.self.bdos.mounted (c.in-Ok.ensures.bare none) c.close.ensures.some
+returns-in-Ok-clause-none g c none = (
+  sink_alone c.close.result c.carry.new.self.bdos.mounted (c.in-Ok.ensures.bare none) c.close.ensures.some,
+  c.close.ensures.none (none_counted c.carry.new.self.bdos.mounted (c.in-Ok.ensures.bare none)) ∙ c.in-Ok.ensures.none none,
+)
 
 pub returns-in-Ok-clause-trace : goal.returns-in-Ok-clause-trace
 returns-in-Ok-clause-trace g c = c.close.ensures.trace ∙ c.in-Ok.ensures.trace
@@ -68,8 +61,8 @@ pub returns-in-Ok-clause-synced : goal.returns-in-Ok-clause-synced
 returns-in-Ok-clause-synced g c =
     ok_so c.close.result _ _ (λ syncs. record { between = called g.D.Drives.unsynced c.carry.new.drives c.carry.new.steps; turns = c.in-Ok.ensures.called; syncs = syncs }) c.close.ensures.synced
 
-pub returns-in-Ok-clause-stops : goal.returns-in-Ok-clause-stops
-returns-in-Ok-clause-stops g c =
+pub returns-in-Ok-clause-syncs : goal.returns-in-Ok-clause-syncs
+returns-in-Ok-clause-syncs g c =
     syncs_after c.close.result c.args.self.now.bdos c.carry.new.self.bdos.mounted _ (called g.D.Drives.unsynced c.carry.new.drives c.carry.new.steps) _ c.args.self.now.system
     c.in-Ok.ensures.called c.close.ensures.syncs
 
@@ -79,12 +72,12 @@ returns-in-Ok-clause-calls g c =
 
 -- or it stopped
 
-pub returns-in-Err-clause-err : goal.returns-in-Err-clause-err
-returns-in-Err-clause-err g c s first stands =
-    stops_carrying c.in-Err.fault s _ _ _ _ _ first stands.system.parts c.in-Err.ensures.trace stands.system.shown (c.in-Err.ensures.err s.files stands.files)
-
 pub returns-in-Err-clause-stops : goal.returns-in-Err-clause-stops
-returns-in-Err-clause-stops g c = inl (c.in-Err.ensures.serves, c.in-Err.ensures.called)
+returns-in-Err-clause-stops g c s first stands =
+    stops_carrying c.in-Err.fault s _ _ _ _ _ first _ _ _ stands.system.parts c.in-Err.ensures.trace stands.system.shown (c.in-Err.ensures.err s.files stands.files) c.in-Err.ensures.called
+
+pub returns-in-Err-clause-syncs : goal.returns-in-Err-clause-syncs
+returns-in-Err-clause-syncs g c = inl (c.in-Err.ensures.serves, c.in-Err.ensures.called)
 
 pub returns-in-Err-clause-calls : goal.returns-in-Err-clause-calls
 returns-in-Err-clause-calls g c = omega (arith, c.in-Err.ensures.called.calls)
@@ -95,14 +88,8 @@ returns-in-Err-clause-idle g c none = same_still g.D.Drives.disks g.D.Drives.tol
 pub returns-in-Err-clause-ok : goal.returns-in-Err-clause-ok
 returns-in-Err-clause-ok g c s first stands = tt
 
-pub returns-in-Err-clause-system : goal.returns-in-Err-clause-system
-returns-in-Err-clause-system g c s first stands = tt
-
 pub returns-in-Err-clause-whole : goal.returns-in-Err-clause-whole
 returns-in-Err-clause-whole g c = tt
-
-pub returns-in-Err-clause-files : goal.returns-in-Err-clause-files
-returns-in-Err-clause-files g c s first stands = tt
 
 pub returns-in-Err-clause-trace : goal.returns-in-Err-clause-trace
 returns-in-Err-clause-trace g c = c.in-Err.ensures.trace
@@ -120,7 +107,4 @@ pub returns-in-Err-clause-names : goal.returns-in-Err-clause-names
 returns-in-Err-clause-names g c = c.in-Err.ensures.names
 
 pub returns-in-Err-clause-none : goal.returns-in-Err-clause-none
-returns-in-Err-clause-none g c = c.in-Err.ensures.none
-
-pub returns-in-Err-clause-unfailing : goal.returns-in-Err-clause-unfailing
-returns-in-Err-clause-unfailing g c = c.in-Err.ensures.unfailing
+returns-in-Err-clause-none g c none = (c.in-Err.ensures.unfailing none, c.in-Err.ensures.none none)
