@@ -1,2 +1,3 @@
-mod Marks
+pub mod Marks
 mod ListLaws
+pub mod ReadBack

@@ -1,22 +1,12 @@
 -- A list that is read, a line at a time.
-use Rattle.std.proofs.Common.{◌≡◌, ℕ, suc, ◌+◌, ◌<◌, ◌≤◌, ◌==◌, Bool, true, false, not, cond, List, [], ◌∷◌, ◌++◌, length, Some, Ok, Err, refl, sym, ap, ◌∙◌, arith}
-use Rattle.std.specs.List.{slice_split, onto_first, position_or_len, before_first, after_first}
+use Rattle.std.proofs.Common.{◌≡◌, ℕ, suc, ◌+◌, ◌<◌, ◌≤◌, ◌==◌, Bool, true, false, List, [], ◌∷◌, ◌++◌, length, Some, Ok, Err, refl, sym, ap, ◌∙◌, arith}
+use Rattle.std.specs.List.{slice_split, position_or_len, before_first, after_first}
 use Rattle.std.proofs.lemmas.List.Splits.{slice_split_first, length-slice_split}
 use Rattle.std.proofs.lemmas.Bool.Decides.{nat_tests}
-use Rattle.std.proofs.lemmas.List.{length-drop}
 use Rattle.std.specs.Prelude.{slice_set}
+use Rattle.mpm_script.proofs.LineLaws.{one_part}
 use Rattle.mpm_fault_lines.proofs.Marks.{marked_more}
 use Rattle.mpm_fault_lines.specs.Lists.{slot_of_line, unless_bad, slots_from, slots_of, marked}
-
-one_part_at : (passes : Bool) (p : ℕ → Bool) (x : ℕ) (xs : List ℕ) → suc (length xs) ≤ cond (not passes) (1 + position_or_len p xs) 0 → (length xs ≤ position_or_len p xs → slice_split p xs ≡ xs ∷ [])
-    → cond passes ([] ∷ slice_split p xs) (onto_first x (slice_split p xs)) ≡ (x ∷ xs) ∷ []
-one_part_at true p x xs h more = absurd (omega arith)
-one_part_at false p x xs h more = ap (onto_first x) (more (omega arith))
-
--- a list without a byte that passes is one part
-one_part : (p : ℕ → Bool) (xs : List ℕ) → length xs ≤ position_or_len p xs → slice_split p xs ≡ xs ∷ []
-one_part p [] h = refl
-one_part p (x ∷ xs) h = one_part_at (p x) p x xs h (one_part p xs)
 
 abbrev pub parts_of : List ℕ → List (List ℕ)
 parts_of text = slice_split (λ byte. byte == 10) text
@@ -31,7 +21,7 @@ pub from_unended : (last number : ℕ) (earlier text : List ℕ) → 0 < length 
 from_unended last number earlier text some behind =
     ap (slots_from last number earlier) (one_part (λ byte. byte == 10) text (omega (arith, behind))) ∙ unended last number earlier text some
 
-line_before : (last number : ℕ) (earlier line : List ℕ) (parts : List (List ℕ)) → 0 < length parts
+pub line_before : (last number : ℕ) (earlier line : List ℕ) (parts : List (List ℕ)) → 0 < length parts
     → slots_from last number earlier (line ∷ parts) ≡ unless_bad number (λ slot. slots_from last (number + 1) (earlier ++ (slot ∷ [])) parts) (slot_of_line last line)
 unfolding slots_from
 line_before last number earlier line [] some = absurd (omega arith)
@@ -51,10 +41,6 @@ pub from_end : (last number : ℕ) (earlier text : List ℕ) → length text ≡
 unfolding slots_from
 from_end last number earlier [] none = refl
 from_end last number earlier (byte ∷ text) none = absurd (omega (arith, none))
-
--- what stands after a line is shorter
-pub shorter_after : (text : List ℕ) → position_or_len (λ byte. byte == 10) text < length text → length (after_first (λ byte. byte == 10) text) < length text
-shorter_after text within = let long = length-drop (position_or_len (λ byte. byte == 10) text + 1) text in omega (arith, long)
 
 -- some lines were read, and their slots are marked
 pub record AreRead (last : ℕ) (text : List ℕ) (number : ℕ) (rest : List ℕ) (marks : List Bool) : Type 0 where

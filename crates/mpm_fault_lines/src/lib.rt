@@ -4,7 +4,6 @@
 mod fault;
 mod reading;
 mod slots;
-mod words;
 mod writing;
 
 pub use fault::SlotFault;

@@ -3,8 +3,7 @@ ghost use Rattle.mpm_script.specs.Numbers.{number_of};
 ghost use Rattle.mpm_fault_lines.specs.Lists as spec;
 
 use crate::slots::Slots;
-use crate::words::{after, before, place_of};
-use mpm_script::number;
+use mpm_script::{after, before, number, place_of};
 
 /// The slots of a list of faults, a text of at most 65,536 bytes; else the number of its first bad line, counted from 1.
 ///

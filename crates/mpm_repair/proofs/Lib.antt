@@ -7,3 +7,6 @@ pub mod FreedImages
 pub mod ListedSlots
 pub mod Shared
 pub mod Staying
+pub mod FreedSlots
+mod Listable
+pub mod OwnList

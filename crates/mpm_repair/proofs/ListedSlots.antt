@@ -10,6 +10,7 @@ use Rattle.mpm_dirent.specs.declared.kinds.Entry.{Entry}
 use Rattle.mpm_dirent.specs.declared.kinds.Entry.TheVariants.{Free}
 use Rattle.mpm_fault_lines.specs.declared.fault.SlotFault.{SlotFault}
 use Rattle.mpm_repair.specs.FaultLists.{staying, cause_in, told_of, fault_in, fault_list, slot_of}
+use Rattle.mpm_fault_lines.proofs.Marks.{filter_alike}
 use Rattle.mpm_fault_lines.specs.Lists.{different}
 
 told_step : (kind : Kind) (earlier : List Entry) (slot : ℕ) (entry : Entry) (o : Option ℕ) (items : List SlotFault)
@@ -24,12 +25,6 @@ slots_from kind entries a (suc n) =
     let items = filter_map (fault_in kind entries) (range_with_len (a + 1) n) in
     told_step kind (staying kind entries a) a (get_or entries a Free) (cause_in kind entries a) items
     ∙ ap (λ slots. cond (is_some (cause_in kind entries a)) (a ∷ slots) slots) (slots_from kind entries (a + 1) n)
-
-filter_alike : (p q : ℕ → Bool) (a n : ℕ) → ((k : ℕ) → a ≤ k → k < a + n → p k ≡ q k) → filter p (range_with_len a n) ≡ filter q (range_with_len a n)
-filter_alike p q a zero each = refl
-filter_alike p q a (suc n) each =
-    ap (λ b. cond b (a ∷ filter p (range_with_len (a + 1) n)) (filter p (range_with_len (a + 1) n))) (each a (omega arith) (omega arith))
-    ∙ ap (λ xs. cond (q a) (a ∷ xs) xs) (filter_alike p q (a + 1) n (λ k low high. each k (omega arith) (omega arith)))
 
 and_so : (a b : Bool) → b ≡ true → (a && b) ≡ a
 and_so true b is = is

@@ -3,7 +3,7 @@ use Rattle.std.specs.List.{position_or_len, before_first, after_first}
 use Rattle.std.proofs.lemmas.Grind.{common_steps}
 use Rattle.std.proofs.lemmas.Bool.Decides.{nat_tests}
 use Rattle.mpm_fault_lines.specs.Lists.{slot_of_line, slots_from, unless_bad}
-use Rattle.mpm_fault_lines.proofs.ListLaws.{AreRead, parts_of, from_unended, from_line, from_end, shorter_after, read_more}
+use Rattle.mpm_fault_lines.proofs.ListLaws.{AreRead, parts_of, from_unended, from_line, from_end, read_more}
 use Rattle.mpm_fault_lines.proofs.reading.read_slots.Goals as goal
 
 pub returns-then-place_of-rest : goal.returns-then-place_of-rest
@@ -24,11 +24,11 @@ loop-rest-preserved c =
     let within : position_or_len (λ byte. byte == 10) c.loop-rest.rest.now < length c.loop-rest.rest.now = grind (arith, nat_tests, common_steps) in
     let is : slot_of_line c.args.last (before_first (λ byte. byte == 10) c.loop-rest.rest.now) ≡ Some c.in-Some.slot = ap (slot_of_line c.args.last) (sym c.before-in-loop-rest.ensures) ∙ sym c.in-Some.ensures.slot in
     let small : c.in-Some.slot < 512 = omega (arith, c.in-Some.ensures.limit, c.requires.last) in
-    let read = read_more c.args.last c.loop-rest.line c.in-Some.slot c.args.text.now c.loop-rest.rest.now c.after-rest.result.now c.loop-rest.slots c.loop-rest.invariant.read within is small c.after-rest.ensures in
-    let shorter = shorter_after c.loop-rest.rest.now within in
+    let read = read_more c.args.last c.loop-rest.line c.in-Some.slot c.args.text.now c.loop-rest.rest.now c.after-rest.result.now c.loop-rest.slots c.loop-rest.invariant.read within is small c.after-rest.ensures.rest in
+    let shorter = c.after-rest.ensures.size (omega (arith, within)) in
     record {
       read = subst (λ marks. AreRead c.args.last c.args.text.now (c.loop-rest.line + 1) c.after-rest.result.now marks) (sym c.add.ensures) read;
-      count = omega (arith, shorter, ap (λ (text : List ℕ). length text) c.after-rest.ensures, c.loop-rest.invariant.count);
+      count = omega (arith, shorter, c.loop-rest.invariant.count);
     }
 
 pub returns : goal.returns

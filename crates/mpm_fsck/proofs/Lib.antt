@@ -1,0 +1,6 @@
+mod RequestLaws
+mod Left
+mod Found
+mod Opened
+mod Mended
+mod OwnList

@@ -1,0 +1,5 @@
+pub mod Requests
+pub mod Numbers
+pub mod Outside
+pub mod Endings
+pub mod Steps

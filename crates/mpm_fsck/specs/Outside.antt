@@ -1,0 +1,73 @@
+-- What is seen of files, drives and output before and after a run, and what a run makes of drive A and its image.
+use Rattle.std.specs.Prelude.{◌≡◌, ◌⊎◌, ℕ, Bool, List, [], ◌∷◌, ◌++◌, Option, Some}
+use Rattle.mpm_base.specs.declared.kind.Kind.{Kind}
+use Rattle.mpm_port.specs.Causes.{Rose}
+use Rattle.mpm_port.specs.Disks.{Disks, ToldImage, Brings, Attaches, KeepsTold}
+use Rattle.mpm_repair.specs.Freeing.{freed_image, FreesOn}
+
+-- of drives: what is known of images by their names; the images of the drives that are attached, and which of these have writes that
+-- weren't synced; how many faults there were, and the names on which an attach failed, oldest first
+pub record DrivesSeen : Type 0 where
+  pub known : List ℕ → ToldImage
+  pub disks : Disks
+  pub unsynced : ℕ → Bool
+  pub faults : ℕ
+  pub failed : List (List ℕ)
+
+-- what files hold by their names, where that is known, and the names of those that couldn't be fetched, oldest first; the drives; what
+-- was written, and how many faults the output had
+pub record Seen : Type 0 where
+  pub contents : List ℕ → Option (List ℕ)
+  pub unread : List (List ℕ)
+  pub drives : DrivesSeen
+  pub text : List ℕ
+  pub faults : ℕ
+
+abbrev pub drives_seen : {D : Type 0} → (D → List ℕ → ToldImage) → (D → Disks) → (D → ℕ → Bool) → (D → ℕ) → (D → List (List ℕ)) → D → DrivesSeen
+drives_seen told disks unsynced faults failed drives = record {
+  known = told drives;
+  disks = disks drives;
+  unsynced = unsynced drives;
+  faults = faults drives;
+  failed = failed drives;
+}
+
+abbrev pub seen : {F S : Type 0} → (F → List ℕ → Option (List ℕ)) → (F → List (List ℕ)) → (S → List ℕ) → (S → ℕ) → F → DrivesSeen → S → Seen
+seen contents unread written faults files drives sink = record {
+  contents = contents files;
+  unread = unread files;
+  drives = drives;
+  text = written sink;
+  faults = faults sink;
+}
+
+-- no drive failed
+pub record FailsNowhere (old new : DrivesSeen) : Type 0 where
+  pub faults : new.faults ≡ old.faults
+  pub failed : new.failed ≡ old.failed
+
+-- drive A couldn't be attached by a name, which joined the failed names, or it failed, and the count of faults rose
+abbrev pub FailsSomewhere : List ℕ → DrivesSeen → DrivesSeen → Type 0
+FailsSomewhere name old new =
+    ((new.failed ≡ old.failed ++ (name ∷ [])) × (new.faults ≡ old.faults)) ⊎ ((new.failed ≡ old.failed) × Rose old.faults new.faults)
+
+-- drive A was attached by a name, and has this image: one that the name may bring by what was known of it. No image has changed
+pub record Attached (name image : List ℕ) (old new : DrivesSeen) : Type 0 where
+  pub brought : Brings (old.known name) image
+  pub here : new.disks.image 0 ≡ Some image
+  pub attaches : Attaches 0 name (old.known name) old.disks new.disks
+  pub known : new.known ≡ old.known
+
+-- no image has changed, and drive A is attached so or as it was
+pub record KeepsImages (name : List ℕ) (old new : DrivesSeen) : Type 0 where
+  pub disks : (new.disks ≡ old.disks) ⊎ Attaches 0 name (old.known name) old.disks new.disks
+  pub known : new.known ≡ old.known
+
+-- drive A was attached so, and some slots of its image are free then: byte 0 of each is E5h, and no other byte has changed, of no image
+pub record Freed (name image : List ℕ) (kind : Kind) (slots : List ℕ) (old new : DrivesSeen) : Type 0 where
+  pub brought : Brings (old.known name) image
+  pub here : new.disks.image 0 ≡ Some (freed_image kind slots image)
+  pub between : Disks
+  pub attaches : Attaches 0 name (old.known name) old.disks between
+  pub frees : FreesOn 0 kind slots between new.disks
+  pub known : KeepsTold (Some name) old.known new.known

@@ -1,0 +1,69 @@
+ghost use Rattle.std.specs.Prelude.{◌≡◌, ◌↔◌, ℕ, List, Some, None};
+ghost use Rattle.mpm_fsck.specs.Requests.{Request, texts, request_of};
+ghost use Rattle.mpm_fsck.specs.Outside.{drives_seen, seen};
+ghost use Rattle.mpm_fsck.specs.Endings.{Ends, TakesOwnList, Fails, WritesNothing};
+
+use crate::checking::check;
+use crate::mending::apply;
+use crate::status::FsckStatus;
+use crate::words::{kind_to_check, kind_to_mend};
+use mpm_port::{Drives, Files, Sink};
+use std::alloc::Global;
+
+/// Does what the words after the program's name ask.
+#[tactic(auto, unfolding(crate::specs::Requests::request_of))]
+pub fn fsck_words<F: Files, D: Drives, S: Sink>(
+    alloc: Global,
+    words: &[String],
+    files: &mut F,
+    drives: &mut D,
+    sink: &mut S,
+) -> FsckStatus
+    // Usage comes exactly where the words have no form of a request.
+    ensures usage { (result ≡ FsckStatus.Usage) ↔ (request_of (texts words.now) ≡ None) }
+    ensures usage_files { result ≡ FsckStatus.Usage → files.new ≡ files.old }
+    ensures usage_drives { result ≡ FsckStatus.Usage → drives.new ≡ drives.old }
+
+    // Each ending has its reason, and says what was written, and what is left of the image.
+    ensures ends { (request : Request) → request_of (texts words.now) ≡ Some request → Ends (F.missing files.old) request
+        (seen F.contents F.failed_names S.written S.faults files.old (drives_seen D.told D.disks D.unsynced D.faults D.failed_names drives.old) sink.old)
+        (seen F.contents F.failed_names S.written S.faults files.new (drives_seen D.told D.disks D.unsynced D.faults D.failed_names drives.new) sink.new) result }
+
+    // The list that a check of an image writes is never refused.
+    ensures own_list { (request : Request) → request_of (texts words.now) ≡ Some request → TakesOwnList (F.contents files.old) (D.told drives.old) request result }
+
+    // What failed, that nothing is written at a refusal, and that what the files hold stays.
+    ensures fails { Fails (seen F.contents F.failed_names S.written S.faults files.old (drives_seen D.told D.disks D.unsynced D.faults D.failed_names drives.old) sink.old)
+        (seen F.contents F.failed_names S.written S.faults files.new (drives_seen D.told D.disks D.unsynced D.faults D.failed_names drives.new) sink.new) result }
+    ensures nothing { WritesNothing result → sink.new ≡ sink.old }
+    ensures files { (other : List ℕ) → F.contents files.new other ≡ F.contents files.old other }
+{
+    match words {
+        [word, kind, image] => {
+            let Some(kind) = kind_to_check(word.as_str(), kind.as_str(), image.as_str()) else {
+                return FsckStatus::Usage;
+            };
+            check(alloc, kind, image.as_str(), drives, sink)
+        }
+        [word, kind, image, list] => {
+            let Some(kind) = kind_to_mend(
+                word.as_str(),
+                kind.as_str(),
+                image.as_str(),
+                list.as_str(),
+            ) else {
+                return FsckStatus::Usage;
+            };
+            apply(
+                alloc,
+                kind,
+                image.as_str(),
+                list.as_str(),
+                files,
+                drives,
+                sink,
+            )
+        }
+        _ => FsckStatus::Usage,
+    }
+}

@@ -1,0 +1,59 @@
+ghost use Rattle.std.specs.Prelude.{◌≡◌, ◌+◌, Some, ⊤, IfOk, IfErr, IfSome, OnOk, length};
+ghost use Rattle.std.specs.List.{All};
+ghost use Rattle.mpm_blocks.specs.Geometries.{geometry_of};
+ghost use Rattle.mpm_blocks.specs.Sectors.{sectors_of};
+ghost use Rattle.mpm_port.specs.Disks.{size_of};
+ghost use Rattle.mpm_dirent.specs.Proper.{IsProper};
+ghost use Rattle.mpm_mount.specs.Directories.{IsWhole};
+ghost use Rattle.mpm_mount.specs.Images.{entries_of};
+ghost use Rattle.mpm_mount.specs.Mounting.{SameDrives};
+ghost use Rattle.mpm_fsck.specs.Outside.{drives_seen};
+ghost use Rattle.mpm_fsck.specs.Steps.{Opens, Unread};
+
+use crate::status::FsckStatus;
+use mpm_base::Kind;
+use mpm_blocks::geometry;
+use mpm_dirent::Entry;
+use mpm_mount::{MountError, read_directory};
+use mpm_port::{Drives, FetchError};
+use std::alloc::Global;
+
+/// Attaches drive A to the image of a name, which has to have the size of its kind.
+pub(crate) fn open<D: Drives>(kind: Kind, name: &str, drives: &mut D) -> Result<(), FsckStatus>
+    ensures { Opens kind name.now (drives_seen D.told D.disks D.unsynced D.faults D.failed_names drives.old)
+        (drives_seen D.told D.disks D.unsynced D.faults D.failed_names drives.new) (λ _ image. ⊤) result }
+{
+    match drives.attach(0, name) {
+        Ok(()) => {}
+        Err(FetchError::Failed) => return Err(FsckStatus::DiskFault),
+        Err(FetchError::OutOfMemory) => return Err(FsckStatus::OutOfMemory),
+    }
+    match drives.size(0) {
+        Err(_) => Err(FsckStatus::DiskFault),
+        Ok(bytes) if bytes == u64::from(geometry(kind).bytes) => Ok(()),
+        Ok(_) => Err(FsckStatus::WrongSize),
+    }
+}
+
+/// Reads the directory of drive A, whose image has the size of its kind.
+pub(crate) fn read<D: Drives>(
+    alloc: Global,
+    kind: Kind,
+    drives: &mut D,
+) -> Result<Vec<Entry>, FsckStatus>
+    requires { size_of (D.disks drives.old) 0 ≡ Some (geometry_of kind).bytes }
+    ensures entries { IfOk result (λ entries. IfSome ((D.disks drives.old).image 0) (λ image. entries.items ≡ entries_of (sectors_of image kind) kind)) }
+    ensures full { IfOk result (λ entries. length entries.items ≡ (geometry_of kind).drm + 1) }
+    ensures proper { IfOk result (λ entries. All (IsProper (geometry_of kind).wide) entries.items) }
+    ensures whole { IfOk result (λ entries. All IsWhole entries.items) }
+    ensures count { OnOk result (D.faults drives.new ≡ D.faults drives.old) }
+    ensures err { IfErr result (λ status. Unread (D.faults drives.old) (D.faults drives.new) status) }
+    ensures same { SameDrives D.disks D.told D.failed_names drives.old drives.new }
+    ensures unsynced { D.unsynced drives.new ≡ D.unsynced drives.old }
+{
+    match read_directory(alloc, drives, 0, kind) {
+        Ok(entries) => Ok(entries),
+        Err(MountError::DiskFault) => Err(FsckStatus::DiskFault),
+        Err(_) => Err(FsckStatus::OutOfMemory),
+    }
+}

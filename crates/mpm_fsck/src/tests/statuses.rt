@@ -1,0 +1,93 @@
+//! Each ending with its exit status and its text, and the words that have no form.
+use crate::ending::{self, Message};
+use crate::status::FsckStatus;
+use crate::tests::{Run, add_image, goes};
+use mpm_base::Kind;
+use mpm_port::{MemoryDrives, MemoryFiles};
+use std::test::Fail;
+
+#[test]
+fn each_ending_has_its_status_and_its_text(rt: HostRuntime) -> Result<(), Fail> {
+    let usage = "usage: mpm_fsck check KIND IMAGE or mpm_fsck apply KIND IMAGE LIST";
+    let rows = [
+        (FsckStatus::Done, 0_u8, ""),
+        (FsckStatus::Usage, 1, usage),
+        (FsckStatus::Unsound { count: 3 }, 2, ""),
+        (FsckStatus::WrongSize, 3, "wrong size"),
+        (FsckStatus::BadList { line: 12 }, 4, "bad list line 12"),
+        (
+            FsckStatus::NotEnough { slot: 3, cause: 4 },
+            5,
+            "not enough: cause 4 at 3",
+        ),
+        (FsckStatus::ReadFault, 6, "cannot read"),
+        (FsckStatus::DiskFault, 7, "disk failed"),
+        (FsckStatus::WriteFault, 8, "output failed"),
+        (FsckStatus::OutOfMemory, 9, "out of memory"),
+        (FsckStatus::TooLong, 10, "list too long"),
+    ];
+    for (status, number, message) in &rows {
+        let said = format!(in rt.alloc(); "{}", Message(*status))?;
+        assert!(rt;
+            ending::number(*status) == *number && said.as_str() == *message,
+            "{number}"
+        );
+    }
+    Ok(())
+}
+
+#[test]
+fn words_of_another_form_are_none(rt: HostRuntime) -> Result<(), Fail> {
+    let alloc = rt.alloc();
+    let mut drives = MemoryDrives::new(alloc);
+    add_image(alloc, Kind::Ibm3740, &[], &mut drives)?;
+    let mut files = MemoryFiles::new(alloc);
+    files.add("a.txt", b"")?;
+    let rows: [&[&str]; 10] = [
+        &[],
+        &["check"],
+        &["check", "ibm3740"],
+        &["check", "ibm3740", ""],
+        &["check", "hd5", "a.img"],
+        &["check", "ibm3740", "a.img", "a.txt"],
+        &["apply", "ibm3740", "a.img"],
+        &["apply", "ibm3740", "a.img", ""],
+        &["apply", "ibm3740", "", "a.txt"],
+        &["apply", "ibm3740", "a.img", "a.txt", "a.txt"],
+    ];
+    for words in &rows {
+        let run = Run {
+            words: *words,
+            status: FsckStatus::Usage,
+            text: b"",
+        };
+        assert!(rt; goes(alloc, &run, &mut files, &mut drives)?, "{words:?}");
+    }
+    Ok(())
+}
+
+#[test]
+fn an_image_of_another_size_is_told(rt: HostRuntime) -> Result<(), Fail> {
+    let alloc = rt.alloc();
+    let mut drives = MemoryDrives::new(alloc);
+    add_image(alloc, Kind::Ibm3740, &[], &mut drives)?;
+    let mut files = MemoryFiles::new(alloc);
+    let rows: [(&[&str], FsckStatus); 4] = [
+        (&["check", "hd4", "a.img"], FsckStatus::WrongSize),
+        (&["apply", "hd8", "a.img", "a.txt"], FsckStatus::WrongSize),
+        (&["check", "ibm3740", "b.img"], FsckStatus::DiskFault),
+        (
+            &["apply", "ibm3740", "b.img", "a.txt"],
+            FsckStatus::DiskFault,
+        ),
+    ];
+    for (words, status) in &rows {
+        let run = Run {
+            words: *words,
+            status: *status,
+            text: b"",
+        };
+        assert!(rt; goes(alloc, &run, &mut files, &mut drives)?, "{words:?}");
+    }
+    Ok(())
+}
