@@ -5,7 +5,7 @@ use mpm_banks::{Banks, OutOfMemory};
 use mpm_base::{Call, Reply, Seg, SegmentSpec, functions};
 use mpm_gate::{call_of, put_reply, take_return};
 use std::alloc::{AllocError, Global};
-use z80_regs::Regs;
+use z80_regs::{InterruptMode, Regs};
 
 /// The one segment of most tests, from address 0 up to common memory.
 const SEG: Seg = Seg(0);
@@ -154,7 +154,7 @@ fn calling(function: u8, word: u16) -> Regs {
         r: 10,
         iff1: true,
         iff2: true,
-        mode: 2,
+        mode: InterruptMode(2),
         halted: false,
         shadow: true,
     }

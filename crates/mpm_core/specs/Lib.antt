@@ -1,0 +1,4 @@
+pub mod Taking
+pub mod Alone
+pub mod Replaying
+pub mod Agreement

@@ -1,0 +1,40 @@
+-- The core of a process of a machine. (This project's own.)
+use Rattle.std.specs.Prelude.{ℕ, Bool, Option, option_map, option_and_then}
+use Rattle.mpm_banks.specs.Memory.{segment_of}
+use Rattle.mpm_banks.specs.Allocations.{spec_of}
+use Rattle.mpm_procs.specs.Table.{process_in, process_at}
+use Rattle.mpm_system.specs.declared.system.System.{System}
+use Rattle.mpm_system.specs.Procedures.{is_inside}
+use Rattle.mpm_core_file.specs.CoreFiles.{Core}
+use Rattle.mpm_core_file.specs.declared.head.Head.{Head}
+
+-- what the core of a process says before its memory
+abbrev pub head_of : System → ℕ → ℕ → ℕ → Bool → Head
+head_of system p base pages inside = record {
+  step = system.steps;
+  process = p;
+  spec = record { base = base; pages = pages };
+  inside = inside;
+  regs = (process_in system.kernel.dispatcher.procs p).regs;
+}
+
+-- what a process that lives in a segment is: its registers, its segment and common memory, after so many steps
+abbrev pub core_in : ℕ → ℕ → System → Core
+core_in p seg system = record {
+  head = record {
+    step = system.steps;
+    process = p;
+    spec = spec_of system.memory seg;
+    inside = is_inside system.kernel.dispatcher.procs p;
+    regs = (process_in system.kernel.dispatcher.procs p).regs;
+  };
+  segment = (segment_of system.memory seg).bytes;
+  common = system.memory.common;
+}
+
+-- the segment in which a process lives; none where it doesn't live, and where it is a resident
+unfoldable pub segment_at : ℕ → System → Option ℕ
+segment_at p system = option_and_then (λ process. process.seg) (process_at system.kernel.dispatcher.procs p)
+
+abbrev pub core_at : ℕ → System → Option Core
+core_at p system = option_map (λ seg. core_in p seg system) (segment_at p system)

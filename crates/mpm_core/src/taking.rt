@@ -1,0 +1,116 @@
+ghost use Rattle.std.specs.Prelude.{◌≡◌, ◌<◌, ◌^◌, Some, is_some};
+ghost use Rattle.std.specs.Bool.{OnTrue, OnFalse};
+ghost use Rattle.mpm_banks.specs.Memory.{segment_of};
+ghost use Rattle.mpm_gate.specs.Gates.{IsHome};
+ghost use Rattle.mpm_procs.specs.Table.{Lives, process_in};
+ghost use Rattle.mpm_system.specs.Whole.{IsWhole};
+ghost use Rattle.mpm_machine.specs.Housing.{home_of};
+ghost use Rattle.mpm_core_file.specs.CoreFiles.{IsCore};
+ghost use Rattle.mpm_core.specs.Taking.{head_of, core_in, core_at};
+
+use crate::saved::{Core, mode};
+use mpm_base::{Pid, Seg, SegmentSpec};
+use mpm_core_file::Head;
+use mpm_machine::{Home, Machine};
+use z80_regs::Regs;
+
+/// The registers of a process that lives.
+#[tactic(auto, using(crate::proofs::TakeLaws::regs_there))]
+fn regs_of(machine: &Machine, p: Pid) -> Regs
+    requires { Lives machine.now.system.kernel.dispatcher.procs p }
+    ensures regs { result ≡ (process_in machine.now.system.kernel.dispatcher.procs p).regs }
+    ensures mode { result.mode < 3 }
+{
+    match machine.regs(p) {
+        Some(regs) => {
+            let _ = mode(regs);
+            *regs
+        }
+        None => unreachable!(),
+    }
+}
+
+/// How many steps are done, a number of 64 bits.
+fn steps_of(machine: &Machine) -> u64
+    ensures steps { result ≡ machine.now.system.steps }
+    ensures fits { result < 2 ^ 64 }
+{
+    machine.steps_done()
+}
+
+/// The head of the core of a process that lives in a segment.
+fn head_at(machine: &Machine, p: Pid, base: u8, pages: u8, inside: bool) -> Head
+    requires { Lives machine.now.system.kernel.dispatcher.procs p }
+    ensures head { result ≡ head_of machine.now.system p base pages inside }
+    ensures mode { result.regs.mode < 3 }
+    ensures fits { result.step < 2 ^ 64 }
+{
+    Head {
+        step: steps_of(machine),
+        process: p,
+        spec: SegmentSpec { base, pages },
+        inside,
+        regs: regs_of(machine, p),
+    }
+}
+
+/// The bytes of a segment that a process may live in.
+#[tactic(auto, using(crate::proofs::TakeLaws::segment_viewed))]
+fn segment_at(machine: &Machine, seg: Seg, base: u8, pages: u8) -> &[u8]
+    requires whole { IsWhole machine.now.system }
+    requires home { IsHome machine.now.system.memory seg }
+    requires base { base ≡ (segment_of machine.now.system.memory seg).base }
+    requires pages { pages ≡ (segment_of machine.now.system.memory seg).pages }
+    ensures { result.now ≡ (segment_of machine.now.system.memory seg).bytes }
+{
+    match machine.view(seg, 256 * u16::from(base), 256 * u16::from(pages)) {
+        Some(bytes) => bytes,
+        None => unreachable!(),
+    }
+}
+
+/// The bytes of common memory, as the process of a segment reaches them.
+#[tactic(auto, using(crate::proofs::TakeLaws::common_viewed))]
+fn common_at(machine: &Machine, seg: Seg) -> &[u8]
+    requires { IsWhole machine.now.system }
+    ensures { result.now ≡ machine.now.system.memory.common }
+{
+    match machine.view(seg, 0xC000, 0x4000) {
+        Some(bytes) => bytes,
+        None => unreachable!(),
+    }
+}
+
+impl Core {
+    /// Takes the core of a process that lives in a segment.
+    fn take_from(&mut self, machine: &Machine, p: Pid, home: Home)
+        requires whole { IsWhole machine.now.system }
+        requires home { home_of machine.now.system p ≡ Some home }
+        requires is_home { IsHome machine.now.system.memory home.seg }
+        ensures core { self.new ≡ core_in p home.seg machine.now.system }
+        ensures is { IsCore self.new }
+    {
+        let head = head_at(machine, p, home.base, home.pages, home.procedure);
+        let segment = segment_at(machine, home.seg, home.base, home.pages);
+        self.fill(head, segment, common_at(machine, home.seg));
+    }
+
+    /// Takes the core of a process of a machine, as the process is now. False comes exactly where it doesn't live, or is a resident, which
+    /// has no segment; the core is then as it was.
+    #[tactic(auto, using(crate::proofs::TakeLaws::nobody_taken, crate::proofs::TakeLaws::somebody_taken, crate::proofs::TakeLaws::core_taken))]
+    pub fn take(&mut self, machine: &Machine, p: Pid) -> bool
+        requires { IsWhole machine.now.system }
+        ensures answer { result ≡ is_some (core_at p machine.now.system) }
+        ensures core { OnTrue result (core_at p machine.now.system ≡ Some self.new) }
+        ensures is { OnTrue result (IsCore self.new) }
+        ensures stays { OnFalse result (self.new ≡ self.old) }
+    {
+        match machine.home(p) {
+            None => false,
+            Some(home) => {
+                self.take_from(machine, p, home);
+                true
+            }
+        }
+    }
+}

@@ -1,0 +1,5 @@
+pub mod PortLaws
+pub mod StopLaws
+pub mod ReplayLaws
+pub mod AgreeLaws
+pub mod Examples

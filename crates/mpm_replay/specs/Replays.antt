@@ -1,0 +1,73 @@
+-- What the instructions of one process make of it alone, one after another, until one can't be done here: registers, and memory as
+-- the process reaches it. (This project's own.)
+use Rattle.std.specs.Prelude.{◌≡◌, ◌⊎◌, ℕ, ◌<◌, List, Option, Some, None, Bool, true, false, replicate, if◌then◌else◌}
+use Rattle.z80_regs.specs.declared.regs.Regs.{Regs}
+use Rattle.z80_decode.specs.declared.instr.Instr.{Instr}
+use Rattle.z80_decode.specs.Decoding.{instr_of}
+use Rattle.z80_ext.specs.Instruction.{four_from}
+use Rattle.mpm_base.specs.declared.devices.Devices.{Devices}
+use Rattle.mpm_base.specs.declared.segment.SegmentSpec.{SegmentSpec}
+use Rattle.mpm_banks.specs.Memory.{Memory, byte_at}
+use Rattle.mpm_gate.specs.Gates.{gate_of}
+use Rattle.mpm_gate.specs.declared.gate.Gate.{Gate as GateThere}
+use Rattle.mpm_processor.specs.Moving.{View, view_of, moved, moves}
+use Rattle.mpm_replay.specs.Ports.{reads_port}
+use Rattle.mpm_replay.specs.declared.stopping.Why.{Why}
+use Rattle.mpm_replay.specs.declared.stopping.Why.TheVariants.{Steps, Gate, Illegal, Input}
+use Rattle.mpm_replay.specs.declared.replaying.Replayed.{Replayed}
+
+-- no device has sent anything: no instruction that is done here reads one
+abbrev pub no_devices : Devices
+no_devices = record { ready = replicate 16 false; last = replicate 16 0 }
+
+abbrev pub portless : SegmentSpec → Regs → List ℕ → List ℕ → View
+portless spec regs segment common = view_of spec regs segment common no_devices
+
+-- the four bytes at PC
+abbrev pub bytes_at : View → List ℕ
+bytes_at view = four_from (byte_at view.memory 0) view.regs.pc
+
+-- why an instruction isn't done: none is listed, or it reads a port
+abbrev pub stop_of : Option Instr → Option Why
+stop_of None = Some Illegal
+stop_of (Some instr) = if reads_port instr then Some Input else None
+
+abbrev pub stop_before : List ℕ → Option Why
+stop_before bytes = stop_of (instr_of bytes)
+
+-- in a HALT what is at PC doesn't count
+abbrev pub stop_unless : Bool → List ℕ → Option Why
+stop_unless true bytes = None
+stop_unless false bytes = stop_before bytes
+
+-- and where a gate is nothing else does
+abbrev pub stop_by : Option GateThere → Option Why → Option Why
+stop_by (Some gate) other = Some Gate
+stop_by None other = other
+
+-- why the process of a view, which is in a resident procedure or in none, does no instruction here, if it does none
+unfoldable pub stop_at : Bool → View → Option Why
+stop_at inside view = stop_by (gate_of inside view.memory 0 view.regs.pc) (stop_unless view.regs.halted (bytes_at view))
+
+-- what is left of a view: what an instruction leaves, where there was no reason to stop
+abbrev pub left_by : Option Why → View → View
+left_by None view = moved 0 view
+left_by (Some why) view = view
+
+-- one instruction is done, or none is for a reason
+pub record Advances (inside : Bool) (old new : View) (stopped : Option Why) : Type 0 where
+  pub stop : stopped ≡ stop_at inside old
+  pub left : new ≡ left_by stopped old
+
+-- it ends early for the reason that is there then, or it has done all
+abbrev pub EndsBy : Bool → ℕ → View → Replayed → Type 0
+EndsBy inside most view replayed =
+    ((replayed.done < most) × (stop_at inside view ≡ Some replayed.why)) ⊎ ((replayed.done ≡ most) × (replayed.why ≡ Steps))
+
+-- a replay of at most so many instructions: `done` is the least number, below that, of instructions after which there is a reason to
+-- stop, and all of them where there is none; what is left is what so many leave
+pub record IsReplay (inside : Bool) (most : ℕ) (old : View) (regs : Regs) (memory : Memory) (replayed : Replayed) : Type 0 where
+  pub goes : (k : ℕ) → k < replayed.done → stop_at inside (moves k 0 old) ≡ None
+  pub ends : EndsBy inside most (moves replayed.done 0 old) replayed
+  pub registers : regs ≡ (moves replayed.done 0 old).regs
+  pub reached : memory ≡ (moves replayed.done 0 old).memory

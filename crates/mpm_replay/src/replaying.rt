@@ -1,0 +1,121 @@
+ghost use Rattle.std.specs.Prelude.{◌≡◌, ℕ, length};
+ghost use Rattle.z80_ext.specs.Instruction.{instruction, registers_after, actions_of};
+ghost use Rattle.mpm_banks.specs.Allocations.{FitsBelowCommon};
+ghost use Rattle.mpm_banks.specs.Memory.{byte_at};
+ghost use Rattle.mpm_banks.specs.Ports.{port_byte};
+ghost use Rattle.mpm_banks.specs.Sides.{alone};
+ghost use Rattle.mpm_banks.specs.Actions.{memory_after, devices_after};
+ghost use Rattle.mpm_processor.specs.Moving.{View, view_of};
+ghost use Rattle.mpm_replay.specs.Replays.{IsReplay, Advances, portless};
+ghost use Rattle.mpm_replay.specs.Agreeing.{own_of, FollowEach, Agrees};
+
+use crate::stopping::{Why, stop};
+use mpm_banks::SliceBus;
+use mpm_base::{Devices, SegmentSpec};
+use z80_ext::step;
+use z80_regs::Regs;
+
+/// How many instructions a replay did, and why it ended.
+#[derive(Clone, Copy, Debug, PartialEq, Eq)]
+pub struct Replayed {
+    pub done: u64,
+    pub why: Why,
+}
+
+/// One instruction.
+#[inline(always)]
+fn execute(
+    spec: SegmentSpec,
+    regs: &mut Regs,
+    segment: &mut [u8],
+    common: &mut [u8],
+    devices: &mut Devices,
+)
+    ensures registers { regs.new ≡ registers_after (instruction regs.old (byte_at (alone spec segment.old common.old) 0) (port_byte devices.old)) regs.old }
+    ensures memory { alone spec segment.new common.new ≡ memory_after (actions_of (instruction regs.old (byte_at (alone spec segment.old common.old) 0) (port_byte devices.old))) 0 (alone spec segment.old common.old) }
+    ensures devices { devices.new ≡ devices_after (actions_of (instruction regs.old (byte_at (alone spec segment.old common.old) 0) (port_byte devices.old))) devices.old }
+{
+    let mut bus = SliceBus {
+        spec,
+        segment,
+        common,
+        devices,
+    };
+    let _ = step(regs, &mut bus);
+}
+
+/// Does one instruction, or answers why none is done.
+#[inline(always)]
+fn advance(
+    inside: bool,
+    spec: SegmentSpec,
+    regs: &mut Regs,
+    segment: &mut [u8],
+    common: &mut [u8],
+    devices: &mut Devices,
+) -> Option<Why>
+    requires { FitsBelowCommon spec }
+    ensures advances { Advances inside (view_of spec regs.old segment.old common.old devices.old)
+        (view_of spec regs.new segment.new common.new devices.new) result }
+    ensures segment { length segment.new ≡ length segment.old }
+    ensures common { length common.new ≡ length common.old }
+{
+    match stop(inside, spec, regs, segment, common, devices) {
+        None => {
+            execute(spec, regs, segment, common, devices);
+            None
+        }
+        Some(why) => Some(why),
+    }
+}
+
+/// Does instructions, at most so many, until one isn't done.
+fn advance_on(
+    inside: bool,
+    spec: SegmentSpec,
+    regs: &mut Regs,
+    segment: &mut [u8],
+    common: &mut [u8],
+    most: u64,
+) -> Replayed
+    requires { FitsBelowCommon spec }
+    ensures replayed { IsReplay inside most (portless spec regs.old segment.old common.old) regs.new (alone spec segment.new common.new) result }
+    ensures segment { length segment.new ≡ length segment.old }
+    ensures common { length common.new ≡ length common.old }
+{
+    let mut devices = Devices::new();
+    for done in 0..most {
+        match advance(inside, spec, regs, segment, common, &mut devices) {
+            None => {}
+            Some(why) => return Replayed { done, why },
+        }
+    }
+    Replayed {
+        done: most,
+        why: Why::Steps,
+    }
+}
+
+/// Does the instructions of a process that is in a resident procedure (`inside`) or in none, at most so many, in its segment and
+/// common memory. It stops before a gate, an opcode that isn't listed, and an instruction that reads a port. Where the steps of
+/// a machine are instructions of that process, none of which reads a port, it does them all, and leaves what they leave.
+pub fn replay(
+    inside: bool,
+    spec: SegmentSpec,
+    regs: &mut Regs,
+    segment: &mut [u8],
+    common: &mut [u8],
+    most: u64,
+) -> Replayed
+    requires { FitsBelowCommon spec }
+    ensures replayed { IsReplay inside most (portless spec regs.old segment.old common.old) regs.new (alone spec segment.new common.new) result }
+    ensures agrees { (seg : ℕ) (views : ℕ → View) → portless spec regs.old segment.old common.old ≡ own_of seg (views 0) → FollowEach inside seg most views
+        → Agrees seg most (views most) regs.new (alone spec segment.new common.new) result }
+    ensures segment { length segment.new ≡ length segment.old }
+    ensures common { length common.new ≡ length common.old }
+{
+    advance_on(inside, spec, regs, segment, common, most)
+}
+
+#[cfg(test)]
+mod tests;
