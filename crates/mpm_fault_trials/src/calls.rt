@@ -1,5 +1,6 @@
 //! File calls of a program on each kind of disk, at once and in turns of twenty steps, of which each call of the drive fails: in which
-//! step the run ends, what text comes before, and what is there of the disk, which mounts again.
+//! step the run ends, what text comes before, and what is there of the disk, which mounts again. Of the calls that read the directory
+//! as a drive is mounted, the first and the last fail here; all of them fail in `runs` and in `ways`.
 //!
 //! A call of the program is four instructions, and the fifth of its steps is the gate's; the next call's first is in the step behind that
 //! in which it is over. Where it enters service in step e and takes t turns, turn i is in step e + 20 i, and it is over in step e + 20 t.
@@ -271,36 +272,44 @@ fn machine_on(alloc: Global, name: &str, turn: u64) -> Result<MachineFile, Fail>
     Ok(file)
 }
 
-/// The first call whose failing ends otherwise, if any, up to that which isn't made.
-fn first_other(alloc: Global, scene: &Scene<'_>, name: &str) -> Result<Option<u64>, Fail> {
-    let file = machine_on(alloc, name, scene.turn)?;
-    let image = bytes_of(alloc, scene.kind, &at_first(scene.kind))?;
-    let mut drives = MemoryDrives::new(alloc);
-    drives.add("a.img", image.as_slice())?;
-    first_on(alloc, scene, &file, &mut drives)
+/// The call that fails in a round, counted from 1: those that mount the drive up to the first sector of its directory, that of the
+/// last sector, and each behind that.
+fn failing_call(kind: Kind, round: u64) -> u64 {
+    if round < 4 {
+        round
+    } else {
+        mounting(kind).saturating_add(round).saturating_sub(4)
+    }
 }
 
-/// The same on drives with its disk.
+/// What comes of a run of which a call fails, by the calls before it.
+fn course_of(scene: &Scene<'_>, behind: u64) -> Course {
+    if scene.calls.len() == READS.len() {
+        read_twice(scene, behind)
+    } else {
+        changed(scene, behind)
+    }
+}
+
+/// The first call whose failing ends otherwise, if any, up to that which isn't made. So many rounds of calls were on the drives before.
 fn first_on(
     alloc: Global,
     scene: &Scene<'_>,
     file: &MachineFile,
     drives: &mut MemoryDrives,
+    rounds: &mut u64,
 ) -> Result<Option<u64>, Fail>
     requires { IsMachine file.now }
 {
-    for call in 1..1000_u64 {
-        let behind = call.saturating_sub(1);
-        let course = if scene.calls.len() == READS.len() {
-            read_twice(scene, behind)
-        } else {
-            changed(scene, behind)
-        };
+    for round in 1..1000_u64 {
+        let call = failing_call(scene.kind, round);
+        let course = course_of(scene, call.saturating_sub(1));
         let mut sink = MemorySink::new(alloc, 1024)?;
         if !is_restored(drives, scene.kind) {
             return Err(Fail::from("the disk isn't restored"));
         }
-        fail_behind(drives, ROUND.saturating_mul(call), call)?;
+        *rounds = rounds.saturating_add(1);
+        fail_behind(drives, ROUND.saturating_mul(*rounds), call)?;
         if !shows(alloc, scene, file, drives, &mut sink, &course)? {
             return Ok(Some(call));
         }
@@ -311,47 +320,82 @@ fn first_on(
     Err(Fail::from("a run without an end"))
 }
 
-/// The same on a kind of disk by its name, whose turns take so many steps.
-fn each_call(alloc: Global, calls: &[Call], kind: Kind, name: &str, turn: u64) -> Result<(), Fail> {
-    let scene = Scene { calls, kind, turn };
-    match first_other(alloc, &scene, name)? {
-        None => Ok(()),
-        Some(call) => Err(Fail::new(format_args!("call {call} on {name}, turns of {turn}"))),
+/// The same on a machine with a kind of disk by its name.
+fn first_other(
+    alloc: Global,
+    scene: &Scene<'_>,
+    name: &str,
+    drives: &mut MemoryDrives,
+    rounds: &mut u64,
+) -> Result<Option<u64>, Fail> {
+    let file = machine_on(alloc, name, scene.turn)?;
+    first_on(alloc, scene, &file, drives, rounds)
+}
+
+/// Drives with the disk of a kind.
+fn drives_with(alloc: Global, kind: Kind) -> Result<MemoryDrives, Fail> {
+    let image = bytes_of(alloc, kind, &at_first(kind))?;
+    let mut drives = MemoryDrives::new(alloc);
+    drives.add("a.img", image.as_slice())?;
+    Ok(drives)
+}
+
+/// Each call that fails, on a kind of disk by its name, whose turns take so many steps, one after the other.
+fn each_call(
+    alloc: Global,
+    calls: &[Call],
+    kind: Kind,
+    name: &str,
+    turns: &[u64],
+) -> Result<(), Fail> {
+    let mut drives = drives_with(alloc, kind)?;
+    let mut rounds = 0;
+    for turn in turns {
+        let turn = *turn;
+        let scene = Scene { calls, kind, turn };
+        if let Some(call) = first_other(alloc, &scene, name, &mut drives, &mut rounds)? {
+            return Err(Fail::new(format_args!("call {call} on {name}, turns of {turn}")));
+        }
     }
+    Ok(())
 }
 
 #[test]
 fn files_are_changed_on_ibm3740_up_to_a_failed_call(rt: HostRuntime) -> Result<(), Fail> {
-    each_call(rt.alloc(), &CHANGES, Kind::Ibm3740, "ibm3740", 0)?;
-    each_call(rt.alloc(), &CHANGES, Kind::Ibm3740, "ibm3740", 20)
+    each_call(rt.alloc(), &CHANGES, Kind::Ibm3740, "ibm3740", &[0, 20])
 }
 
 #[test]
 fn files_are_changed_on_hd4_at_once_up_to_a_failed_call(rt: HostRuntime) -> Result<(), Fail> {
-    each_call(rt.alloc(), &CHANGES, Kind::Hd4, "hd4", 0)
+    each_call(rt.alloc(), &CHANGES, Kind::Hd4, "hd4", &[0])
 }
 
 #[test]
 fn files_are_changed_on_hd4_in_turns_up_to_a_failed_call(rt: HostRuntime) -> Result<(), Fail> {
-    each_call(rt.alloc(), &CHANGES, Kind::Hd4, "hd4", 20)
+    each_call(rt.alloc(), &CHANGES, Kind::Hd4, "hd4", &[20])
 }
 
 #[test]
 fn files_are_changed_on_hd8_at_once_up_to_a_failed_call(rt: HostRuntime) -> Result<(), Fail> {
-    each_call(rt.alloc(), &CHANGES, Kind::Hd8, "hd8", 0)
+    each_call(rt.alloc(), &CHANGES, Kind::Hd8, "hd8", &[0])
 }
 
 #[test]
 fn files_are_changed_on_hd8_in_turns_up_to_a_failed_call(rt: HostRuntime) -> Result<(), Fail> {
-    each_call(rt.alloc(), &CHANGES, Kind::Hd8, "hd8", 20)
+    each_call(rt.alloc(), &CHANGES, Kind::Hd8, "hd8", &[20])
 }
 
 #[test]
-fn a_record_that_was_read_is_in_memory(rt: HostRuntime) -> Result<(), Fail> {
-    for turn in [0, 20] {
-        each_call(rt.alloc(), &READS, Kind::Ibm3740, "ibm3740", turn)?;
-        each_call(rt.alloc(), &READS, Kind::Hd4, "hd4", turn)?;
-        each_call(rt.alloc(), &READS, Kind::Hd8, "hd8", turn)?;
-    }
-    Ok(())
+fn a_record_that_was_read_is_in_memory_on_ibm3740(rt: HostRuntime) -> Result<(), Fail> {
+    each_call(rt.alloc(), &READS, Kind::Ibm3740, "ibm3740", &[0, 20])
+}
+
+#[test]
+fn a_record_that_was_read_is_in_memory_on_hd4(rt: HostRuntime) -> Result<(), Fail> {
+    each_call(rt.alloc(), &READS, Kind::Hd4, "hd4", &[0, 20])
+}
+
+#[test]
+fn a_record_that_was_read_is_in_memory_on_hd8(rt: HostRuntime) -> Result<(), Fail> {
+    each_call(rt.alloc(), &READS, Kind::Hd8, "hd8", &[0, 20])
 }

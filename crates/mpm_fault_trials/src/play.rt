@@ -142,4 +142,4 @@ pub(crate) fn fail_behind(drives: &mut MemoryDrives, number: u64, call: u64) -> 
 }
 
 /// How many calls of a drive there is room for in a round: more than a run makes, and all that is done around it.
-pub(crate) const ROUND: u64 = 1_000;
+pub(crate) const ROUND: u64 = 600;

@@ -23,7 +23,7 @@ base = 0
 pages = 192
 [[drive]]
 letter = 'A'
-kind = 'hd4'
+kind = 'ibm3740'
 image = 'a.img'
 ";
 
@@ -56,33 +56,38 @@ const SHOWN: [&[u8]; 5] = [
     b"c1 0A>\\\n",
 ];
 
-/// The entry of a file by its name, with so many records in a block.
+/// The entry of a file by its name, with so many records in a block and in the next one.
 fn entry(name: &[u8; 11], records: u8, block: u16) -> Entry {
     let mut entry = [0; 32];
     entry[1..12].copy_from_slice(name);
     entry[15] = records;
-    held(Kind::Hd4, entry, 0, block)
+    let entry = held(Kind::Ibm3740, entry, 0, block);
+    if records <= 8 {
+        entry
+    } else {
+        held(Kind::Ibm3740, entry, 1, block.saturating_add(1))
+    }
 }
 
 /// Puts a program's file into a block: its header of two records, its code, and the bits of that.
 fn put_program(image: &mut [u8], block: u32, code: &[u8]) {
-    let first = block % 2048 * 16;
-    put_text(image, Kind::Hd4, first, HEADER);
-    put_text(image, Kind::Hd4, first + 1, b"");
-    put_text(image, Kind::Hd4, first + 2, code);
-    put_text(image, Kind::Hd4, first + 3, b"");
+    let first = block % 243 * 8;
+    put_text(image, Kind::Ibm3740, first, HEADER);
+    put_text(image, Kind::Ibm3740, first + 1, b"");
+    put_text(image, Kind::Ibm3740, first + 2, code);
+    put_text(image, Kind::Ibm3740, first + 3, b"");
 }
 
 /// Drives with both programs and DATA.DAT, of ten records.
 fn drives(alloc: Global) -> Result<MemoryDrives, Fail> {
     let entries = [
-        entry(b"KEEP    PRL", 4, 8),
-        entry(b"WAIT    PRL", 4, 9),
-        entry(b"DATA    DAT", 10, 10),
+        entry(b"KEEP    PRL", 4, 2),
+        entry(b"WAIT    PRL", 4, 3),
+        entry(b"DATA    DAT", 10, 4),
     ];
-    let mut image = image(alloc, Kind::Hd4, &entries)?;
-    put_program(image.as_mut_slice(), 8, KEEP);
-    put_program(image.as_mut_slice(), 9, WAIT);
+    let mut image = image(alloc, Kind::Ibm3740, &entries)?;
+    put_program(image.as_mut_slice(), 2, KEEP);
+    put_program(image.as_mut_slice(), 3, WAIT);
     let mut drives = MemoryDrives::new(alloc);
     drives.add("a.img", image.as_slice())?;
     Ok(drives)
@@ -191,7 +196,7 @@ fn is_shown(text: &[u8]) -> bool {
     true
 }
 
-/// The first put, if any, that doesn't end the run so, of the first thirty.
+/// The first put, if any, that doesn't end the run so, of every third of the first thirty.
 fn first_other(
     alloc: Global,
     drives: &mut MemoryDrives,
@@ -200,7 +205,8 @@ fn first_other(
     if ran(alloc, drives, whole)? != Status::Ran || !is_shown(whole.written()) {
         return Err(Fail::from("the run has another text"));
     }
-    for put in 1..31 {
+    for number in 0..10_u64 {
+        let put = 3 * number + 1;
         if !ends_in_its_step(alloc, drives, whole.written(), put)? {
             return Ok(Some(put));
         }

@@ -1,6 +1,8 @@
 //! Whole runs over files, drives and a sink in memory: what comes where a call of one of them fails. What runs write whose
 //! calls all go well is shown by the cases of the built program.
 use crate::play::strings;
+use mpm_base::Kind;
+use mpm_images::image;
 use mpm_port::{MemoryDrives, MemoryFiles, MemorySink};
 use mpm_top::{Status, run_words};
 use std::alloc::Global;
@@ -38,9 +40,6 @@ image = 'a'
 /// What ten steps of these machines write.
 const PROMPT: &[u8] = b"c0 0A>\\\n";
 
-/// How many bytes an image of the kind `ibm3740` has.
-const SIZE: usize = 256_256;
-
 /// The calls that are to fail, by their numbers: of the files, of the drives, of the sink; 0 is none.
 #[derive(Clone, Copy)]
 struct Failing {
@@ -65,7 +64,7 @@ fn files(alloc: Global, bytes: &[u8], fetch: u64) -> Result<MemoryFiles, Fail> {
 
 /// Drives with the images `a` and `c` of E5h, whose call of that number fails.
 pub(crate) fn drives(alloc: Global, call: u64) -> Result<MemoryDrives, Fail> {
-    let image = vec![in alloc; 0xE5; SIZE]?;
+    let image = image(alloc, Kind::Ibm3740, &[])?;
     drives_of(alloc, image.as_slice(), call)
 }
 

@@ -55,24 +55,31 @@ struct Devices {
     sink: MemorySink,
 }
 
-/// Drives with a disk that has the program, and a sink, whose calls of these numbers fail.
-fn failing_devices(alloc: Global, call: u64, put: u64) -> Result<Devices, Fail> {
-    let drives = drives(alloc, call)?;
-    let mut sink = MemorySink::new(alloc, 512)?;
-    sink.fail_at(put)?;
-    Ok(Devices { drives, sink })
-}
-
-fn drives(alloc: Global, call: u64) -> Result<MemoryDrives, Fail> {
+/// The image of a disk that has the program.
+fn disk(alloc: Global) -> Result<Vec<u8>, Fail> {
     let mut entry = held(Kind::Ibm3740, file(b'H', 0, 4), 0, 2);
     entry[2] = b'I';
     entry[9..12].copy_from_slice(b"PRL");
     let mut image = image(alloc, Kind::Ibm3740, &[entry])?;
     put_program(image.as_mut_slice());
+    Ok(image)
+}
+
+/// What a run is on: its machine file, and the image of its disk.
+#[derive(Clone, Copy)]
+struct Played<'a> {
+    machine: &'a [u8],
+    disk: &'a [u8],
+}
+
+/// Drives with a disk, and a sink, whose calls of these numbers fail.
+fn failing_devices(alloc: Global, disk: &[u8], call: u64, put: u64) -> Result<Devices, Fail> {
     let mut drives = MemoryDrives::new(alloc);
     drives.fail_at(call)?;
-    drives.add("a.img", image.as_slice())?;
-    Ok(drives)
+    drives.add("a.img", disk)?;
+    let mut sink = MemorySink::new(alloc, 512)?;
+    sink.fail_at(put)?;
+    Ok(Devices { drives, sink })
 }
 
 /// Whether a sector of both disks has the same bytes.
@@ -108,15 +115,19 @@ fn is_floppy(drives: &mut MemoryDrives) -> bool
     }
 }
 
-/// Whether two disks have the same bytes. The call that is to fail is one that was made, or the next.
-fn are_same(first: &mut MemoryDrives, second: &mut MemoryDrives) -> bool {
+/// In how many sectors the directory, the program and what it writes are, from the first on.
+const WRITTEN: u32 = 130;
+
+/// Whether two disks have the same bytes: everywhere, or in the sectors that a run may write. The call that is to fail is one that was
+/// made, or the next.
+fn are_same(first: &mut MemoryDrives, second: &mut MemoryDrives, is_whole: bool) -> bool {
     let _ = first.attach(0, "a.img");
     let _ = second.attach(0, "a.img");
     if !is_attached(first) || !is_attached(second) {
         return false;
     }
     for sector in 0..2002 {
-        if !is_same(first, second, sector) {
+        if (is_whole || sector < WRITTEN) && !is_same(first, second, sector) {
             return false;
         }
     }
@@ -124,27 +135,28 @@ fn are_same(first: &mut MemoryDrives, second: &mut MemoryDrives) -> bool {
 }
 
 /// How a run ends of which that call of the drives or of the sink fails, both ways, which are alike.
-fn ends(alloc: Global, machine: &[u8], call: u64, put: u64) -> Result<Status, Fail> {
-    let mut first = failing_devices(alloc, call, put)?;
-    ends_beside(alloc, machine, call, put, &mut first)
+fn ends(alloc: Global, played: Played<'_>, call: u64, put: u64) -> Result<Status, Fail> {
+    let mut first = failing_devices(alloc, played.disk, call, put)?;
+    ends_beside(alloc, played, call, put, &mut first)
 }
 
 /// The same, by its words over these devices, and by the calls of the machine over equal ones.
 fn ends_beside(
     alloc: Global,
-    machine: &[u8],
+    played: Played<'_>,
     call: u64,
     put: u64,
     first: &mut Devices,
 ) -> Result<Status, Fail> {
-    let mut second = failing_devices(alloc, call, put)?;
-    match ends_alike(alloc, machine, first, &mut second)? {
+    let mut second = failing_devices(alloc, played.disk, call, put)?;
+    match ends_alike(alloc, played.machine, first, &mut second)? {
         Some(status) => Ok(status),
         None => Err(Fail::new(format_args!("call {call}, put {put}: the ways differ"))),
     }
 }
 
-/// How a run ends both ways, where these are alike, and nothing but the whole text comes where nothing fails.
+/// How a run ends both ways, where these are alike, and nothing but the whole text comes where nothing fails; then all of the disks is
+/// looked at.
 fn ends_alike(
     alloc: Global,
     machine: &[u8],
@@ -162,10 +174,11 @@ fn ends_alike(
         &mut second.drives,
         &mut second.sink,
     )?;
-    let is_whole = status != Status::Ran || first.sink.written() == WHOLE;
+    let is_ran = status == Status::Ran;
+    let is_whole = !is_ran || first.sink.written() == WHOLE;
     let is_same = status == other
         && first.sink.written() == second.sink.written()
-        && are_same(&mut first.drives, &mut second.drives);
+        && are_same(&mut first.drives, &mut second.drives, is_ran);
     Ok(if is_whole && is_same {
         Some(status)
     } else {
@@ -174,9 +187,9 @@ fn ends_alike(
 }
 
 /// How many calls of the drives a run makes, each of which fails once.
-fn failing_calls(alloc: Global, machine: &[u8]) -> Result<u64, Fail> {
+fn failing_calls(alloc: Global, played: Played<'_>) -> Result<u64, Fail> {
     for call in 1..200 {
-        match ends(alloc, machine, call, 0)? {
+        match ends(alloc, played, call, 0)? {
             Status::DiskFault { .. } => {}
             Status::Ran => return Ok(call.saturating_sub(1)),
             _ => return Err(Fail::from("a call that ends the run otherwise")),
@@ -186,9 +199,9 @@ fn failing_calls(alloc: Global, machine: &[u8]) -> Result<u64, Fail> {
 }
 
 /// The same of the sink.
-fn failing_puts(alloc: Global, machine: &[u8]) -> Result<u64, Fail> {
+fn failing_puts(alloc: Global, played: Played<'_>) -> Result<u64, Fail> {
     for put in 1..200 {
-        match ends(alloc, machine, 0, put)? {
+        match ends(alloc, played, 0, put)? {
             Status::WriteFault { .. } => {}
             Status::Ran => return Ok(put.saturating_sub(1)),
             _ => return Err(Fail::from("a put that ends the run otherwise")),
@@ -208,8 +221,13 @@ fn failing(alloc: Global, turn: u64) -> Result<(u64, u64), Fail> {
     let machine = format!(in alloc;
         "version = 1\nconsoles = 1\nscript = 'keys'\ndisk_turn = {turn}\n[[segment]]\nbase = 64\npages = 64\n[[drive]]\nletter = 'A'\nkind = 'ibm3740'\nimage = 'a.img'\n"
     )?;
-    let calls = failing_calls(alloc, machine.as_bytes())?;
-    let puts = failing_puts(alloc, machine.as_bytes())?;
+    let disk = disk(alloc)?;
+    let played = Played {
+        machine: machine.as_bytes(),
+        disk: disk.as_slice(),
+    };
+    let calls = failing_calls(alloc, played)?;
+    let puts = failing_puts(alloc, played)?;
     Ok((calls, puts))
 }
 
