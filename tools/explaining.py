@@ -9,13 +9,10 @@ import stat
 import sys
 from typing import NamedTuple
 
-import machine_files
-import scripts
-from machine_files import Fault, Refused
+from tools import images, machine_files, scripts
+from tools.machine_files import Fault, Refused
 
 ROOT = os.path.dirname(os.path.dirname(os.path.abspath(__file__)))
-sys.path.append(os.path.join(ROOT, "bench"))
-import images
 
 PROGRAM_BYTES = 48_512
 MOST_SLOTS = 20
@@ -174,10 +171,11 @@ def slot_findings(name, kind_name, image):
         slots.append(fault.place)
         image[images.slot_place(kind, fault.place)] = images.FREE
     if findings:
-        free = f"bench/images.py free {kind_name} COPY {' '.join(map(str, slots))}"
+        check, apply = f"./fsck check {kind_name} COPY > LIST", f"./fsck apply {kind_name} COPY LIST"
         more = "There are more, which speaks for a disk of another kind. " if len(slots) == MOST_SLOTS else ""
         last = findings[-1]
-        how = f"{more}In a copy `{free}` frees {'it' if len(slots) == 1 else 'them'} (docs/IMAGES.md, \"An image at fault\")"
+        it = "it" if len(slots) == 1 else "them"
+        how = f"{more}Of a copy `{check}` lists {it}, and `{apply}` frees {it} (docs/IMAGES.md, \"An image at fault\")"
         findings[-1] = last._replace(said=f"{last.said}. {how}")
     return findings
 
@@ -236,6 +234,25 @@ def drive_findings(machine, path):
     return findings, ending
 
 
+# Residents.
+
+
+def has_ticks(machine):
+    """Whether the clock ticks, by itself or by the script."""
+    if machine.tick_every or machine.script is None or unreadable(machine.script, "script"):
+        return machine.tick_every > 0
+    return any(event.sort == b"tick" for event in scripts.parsed(read_file(machine.script))[0])
+
+
+def resident_findings(machine, path):
+    """What the spooler and the scheduler lack. It ends no run."""
+    residents = machine.tables.get("residents", [])
+    if "spool" in residents and machine.printers == 0:
+        yield Finding(path, "no printer", "the spooler prints nothing, since `printers` is 0")
+    if "sched" in residents and not has_ticks(machine):
+        yield Finding(path, "no ticks", "the clock stands, since `tick_every` is 0: the scheduler sends no command of a later time")
+
+
 # The whole.
 
 
@@ -279,7 +296,7 @@ def explain_machine(path, steps=None):
         return found(path, refused.faults), ending
     findings, ending = script_findings(machine, path, steps)
     more, ends = drive_findings(machine, path)
-    return findings + more, ends if ending == SOUND else ending
+    return [*findings, *more, *resident_findings(machine, path)], ends if ending == SOUND else ending
 
 
 def explain_program(path):

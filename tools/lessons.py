@@ -1,5 +1,12 @@
-"""Runs of the lessons (docs/LESSONS.md): each has a machine file and a script in examples/lessons, and its own copy of their disk."""
+"""run NAME [--turn N] [--steps N]: runs a lesson (docs/LESSONS.md) on a copy of its disk, and writes its lines with the records of its calls;
+after them a line `d NAME RECORDS FILLED` for each file NAME.DAT on its disk, with how many records it has and how many of them aren't
+zeros. The proved program runs where it is built already (./mpm), else the program as it is compiled before any proof (./try).
 
+Each lesson has a machine file and a script in examples/lessons, where `run` is too.
+
+Status: 0; 2 where the words are wrong; else that of the program."""
+
+import argparse
 import gzip
 import os
 import re
@@ -7,13 +14,12 @@ import subprocess
 import sys
 import tempfile
 
+from tools import images
+
 ROOT = os.path.dirname(os.path.dirname(os.path.abspath(__file__)))
 FOLDER = os.path.join(ROOT, "examples", "lessons")
 IMAGE = "lessons.img"
 STEPS = 1_000_000
-
-sys.path.append(os.path.join(ROOT, "bench"))
-import images
 
 
 class Refused(Exception):
@@ -56,11 +62,13 @@ def data_files(image):
             yield f"d {images.file_text(name)} {len(records)} {sum(any(record) for record in records)}"
 
 
-def run(program, name, turn=None, steps=STEPS):
-    """What a run writes, with the records of its calls, as lines; after them one for each file of data that is on its disk."""
+def run(program, name, turn=None, steps=STEPS, seconds=None):
+    """What a run writes, with the records of its calls, as lines; after them one for each file of data that is on its disk. A run that takes
+    more than so many seconds raises subprocess.TimeoutExpired."""
     with tempfile.TemporaryDirectory() as folder:
         prepare(folder, name, turn)
-        done = subprocess.run([program, "run", "machine.toml", str(steps), "--trace"], cwd=folder, capture_output=True, text=True)
+        words = [program, "run", "machine.toml", str(steps), "--trace"]
+        done = subprocess.run(words, cwd=folder, capture_output=True, text=True, timeout=seconds)
         if done.returncode:
             raise Refused(done.stderr, done.returncode)
         with open(os.path.join(folder, IMAGE), "rb") as image:
@@ -72,3 +80,25 @@ def processes(name):
     command line interpreter and the terminal message processors."""
     typed = re.findall(r"^0 key \d ([^\\]*)", text(f"{name}.keys"), re.M)
     return {number: f"{number} {word}" for number, word in enumerate(typed, 3)}
+
+
+def main():
+    words = argparse.ArgumentParser(prog="run", description=__doc__, formatter_class=argparse.RawDescriptionHelpFormatter)
+    words.add_argument("name", choices=names(), metavar="NAME", help=", ".join(names()))
+    words.add_argument("--turn", type=int, metavar="N", help="the steps that the disk takes for a record; those of the machine file else")
+    words.add_argument("--steps", type=int, default=STEPS, metavar="N", help=f"the steps of the run ({STEPS})")
+    options = words.parse_args()
+    is_built = os.path.exists(os.path.join(ROOT, "crates", "mpm", "out", "mpm"))
+    if not is_built:
+        print("run: the program isn't built yet (./mpm): it is compiled for this run, which takes a minute or two", file=sys.stderr)
+    try:
+        lines = run(os.path.join(ROOT, "mpm" if is_built else "try"), options.name, options.turn, options.steps)
+    except Refused as refused:
+        said, status = refused.args
+        sys.stderr.write(said)
+        sys.exit(status)
+    print("\n".join(lines))
+
+
+if __name__ == "__main__":
+    main()

@@ -81,10 +81,9 @@ class Rows:
 
 
 class Residents:
-    """An array of these texts, each at most once, some of which aren't built yet."""
+    """An array of these texts, each at most once."""
 
     NAMES = ("spool", "sched")
-    NOT_BUILT = ("spool", "sched")
 
 
 LETTERS = tuple("ABCDEFGHIJKLMNOP")
@@ -300,8 +299,6 @@ class Reading:
                 self.add(line, "choice", f'{shown(name)} is no resident: they are "spool" and "sched"{meant(name, Residents.NAMES)}')
             elif name in value[:number]:
                 self.add(line, "twice", f"{shown(name)} stands twice")
-            elif name in Residents.NOT_BUILT:
-                self.add(line, "not built", f"{shown(name)} isn't built yet: write `residents = []`, or leave the key out")
 
 
 def faults(text):
@@ -314,7 +311,7 @@ def faults(text):
 
 
 def read(text):
-    """The tables of a machine file; Refused where it is none that is built."""
+    """The tables of a machine file; Refused where it is none."""
     decoded, tables = parsed(text)
     found = Reading(decoded, tables).read()
     if found:

@@ -7,7 +7,7 @@ import math
 import textwrap
 from html import escape
 
-import calls
+from tools import calls
 
 WIDTH, MARGIN, EDGE = 1000, 112, 16
 RIGHT = WIDTH - EDGE

@@ -8,7 +8,7 @@ import shutil
 import tempfile
 import time
 
-import machine_files
+from tools import machine_files
 
 PREFIX = "mpm-terminal-"
 FICLONE = 0x40049409

@@ -5,7 +5,7 @@ import difflib
 import re
 from typing import NamedTuple
 
-from machine_files import Fault, Refused
+from tools.machine_files import Fault, Refused
 
 SCRIPT_BYTES = 1_048_576
 STEPS_LIMIT = 4_000_000_000

@@ -8,8 +8,8 @@ import time
 from bisect import bisect_right
 from itertools import takewhile
 
-import scripts
-from outputs import Output
+from tools import scripts
+from tools.outputs import Output
 
 STEPS_LIMIT = scripts.STEPS_LIMIT
 # How many keys may be stored at a console before it is asked whether it has read them. It stores 64: the rest is for ^C and the like.

@@ -9,11 +9,11 @@ import subprocess
 import sys
 import time
 
-import room as rooms
-import scripts
-from machine_files import Refused
-from screen import Screen, Signals
-from session import NEVER, REFRESH, Session
+from tools import room as rooms
+from tools import scripts
+from tools.machine_files import Refused
+from tools.screen import Screen, Signals
+from tools.session import NEVER, REFRESH, Session
 
 ROOT = os.path.dirname(os.path.dirname(os.path.abspath(__file__)))
 

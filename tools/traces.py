@@ -3,7 +3,7 @@
 import re
 from dataclasses import dataclass
 
-import calls
+from tools import calls
 
 RECORD = re.compile(r"t (\d+) (\d+) (\d+) ([0-9A-F]{2}) ([0-9A-F]{4}) ([0-9A-F]{4}) ([0-9A-F]{4})")
 UNIT = re.compile(r"([cl]\d) (.*)", re.S)

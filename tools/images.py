@@ -1,0 +1,353 @@
+#!/usr/bin/env python3
+"""Images of disks, read without the program: by docs/PROFILE.md alone, and by none of the program's code.
+
+images.py read KIND IMAGE           prints the drive that the image stands for, or its first fault as `cause N at N`
+images.py slots KIND IMAGE          prints each slot of the directory that isn't free: where its 32 bytes begin, and what they say
+images.py get KIND IMAGE FOLDER     writes the files of an image without fault into a folder, as USER/NAME.TYP
+
+Ends with status 0; 4 where the image is at fault; 1 where something can't be done.
+"""
+
+import os
+import sys
+import zlib
+from typing import NamedTuple
+
+SECTOR = 128
+ENTRY = 32
+FREE = 0xE5
+LABEL = 0x20
+
+
+class Kind(NamedTuple):
+    size: int
+    system_tracks: int
+    block: int
+    dsm: int
+    drm: int
+    directory_blocks: int
+    wide: bool
+    mask: int
+
+    @property
+    def block_records(self):
+        return self.block // SECTOR
+
+    @property
+    def places(self):
+        """How many blocks a directory entry has room for."""
+        return 8 if self.wide else 16
+
+
+KINDS = {
+    "ibm3740": Kind(256256, 2, 1024, 242, 63, 2, False, 0),
+    "hd4": Kind(4194304, 0, 2048, 2047, 511, 8, True, 0),
+    "hd8": Kind(8388608, 0, 4096, 2047, 511, 4, True, 1),
+}
+
+TRACK = 26
+SKEW = [1, 7, 13, 19, 25, 5, 11, 17, 23, 3, 9, 15, 21, 2, 8, 14, 20, 26, 6, 12, 18, 24, 4, 10, 16, 22]
+
+
+class File(NamedTuple):
+    """A directory entry of a file."""
+
+    user: int
+    name: bytes
+    attributes: tuple
+    s2: int
+    ex: int
+    count: int
+    blocks: tuple
+
+    @property
+    def extent(self):
+        return 32 * self.s2 + self.ex
+
+
+class Xfcb(NamedTuple):
+    user: int
+    name: bytes
+    protection: bytes
+
+
+class Label(NamedTuple):
+    name: bytes
+    protection: bytes
+
+
+class Kept(NamedTuple):
+    """An entry of another sort, which nobody reads."""
+
+    sort: int
+
+
+# Where things are.
+
+
+def sector_place(kind, logical):
+    """The byte of the image at which a sector after the system's tracks begins."""
+    if kind.wide:
+        return SECTOR * logical
+    track, index = divmod(logical, TRACK)
+    return SECTOR * ((kind.system_tracks + track) * TRACK + SKEW[index] - 1)
+
+
+def record(kind, image, logical):
+    place = sector_place(kind, logical)
+    return bytes(image[place : place + SECTOR])
+
+
+def block_records(kind, image, block):
+    first = block * kind.block_records
+    return [record(kind, image, first + number) for number in range(kind.block_records)]
+
+
+def slot_place(kind, slot):
+    sector, within = divmod(ENTRY * slot, SECTOR)
+    return sector_place(kind, sector) + within
+
+
+def slot_bytes(kind, image, slot):
+    place = slot_place(kind, slot)
+    return bytes(image[place : place + ENTRY])
+
+
+# What a slot says.
+
+
+def plain(name):
+    return bytes(letter & 0x7F for letter in name)
+
+
+def protection(entry):
+    """Mode or data byte, decode byte, password and stamps."""
+    return entry[12:14] + entry[16:32]
+
+
+def file_entry(kind, entry):
+    numbers = entry[16:32]
+    if kind.wide:
+        numbers = [numbers[at] + 256 * numbers[at + 1] for at in range(0, 16, 2)]
+    name = entry[1:12]
+    attributes = tuple(letter >> 7 for letter in name)
+    return File(entry[0], plain(name), attributes, entry[14], entry[12], entry[15], tuple(numbers))
+
+
+def meaning(kind, entry):
+    """What an entry is; None for a free one."""
+    sort = entry[0]
+    if sort < 16:
+        return file_entry(kind, entry)
+    if sort < 32:
+        return Xfcb(sort - 16, plain(entry[1:12]), protection(entry))
+    if sort == LABEL:
+        return Label(entry[1:12], protection(entry))
+    return None if sort == FREE else Kept(sort)
+
+
+def directory(kind, image):
+    return [meaning(kind, slot_bytes(kind, image, slot)) for slot in range(kind.drm + 1)]
+
+
+# Faults.
+
+
+class Fault(NamedTuple):
+    cause: int
+    place: int
+
+    def __str__(self):
+        return f"cause {self.cause} at {self.place}"
+
+
+def held(file):
+    """The blocks that an entry has; a number 0 is none."""
+    return [block for block in file.blocks if block]
+
+
+def key_of(kind, entry):
+    """What no two slots may have."""
+    if isinstance(entry, File):
+        return "file", entry.user, entry.name, entry.extent // (kind.mask + 1)
+    if isinstance(entry, Xfcb):
+        return "xfcb", entry.user, entry.name
+    return ("label",) if isinstance(entry, Label) else None
+
+
+def file_causes(kind, file, taken, keys):
+    """Whether each of the causes 2 to 6 is there."""
+    blocks = held(file)
+    return {
+        2: file.count > 128,
+        3: any(block < kind.directory_blocks or block > kind.dsm for block in blocks),
+        4: len(set(blocks)) < len(blocks) or not taken.isdisjoint(blocks),
+        5: key_of(kind, file) in keys,
+        6: file.s2 > 63 or file.ex > 31,
+    }
+
+
+def causes(kind, entry, taken, keys):
+    """The causes that an entry has, where earlier slots have these blocks and keys."""
+    if isinstance(entry, File):
+        return [cause for cause, is_there in file_causes(kind, entry, taken, keys).items() if is_there]
+    if key_of(kind, entry) not in keys:
+        return []
+    return [7] if isinstance(entry, Label) else [8]
+
+
+def first_fault(kind, image):
+    if len(image) != kind.size:
+        return Fault(1, 0)
+    taken, keys = set(), set()
+    for slot, entry in enumerate(directory(kind, image)):
+        found = causes(kind, entry, taken, keys)
+        if found:
+            return Fault(min(found), slot)
+        if isinstance(entry, File):
+            taken.update(held(entry))
+        if key_of(kind, entry):
+            keys.add(key_of(kind, entry))
+    return None
+
+
+# The drive.
+
+
+def name_text(name):
+    letters = (chr(c) if 0x21 <= c < 0x7F and c not in b"\\/." else f"\\x{c:02X}" for c in name.rstrip(b" "))
+    return "".join(letters)
+
+
+def file_text(name):
+    """A name and its type as a file of the host may be called, no two alike, and one of spaces alone too."""
+    kind = name_text(name[8:])
+    return name_text(name[:8]) + ("." + kind if kind else "") or "\\x20"
+
+
+def extent_lines(kind, image, file):
+    """The last extent of an entry, its record count, its attributes, and the sums of the records of its blocks."""
+    attributes = "".join(str(bit) for bit in file.attributes)
+    yield f"  extent {file.extent} count {file.count} attributes {attributes}"
+    for place, block in enumerate(file.blocks):
+        if block:
+            sums = (f"{zlib.crc32(one):08X}" for one in block_records(kind, image, block))
+            yield f"    block {place}: " + " ".join(sums)
+
+
+def files_of(kind, image):
+    """The files of an image without fault, each with its entries, by user and name."""
+    files = {}
+    for entry in directory(kind, image):
+        if isinstance(entry, File):
+            files.setdefault((entry.user, entry.name), []).append(entry)
+    return {key: sorted(files[key], key=lambda entry: entry.extent) for key in sorted(files)}
+
+
+def free_lines(kind, entries):
+    used = sum(len(held(entry)) for entry in entries if isinstance(entry, File))
+    yield f"kept {sum(isinstance(entry, Kept) for entry in entries)}"
+    yield f"free records {(kind.dsm + 1 - kind.directory_blocks - used) * kind.block_records}"
+    yield f"free entries {entries.count(None)}"
+
+
+def drive_lines(kind, image):
+    """The drive, without the slots of its entries and the numbers of its blocks."""
+    entries = directory(kind, image)
+    for (user, name), parts in files_of(kind, image).items():
+        yield f"file {user}:{file_text(name)}"
+        for part in parts:
+            yield from extent_lines(kind, image, part)
+    for xfcb in sorted(entry for entry in entries if isinstance(entry, Xfcb)):
+        yield f"xfcb {xfcb.user}:{file_text(xfcb.name)} {xfcb.protection.hex()}"
+    for label in (entry for entry in entries if isinstance(entry, Label)):
+        yield f"label {name_text(label.name)} {label.protection.hex()}"
+    yield from free_lines(kind, entries)
+
+
+def part_contents(kind, image, file):
+    """The records of an entry up to its last one; a block that it doesn't have gives zeros."""
+    before = file.extent % (kind.mask + 1) * 128
+    data = b""
+    for block in file.blocks:
+        data += b"".join(block_records(kind, image, block)) if block else bytes(kind.block)
+    return data[: (before + file.count) * SECTOR]
+
+
+def contents(kind, image, parts):
+    """The bytes of a file up to its last record; an extent that it doesn't have gives zeros."""
+    data = b""
+    for part in parts:
+        first = part.extent // (kind.mask + 1) * (kind.mask + 1)
+        data = data.ljust(first * 128 * SECTOR, b"\0") + part_contents(kind, image, part)
+    return data
+
+
+# The commands.
+
+
+def read_image(kind, path):
+    with open(path, "rb") as file:
+        return file.read(kind.size + 1)
+
+
+def read(kind, path):
+    image = read_image(kind, path)
+    fault = first_fault(kind, image)
+    print(fault or "\n".join(drive_lines(kind, image)))
+    return 4 if fault else 0
+
+
+def told(entry):
+    """An entry that isn't free, in words."""
+    if isinstance(entry, File):
+        where = f"S2 {entry.s2}, EX {entry.ex} (extent {entry.extent}), record count {entry.count}"
+        return f"file {entry.user}:{file_text(entry.name)}, {where}, blocks {' '.join(map(str, held(entry)))}"
+    if isinstance(entry, Xfcb):
+        return f"XFCB of {entry.user}:{file_text(entry.name)}"
+    if isinstance(entry, Label):
+        return f"label {name_text(entry.name)}"
+    return f"kept unread, of the sort {entry.sort:02X}h"
+
+
+def slots(kind, path):
+    image = read_image(kind, path)
+    if len(image) != kind.size:
+        print(Fault(1, 0))
+        return 4
+    for slot, entry in enumerate(directory(kind, image)):
+        if entry is not None:
+            print(f"slot {slot} at byte {slot_place(kind, slot)}: {told(entry)}")
+    return 0
+
+
+def get(kind, path, folder):
+    image = read_image(kind, path)
+    fault = first_fault(kind, image)
+    if fault:
+        print(fault)
+        return 4
+    for (user, name), parts in files_of(kind, image).items():
+        os.makedirs(os.path.join(folder, str(user)), exist_ok=True)
+        with open(os.path.join(folder, str(user), file_text(name)), "wb") as file:
+            file.write(contents(kind, image, parts))
+    return 0
+
+
+def main(words):
+    match words:
+        case ["read", kind, path] if kind in KINDS:
+            return read(KINDS[kind], path)
+        case ["slots", kind, path] if kind in KINDS:
+            return slots(KINDS[kind], path)
+        case ["get", kind, path, folder] if kind in KINDS:
+            return get(KINDS[kind], path, folder)
+    print(__doc__, file=sys.stderr)
+    return 1
+
+
+if __name__ == "__main__":
+    try:
+        sys.exit(main(sys.argv[1:]))
+    except OSError as error:
+        sys.exit(f"images.py: {error}")
