@@ -23,6 +23,15 @@ pub(crate) struct Run<'a> {
     text: &'a [u8],
 }
 
+/// Some words as texts.
+fn texts(alloc: Global, words: &[&str]) -> Result<Vec<String>, Fail> {
+    let mut texts = Vec::new(alloc);
+    for word in words {
+        texts.push(String::from_str(alloc, word)?)?;
+    }
+    Ok(texts)
+}
+
 /// How a run over devices in memory ends.
 pub(crate) fn ending(
     alloc: Global,
@@ -31,11 +40,20 @@ pub(crate) fn ending(
     drives: &mut MemoryDrives,
     sink: &mut MemorySink,
 ) -> Result<FsckStatus, Fail> {
-    let mut texts = Vec::new(alloc);
-    for word in words {
-        texts.push(String::from_str(alloc, word)?)?;
-    }
+    let texts = texts(alloc, words)?;
     Ok(fsck_words(alloc, texts.as_slice(), files, drives, sink))
+}
+
+/// Whether a run ends so, and writes just that to an output to which nothing was written.
+fn goes_to(
+    alloc: Global,
+    run: &Run,
+    files: &mut MemoryFiles,
+    drives: &mut MemoryDrives,
+    sink: &mut MemorySink,
+) -> Result<bool, Fail> {
+    let status = ending(alloc, run.words, files, drives, sink)?;
+    Ok(status == run.status && sink.written() == run.text)
 }
 
 /// Whether a run ends so, and writes just that.
@@ -46,8 +64,22 @@ pub(crate) fn goes(
     drives: &mut MemoryDrives,
 ) -> Result<bool, Fail> {
     let mut sink = MemorySink::new(alloc, 10_000)?;
-    let status = ending(alloc, run.words, files, drives, &mut sink)?;
-    Ok(status == run.status && sink.written() == run.text)
+    goes_to(alloc, run, files, drives, &mut sink)
+}
+
+/// Whether all of some runs, one after the other, end so.
+pub(crate) fn all_go(
+    alloc: Global,
+    runs: &[Run],
+    files: &mut MemoryFiles,
+    drives: &mut MemoryDrives,
+) -> Result<bool, Fail> {
+    for run in runs {
+        if !goes(alloc, run, files, drives)? {
+            return Ok(false);
+        }
+    }
+    Ok(true)
 }
 
 /// Adds the image `a.img` of a kind with these entries from slot 0 on.

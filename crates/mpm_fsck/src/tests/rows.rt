@@ -1,6 +1,9 @@
 //! Images with faults: what is listed of them, and what is left when that list was applied.
+ghost use Rattle.std.specs.Prelude.{ℕ, List};
+ghost use Rattle.mpm_port.specs.MemoryDisks.{IsFree};
+
 use crate::status::FsckStatus;
-use crate::tests::{Run, add_image, goes, one_block, two_of_one_block};
+use crate::tests::{Run, add_image, all_go, goes, one_block, two_of_one_block};
 use mpm_base::Kind;
 use mpm_images::{Entry, UNUSED, directory_sector, file, held, named, read_record, with, xfcb};
 use mpm_port::{MemoryDrives, MemoryFiles};
@@ -12,31 +15,7 @@ const CHECK: [&str; 3] = ["check", "ibm3740", "a.img"];
 
 const APPLY: [&str; 4] = ["apply", "ibm3740", "a.img", "a.txt"];
 
-/// Whether a check of an image of a kind with these entries ends so.
-fn checks(
-    alloc: Global,
-    kind: Kind,
-    word: &str,
-    entries: &[Entry],
-    text: &[u8],
-) -> Result<bool, Fail> {
-    let mut drives = MemoryDrives::new(alloc);
-    add_image(alloc, kind, entries, &mut drives)?;
-    let mut count = 0_u32;
-    for byte in text {
-        if *byte == b'\n' {
-            count = count.saturating_add(1);
-        }
-    }
-    let run = Run {
-        words: &["check", word, "a.img"],
-        status: FsckStatus::Unsound { count },
-        text,
-    };
-    goes(alloc, &run, &mut MemoryFiles::new(alloc), &mut drives)
-}
-
-/// Whether the directory's sector with these entries is the one of that number.
+/// Whether the directory's sector of a number has these entries.
 fn has_sector(drives: &mut MemoryDrives, number: u32, entries: &[Entry]) -> bool {
     match read_record(drives, Kind::Ibm3740, number) {
         Some(bytes) => bytes == directory_sector(entries, 0),
@@ -44,13 +23,16 @@ fn has_sector(drives: &mut MemoryDrives, number: u32, entries: &[Entry]) -> bool
     }
 }
 
-#[test]
-fn an_image_is_mended_by_its_own_list(rt: HostRuntime) -> Result<(), Fail> {
-    let alloc = rt.alloc();
+/// Whether a check of an image with two entries of one block lists one of them, whether that list frees it, and what is left is sound.
+fn is_mended(
+    alloc: Global,
+    files: &mut MemoryFiles,
+    drives: &mut MemoryDrives,
+) -> Result<bool, Fail>
+    requires { (name : List ℕ) → IsFree drives.old name }
+{
     let entries = two_of_one_block(Kind::Ibm3740);
-    let mut drives = MemoryDrives::new(alloc);
-    add_image(alloc, Kind::Ibm3740, &entries, &mut drives)?;
-    let mut files = MemoryFiles::new(alloc);
+    add_image(alloc, Kind::Ibm3740, &entries, drives)?;
     files.add("a.txt", b"fault 9 4 3\n")?;
     let runs = [
         Run {
@@ -69,93 +51,147 @@ fn an_image_is_mended_by_its_own_list(rt: HostRuntime) -> Result<(), Fail> {
             text: b"sound 1920\n",
         },
     ];
-    for run in &runs {
-        assert!(rt;
-            goes(alloc, run, &mut files, &mut drives)?,
-            "{:?}",
-            run.status
-        );
-    }
+    let go = all_go(alloc, &runs, files, drives)?;
     let left = [UNUSED, with(entries[9], 0, 0xE5)];
-    assert!(rt; has_sector(&mut drives, 2, &left));
-    assert!(rt; has_sector(&mut drives, 0, &entries[..4]));
-    Ok(())
+    Ok(go && has_sector(drives, 2, &left) && has_sector(drives, 0, &entries[..4]))
 }
 
 #[test]
-fn a_clash_with_what_does_not_stay_is_none(rt: HostRuntime) -> Result<(), Fail> {
-    let alloc = rt.alloc();
-    let kind = Kind::Ibm3740;
-    let [a, b, c] = [
-        one_block(kind, b'A', 9),
-        one_block(kind, b'B', 9),
-        one_block(kind, b'C', 9),
-    ];
-    let text = b"fault 2 4 1\nfault 3 4 1\n";
-    assert!(rt; checks(alloc, kind, "ibm3740", &[UNUSED, a, b, c], text)?);
-    let wide = held(kind, b, 1, 12);
-    let last = one_block(kind, b'D', 12);
-    assert!(rt;
-        checks(
-            alloc,
-            kind,
-            "ibm3740",
-            &[UNUSED, a, wide, c, UNUSED, last],
-            text
-        )?
-    );
+fn an_image_is_mended_by_its_own_list(rt: HostRuntime) -> Result<(), Fail> {
+    let mut drives = MemoryDrives::new(rt.alloc());
+    let mut files = MemoryFiles::new(rt.alloc());
+    let so = is_mended(rt.alloc(), &mut files, &mut drives)?;
+    assert!(rt; so);
     Ok(())
 }
 
-#[test]
-fn a_list_that_leaves_a_fault_changes_nothing(rt: HostRuntime) -> Result<(), Fail> {
-    let alloc = rt.alloc();
-    let kind = Kind::Ibm3740;
-    let entries = [
+/// The first four slots of a directory of which three name block 9.
+fn three_of_one_block(kind: Kind) -> [Entry; 4] {
+    [
         UNUSED,
         one_block(kind, b'A', 9),
         one_block(kind, b'B', 9),
         one_block(kind, b'C', 9),
-    ];
-    let mut drives = MemoryDrives::new(alloc);
-    add_image(alloc, kind, &entries, &mut drives)?;
-    let mut files = MemoryFiles::new(alloc);
+    ]
+}
+
+/// Whether a list that leaves one of three entries of one block is refused, and changes nothing.
+fn is_not_enough(
+    alloc: Global,
+    files: &mut MemoryFiles,
+    drives: &mut MemoryDrives,
+) -> Result<bool, Fail>
+    requires { (name : List ℕ) → IsFree drives.old name }
+{
+    let entries = three_of_one_block(Kind::Ibm3740);
+    add_image(alloc, Kind::Ibm3740, &entries, drives)?;
     files.add("a.txt", b"fault 2 4 1\n")?;
     let run = Run {
         words: &APPLY,
         status: FsckStatus::NotEnough { slot: 3, cause: 4 },
         text: b"",
     };
-    assert!(rt; goes(alloc, &run, &mut files, &mut drives)?);
-    assert!(rt; has_sector(&mut drives, 0, &entries));
-    Ok(())
+    Ok(goes(alloc, &run, files, drives)? && has_sector(drives, 0, &entries))
 }
 
 #[test]
-fn an_unused_disk_is_sound(rt: HostRuntime) -> Result<(), Fail> {
-    let alloc = rt.alloc();
-    let mut drives = MemoryDrives::new(alloc);
-    add_image(alloc, Kind::Ibm3740, &[], &mut drives)?;
-    let run = Run {
-        words: &CHECK,
-        status: FsckStatus::Done,
-        text: b"sound 1928\n",
-    };
-    assert!(rt; goes(alloc, &run, &mut MemoryFiles::new(alloc), &mut drives)?);
+fn a_list_that_leaves_a_fault_changes_nothing(rt: HostRuntime) -> Result<(), Fail> {
+    let mut drives = MemoryDrives::new(rt.alloc());
+    let mut files = MemoryFiles::new(rt.alloc());
+    let so = is_not_enough(rt.alloc(), &mut files, &mut drives)?;
+    assert!(rt; so);
     Ok(())
+}
+
+/// Whether an image of a kind with these entries is checked so.
+fn is_checked(
+    alloc: Global,
+    kind: Kind,
+    entries: &[Entry],
+    run: &Run,
+    drives: &mut MemoryDrives,
+) -> Result<bool, Fail>
+    requires { (name : List ℕ) → IsFree drives.old name }
+{
+    add_image(alloc, kind, entries, drives)?;
+    goes(alloc, run, &mut MemoryFiles::new(alloc), drives)
+}
+
+/// The lines of a text.
+fn lines_of(text: &[u8]) -> u32 {
+    let mut count = 0_u32;
+    for byte in text {
+        if *byte == b'\n' {
+            count = count.saturating_add(1);
+        }
+    }
+    count
+}
+
+/// The word for a kind.
+fn word_of(kind: Kind) -> &'static str {
+    match kind {
+        Kind::Ibm3740 => "ibm3740",
+        Kind::Hd4 => "hd4",
+        Kind::Hd8 => "hd8",
+    }
 }
 
 /// A row: the first entries of a directory, and what is listed of them.
 type Row<'a> = (&'a [Entry], &'a [u8]);
 
+/// Whether an image of a kind is listed so.
+fn is_listed(alloc: Global, kind: Kind, row: &Row) -> Result<bool, Fail> {
+    let words = ["check", word_of(kind), "a.img"];
+    let run = Run {
+        words: &words,
+        status: FsckStatus::Unsound {
+            count: lines_of(row.1),
+        },
+        text: row.1,
+    };
+    let mut drives = MemoryDrives::new(alloc);
+    is_checked(alloc, kind, row.0, &run, &mut drives)
+}
+
 /// Whether images of a kind with these entries are listed so.
-fn are_listed(alloc: Global, kind: Kind, word: &str, rows: &[Row]) -> Result<bool, Fail> {
-    for (entries, text) in rows {
-        if !checks(alloc, kind, word, *entries, *text)? {
+fn are_listed(alloc: Global, kind: Kind, rows: &[Row]) -> Result<bool, Fail> {
+    for row in rows {
+        if !is_listed(alloc, kind, row)? {
             return Ok(false);
         }
     }
     Ok(true)
+}
+
+#[test]
+fn an_unused_disk_is_sound(rt: HostRuntime) -> Result<(), Fail> {
+    let run = Run {
+        words: &CHECK,
+        status: FsckStatus::Done,
+        text: b"sound 1928\n",
+    };
+    let mut drives = MemoryDrives::new(rt.alloc());
+    let so = is_checked(rt.alloc(), Kind::Ibm3740, &[], &run, &mut drives)?;
+    assert!(rt; so);
+    Ok(())
+}
+
+#[test]
+fn a_clash_with_what_does_not_stay_is_none(rt: HostRuntime) -> Result<(), Fail> {
+    let kind = Kind::Ibm3740;
+    let three = three_of_one_block(kind);
+    let wide = held(kind, three[2], 1, 12);
+    let last = one_block(kind, b'D', 12);
+    let rows: [Row; 2] = [
+        (&three, b"fault 2 4 1\nfault 3 4 1\n"),
+        (
+            &[UNUSED, three[1], wide, three[3], UNUSED, last],
+            b"fault 2 4 1\nfault 3 4 1\n",
+        ),
+    ];
+    assert!(rt; are_listed(rt.alloc(), kind, &rows)?);
+    Ok(())
 }
 
 #[test]
@@ -188,14 +224,13 @@ fn each_cause_is_listed_with_what_it_clashes_with(rt: HostRuntime) -> Result<(),
             b"fault 0 2 -\nfault 2 5 1\nfault 4 7 3\n",
         ),
     ];
-    assert!(rt; are_listed(rt.alloc(), kind, "ibm3740", &rows)?);
+    assert!(rt; are_listed(rt.alloc(), kind, &rows)?);
     Ok(())
 }
 
 /// The blocks of a hard disk have two bytes; on hd8 an entry covers two extents.
 #[test]
 fn each_kind_has_its_blocks_and_extents(rt: HostRuntime) -> Result<(), Fail> {
-    let alloc = rt.alloc();
     let [second, third] = [file(b'A', 2, 1), file(b'A', 3, 1)];
     let rows: [Row; 1] = [(
         &[
@@ -205,11 +240,12 @@ fn each_kind_has_its_blocks_and_extents(rt: HostRuntime) -> Result<(), Fail> {
         ],
         b"fault 0 3 -\nfault 2 4 1\n",
     )];
-    assert!(rt; are_listed(alloc, Kind::Hd4, "hd4", &rows)?);
-    let rows: [Row; 1] = [(
+    let wide_rows: [Row; 1] = [(
         &[second, third, held(Kind::Hd8, file(b'B', 0, 1), 3, 3)],
         b"fault 1 5 0\nfault 2 3 -\n",
     )];
-    assert!(rt; are_listed(alloc, Kind::Hd8, "hd8", &rows)?);
+    let so = are_listed(rt.alloc(), Kind::Hd4, &rows)?
+        && are_listed(rt.alloc(), Kind::Hd8, &wide_rows)?;
+    assert!(rt; so);
     Ok(())
 }

@@ -1,9 +1,13 @@
 //! Each ending with its exit status and its text, and the words that have no form.
+ghost use Rattle.std.specs.Prelude.{ℕ, List};
+ghost use Rattle.mpm_port.specs.MemoryDisks.{IsFree};
+
 use crate::ending::{self, Message};
 use crate::status::FsckStatus;
 use crate::tests::{Run, add_image, goes};
 use mpm_base::Kind;
 use mpm_port::{MemoryDrives, MemoryFiles};
+use std::alloc::Global;
 use std::test::Fail;
 
 #[test]
@@ -36,43 +40,62 @@ fn each_ending_has_its_status_and_its_text(rt: HostRuntime) -> Result<(), Fail> 
     Ok(())
 }
 
-#[test]
-fn words_of_another_form_are_none(rt: HostRuntime) -> Result<(), Fail> {
-    let alloc = rt.alloc();
-    let mut drives = MemoryDrives::new(alloc);
-    add_image(alloc, Kind::Ibm3740, &[], &mut drives)?;
-    let mut files = MemoryFiles::new(alloc);
+/// Words, and how a run of them on an empty floppy disk ends, which writes nothing.
+type Row<'a> = (&'a [&'a str], FsckStatus);
+
+/// Whether runs end so.
+fn all_end(
+    alloc: Global,
+    rows: &[Row],
+    files: &mut MemoryFiles,
+    drives: &mut MemoryDrives,
+) -> Result<bool, Fail>
+    requires { (name : List ℕ) → IsFree drives.old name }
+{
+    add_image(alloc, Kind::Ibm3740, &[], drives)?;
     files.add("a.txt", b"")?;
-    let rows: [&[&str]; 10] = [
-        &[],
-        &["check"],
-        &["check", "ibm3740"],
-        &["check", "ibm3740", ""],
-        &["check", "hd5", "a.img"],
-        &["check", "ibm3740", "a.img", "a.txt"],
-        &["apply", "ibm3740", "a.img"],
-        &["apply", "ibm3740", "a.img", ""],
-        &["apply", "ibm3740", "", "a.txt"],
-        &["apply", "ibm3740", "a.img", "a.txt", "a.txt"],
-    ];
-    for words in &rows {
+    for (words, status) in rows {
         let run = Run {
             words: *words,
-            status: FsckStatus::Usage,
+            status: *status,
             text: b"",
         };
-        assert!(rt; goes(alloc, &run, &mut files, &mut drives)?, "{words:?}");
+        if !goes(alloc, &run, files, drives)? {
+            return Ok(false);
+        }
     }
+    Ok(true)
+}
+
+/// So over new devices.
+fn each_ends(alloc: Global, rows: &[Row]) -> Result<bool, Fail> {
+    let mut files = MemoryFiles::new(alloc);
+    let mut drives = MemoryDrives::new(alloc);
+    all_end(alloc, rows, &mut files, &mut drives)
+}
+
+#[test]
+fn words_of_another_form_are_none(rt: HostRuntime) -> Result<(), Fail> {
+    let usage = FsckStatus::Usage;
+    let rows: [Row; 10] = [
+        (&[], usage),
+        (&["check"], usage),
+        (&["check", "ibm3740"], usage),
+        (&["check", "ibm3740", ""], usage),
+        (&["check", "hd5", "a.img"], usage),
+        (&["check", "ibm3740", "a.img", "a.txt"], usage),
+        (&["apply", "ibm3740", "a.img"], usage),
+        (&["apply", "ibm3740", "a.img", ""], usage),
+        (&["apply", "ibm3740", "", "a.txt"], usage),
+        (&["apply", "ibm3740", "a.img", "a.txt", "a.txt"], usage),
+    ];
+    assert!(rt; each_ends(rt.alloc(), &rows)?);
     Ok(())
 }
 
 #[test]
 fn an_image_of_another_size_is_told(rt: HostRuntime) -> Result<(), Fail> {
-    let alloc = rt.alloc();
-    let mut drives = MemoryDrives::new(alloc);
-    add_image(alloc, Kind::Ibm3740, &[], &mut drives)?;
-    let mut files = MemoryFiles::new(alloc);
-    let rows: [(&[&str], FsckStatus); 4] = [
+    let rows: [Row; 4] = [
         (&["check", "hd4", "a.img"], FsckStatus::WrongSize),
         (&["apply", "hd8", "a.img", "a.txt"], FsckStatus::WrongSize),
         (&["check", "ibm3740", "b.img"], FsckStatus::DiskFault),
@@ -81,13 +104,6 @@ fn an_image_of_another_size_is_told(rt: HostRuntime) -> Result<(), Fail> {
             FsckStatus::DiskFault,
         ),
     ];
-    for (words, status) in &rows {
-        let run = Run {
-            words: *words,
-            status: *status,
-            text: b"",
-        };
-        assert!(rt; goes(alloc, &run, &mut files, &mut drives)?, "{words:?}");
-    }
+    assert!(rt; each_ends(rt.alloc(), &rows)?);
     Ok(())
 }
