@@ -175,29 +175,27 @@ def pasted(folder, sits):
         need(left is not None and left[: len(text)] == text, f"{name}: {left and len(left)} bytes, not the {len(wanted)} that were pasted")
 
 
-def pasted_in_turns(folder, sits):
-    takers(folder, 1000, 1000)
+def pasted_short(sits, folder, rate):
+    """Pastes a text into a file, at so many steps a second."""
     text = bytes(32 + number % 90 for number in range(1_999)) + b"\x1a"
-    sitter = sits("--keep", "--rate", "3000000", "machine.toml")
+    sitter = sits("--keep", "--rate", rate, "machine.toml")
     sitter.sees("0A>")
     sitter.type(b"take take.txt\r" + text)
     sitter.sees("0A>take take.txt", "0A>")
     sitter.ends(0)
     left = file_of(folder, b"TAKE    TXT")
     need(left is not None and left[: len(text)] == text, "not the text that was pasted")
+
+
+def pasted_in_turns(folder, sits):
+    takers(folder, 1000, 1000)
+    pasted_short(sits, folder, "3000000")
 
 
 def pasted_standing(folder, sits):
     """The same where time stands still but for keys."""
     takers(folder)
-    text = bytes(32 + number % 90 for number in range(1_999)) + b"\x1a"
-    sitter = sits("--keep", "--rate", "0", "machine.toml")
-    sitter.sees("0A>")
-    sitter.type(b"take take.txt\r" + text)
-    sitter.sees("0A>take take.txt", "0A>")
-    sitter.ends(0)
-    left = file_of(folder, b"TAKE    TXT")
-    need(left is not None and left[: len(text)] == text, "not the text that was pasted")
+    pasted_short(sits, folder, "0")
 
 
 def unread(folder, sits):
@@ -399,7 +397,8 @@ def killed(folder, sits):
     time.sleep(1.5)
     sitter = sits("machine.toml")
     sitter.sees("0A>")
-    need(not rooms() & held - {name for name in rooms() if is_held(name)}, "the folder of a sitting that was killed")
+    # Folders of other sittings that end meanwhile go too.
+    sitter.waits(lambda: all(is_held(name) for name in rooms() & held), "the folder of a sitting that was killed goes")
     sitter.ends(0)
 
 
