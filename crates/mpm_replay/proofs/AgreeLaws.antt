@@ -10,6 +10,7 @@ use Rattle.mpm_banks.specs.Memory.{Memory, HasSegment, byte_at}
 use Rattle.mpm_banks.specs.Allocations.{spec_of}
 use Rattle.mpm_banks.specs.Sides.{alone, with_sides, reach_of}
 use Rattle.mpm_banks.specs.Ports.{port_byte}
+use Rattle.mpm_replay.specs.Ports.{reads_of, reads_unless}
 use Rattle.mpm_banks.specs.Actions.{memory_after}
 use Rattle.mpm_banks.proofs.SideLaws.{acted_alike, reads_same, reach_alike, side_of}
 use Rattle.mpm_gate.specs.Gates.{gate_of}
@@ -19,7 +20,7 @@ use Rattle.mpm_replay.specs.declared.stopping.Why.{Why}
 use Rattle.mpm_replay.specs.declared.stopping.Why.TheVariants.{Steps, Input}
 use Rattle.mpm_replay.specs.declared.replaying.Replayed.{Replayed}
 use Rattle.mpm_replay.specs.Replays.{bytes_at, stop_of, stop_unless, stop_by, stop_at, IsReplay}
-use Rattle.mpm_replay.specs.Agreeing.{reads_of, reads_unless, reads_in, own_of, Follows, FollowEach, Agrees}
+use Rattle.mpm_replay.specs.Agreeing.{reads_in, own_of, Follows, FollowEach, Agrees}
 use Rattle.mpm_replay.proofs.PortLaws.{same_ports}
 
 -- what a process reaches of memory after an instruction of its own

@@ -1,5 +1,5 @@
 pub mod PortLaws
-pub mod StopLaws
+pub mod ReadLaws
 pub mod ReplayLaws
 pub mod AgreeLaws
 pub mod Examples

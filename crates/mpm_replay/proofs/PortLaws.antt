@@ -17,8 +17,7 @@ use Rattle.z80_decode.specs.Decoding.{instr_of}
 use Rattle.z80_exec.specs.Performing.{performed, outcome_by, main_outcome}
 use Rattle.z80_ext.specs.Extended.{extended_performed, extended_by, extended_outcome}
 use Rattle.z80_ext.specs.Instruction.{begun, four_from, page_outcome, outcome_of, instruction}
-use Rattle.mpm_replay.specs.Ports.{reads_main, reads_extended, reads_on}
-use Rattle.mpm_replay.specs.Agreeing.{reads_of, reads_unless}
+use Rattle.mpm_replay.specs.Ports.{reads_main, reads_extended, reads_on, reads_of, reads_unless}
 
 abbrev Same : (Instr → Regs → (ℕ → ℕ) → (ℕ → ℕ) → Outcome) → Type 0
 Same does = (instr : Instr) (regs : Regs) (memory ports other : ℕ → ℕ) → does instr regs memory ports ≡ does instr regs memory other

@@ -1,15 +1,86 @@
 -- A replay, instruction by instruction.
-use Rattle.std.proofs.Common.{◌≡◌, ◌∙◌, ℕ, ◌+◌, ◌<◌, Bool, Option, Some, None, false, inl, inr, refl, sym, ap, arith, add-one}
-use Rattle.std.specs.Prelude.{replicate}
-use Rattle.std.proofs.lemmas.Bool.{cases_eq}
+use Rattle.std.proofs.Common.{◌≡◌, ◌∙◌, ℕ, ◌+◌, ◌<◌, Bool, List, Option, Some, None, true, false, if◌then◌else◌, inl, inr, refl, sym, ap, arith, add-one}
+use Rattle.std.specs.Prelude.{◌↔◌, IsNone, replicate}
+use Rattle.std.proofs.lemmas.Bool.{cases_eq, false≢true}
+use Rattle.z80_decode.specs.declared.instr.Instr.{Instr}
+use Rattle.z80_decode.specs.Decoding.{instr_of}
+use Rattle.z80_ext.specs.declared.stepped.Stepped.{Stepped}
+use Rattle.z80_ext.specs.declared.stepped.Stepped.TheVariants.{Ran, Illegal as Unlisted}
 use Rattle.mpm_base.specs.declared.devices.Devices.{Devices}
-use Rattle.mpm_processor.specs.Moving.{View, moved, moves}
+use Rattle.mpm_gate.specs.Gates.{gate_of}
+use Rattle.mpm_gate.specs.declared.gate.Gate.{Gate as GateThere}
+use Rattle.mpm_processor.specs.Moving.{View, instruction_in, moved, moves}
+use Rattle.mpm_processor.proofs.MovingLaws.{unmoved, ran_or_not}
 use Rattle.mpm_replay.specs.declared.stopping.Why.{Why}
-use Rattle.mpm_replay.specs.declared.stopping.Why.TheVariants.{Steps}
-use Rattle.mpm_replay.specs.Replays.{no_devices, stop_at, left_by, Advances, IsReplay}
+use Rattle.mpm_replay.specs.declared.stopping.Why.TheVariants.{Steps, Illegal, Input}
+use Rattle.mpm_replay.specs.Ports.{reads_of, reads_unless}
+use Rattle.mpm_replay.specs.Replays.{no_devices, bytes_at, stop_of, stop_by, stop_unless, stop_at, held_by, held_at, left_by, Advances, IsReplay}
 
 pub no_devices_yet : (devices : Devices) → devices.ready ≡ replicate 16 false → devices.last ≡ replicate 16 0 → devices ≡ no_devices
 no_devices_yet devices ready last = ap (λ r. record devices { ready = r }) ready ∙ ap (λ l. record no_devices { last = l }) last
+
+-- what holds a process stops it, and where nothing does its instruction is done, or isn't listed
+
+held_instr : (instr : Option Instr) (why : Why) → (if reads_of instr then Some Input else None) ≡ Some why → stop_of instr ≡ Some why
+held_instr None why held = absurd (cc held)
+held_instr (Some instr) why held = held
+
+held_stops : (gate : Option GateThere) (halted : Bool) (bytes : List ℕ) (why : Why) → held_by gate (reads_unless halted (instr_of bytes)) ≡ Some why
+    → stop_by gate (stop_unless halted bytes) ≡ Some why
+held_stops (Some gate) halted bytes why held = held
+held_stops None true bytes why held = absurd (cc held)
+held_stops None false bytes why held = held_instr (instr_of bytes) why held
+
+free_instr : (instr : Option Instr) → (if reads_of instr then Some Input else None) ≡ None → (IsNone instr → ⊥) → stop_of instr ≡ None
+free_instr None free listed = absurd (listed refl)
+free_instr (Some instr) free listed = free
+
+free_goes : (gate : Option GateThere) (halted : Bool) (bytes : List ℕ) → held_by gate (reads_unless halted (instr_of bytes)) ≡ None
+    → (halted ≡ false → IsNone (instr_of bytes) → ⊥) → stop_by gate (stop_unless halted bytes) ≡ None
+free_goes (Some gate) halted bytes free listed = absurd (cc free)
+free_goes None true bytes free listed = refl
+free_goes None false bytes free listed = free_instr (instr_of bytes) free (listed refl)
+
+unlisted_instr : (instr : Option Instr) → IsNone instr → stop_of instr ≡ Some Illegal
+unlisted_instr None none = refl
+unlisted_instr (Some instr) none = absurd (cc none)
+
+unlisted_stops : (gate : Option GateThere) (halted : Bool) (bytes : List ℕ) → held_by gate (reads_unless halted (instr_of bytes)) ≡ None → halted ≡ false
+    → IsNone (instr_of bytes) → stop_by gate (stop_unless halted bytes) ≡ Some Illegal
+unlisted_stops (Some gate) halted bytes free runs none = absurd (cc free)
+unlisted_stops None true bytes free runs none = absurd (false≢true (sym runs))
+unlisted_stops None false bytes free runs none = unlisted_instr (instr_of bytes) none
+
+pub holds : (inside : Bool) (old new : View) (held : Option Why) (why : Why) → held ≡ held_at inside old → new ≡ old → held ≡ Some why
+    → Advances inside old new (Some why)
+unfolding held_at stop_at
+holds inside old new held why is same some = record {
+  stop = sym (held_stops (gate_of inside old.memory 0 old.regs.pc) old.regs.halted (bytes_at old) why (sym is ∙ some));
+  left = same;
+}
+
+-- what a step of the processor answers
+pub record Answers (view : View) (stepped : Stepped) : Type 0 where
+  pub illegal : (stepped ≡ Unlisted) ↔ IsNone (instruction_in 0 view)
+  pub unlisted : (stepped ≡ Unlisted) ↔ ((view.regs.halted ≡ false) × IsNone (instr_of (bytes_at view)))
+
+pub ran_on : (inside : Bool) (now new : View) (stepped : Stepped) → held_at inside now ≡ None → Answers now stepped → new ≡ moved 0 now → stepped ≡ Ran
+    → Advances inside now new None
+unfolding held_at stop_at
+ran_on inside now new stepped free answers is ran = record {
+  stop = sym (free_goes (gate_of inside now.memory 0 now.regs.pc) now.regs.halted (bytes_at now) free (λ runs none. ran_or_not stepped ran (answers.unlisted.1 (runs, none))));
+  left = is;
+}
+
+pub ran_none : (inside : Bool) (now new : View) (stepped : Stepped) → held_at inside now ≡ None → Answers now stepped → new ≡ moved 0 now → stepped ≡ Unlisted
+    → Advances inside now new (Some Illegal)
+unfolding held_at stop_at
+ran_none inside now new stepped free answers is unlisted =
+    let none = answers.unlisted.0 unlisted in
+    record {
+      stop = sym (unlisted_stops (gate_of inside now.memory 0 now.regs.pc) now.regs.halted (bytes_at now) free none.0 none.1);
+      left = is ∙ unmoved 0 now (answers.illegal.0 unlisted);
+    }
 
 -- so many were done, and there was no reason to stop before any of them
 pub record Goes (inside : Bool) (done : ℕ) (old now : View) : Type 0 where

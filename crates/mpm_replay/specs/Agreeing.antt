@@ -1,26 +1,17 @@
 -- A machine's steps that are instructions of one process, and a replay of them.
-use Rattle.std.specs.Prelude.{◌≡◌, ℕ, ◌+◌, ◌<◌, Bool, true, false, Option, Some, None}
+use Rattle.std.specs.Prelude.{◌≡◌, ℕ, ◌+◌, ◌<◌, Bool, false}
 use Rattle.z80_regs.specs.declared.regs.Regs.{Regs}
-use Rattle.z80_decode.specs.declared.instr.Instr.{Instr}
 use Rattle.z80_decode.specs.Decoding.{instr_of}
 use Rattle.z80_ext.specs.Instruction.{four_from}
 use Rattle.mpm_banks.specs.Memory.{Memory, HasSegment, byte_at}
 use Rattle.mpm_banks.specs.Sides.{reach_of}
 use Rattle.mpm_processor.specs.Moving.{View, moved, CanMove}
-use Rattle.mpm_replay.specs.Ports.{reads_port}
+use Rattle.mpm_replay.specs.Ports.{reads_unless}
 use Rattle.mpm_replay.specs.Replays.{no_devices}
 use Rattle.mpm_replay.specs.declared.stopping.Why.TheVariants.{Steps}
 use Rattle.mpm_replay.specs.declared.replaying.Replayed.{Replayed}
 
 -- the process of a segment is about to read a port, unless it stands in a HALT
-abbrev pub reads_of : Option Instr → Bool
-reads_of None = false
-reads_of (Some instr) = reads_port instr
-
-abbrev pub reads_unless : Bool → Option Instr → Bool
-reads_unless true instr = false
-reads_unless false instr = reads_of instr
-
 abbrev pub reads_in : ℕ → View → Bool
 reads_in seg view = reads_unless view.regs.halted (instr_of (four_from (byte_at view.memory seg) view.regs.pc))
 

@@ -1,5 +1,5 @@
 -- Which instructions read a port: IN A,(n), IN r,(C), INI, IND, INIR and INDR. (UM0080, "Input and Output Group".)
-use Rattle.std.specs.Prelude.{ℕ, Bool, true, false, Option, Some}
+use Rattle.std.specs.Prelude.{ℕ, Bool, true, false, Option, Some, None}
 use Rattle.z80_decode.specs.declared.instr.Instr.{Instr}
 use Rattle.z80_decode.specs.declared.instr.Page.{Page}
 use Rattle.z80_decode.specs.declared.instr.Page.TheVariants.{Main, Ed}
@@ -28,3 +28,12 @@ reads_on other opcode = false
 
 abbrev pub reads_port : Instr → Bool
 reads_port instr = reads_on instr.page instr.opcode
+
+-- of what stands there, where something does; in a HALT what is at PC doesn't count
+abbrev pub reads_of : Option Instr → Bool
+reads_of None = false
+reads_of (Some instr) = reads_port instr
+
+abbrev pub reads_unless : Bool → Option Instr → Bool
+reads_unless true instr = false
+reads_unless false instr = reads_of instr

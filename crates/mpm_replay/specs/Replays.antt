@@ -11,7 +11,7 @@ use Rattle.mpm_banks.specs.Memory.{Memory, byte_at}
 use Rattle.mpm_gate.specs.Gates.{gate_of}
 use Rattle.mpm_gate.specs.declared.gate.Gate.{Gate as GateThere}
 use Rattle.mpm_processor.specs.Moving.{View, view_of, moved, moves}
-use Rattle.mpm_replay.specs.Ports.{reads_port}
+use Rattle.mpm_replay.specs.Ports.{reads_port, reads_unless}
 use Rattle.mpm_replay.specs.declared.stopping.Why.{Why}
 use Rattle.mpm_replay.specs.declared.stopping.Why.TheVariants.{Steps, Gate, Illegal, Input}
 use Rattle.mpm_replay.specs.declared.replaying.Replayed.{Replayed}
@@ -48,6 +48,14 @@ stop_by None other = other
 -- why the process of a view, which is in a resident procedure or in none, does no instruction here, if it does none
 unfoldable pub stop_at : Bool → View → Option Why
 stop_at inside view = stop_by (gate_of inside view.memory 0 view.regs.pc) (stop_unless view.regs.halted (bytes_at view))
+
+-- what stops it before its instruction is decoded whole: a gate, or an instruction that reads a port
+abbrev pub held_by : Option GateThere → Bool → Option Why
+held_by (Some gate) reads = Some Gate
+held_by None reads = if reads then Some Input else None
+
+unfoldable pub held_at : Bool → View → Option Why
+held_at inside view = held_by (gate_of inside view.memory 0 view.regs.pc) (reads_unless view.regs.halted (instr_of (bytes_at view)))
 
 -- what is left of a view: what an instruction leaves, where there was no reason to stop
 abbrev pub left_by : Option Why → View → View

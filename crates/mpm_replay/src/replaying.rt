@@ -1,5 +1,6 @@
-ghost use Rattle.std.specs.Prelude.{◌≡◌, ℕ, length};
-ghost use Rattle.z80_ext.specs.Instruction.{instruction, registers_after, actions_of};
+ghost use Rattle.std.specs.Prelude.{◌≡◌, ◌↔◌, ℕ, false, IsNone, length};
+ghost use Rattle.z80_decode.specs.Decoding.{instr_of};
+ghost use Rattle.z80_ext.specs.Instruction.{four_from, instruction, registers_after, actions_of};
 ghost use Rattle.mpm_banks.specs.Allocations.{FitsBelowCommon};
 ghost use Rattle.mpm_banks.specs.Memory.{byte_at};
 ghost use Rattle.mpm_banks.specs.Ports.{port_byte};
@@ -9,10 +10,10 @@ ghost use Rattle.mpm_processor.specs.Moving.{View, view_of};
 ghost use Rattle.mpm_replay.specs.Replays.{IsReplay, Advances, portless};
 ghost use Rattle.mpm_replay.specs.Agreeing.{own_of, FollowEach, Agrees};
 
-use crate::stopping::{Why, stop};
+use crate::stopping::{Why, hold};
 use mpm_banks::SliceBus;
 use mpm_base::{Devices, SegmentSpec};
-use z80_ext::step;
+use z80_ext::{Stepped, step};
 use z80_regs::Regs;
 
 /// How many instructions a replay did, and why it ended.
@@ -22,7 +23,7 @@ pub struct Replayed {
     pub why: Why,
 }
 
-/// One instruction.
+/// One instruction. `Illegal` comes exactly where none is listed, and then nothing changes.
 #[inline(always)]
 fn execute(
     spec: SegmentSpec,
@@ -30,7 +31,10 @@ fn execute(
     segment: &mut [u8],
     common: &mut [u8],
     devices: &mut Devices,
-)
+) -> Stepped
+    ensures illegal { (result ≡ Stepped.Illegal) ↔ IsNone (instruction regs.old (byte_at (alone spec segment.old common.old) 0) (port_byte devices.old)) }
+    ensures unlisted { (result ≡ Stepped.Illegal)
+        ↔ ((regs.old.halted ≡ false) × IsNone (instr_of (four_from (byte_at (alone spec segment.old common.old) 0) regs.old.pc))) }
     ensures registers { regs.new ≡ registers_after (instruction regs.old (byte_at (alone spec segment.old common.old) 0) (port_byte devices.old)) regs.old }
     ensures memory { alone spec segment.new common.new ≡ memory_after (actions_of (instruction regs.old (byte_at (alone spec segment.old common.old) 0) (port_byte devices.old))) 0 (alone spec segment.old common.old) }
     ensures devices { devices.new ≡ devices_after (actions_of (instruction regs.old (byte_at (alone spec segment.old common.old) 0) (port_byte devices.old))) devices.old }
@@ -41,7 +45,7 @@ fn execute(
         common,
         devices,
     };
-    let _ = step(regs, &mut bus);
+    step(regs, &mut bus)
 }
 
 /// Does one instruction, or answers why none is done.
@@ -60,11 +64,11 @@ fn advance(
     ensures segment { length segment.new ≡ length segment.old }
     ensures common { length common.new ≡ length common.old }
 {
-    match stop(inside, spec, regs, segment, common, devices) {
-        None => {
-            execute(spec, regs, segment, common, devices);
-            None
-        }
+    match hold(inside, spec, regs, segment, common, devices) {
+        None => match execute(spec, regs, segment, common, devices) {
+            Stepped::Ran => None,
+            Stepped::Illegal => Some(Why::Illegal),
+        },
         Some(why) => Some(why),
     }
 }
