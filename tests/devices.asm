@@ -1,5 +1,5 @@
 ; Uses a disk hard: writes 200 lines, reads all of BIG.DAT, makes NEW.DAT with 40 records, and renames OLD.DAT to NAMED.DAT and deletes
-; GONE.DAT, which have three entries each. It writes a letter behind each record, and a line behind each part.
+; GONE.DAT, which have three entries each. It writes a letter after each record, and a line after each part.
 
 bdos    equ     0005h
 

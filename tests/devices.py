@@ -4,7 +4,7 @@ had without rights:
 
 limit       a limit for the size of files (ulimit -f) that the image passes as it is written, of each KiB that the image has
 within      the same with a limit that lies within a sector, of which the system then takes a part: within each directory entry that an
-            `ibm3740` may have, and within sectors behind the directory
+            `ibm3740` may have, and within sectors after the directory
 room        a file system without room for what is written to the image, of each of some sizes, where `unshare` can mount one
 killed      the same as limit where the system ends the program by a signal, as it does where nobody asked it not to
 cut         an image that is cut short from outside while the program waits for who reads its output, and is made as long again: that is
@@ -85,11 +85,11 @@ FILES = {
     b"DEVICES COM": guest(), b"OLD     DAT": contents(ord("o"), 260), b"GONE    DAT": contents(ord("g"), 260),
     b"BIG     DAT": contents(ord("b"), 64), b"OTHER   DAT": contents(ord("x"), 9),
 }  # fmt: skip
-# What the guest makes: its DMA address has the number of records that are left, and zeros of its base page behind it.
+# What the guest makes: its DMA address has the number of records that are left, and zeros of its base page after it.
 NEW = b"".join(bytes([number]).ljust(128, b"\0") for number in range(40, 0, -1))
 
 
-# Where the directory of an `ibm3740` begins, behind the two system tracks, and where its last sector ends at the latest: 16 sectors of the
+# Where the directory of an `ibm3740` begins, after the two system tracks, and where its last sector ends at the latest: 16 sectors of the
 # next track have it.
 DIRECTORY = 128 * 26 * 2
 DIRECTORY_END = 128 * 26 * 3
@@ -321,7 +321,7 @@ def started_with_pipe(folder):
 
 
 def cut(folder, kibibytes):
-    """The image is cut as soon as the guest has filled the pipe with its first lines, and is made as long again behind the run. It is
+    """The image is cut as soon as the guest has filled the pipe with its first lines, and is made as long again after the run. It is
     read from memory meanwhile, so that the run goes on to its end."""
     process, reader = started_with_pipe(folder)
     wrote = os.read(reader, 1)

@@ -2,9 +2,9 @@
 """python3 -m tests.disks [PROGRAM [PART..]]: runs a built mpm, crates/mpm/out/mpm where none is named, on images of each kind that cpmtools make
 (apt-get install cpmtools), and takes what is on them back by cpmtools. Each part is played with a disk that serves calls at once, and with one that takes turns:
 
-copied      files of all sizes, copied one record behind the other by examples/office/copy.asm, and turned round at random by guests/turn.c; every file
+copied      files of all sizes, copied one record after the other by examples/office/copy.asm, and turned round at random by guests/turn.c; every file
             comes back byte for byte
-changed     files of whole records, of which a guest writes one anew, or one behind the end: they come back so
+changed     files of whole records, of which a guest writes one anew, or one after the end: they come back so
 shared      two consoles count in the records of one file for a million steps, each under its lock (guests/tally.c): no count is lost, and
             the file has as many as the kernel says were written; without locks some are lost
 filled      a guest takes all blocks and entries that are left (tests/guests/fill.asm): the other files stay, and the answers are those of a full disk
@@ -158,7 +158,7 @@ def copied(program, kind, disk_turn):
 
 
 class Typed:
-    """Commands at console 0, each well behind the end of the one before, and what is there then."""
+    """Commands at console 0, each well after the end of the one before, and what is there then."""
 
     BETWEEN = 400_000
 
@@ -200,7 +200,7 @@ def changing(name, record):
 
 
 def changed(program, kind, disk_turn):
-    """In the first record, in the last one, and behind it: in the same entry, in another one, and beyond a gap, which are zeros."""
+    """In the first record, in the last one, and after it: in the same entry, in another one, and beyond a gap, which are zeros."""
     rng = random.Random(kind)
     files, typed = {}, Typed()
     cases = [(0, 0), (1, 1), (5, 4), (5, 5), (128, 127), (128, 128), (255, 255), (256, 256), (3, 300)]
@@ -269,7 +269,7 @@ def with_bytes(kind, image, slot, place, bytes_):
 
 
 def faults(program, kind_name, disk_turn):
-    """The label has slot 0; files of one entry each have the slots behind it."""
+    """The label has slot 0; files of one entry each have the slots after it."""
     kind = images.KINDS[kind_name]
     width = 2 if kind.wide else 1
     number = lambda block: block.to_bytes(width, "little")

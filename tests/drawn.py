@@ -164,7 +164,7 @@ class Drawing:
         sums = [(process.dma, length)] + ([(block, 36)] if block is not None else [])
         play.call(f"{sum(map(len, play.tables)):04X} {play.who}", function, self.parameter(function, block), sums)
         if function == 13:
-            # A DMA address of its own in place of 0080h, behind which the guest stands.
+            # A DMA address of its own in place of 0080h, after which the guest stands.
             play.call("", 26, self.own_dma())
 
     def prepare(self, function, block):
@@ -181,7 +181,7 @@ class Drawing:
             self.give_password({22: 1, 100: 8, 103: 8}.get(function, 0))
 
     def give_old(self, dma, count, block):
-        """The records of a file as they are, mostly, and new ones behind them."""
+        """The records of a file as they are, mostly, and new ones after them."""
         call = filing.Call(self.play.system, self.play.who, 41, block)
         for number in range(count):
             byte = self.rng.randrange(256)

@@ -5,7 +5,7 @@
    part          of a write at a place a half is taken, and what is left of it fails with EIO; other calls as by `device`
    interrupted   the call fails with EINTR; calls that read or write any file count
 
-   Where that one comes, the file named by FAILING_MARK is made, so that it can be told. */
+   Where that one comes, the file named by FAILING_MARK is made, so that it can be known. */
 
 #define _GNU_SOURCE
 #include <dlfcn.h>

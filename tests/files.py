@@ -4,7 +4,7 @@ disks of each kind, and compares what each call answers, what it leaves in memor
 filing.py.
 
 The scenes (scenes.py) bring about each refusal of each function's row, and each two neighbours at once where they can be had; beside
-them are the plays of so many seeds (drawn.py; 2 where none is given), each once with its calls one behind the other, and once with five
+them are the plays of so many seeds (drawn.py; 2 where none is given), each once with its calls one after the other, and once with five
 processes of two segments that call as they come. Each is played with a disk that serves calls at once, and with one that takes turns. A play that ends
 otherwise or runs out of time, and a refusal that never came, has a line; the last line counts. Status: 0 where all ended as they should, 1
 where one didn't, 2 where one ran out of time and all others ended as they should."""

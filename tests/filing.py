@@ -235,7 +235,7 @@ class Search(NamedTuple):
 
 
 class Memory:
-    """A segment of all pages, and the common memory that stands behind it."""
+    """A segment of all pages, and the common memory that follows it."""
 
     def __init__(self, common):
         self.segment, self.common = bytearray(0xC000), common
@@ -278,7 +278,7 @@ class Refused(Exception):
 
 class System:
     """The drives by number, and the processes that use them, so many in each segment. `said` has texts with whose they are. `met` has, for each function that was called, the causes of
-    its row that applied at once, of which the first was told."""
+    its row that applied at once, of which the first was answered."""
 
     def __init__(self, drives, processes, stamp, segments=1):
         self.drives, self.stamp = drives, stamp
@@ -683,7 +683,7 @@ class Call:
             self.system.give_back(self.item_number)
 
     def next_found(self, search):
-        """The key of the least entry behind the last one that fits a search."""
+        """The key of the least entry after the last one that fits a search."""
         drive = self.system.drives.get(search.drive)
         keys = sorted(key[1:] for key in drive.parts if key[0] == search.user) if drive else []
         fitting = (key for key in keys if fits(search.pattern, key[0]) and search.ex in (QUESTION, *covered(drive, key[1])))

@@ -106,7 +106,7 @@ def hexadecimal(*words):
 
 
 def copies():
-    """The witness has slot 3 and segment 0, behind the interpreter and two terminal processors; the guest has slot 4 and segment 1, and
+    """The witness has slot 3 and segment 0, after the interpreter and two terminal processors; the guest has slot 4 and segment 1, and
     calls with its return address at BEFCh. Both segments have 192 pages from 0 on."""
     descriptor = bytes([0, 0, 0, 200, 0xFC, 0xBE]) + b"COPIES  " + bytes([0, 1])
     page = bytes([0xFF, 2]).ljust(15, b"\0") + bytes([2, 0, 192, 0x80, 0, 0, 192, 0x80, 1])

@@ -10,7 +10,7 @@ programs    random bytes, instructions and calls, run alone
 guests      the same, run from a disk by a command, with all functions on files
 seeds       machines of `gen`
 
-Of each it checks what can be told from outside: that the program ends, in twenty seconds, with a status of 0 to 9, and says on the standard
+Of each it checks what can be known from outside: that the program ends, in twenty seconds, with a status of 0 to 9, and says on the standard
 error exactly what that status says; that words, machine files, scripts and images are refused where they are off their form, and
 nowhere else (inputs.py, images.py, machine_files.py and scripts.py in tools/ read them by docs/PROFILE.md); that a refusal writes nothing and leaves the image as it was;
 that the output is made of lines as it should be; that an image which a run leaves has no fault; that no other file changes; and that
@@ -49,7 +49,7 @@ COUNTS = re.compile(r"lines [0-9]+\ncalls [0-9]+\ndata [0-9]+\n")
 
 
 class Ending:
-    """How a run ended: its status, what it said, what it wrote, and its files behind it."""
+    """How a run ended: its status, what it said, what it wrote, and its files after it."""
 
     def __init__(self, program, words, files):
         with tempfile.TemporaryDirectory(dir=ROOM) as folder:
@@ -108,7 +108,7 @@ def check_files(ending, files):
             need(fault is None, f"{name}: {fault} behind the run")
 
 
-# The sorts: each gives words and files, and what the status is to be, where that is told.
+# The sorts: each gives words and files, and what the status is to be, where that is known.
 
 
 def of_words(rng):

@@ -73,7 +73,7 @@ class Play:
     """Tables under way: drives of the model by their letters, beside the one that has the guest, and what has been written so far."""
 
     # How many consoles there are, with a guest and a segment for each, what the machine file says of the clock, and the words of the run
-    # behind its steps.
+    # after its steps.
     programs, clock, words = 1, "", ()
 
     def __init__(self, drives, home=0):
@@ -191,7 +191,7 @@ class Play:
 
 class Crowd(Play):
     """A play of two guests at two consoles, in which each process makes its calls as they come, each in memory of its own. While it is
-    made the calls are tried one behind the other; what they should answer is told behind a run, by the order in which they were
+    made the calls are tried one after the other; what they should answer is known after a run, by the order in which they were
     completed, as the disk serves one at a time."""
 
     # The ticks are too slow for another minute, which stamps would have.
@@ -208,7 +208,7 @@ class Crowd(Play):
 
     def meet(self, flag):
         """All processes of both guests wait for one another: each gives the turn to the next one of its guest, and the first ones have flags:
-        before that as they begin, and behind it in the end."""
+        before that as they begin, and after it in the end."""
         for self.who in range(len(self.tables)):
             number, other = self.who % PROCESSES, self.who // PROCESSES ^ 1
             if number:
@@ -268,7 +268,7 @@ class Crowd(Play):
 
 
     def consoles(self):
-        """Texts of errors come as the calls are completed, and the sums behind them. The descriptors of the processes that a guest creates have
+        """Texts of errors come as the calls are completed, and the sums after them. The descriptors of the processes that a guest creates have
         console 0."""
         for program in range(self.programs):
             first = self.system.processes[PROCESSES * program]
@@ -276,7 +276,7 @@ class Crowd(Play):
             yield "".join([*texts, *(f" {added_up(first.memory.read(*where)):04X}" for where in self.sums), "\\r\n"])
 
 
-# The flags of the guests, of each its own and behind it the other's, by which they meet; calls that aren't compared.
+# The flags of the guests, of each its own and after it the other's, by which they meet; calls that aren't compared.
 FIRST_FLAG, LAST_FLAG = 10, 12
 WAIT_FLAG, SET_FLAG, CREATE = 132, 133, 144
 NOT_COMPARED = (9, WAIT_FLAG, SET_FLAG, 142, CREATE)

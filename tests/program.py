@@ -93,7 +93,7 @@ def programs():
         yield ["program", "file", steps, "--trace"], {"file": program}, writes(text)
 
 
-# Machine files. What stands before and behind other keys in one of one console and one segment of all pages:
+# Machine files. What stands before and after other keys in one of one console and one segment of all pages:
 
 BEFORE = "version = 1\nconsoles = 1\n"
 BEHIND = "\n[[segment]]\nbase = 0\npages = 192\n"
@@ -299,7 +299,7 @@ def drives():
         row = f"drive = [{{ letter = '{letter}', kind = '{kind}', image = 'a' }}]"
         files = {"file": BEFORE + row + BEHIND, "a": b"\xE5" * SIZES[kind]}
         yield words, files, writes(PROMPT)
-    # The first image with a fault is told, by letter, or a drive before it that can't be attached.
+    # The first image with a fault is reported, by letter, or a drive before it that can't be attached.
     text = MACHINE + "".join(f"[[drive]]\nletter = '{letter}'\nkind = 'ibm3740'\nimage = '{letter}'\n" for letter in "CA")
     sound = image((2, b"A", 128, 242))
     large = image((2, b"A", 129, 243))
@@ -370,7 +370,7 @@ def call(function, parameter):
 END = b"\x0E\x00\xCD\x05\x00"
 # `Hi` as a page relocatable program, whose marks are those of the high bytes of its three addresses.
 HI_PRL = relocatable(HI, (4, 7, 12))
-# The same behind 3,000 bytes of code, over which it jumps.
+# `Hi` after 3,000 bytes of code, over which it jumps.
 FAR = bytes([0xC3, 3000 % 256, 1 + 3000 // 256]).ljust(3000, b"\0") + call(9, 0x0100 + 3000 + 13) + END + b"Hi\r\n$"
 FAR_PRL = relocatable(FAR, (2, 3004, 3007, 3012))
 # Reads a key, which is echoed, by function 1, and ends.
@@ -746,7 +746,7 @@ def run(program, words, files, left=None):
 
 
 def outputs(program):
-    """An output that takes nothing, and none at all: the step that writes first is told, and the drive's image stays as it is."""
+    """An output that takes nothing, and none at all: the step that writes first is reported, and the drive's image stays as it is."""
     files = {"file": with_disk(1, (0, 192)), "keys": "", "A": hard_disk()}
     for name, output, prepare in (("full", "/dev/full", None), ("closed", os.devnull, lambda: os.close(1))):
         with tempfile.TemporaryDirectory() as folder, open(output, "wb") as out:

@@ -175,7 +175,7 @@ def is_writing(function):
 
 
 def handles(scene, name, number):
-    """A handle of nobody's, of another process, of another file or drive, and with a byte behind it, now with a record that can't be."""
+    """A handle of nobody's, of another process, of another file or drive, and with a byte after it, now with a record that can't be."""
     other = bytes([3 - number[0]])
     for function in filing.WITH_ITEM:
         for record in (0, 262_144):

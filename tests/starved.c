@@ -1,6 +1,6 @@
 /* Put before the C library (LD_PRELOAD), it refuses the allocation of the number in STARVED, counted from 1, whether it takes memory or
-   makes it larger; and where there is STARVED_ON, all behind it. Where that one comes, the file named by STARVED_MARK is made, so
-   that it can be told. */
+   makes it larger; and where there is STARVED_ON, all after it. Where that one comes, the file named by STARVED_MARK is made, so
+   that it can be known. */
 
 #include <errno.h>
 #include <fcntl.h>

@@ -1,6 +1,6 @@
 #!/usr/bin/env python3
 """python3 -m tests.starved [PROGRAM]: runs a built mpm, crates/mpm/out/mpm where none is named, again and again, each time with one allocation of memory
-refused: the first, the second, and so on up to the last that a run makes; and then likewise with one and all behind it. It does so
+refused: the first, the second, and so on up to the last that a run makes; and then likewise with one and all after it. It does so
 for each of these runs:
 
 program     a program, with records of its calls

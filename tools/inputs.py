@@ -180,7 +180,7 @@ FILE_FUNCTIONS = [15, 16, 17, 18, 19, 20, 21, 22, 23, 30, 33, 34, 35, 36, 40, 41
 def random_call(rng, blocks):
     """LD C; LD DE; CALL 0005h. Now and then the address is anything at all."""
     function = rng.choice(FILE_FUNCTIONS if rng.random() < 0.6 else FUNCTIONS)
-    # A string without an end is 65,536 bytes of text: function 9 has one of the blocks, behind which there are ends.
+    # A string without an end is 65,536 bytes of text: function 9 has one of the blocks, after which there are ends.
     address = rng.choice(blocks) if function == 9 or rng.random() < 0.85 else rng.randrange(65_536)
     return bytes([0x0E, function, 0x11]) + address.to_bytes(2, "little") + b"\xCD\x05\x00"
 
@@ -213,7 +213,7 @@ def random_program(rng):
 
 
 def put_file(kind, image, slot, block, name, contents):
-    """Puts a file of one entry into a slot and into blocks from this one on, and answers the block behind them."""
+    """Puts a file of one entry into a slot and into blocks from this one on, and answers the block after them."""
     records = [contents[place : place + 128].ljust(128, b"\0") for place in range(0, len(contents), 128)]
     for number, record in enumerate(records, block * kind.block_records):
         place = images.sector_place(kind, number)

@@ -16,7 +16,7 @@ read:
         ld      c,20            ; read sequential
         call    bdos
         or      a
-        jr      nz,done         ; behind the last record
+        jr      nz,done         ; after the last record
         ld      hl,dma
         ld      b,128
 byte:

@@ -87,4 +87,4 @@ no_room:
         db      "the disk is full",13,10,"$"
 new:
         ds      36,0
-buffer  equ     $               ; eight records, behind the program
+buffer  equ     $               ; eight records, after the program

@@ -18,7 +18,7 @@ static unsigned int call_with(unsigned char function, void *dma)
 
 int main(void)
 {
-    const char *word = (const char *) base_page + TAIL + 1; /* behind the command and a space, in upper case */
+    const char *word = (const char *) base_page + TAIL + 1; /* after the command and a space, in upper case */
     unsigned char own = 1 + (*word - 'A') % 2;
     unsigned char locks = *word < 'C';
     unsigned char number = 0;

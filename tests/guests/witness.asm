@@ -1,6 +1,6 @@
 ; A program that does its own work while others do their worst: in each of its rounds it writes a record of its file at random and
 ; reads it back, locks its four records once more, sends itself a message and reads it, and waits for three ticks. It writes a line
-; for each round: a letter, and behind it `.` for each of the four that went as it should, or else `?`.
+; for each round: a letter, and after it `.` for each of the four that went as it should, or else `?`.
 ; All along it holds the message of a mutual exclusion queue, has its file open in unlocked mode and its records locked.
 
 bdos    equ     0005h

@@ -16,7 +16,7 @@ use Rattle.mpm_banks.specs.Ranges.{range_of, range_bytes, put_range}
 use Rattle.mpm_banks.specs.MemoryLaws.{place_is_at, place_of_put, bytes_back, space_is}
 use Rattle.mpm_banks.proofs.RangeLaws.{found, found_inside, place_in_range}
 
--- so many addresses from one on name the bytes of a space from an index on, one behind the other
+-- so many addresses from one on name the bytes of a space from an index on, one after the other
 abbrev pub NamesFrom : Memory → ℕ → ℕ → Space → ℕ → ℕ → Type 0
 NamesFrom memory seg address space from size = (k : ℕ) → k < size → place_of memory seg (address + k) ≡ At space (from + k)
 
@@ -24,7 +24,7 @@ pub limit_low : (space : Space) → limit_of space ≤ 65536
 limit_low Common = omega arith
 limit_low (InSegment seg) = omega arith
 
--- the addresses behind the first name the bytes behind the first
+-- the addresses after the first name the bytes after the first
 names_rest : (memory : Memory) (seg address : ℕ) (space : Space) (from size : ℕ) → NamesFrom memory seg address space from (suc size)
     → NamesFrom memory seg (onward address 1) space (from + 1) size
 names_rest memory seg address space from size names k below =
@@ -84,12 +84,12 @@ segment_twice [] seg first second = refl
 segment_twice (s ∷ ss) zero first second = refl
 segment_twice (s ∷ ss) (suc seg) first second = ap (λ rest. s ∷ rest) (segment_twice ss seg first second)
 
--- of two lists of bytes that are put into a space one behind the other the second stays
+-- of two lists of bytes that are put into a space one after the other the second stays
 put_twice : (memory : Memory) (space : Space) (first second : List ℕ) → with_bytes_of (with_bytes_of memory space first) space second ≡ with_bytes_of memory space second
 put_twice memory Common first second = refl
 put_twice memory (InSegment seg) first second = ap (λ segments. record memory { segments = segments }) (segment_twice memory.segments seg first second)
 
--- bytes that are written one by one stand in their space one behind the other
+-- bytes that are written one by one stand in their space one after the other
 bytes_to : (bytes : List ℕ) (memory : Memory) (seg address : ℕ) (space : Space) (from : ℕ) → NamesFrom memory seg address space from (length bytes)
     → with_bytes_of memory space (sets (bytes_of memory space) from bytes) ≡ with_bytes memory seg address bytes
 unfolding with_bytes with_byte

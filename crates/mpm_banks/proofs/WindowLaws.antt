@@ -13,7 +13,7 @@ use Rattle.mpm_banks.proofs.RangeBytes.{put_range_is, limit_low}
 use Rattle.mpm_banks.proofs.SegmentLaws.{same_spaces}
 use Rattle.mpm_banks.proofs.WrittenBytes.{with_bytes_written, with_bytes_unwritten, with_bytes_other_segment}
 
--- a range has no address behind FFFFh
+-- a range has no address past FFFFh
 range_low : (memory : Memory) (seg address size : ℕ) (range : Range) → range_of memory seg address size ≡ Some range → address + size ≤ 65536
 range_low memory seg address size range is =
     let facts = found memory seg address size range is in

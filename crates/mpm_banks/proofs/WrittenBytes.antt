@@ -15,7 +15,7 @@ place_of_with_bytes [] memory seg address other at = refl
 place_of_with_bytes (byte ∷ bytes) memory seg address other at =
     place_of_with_bytes bytes (with_byte memory seg address byte) seg (onward address 1) other at ∙ place_of_with_byte memory seg address byte other at
 
--- no space reaches behind FFFFh
+-- no space reaches past FFFFh
 ends_within : (memory : Memory) (space : Space) → end_of memory space ≤ 65536
 ends_within memory Common = min-le_right _ 65536
 ends_within memory (InSegment seg) = le_trans (min-le_right _ 49152) (omega arith)

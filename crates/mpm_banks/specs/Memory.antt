@@ -66,7 +66,7 @@ abbrev pub limit_of : Space → ℕ
 limit_of Common = 65536
 limit_of (InSegment seg) = 49152
 
--- the address behind the last that names a byte there
+-- the address after the last that names a byte there
 abbrev pub end_of : Memory → Space → ℕ
 end_of memory space = min (first_of memory space + length (bytes_of memory space)) (limit_of space)
 

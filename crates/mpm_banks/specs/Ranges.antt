@@ -42,7 +42,7 @@ range_bytes memory range = slice_range (bytes_of memory range.space) range.from 
 unfoldable pub put_range : Memory → Range → List ℕ → Memory
 put_range memory range bytes = with_bytes_of memory range.space (with_range (bytes_of memory range.space) range.from bytes)
 
--- so many addresses from one on name bytes one behind the other, of one segment or of common memory
+-- so many addresses from one on name bytes one after the other, of one segment or of common memory
 abbrev pub IsWholly : Memory → ℕ → ℕ → ℕ → Type 0
 IsWholly memory seg address size =
     (space : Space) × (from : ℕ) × ((k : ℕ) → k < size → place_of memory seg (address + k) ≡ At space (from + k))

@@ -105,7 +105,7 @@ impl Segment {
         self.bytes.set(index, value)
     }
 
-    /// How far an address is behind the first of the segment; below that one, more than the segment has bytes.
+    /// How far an address is from the first of the segment; below that one, more than the segment has bytes.
     #[inline(always)]
     fn index(&self, address: u16) -> usize
         ensures behind { 256 * self.now.base ≤ address → result ≡ address - 256 * self.now.base }

@@ -1,5 +1,5 @@
--- How many items pass a test, one behind the other; how many numbers there are below a bound, none of them twice; and how many of some
--- are left behind one of them.
+-- How many items pass a test, one after the other; how many numbers there are below a bound, none of them twice; and how many of some
+-- are left after one of them.
 use Rattle.std.proofs.Common.{◌≡◌, ℕ, zero, suc, ◌+◌, ◌<◌, ◌≤◌, Bool, true, false, ◌==◌, if◌then◌else◌, List, [], ◌∷◌, length, refl, arith}
 use Rattle.std.specs.Prelude.{count_by, nat_lt}
 use Rattle.std.proofs.lemmas.Bool.Decides.{nat_tests}

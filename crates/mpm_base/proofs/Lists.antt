@@ -7,7 +7,7 @@ use Rattle.std.proofs.lemmas.List.Folds.{list_any_at}
 use Rattle.std.proofs.lemmas.List.FromFn.{length-range_with_len, get_or-range_with_len}
 use Rattle.mpm_base.specs.Lists.{zeros}
 
--- each element of such a list is the same, also behind its end
+-- each element of such a list is the same, also after its end
 pub all_at : {X : Type 0} (n k : ℕ) (x : X) → get_or (replicate n x) k x ≡ x
 all_at n k x = elim (cases_lt k n) [
   | inl within ↦ get_or-replicate n k x x within
@@ -24,7 +24,7 @@ kept_one test x h = grind (arith, h)
 pub dropped_one : {X : Type 0} (test : X → Bool) (x : X) → test x ≡ false → filter test (x ∷ []) ≡ []
 dropped_one test x h = grind (arith, h)
 
--- what came out of two stretches in a row, and what is left behind them, is what was there, and what went in
+-- what came out of two stretches in a row, and what is left after them, is what was there, and what went in
 pub joined : {X : Type 0} (given rest now before into more middle : List X) → given ++ middle ≡ before ++ into → rest ++ now ≡ middle ++ more → (given ++ rest) ++ now ≡ before ++ (into ++ more)
 joined given rest now before into more middle one all =
     append_assoc given rest now ∙ ap (λ xs. given ++ xs) all ∙ sym (append_assoc given middle more)

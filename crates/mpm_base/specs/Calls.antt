@@ -1,4 +1,4 @@
--- A kernel call as it was taken, and its reply, as contracts see them: without what stands behind the bytes that count.
+-- A kernel call as it was taken, and its reply, as contracts see them: without what follows the bytes that count.
 use Rattle.std.specs.Prelude.{ℕ, ◌+◌, ◌*◌, List, [], Option, None, drop, slice_index_or}
 use Rattle.mpm_base.specs.Lists.{zeros, in_width}
 use Rattle.mpm_base.specs.declared.number.Name8.{Name8}

@@ -6,7 +6,7 @@ use std::marker::Model;
 
 /// A kernel call as it was taken in its gate step.
 ///
-/// `bytes` begins with the bytes that the call reads besides its file control block, `length` of them, one range behind
+/// `bytes` begins with the bytes that the call reads besides its file control block, `length` of them, one range after
 /// the other in the order in which the call names them. Contracts see these alone.
 #[derive(Drop)]
 pub struct Call {
@@ -105,7 +105,7 @@ impl Call {
         self.fcb = block;
     }
 
-    /// One of those bytes, by its place; 0 behind the last.
+    /// One of those bytes, by its place; 0 after the last.
     pub fn byte(&self, place: usize) -> u8
         ensures { result ≡ byte_in self.now place }
     {
@@ -113,7 +113,7 @@ impl Call {
         if place < taken.len() { taken[place] } else { 0 }
     }
 
-    /// The word at a place of those bytes, its low byte first; bytes behind the last are 0. The place is at most 4,096.
+    /// The word at a place of those bytes, its low byte first; bytes after the last are 0. The place is at most 4,096.
     pub fn word(&self, place: usize) -> u16
         requires { place ≤ 4096 }
         ensures { result ≡ word_at self.now place }
@@ -144,7 +144,7 @@ impl Call {
         Name8(self.eight(place))
     }
 
-    /// The bytes that the call read, behind its file control block.
+    /// The bytes that the call read, after its file control block.
     pub fn taken(&self) -> &[u8]
         ensures { result.now ≡ self.now.bytes }
     {

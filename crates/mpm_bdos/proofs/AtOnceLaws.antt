@@ -37,7 +37,7 @@ same_drive one other same = sym (its_drive other) ∙ ap drive_served same ∙ i
 pub still_there : (one other : Option Directory) → option_map labelled other ≡ option_map labelled one → is_some other ≡ is_some one
 still_there one other same = sym (there_label other) ∙ ap is_some same ∙ there_label one
 
--- what is kept, behind some turns and one more
+-- what is kept, after some turns and one more
 kept_again : (old mid new : Kept) → TurnKeeps old mid → TurnKeeps mid new → TurnKeeps old new
 kept_again old mid new first next = record {
   rest = next.rest ∙ ap (λ (k : Kept). record k { mounted = new.mounted; cached = new.cached; service = new.service }) first.rest;

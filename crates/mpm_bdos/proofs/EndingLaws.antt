@@ -1,4 +1,4 @@
--- What the records of a call come to, by its work behind its last turn, is what its turns have come to.
+-- What the records of a call come to, by its work after its last turn, is what its turns have come to.
 use Rattle.std.proofs.Common.{◌≡◌, ◌∙◌, ℕ, zero, suc, ◌+◌, ◌≤◌, ◌<◌, ◌==◌, Bool, true, false, cond, List, Option, Some, None, IfSome, refl, sym, ap, subst, arith, eqb-true}
 use Rattle.std.specs.Prelude.{is_some, nat_lt}
 use Rattle.std.proofs.lemmas.Bool.{false≢true}

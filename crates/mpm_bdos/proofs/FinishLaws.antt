@@ -1,4 +1,4 @@
--- A call behind its turns comes to its outcome.
+-- A call after its turns comes to its outcome.
 use Rattle.std.proofs.Common.{◌≡◌, ◌∙◌, ℕ, ◌≤◌, Bool, true, false, cond, List, [], Option, Some, None, length, refl, sym, ap, subst}
 use Rattle.std.specs.Prelude.{is_some, slice_index_or}
 use Rattle.std.proofs.lemmas.Bool.{true≢false}

@@ -127,7 +127,7 @@ stays_after disks told failed unsynced mounted number (Some d) cached later old 
   sizes = left.others.sizes;
 }
 
--- what is told of images by whose names no mounted drive is attached is as it was
+-- what is known of images by whose names no mounted drive is attached is as it was
 pub told_same : (mounted : List (Option Directory)) (disks : Disks) (told : List ℕ → ToldImage) → KeepsToldOf mounted disks told told
 told_same mounted disks told = record { others = λ name none. refl; still = λ name untold. untold }
 

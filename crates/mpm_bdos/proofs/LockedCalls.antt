@@ -32,7 +32,7 @@ pub record LocksRecords (s : Situation) : Type 0 where
   pub function : s.function ≡ LockRecord
   pub mode : is_same_mode (open_mode s) Unlocked ≡ true
 
--- the record behind those that it locked is one that it names, is there, and another process has it locked
+-- the record after those that it locked is one that it names, is there, and another process has it locked
 pub record IsLockedOut (s : Situation) : Type 0 where
   pub named : (locking_of s).moved < s.caller.multi
   pub there : read_error (drive_at s) (file_of (subject_key s)) (first_record s + (locking_of s).moved) ≡ None

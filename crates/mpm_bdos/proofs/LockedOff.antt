@@ -41,7 +41,7 @@ owned_by : (locks : List RecordLock) (p : ℕ) (owner : Option ℕ) → refused_
 owned_by locks p None is = absurd (never_free _ _ is)
 owned_by locks p (Some owner) is = anothers owner (owner == p) is
 
--- behind what keeps the record from being read
+-- after what keeps the record from being read
 read_and_owned : (locks : List RecordLock) (p : ℕ) (error : Option RecordError) (owner : Option ℕ) → lock_end error (where_owned locks p owner) ≡ Some LockedOff
     → (error ≡ None) × (is_another p owner ≡ true)
 read_and_owned locks p None owner is = (refl, owned_by locks p owner is)

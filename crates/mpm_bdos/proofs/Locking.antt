@@ -17,7 +17,7 @@ use Rattle.mpm_bdos.specs.Records.{Locking, end_of, one_locked, unless_ended, lo
 use Rattle.mpm_locks.specs.Locks.{lock_end}
 use Rattle.mpm_bdos.proofs.LockEnds.{lock_ends}
 
--- a locking behind so many records
+-- a locking after so many records
 abbrev moved_on : ℕ → Locking → Locking
 moved_on k l = record l { moved = l.moved + k }
 
@@ -51,7 +51,7 @@ pub plainly : (drive : Drive) (file : FileKey) (n : ℕ) → plain file.name ≡
     → read_error drive (record { user = file.user; name = plain file.name }) n ≡ read_error drive (file_of file) n
 plainly drive file n e = ap (λ name. read_error drive (record { user = file.user; name = name }) n) e
 
--- what comes to a record behind so many
+-- what comes to a record after so many
 ended : (drive : Drive) (now : OpenFiles) (p q : ℕ) (file its : FileKey) (n m : ℕ) (error : Option RecordError) (result : Option RecordEnd)
     → plain file.name ≡ file.name → p ≡ q → its ≡ file → m ≡ n
     → error ≡ read_error drive (record { user = file.user; name = plain file.name }) m

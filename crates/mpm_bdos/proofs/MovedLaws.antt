@@ -109,7 +109,7 @@ never_fails drive job Label is = refl
 never_fails drive job Xfcb is = refl
 never_fails drive job Nothing is = refl
 
--- behind all turns
+-- after all turns
 pub all_moved : (drive : Drive) (job : Job) → moved_after drive job (turns_of drive job) ≡ sum_by records_moved (plan_of drive job).units
 all_moved drive job = ap (sum_by records_moved) (take_all (turns_of drive job) (plan_of drive job).units (omega arith))
 

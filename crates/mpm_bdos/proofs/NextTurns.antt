@@ -278,7 +278,7 @@ serves_idly images old new s j is kept service mounted serves = record {
         (idle_works (images (drive_number s)) (images (drive_number s)) (directory_at old.mounted (drive_number s)) (directory_at new.mounted (drive_number s)) (drive_at s) j (suc j) serves.service.work
         (subst (λ found. WorksOn (images (drive_number s)) (directory_at old.mounted (drive_number s)) (drive_at s) found j serves.service.work) is serves.works))
 
--- likewise behind all of its turns, of which there is one
+-- likewise after all of its turns, of which there is one
 pub served_idly : (images : ℕ → List ℕ) (kept : Kept) (s : Situation) → job_of s ≡ None → Serves images kept s 0 → Serves images kept s (call_turns s)
 served_idly images kept s is serves =
     subst (Serves images kept s) (sym (idle_turns s is))

@@ -1,4 +1,4 @@
--- Calls on drives, which name none: nothing is done on a drive, and no file is told of.
+-- Calls on drives, which name none: nothing is done on a drive, and no file is found.
 use Rattle.std.proofs.Common.{◌≡◌, ◌∙◌, ℕ, Bool, true, false, List, [], Option, Some, None, sym, refl, ap}
 use Rattle.std.specs.Prelude.{replicate}
 use Rattle.std.proofs.lemmas.Bool.{true≢false, false≢true}

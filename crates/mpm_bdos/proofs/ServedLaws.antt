@@ -106,7 +106,7 @@ pub finds : (kept : Kept) (filing : Filing) (caller : Caller) (function : FileFu
 finds kept filing caller function call moment is =
     ap (λ (f : Filing). let s : Situation = record { filing = f; caller = caller; function = function; call = call; moment = moment } in s) is
 
--- that no call has work where no drive is mounted stays so as one enters, and behind a turn
+-- that no call has work where no drive is mounted stays so as one enters, and after a turn
 pub starts_on_drives : (old new : Kept) (function : Option FileFunction) → (function ≡ None → new ≡ old)
     → (is_some function ≡ true → ((number : ℕ) → directory_at old.mounted number ≡ None) → has_work new.service ≡ false)
     → new ≡ record old { service = new.service } → WorksOnDrives old → WorksOnDrives new

@@ -1,4 +1,4 @@
--- What is looked up of a call behind its turns is what was looked up of it as it entered.
+-- What is looked up of a call after its turns is what was looked up of it as it entered.
 use Rattle.std.proofs.Common.{◌≡◌, ◌∙◌, ℕ, zero, suc, Bool, true, false, Option, Some, None, refl, sym, ap, subst}
 use Rattle.std.specs.Prelude.{is_some, slice_index_or, unwrap_or, replicate}
 use Rattle.std.proofs.lemmas.Bool.{false≢true}
@@ -23,7 +23,7 @@ use Rattle.mpm_bdos.proofs.EndingLaws.{own_job}
 use Rattle.mpm_bdos.proofs.NamedFiles.{subject_name}
 use Rattle.mpm_bdos.proofs.OpenedLaws.{Alike, opened_alike, still_opened}
 
--- the drive behind the turns, by the job
+-- the drive after the turns, by the job
 drive_by_job : (s : Situation) (job : Option Job) → job_of s ≡ job → (turned s (call_turns s)).drive ≡ (turned_by (drive_at s) (turns_by (drive_at s) job) job).drive
 unfolding turned call_turns
 drive_by_job s job is = ap (λ j. (turned_by (drive_at s) (turns_by (drive_at s) j) j).drive) is

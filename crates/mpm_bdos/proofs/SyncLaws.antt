@@ -55,7 +55,7 @@ pub away : (mounted : List (Option Directory)) (k number : ℕ) (place : Option 
     → IfSome place (λ d. number ≢ d.drive)
 away mounted k number place placed within is none = away_from number place mounted k (item_there mounted k place within is) placed none
 
--- nor of one behind it
+-- nor of one after it
 other_number : (number k : ℕ) (place : Option Directory) → k < number → IfSome place (λ d. d.drive ≡ k) → IfSome place (λ d. number ≢ d.drive)
 other_number number k None behind its = tt
 other_number number k (Some d) behind its = λ same. omega (arith, behind, same, its)
@@ -68,7 +68,7 @@ pub behind_place : (mounted : List (Option Directory)) (k number : ℕ) (place :
 behind_place mounted k number place placed within is behind =
     other_number number k place behind (its_place mounted k place placed (item_there mounted k place within is))
 
--- the drive of a place that failed is as it was, and so are those behind it
+-- the drive of a place that failed is as it was, and so are those after it
 from_here : (k : ℕ) (place : Option Directory) (old now : ℕ → Bool) → is_some place ≡ true → IfSome place (λ d. d.drive ≡ k) → IfSome place (λ d. now d.drive ≡ old d.drive)
     → ((number : ℕ) → IfSome place (λ d. number ≢ d.drive) → now number ≡ old number) → (number : ℕ) → k ≤ number → now number ≡ old number
 from_here k None old now some its failed beside number from = absurd (false≢true some)

@@ -12,7 +12,7 @@ use Rattle.mpm_files.specs.Plans.{turns_of}
 use Rattle.mpm_files.specs.Serving.{turns_in, IsServing}
 use Rattle.mpm_bdos.specs.Turns.{HasLeft, labelled, progress_after}
 
--- whether turns are left is told by the job that a work serves
+-- whether turns are left is known by the job that a work serves
 
 pub told_by_job : {E : Type 0} (before : Drive) (job : Job) (j : ℕ) (work : Work) (result : Result Progress E) → IsServing before job j work
     → IfOk result (λ told. told ≡ progress_after (work.ended + 1) (turns_in work)) → IfOk result (λ told. told ≡ progress_after (suc j) (turns_of before job))

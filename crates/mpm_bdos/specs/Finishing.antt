@@ -1,4 +1,4 @@
--- What a call in service comes to behind its turns. (MP/M II Programmer's Guide, "BDOS Function Calls", "BDOS Error Handling".)
+-- What a call in service comes to after its turns. (MP/M II Programmer's Guide, "BDOS Function Calls", "BDOS Error Handling".)
 use Rattle.std.specs.Prelude.{◌≡◌, ℕ, Bool, List, [], Option, Some}
 use Rattle.mpm_base.specs.Calls.{Answer}
 use Rattle.mpm_mount.specs.Directories.{Directory}

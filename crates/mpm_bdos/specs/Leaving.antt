@@ -97,14 +97,14 @@ granted_by drive opens a work = record {
   opened = opened_for drive (locked_for drive opens a a.function) a a.function;
 }
 
--- open files behind a call: what it leaves of them, and then what it opens or locks
+-- open files after a call: what it leaves of them, and then what it opens or locks
 abbrev pub left_first : OpenFiles → Asked → Option Work → List (Option FileKey) → OpenFiles
 left_first opens a work deleted = left_by opens a (key_asked a) (moved_by work) deleted a.function
 
 abbrev pub opens_left : Drive → OpenFiles → Asked → Option Work → List (Option FileKey) → OpenFiles
 opens_left drive opens a work deleted = opened_by drive (locked_for drive (left_first opens a work deleted) a a.function) a a.function
 
--- a call behind its turns may be answered: few records are done where something ended them, its position is one that a block can have,
+-- a call after its turns may be answered: few records are done where something ended them, its position is one that a block can have,
 -- and the records that it read stand at the front of its job's bytes
 pub record IsGranted (drive : Drive) (opens : OpenFiles) (a : Asked) (work : Option Work) (deleted : List (Option FileKey)) (records : List (List ℕ)) : Type 0 where
   pub in_file : IsInFile a

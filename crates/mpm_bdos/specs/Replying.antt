@@ -1,4 +1,4 @@
--- The reply of a call on a mounted drive that isn't refused, behind its turns, by the situation in which it entered.
+-- The reply of a call on a mounted drive that isn't refused, after its turns, by the situation in which it entered.
 use Rattle.std.specs.Prelude.{◌≡◌, ℕ, ◌≤◌, Bool, true, false, List, Option, Some, None, IfSome, length}
 use Rattle.mpm_base.specs.Calls.{Answer}
 use Rattle.mpm_mount.specs.Directories.{Directory, Stands}
@@ -29,7 +29,7 @@ is_on_drives FreeDrives = true
 is_on_drives FlushBuffers = true
 is_on_drives function = false
 
--- it has come behind its turns: the work of its job, upon the image of its drive and the directory, which was that of an image before
+-- it has come after its turns: the work of its job, upon the image of its drive and the directory, which was that of an image before
 pub record IsServed (s : Situation) (image : List ℕ) (directory : Option Directory) (work : Option Work) : Type 0 where
   pub none : refusal_of s ≡ None
   pub caller : IsCaller s.caller

@@ -16,7 +16,7 @@ AreSynced unsynced mounted = (number : ℕ) → IfSome (directory_at mounted num
 abbrev pub mounted_count : List (Option Directory) → ℕ
 mounted_count mounted = count_by (λ directory. is_some directory) mounted
 
--- where a drive failed, those before it are synced, and it and those behind it are synced or not as before; so many calls were
+-- where a drive failed, those before it are synced, and it and those after it are synced or not as before; so many calls were
 -- made as drives are mounted up to that one
 pub record StopsAtDrive (mounted : List (Option Directory)) (before now : ℕ → Bool) (steps steps' : ℕ) : Type 0 where
   pub drive : ℕ

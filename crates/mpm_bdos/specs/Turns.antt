@@ -131,7 +131,7 @@ pub record StaysBeside (mounted : List (Option Directory)) (old new : Disks) : T
   pub others : (number : ℕ) → ((one : ℕ) → has_directory mounted one ≡ true → old.name_of one ≢ old.name_of number) → new.image number ≡ old.image number
   pub sizes : (number : ℕ) → size_of new number ≡ size_of old number
 
--- what is told of an image by whose name no mounted drive is attached is as it was, and nothing that was told is untold
+-- what is known of an image by whose name no mounted drive is attached is as it was, and what was known stays known
 pub record KeepsToldOf (mounted : List (Option Directory)) (disks : Disks) (old new : List ℕ → ToldImage) : Type 0 where
   pub others : (name : List ℕ) → ((one : ℕ) → has_directory mounted one ≡ true → disks.name_of one ≢ Some name) → new name ≡ old name
   pub still : (name : List ℕ) → new name ≡ Untold → old name ≡ Untold

@@ -62,7 +62,7 @@ fn answer_found(reply: &mut Reply, value: u16, at: u16, told: &Option<[u8; 128]>
     }
 }
 
-/// Answers a value, and the bytes to place at the DMA address; `told` are those of the entry that a search found.
+/// Answers a value, and the bytes to place at the DMA address; `told` has those of the entry that a search found.
 #[tactic(auto, unfolding(crate::specs::Replies::bytes_by))]
 fn answer_bytes(
     reply: &mut Reply,

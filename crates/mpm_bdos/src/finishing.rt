@@ -176,7 +176,7 @@ fn reply_granted(
     }
 }
 
-/// Answers a call in service, behind its turns.
+/// Answers a call in service, after its turns.
 fn reply_service(
     service: &Service,
     reply: &mut Reply,
@@ -221,7 +221,7 @@ impl Bdos {
     ghost use Rattle.mpm_bdos.specs.Jobs.{call_turns};
     ghost use Rattle.mpm_bdos.specs.Serving.{Serves};
 
-    /// Answers the call in service, behind its turns, with its extended error, if it has one; then none is in service. Nothing is
+    /// Answers the call in service, after its turns, with its extended error, if it has one; then none is in service. Nothing is
     /// answered where none was. (MP/M II Programmer's Guide, "BDOS Function Calls", "BDOS Error Handling".)
     pub fn reply(&mut self, reply: &mut Reply) -> Option<Extended>
         ensures comes { (images : ℕ → List ℕ) (s : Situation) → Serves images self.old s (call_turns s) → ComesTo images s self.new reply.new result }

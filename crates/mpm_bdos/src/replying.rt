@@ -53,7 +53,7 @@ pub(crate) fn answer_mounted(
     answer(reply, &granted, multi, mounted, work, &told, fcb, dma);
 }
 
-/// Answers a call on a mounted drive, which isn't refused, behind its turns: with what it leaves of open files and of its caller's
+/// Answers a call on a mounted drive, which isn't refused, after its turns: with what it leaves of open files and of its caller's
 /// search. `deleted` are its caller's open files of the files that it deleted.
 pub(crate) fn reply_mounted(
     reply: &mut Reply,

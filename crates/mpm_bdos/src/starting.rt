@@ -41,7 +41,7 @@ const LAST_POSITION: u32 = 262_271;
 /// The most records of a job.
 const RECORDS: u8 = 16;
 
-/// The first of a call's records, or the last position that a block can have, where it is behind that.
+/// The first of a call's records, or the last position that a block can have, where it is past that.
 pub(crate) fn first_position(block: &ControlBlock, function: FileFunction) -> u32
     ensures value { result ≡ min (subjects.first_by block.now function) 262271 }
     ensures few { result ≤ 262271 }
@@ -64,7 +64,7 @@ fn was_written(opens: &Opens, p: Pid, number: u8, drive: u8, name: &[u8; 11]) ->
     }
 }
 
-/// The same by the number of the open file that a call names, if it names one.
+/// Whether a record was written by way of the open file that a call names, if it names one.
 fn has_written(opens: &Opens, p: Pid, number: Option<u8>, drive: u8, name: &[u8; 11]) -> bool
     ensures { result ≡ (is_some (option_and_then (λ n. file_named opens.now.items p n drive name.now) number) && (item_of opens.now (unwrap_or number 0)).has_written) }
 {

@@ -71,7 +71,7 @@ impl Bdos {
     ghost use Rattle.mpm_bdos.specs.Turns.{FitsDrives};
 
     /// Brings what was written to the mounted drives to where it stays, one drive after another in order of their letters, up to
-    /// the first that fails: behind a success each of them is synced. `steps` counts the calls.
+    /// the first that fails: after a success each of them is synced. `steps` counts the calls.
     #[tactic(auto, using(crate::proofs::Fitting::fit_attached))]
     pub fn sync<D: Drives, L: Ledger>(
         &self,

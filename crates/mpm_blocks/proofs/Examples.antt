@@ -4,7 +4,7 @@ use Rattle.mpm_base.specs.declared.kind.Kind.TheVariants.{Ibm3740, Hd4}
 use Rattle.mpm_blocks.specs.Geometries.{logical_sectors, skew, place_of}
 use Rattle.mpm_blocks.specs.Maps.{used_to, new_map, free_count}
 
--- the first sector behind the system's tracks
+-- the first sector after the system's tracks
 pub place_first : place_of Ibm3740 0 ≡ 52
 unfolding skew
 place_first = refl
@@ -24,7 +24,7 @@ pub place_last : place_of Ibm3740 1949 ≡ 1997
 unfolding skew
 place_last = refl
 
--- how many sectors there are behind the system's tracks
+-- how many sectors there are after the system's tracks
 pub sectors_of_a_floppy : logical_sectors Ibm3740 ≡ 1950
 sectors_of_a_floppy = refl
 

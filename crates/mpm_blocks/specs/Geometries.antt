@@ -20,8 +20,8 @@ last_block kind = (geometry_of kind).dsm
 abbrev pub block_records : Kind → ℕ
 block_records kind = (geometry_of kind).block / 128
 
--- a disk parameter block: the records of a track, the block shift and the block mask, the extent mask, the last block, the
--- last directory entry, the bits of the directory's blocks, the directory entries that are checked, and the system's tracks
+-- a disk parameter block: the records of a track, the block shift and mask, the extent mask, the last block, the last directory entry, the
+-- bits of the directory's blocks, the directory entries that are checked, and the system's tracks
 pub record Parameters : Type 0 where
   pub spt : ℕ
   pub bsh : ℕ
@@ -54,7 +54,7 @@ system_sectors Hd8 = 0
 abbrev pub image_sectors : Kind → ℕ
 image_sectors kind = (geometry_of kind).bytes / 128
 
--- the sectors behind the system's tracks
+-- the sectors after the system's tracks
 abbrev pub logical_sectors : Kind → ℕ
 logical_sectors kind = image_sectors kind - system_sectors kind
 
@@ -63,7 +63,7 @@ unfoldable pub skew : List ℕ
 skew =
     1 ∷ 7 ∷ 13 ∷ 19 ∷ 25 ∷ 5 ∷ 11 ∷ 17 ∷ 23 ∷ 3 ∷ 9 ∷ 15 ∷ 21 ∷ 2 ∷ 8 ∷ 14 ∷ 20 ∷ 26 ∷ 6 ∷ 12 ∷ 18 ∷ 24 ∷ 4 ∷ 10 ∷ 16 ∷ 22 ∷ []
 
--- where in the image a sector is that is counted behind the system's tracks
+-- where in the image a sector is that is counted after the system's tracks
 abbrev pub place_of : Kind → ℕ → ℕ
 place_of Ibm3740 logical = 52 + logical / 26 * 26 + (slice_index skew (logical % 26) - 1)
 place_of Hd4 logical = logical

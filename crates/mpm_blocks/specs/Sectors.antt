@@ -1,4 +1,4 @@
--- The sectors of an image behind the system's tracks.
+-- The sectors of an image after the system's tracks.
 use Rattle.std.specs.Prelude.{◌≡◌, ◌≢◌, ℕ, ◌+◌, ◌*◌, List, ◌++◌, take, drop}
 use Rattle.mpm_base.specs.declared.kind.Kind.{Kind}
 use Rattle.mpm_port.specs.Disks.{sector_of}
@@ -8,7 +8,7 @@ use Rattle.mpm_blocks.specs.Geometries.{place_of}
 abbrev pub Sectors : Type 0
 Sectors = ℕ → List ℕ
 
--- those of an image behind the system's tracks, in the order in which they are used
+-- those of an image after the system's tracks, in the order in which they are used
 unfoldable pub sectors_of : List ℕ → Kind → Sectors
 sectors_of image kind logical = sector_of image (place_of kind logical)
 

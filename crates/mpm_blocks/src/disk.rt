@@ -51,7 +51,7 @@ pub fn parameter_block(kind: Kind) -> [u8; 15]
     }
 }
 
-/// The sector of the image, of 128 bytes, that a logical sector is: counted from 0 behind the system's tracks, of those
+/// The sector of the image, of 128 bytes, that a logical sector is: counted from 0 after the system's tracks, of those
 /// that the image has.
 #[tactic(auto, using(crate::proofs::Skew::skew_low, crate::proofs::Skew::skew_high))]
 pub fn place(kind: Kind, logical: u32) -> u32

@@ -56,7 +56,7 @@ impl Delays {
         }
     }
 
-    /// One more delay, behind the others.
+    /// One more delay, after the others.
     pub(crate) fn push(&mut self, delay: Delay)
         requires { length self.old < 32 }
         ensures { self.new ≡ self.old ++ delay ∷ [] }

@@ -32,7 +32,7 @@ impl Woken {
         }
     }
 
-    /// One more process, behind the others. At most 32 are woken.
+    /// One more process, after the others. At most 32 are woken.
     pub fn push(&mut self, p: Pid)
         requires { length self.old < 32 }
         ensures { self.new ≡ self.old ++ p ∷ [] }

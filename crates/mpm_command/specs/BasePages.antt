@@ -28,7 +28,7 @@ block_or_none (Some name) = block_named name
 abbrev pub block_of : List ℕ → List ℕ
 block_of word = block_or_none (parsed word)
 
--- a tail in upper case, with zeros behind it, in 127 bytes; and behind its length
+-- a tail in upper case, with zeros after it, in 127 bytes; and after its length
 abbrev pub upper_tail : List ℕ → List ℕ
 upper_tail tail = map to_ascii_uppercase (tail ++ drop (length tail) (zeros 127))
 

@@ -11,7 +11,7 @@ use Rattle.mpm_command.specs.declared.command.Command.{Command}
 abbrev pub console_in : List ℕ → ℕ
 console_in message = slice_index message 1
 
--- its text, behind user, drive and console, up to 00h or CR
+-- its text, after user, drive and console, up to 00h or CR
 unfoldable pub text_of : List ℕ → List ℕ
 text_of message = run_of Text (drop 2 message)
 

@@ -12,14 +12,14 @@ is_of Text byte = not (ends_text byte)
 is_of Word byte = not (byte == 32)
 is_of Spaces byte = byte == 32
 
--- the run with which a text begins, and what stands behind it
+-- the run with which a text begins, and what follows it
 abbrev pub run_of : Run → List ℕ → List ℕ
 run_of kind text = take_while (is_of kind) text
 
 abbrev pub behind_run : Run → List ℕ → List ℕ
 behind_run kind text = drop (prefix_len (is_of kind) text) text
 
--- the first word, what stands behind it, and the second word
+-- the first word, what follows it, and the second word
 unfoldable pub first_word : List ℕ → List ℕ
 first_word text = run_of Word (behind_run Spaces text)
 

@@ -68,7 +68,7 @@ fn text_of(message: &[u8; 130]) -> &[u8]
     front(Run::Text, behind_sender(message))
 }
 
-/// What stands behind user, drive and console.
+/// What follows user, drive and console.
 fn behind_sender(message: &[u8]) -> &[u8]
     requires { 2 ≤ length message.now }
     ensures rest { result.now ≡ drop 2 message.now }

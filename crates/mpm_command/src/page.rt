@@ -6,9 +6,8 @@ use crate::text::{first_word, second_word};
 use mpm_banks::{CALL_GATE, END_GATE};
 use mpm_names::{Parsed, parse_filename};
 
-/// The base page of a program, for a segment with that last page and a command with that tail, of at most 127 bytes: jumps to
-/// the gates of the last page, two file control blocks of the tail's first two words, and the tail in upper case behind its
-/// length.
+/// The base page of a program, for a segment with that last page and a command with that tail, of at most 127 bytes. It has jumps to the
+/// gates of the last page, two file control blocks of the tail's first two words, and the tail in upper case after its length.
 #[tactic(auto, unfolding(crate::specs::BasePages::base_page, mpm_base::specs::Lists::zeros))]
 pub fn base_page(last_page: u8, tail: &[u8]) -> [u8; 256]
     requires { length tail.now ≤ 127 }
@@ -56,7 +55,7 @@ pub fn file_block(parsed: &Parsed) -> [u8; 36]
     block
 }
 
-/// A tail in upper case behind its length, and zeros behind it.
+/// A tail in upper case after its length, and zeros after it.
 fn tail_bytes(tail: &[u8]) -> [u8; 128]
     requires { length tail.now ≤ 127 }
     ensures { result ≡ tail_said tail.now }
@@ -67,7 +66,7 @@ fn tail_bytes(tail: &[u8]) -> [u8; 128]
     bytes
 }
 
-/// A tail in upper case, and zeros behind it.
+/// A tail in upper case, and zeros after it.
 #[tactic(auto, unfolding(mpm_base::specs::Lists::zeros))]
 fn upper_case(tail: &[u8]) -> [u8; 127]
     requires { length tail.now ≤ 127 }

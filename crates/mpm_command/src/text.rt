@@ -23,7 +23,7 @@ pub(crate) fn front(kind: Run, text: &[u8]) -> &[u8]
     &text[..run_length(kind, text)]
 }
 
-/// What stands behind the run with which a text begins.
+/// What follows the run with which a text begins.
 pub(crate) fn rest(kind: Run, text: &[u8]) -> &[u8]
     ensures rest { result.now ≡ behind_run_of kind text.now }
     ensures size { length result.now ≤ length text.now }
@@ -48,7 +48,7 @@ pub(crate) fn second_word(text: &[u8]) -> &[u8]
     first_word(behind_first(text))
 }
 
-/// What stands behind the first word of a text.
+/// What follows the first word of a text.
 #[tactic(auto, unfolding(crate::specs::Texts::behind_first))]
 fn behind_first(text: &[u8]) -> &[u8]
     ensures rest { result.now ≡ behind_first_of text.now }

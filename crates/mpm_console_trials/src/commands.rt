@@ -3,7 +3,7 @@ use mpm_base::Name8;
 use mpm_command::{BadName, Command, base_page, command_of, console_of, tail_of};
 use std::test::Fail;
 
-/// A message of the command queue: user 2 on drive C at console 1 sends a text of at most 128 bytes, zeros behind it.
+/// A message of the command queue: user 2 on drive C at console 1 sends a text of at most 128 bytes, zeros after it.
 fn message(text: &[u8]) -> [u8; 130] {
     let mut bytes = [0; 130];
     bytes[0] = 0x22;
@@ -38,7 +38,7 @@ fn first_wrong(rows: &[Row]) -> Option<usize> {
     None
 }
 
-/// A command is the text up to its first space, in which its type and what stands behind its form don't count; a drive and a
+/// A command is the text up to its first space, in which its type and what follows its form don't count; a drive and a
 /// password may stand at it.
 #[test]
 fn commands_are_file_names(rt: HostRuntime) -> Result<(), Fail> {
@@ -95,7 +95,7 @@ fn a_text_of_128_bytes_is_taken_whole(rt: HostRuntime) -> Result<(), Fail> {
     Ok(())
 }
 
-/// The 128 bytes of a base page behind the file control blocks: the tail behind its length.
+/// The 128 bytes of a base page after the file control blocks: the tail after its length.
 fn tail_bytes(tail: &[u8]) -> [u8; 128] {
     let mut bytes = [0; 128];
     let size = tail.len().min(127);

@@ -104,7 +104,7 @@ fn a_line_ends_where_it_is_full(rt: HostRuntime) -> Result<(), Fail> {
     Ok(())
 }
 
-/// Whether a line is answered behind its greatest length.
+/// Whether a line is answered after its greatest length.
 fn is_answered(reply: &mut Reply) -> bool {
     let mut line = [0; 255];
     line[..3].copy_from_slice(b"acx");

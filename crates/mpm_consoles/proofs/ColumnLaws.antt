@@ -1,4 +1,4 @@
--- Laws of columns and tabs: texts one behind another.
+-- Laws of columns and tabs: texts one after another.
 use Rattle.std.proofs.Common.{◌≡◌, ◌∙◌, ℕ, List, [], ◌∷◌, ◌++◌, refl, ap, sym, append_assoc, Bool, true, false, ◌==◌, ◌&&◌, if◌then◌else◌, ◌+◌, ◌*◌, ◌/◌, ◌<◌, ◌≤◌, zero, suc, min, take, replicate, arith}
 use Rattle.std.proofs.lemmas.List.{take-replicate, append-nil}
 use Rattle.mpm_base.specs.Tabs.{tab_width}

@@ -9,7 +9,7 @@ use Rattle.mpm_consoles.specs.Handling.{unlisted}
 use Rattle.mpm_consoles.specs.declared.unit.Unit.{Unit}
 use Rattle.mpm_consoles.specs.declared.unit.Unit.TheVariants.{Console as ConsoleUnit, Printer as PrinterUnit}
 
--- a process is in the list that it is told to be in, and in no other
+-- a process is in the list that its waiting names, and in no other
 pub listed_there : (lists : List (List Member)) (p list line : ℕ) → IsTable lists → list_of lists p ≡ Some list → eqb list line ≡ in_list p (list_at lists line)
 listed_there lists p list line table is = elim (cases_Bool (in_list p (list_at lists line))) [
   | inl there ↦ (let same : list ≡ line = (let known = list_of_known lists p line table there in cc) in eq-eqb list line same) ∙ sym there

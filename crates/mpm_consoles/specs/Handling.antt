@@ -20,7 +20,7 @@ unfoldable pub given : Consoles → Unit → Option ℕ → Consoles
 given t (ConsoleUnit n) owner = with_console t n (passed_to owner (console_at t n))
 given t (PrinterUnit n) owner = record t { printers = slice_set t.printers n owner }
 
--- a process waits for no unit; a process waits for one, behind all of equal or better priority
+-- a process waits for no unit; a process waits for one, after all of equal or better priority
 unfoldable pub unlisted : Consoles → ℕ → Consoles
 unlisted t p = record t { waiters = removed t.waiters p }
 

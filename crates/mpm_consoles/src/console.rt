@@ -207,7 +207,7 @@ impl Console {
         }
     }
 
-    /// Stores a key behind the others; false where 64 are there, and then it is counted as lost.
+    /// Stores a key after the others; false where 64 are there, and then it is counted as lost.
     #[tactic(auto, unfolding(crate::specs::Console::with_key))]
     fn store(&mut self, byte: u8) -> bool
         ensures console { self.new ≡ with_key byte self.old }

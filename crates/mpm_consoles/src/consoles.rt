@@ -87,7 +87,7 @@ impl Consoles {
     }
 
     /// A process attaches a unit; false exactly where another owns it. Then the process waits for it where `wait` is true,
-    /// behind all of equal or better priority (0 is best, 255 worst), and nothing changes where it isn't. (MP/M II Programmer's
+    /// after all of equal or better priority (0 is best, 255 worst), and nothing changes where it isn't. (MP/M II Programmer's
     /// Guide, "Function 146: Attach Console", "Function 158: Attach List", "Function 162: Conditional Attach Console",
     /// "Function 161: Conditional Attach List".)
     #[tactic(auto, using(crate::proofs::SoundLaws::for_free), unfolding(crate::specs::Handling::unit_attached, crate::specs::Handling::may_attach))]
@@ -145,10 +145,10 @@ impl Consoles {
         waited
     }
 
-    /// A key comes to a console; `resident` tells that its owner is a resident process. Where the console isn't raw, ^S (13h)
-    /// stops its output, ^Q (11h) lets it go on, ^C (03h) aborts the owner and ^D (04h) passes the console to the process that
-    /// waits for it first; the last two do nothing where the owner is a resident or there is none. Any other key is stored, or
-    /// lost where 64 are there. (MP/M II User's Guide, control characters of a console.)
+    /// A key comes to a console; `resident` tells that its owner is a resident process. Where the console isn't raw, ^S (13h) stops its
+    /// output, ^Q (11h) lets it go on, ^C (03h) aborts the owner and ^D (04h) passes the console to the process that waits for it first.
+    /// The last two do nothing where the owner is a resident or there is none. Any other key is stored, or lost where 64 are there. (MP/M
+    /// II User's Guide, control characters of a console.)
     #[tactic(auto, using(crate::proofs::FateLaws::fate_key))]
     pub fn key(&mut self, console: u8, byte: u8, resident: bool) -> KeyDone
         requires { HasConsole self.old console }

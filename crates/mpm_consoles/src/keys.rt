@@ -19,7 +19,7 @@ pub enum Control {
 /// What became of a key.
 #[derive(Clone, Copy, Debug, PartialEq, Eq)]
 pub enum KeyDone {
-    /// It is stored behind the others.
+    /// It is stored after the others.
     Stored,
     /// It is lost, as 64 are stored.
     Dropped,

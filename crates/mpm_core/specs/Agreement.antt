@@ -11,8 +11,8 @@ use Rattle.mpm_core.specs.Taking.{core_in}
 abbrev pub with_step : ℕ → Core → Core
 with_step step core = record core { head = record core.head { step = step } }
 
--- where the core is that of a process, and the next steps of its machine, so many, are instructions of that process alone, all of them
--- are done, and leave the core that the process has after them, but for the number of steps, which stays
+-- the core is that of a process, and the next steps of its machine, so many, are instructions of that process alone: then all of them are
+-- done. They leave the core that the process has after them, but the number of steps stays
 pub record AgreesWith (most p seg : ℕ) (systems : ℕ → System) (old new : Core) (replayed : Replayed) : Type 0 where
   pub all : replayed ≡ record { done = most; why = Steps }
   pub core : new ≡ with_step old.head.step (core_in p seg (systems most))

@@ -107,7 +107,7 @@ fn replay_parts(head: &mut Head, segment: &mut [u8], common: &mut [u8], most: u6
     replayed
 }
 
-/// The same, of a process whose segment has the first bytes of a buffer.
+/// Does the instructions of a process whose segment has the first bytes of a buffer, at most so many.
 fn replay_kept(head: &mut Head, buffer: &mut [u8], common: &mut [u8], most: u64) -> Replayed
     requires is { IsCore (kept head.old buffer.old common.old) }
     requires room { length buffer.old ≡ 49152 }

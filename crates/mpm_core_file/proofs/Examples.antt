@@ -3,7 +3,7 @@ use Rattle.std.proofs.Common.{◌≡◌, [], ◌∷◌, Some, true, false, refl}
 use Rattle.mpm_core_file.specs.CoreFiles.{head_bytes, fields_of, fault_of, first_bad, stands, may_stand}
 use Rattle.mpm_core_file.specs.declared.head.Head.{Head}
 
--- the core of a program behind its first two instructions: C is 9, DE is 010Dh, PC is 0105h
+-- the core of a program after its first two instructions: C is 9, DE is 010Dh, PC is 0105h
 abbrev pub example_head : Head
 example_head = record {
   step = 2;

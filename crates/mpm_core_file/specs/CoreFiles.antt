@@ -62,8 +62,8 @@ core_bytes core = head_bytes core.head ++ (core.segment ++ core.common)
 abbrev pub is_flag : ℕ → Bool
 is_flag place = place == 19 || (place == 46 || (place == 47 || (place == 49 || place == 50)))
 
--- a byte may stand at a place of the head, in the file of a segment of so many pages: the first eight are as they are; the process is
--- one of 32; there are 4 to 192 pages, and they end below common memory; the interrupt mode is 0 to 2, and a flag 0 or 1
+-- a byte may stand at a place of the head, in the file of a segment of so many pages. The first eight are as they are. The process is one
+-- of 32. There are 4 to 192 pages, and they end below common memory. The interrupt mode is 0 to 2, and a flag 0 or 1
 unfoldable pub may_stand : ℕ → ℕ → ℕ → Bool
 may_stand pages place byte =
     if nat_lt place 8 then byte == slice_index (codes "MPMCORE1") place

@@ -2,11 +2,11 @@
 use Rattle.std.specs.Prelude.{ℕ, ◌-◌, ◌^◌, ◌==◌, ◌&&◌, Bool, List, [], ◌∷◌, min, count_by}
 use Rattle.std.specs.List.{zip}
 
--- a byte that stands behind another begins a line: the other is an LF
+-- a byte that follows another begins a line: the other is an LF
 abbrev pub begins_with : ℕ → (ℕ × ℕ) → Bool
 begins_with first pair = (pair.0 == 10) && (pair.1 == first)
 
--- how many lines of a text begin with a byte: one may be at its front, and one behind each LF
+-- how many lines of a text begin with a byte: one may be at its front, and one after each LF
 unfoldable pub lines_of_kind : ℕ → List ℕ → ℕ
 lines_of_kind first text = count_by (begins_with first) (zip (10 ∷ text) text)
 
@@ -14,7 +14,7 @@ lines_of_kind first text = count_by (begins_with first) (zip (10 ∷ text) text)
 abbrev pub counted : ℕ → List ℕ → ℕ
 counted first text = min (lines_of_kind first text) (2 ^ 64 - 1)
 
--- the byte behind which the next one comes: the last of a text, or an LF where there is none
+-- the byte after which the next one comes: the last of a text, or an LF where there is none
 unfoldable pub last_behind : ℕ → List ℕ → ℕ
 last_behind before [] = before
 last_behind before (byte ∷ text) = last_behind byte text

@@ -87,7 +87,7 @@ impl LineCounts {
     }
 }
 
-/// A count with one more line, up to 2^64 - 1, where a byte behind another begins one of a kind.
+/// A count with one more line, up to 2^64 - 1, where a byte after another begins one of a kind.
 fn with_line(count: u64, first: u8, last: u8, byte: u8) -> u64
     ensures { result ≡ (if begins_with first (last, byte) then min (count + 1) (2 ^ 64 - 1) else count) }
 {

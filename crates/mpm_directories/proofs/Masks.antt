@@ -37,7 +37,7 @@ mask_fits test n few =
     let most : 2 ^ (n + 1) ≤ 65536 = pow-le-pow_right (omega arith) last in
     omega (arith, doubled, most, mask_small test n)
 
--- behind the sixteenth drive it is that of all
+-- after the sixteenth drive it is that of all
 pub all_masked : (test : ℕ → Bool) (mask n : ℕ) → n ≡ 16 → mask ≡ mask_below test n → mask ≡ mask_of test
 unfolding mask_of
 all_masked test mask n all so_far = so_far ∙ ap (mask_below test) all

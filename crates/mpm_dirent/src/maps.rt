@@ -29,7 +29,7 @@ pub fn write_map(blocks: &[u16; 16], wide: bool) -> [u8; 16]
     }
 }
 
-/// Eight words, and zeros behind them.
+/// Eight words, and zeros after them.
 #[tactic(auto, using(crate::proofs::Numbers::words_read), unfolding(crate::specs::Entries::blocks_of))]
 fn read_wide(map: &[u8; 16]) -> [u16; 16]
     ensures map { result ≡ blocks_of map.now true }

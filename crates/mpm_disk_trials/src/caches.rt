@@ -221,7 +221,7 @@ fn play_on<L: Ledger>(
     }
 }
 
-/// The same, with a count of the calls.
+/// Plays a scene with an empty cache on new drives of which these two calls fail, and counts the calls.
 fn play_scene(alloc: Global, failing: [u64; 2], scene: Scene) -> Result<(), Fail> {
     let mut drives = MemoryDrives::new(alloc);
     play_on::<Brand>(alloc, Blank::new(1), &mut drives, failing, scene)

@@ -1,4 +1,4 @@
-//! Which images are mounted, with what is free then, and what is told of the others.
+//! Which images are mounted, with what is free then, and what is reported of the others.
 ghost use Rattle.std.specs.Prelude.{ℕ, List};
 ghost use Rattle.mpm_port.specs.MemoryDisks.{IsFree};
 
@@ -120,7 +120,7 @@ fn first_wrong(alloc: Global, kind: Kind, rows: &[Row]) -> Result<Option<usize>,
     Ok(None)
 }
 
-/// Whether the first bytes of an image are told to be of another size.
+/// Whether the first bytes of an image are reported as of another size.
 fn is_another_size(alloc: Global, kind: Kind, image: &[u8]) -> Result<bool, Fail> {
     Ok(seen(mounts_image(alloc, kind, image)?) == fault(1, 0))
 }
@@ -180,7 +180,7 @@ fn file_of_two(letter: u8, first: u8, second: u8) -> [u8; 32] {
     entry
 }
 
-/// The first fault is told, and a block of no file before a used one.
+/// The first fault is reported, and a block of no file before a used one.
 #[test]
 fn floppies(rt: HostRuntime) -> Result<(), Fail> {
     let rows: [Row; 9] = [

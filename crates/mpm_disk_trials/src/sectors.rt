@@ -42,7 +42,7 @@ fn attach_one(alloc: Global, drives: &mut MemoryDrives, kind: Kind, writers: u8)
     }
 }
 
-/// The last call of each writer is to fail, from the first writer on, behind call 1.
+/// The last call of each writer is to fail, from the first writer on, after call 1.
 fn fail_last(drives: &mut MemoryDrives, writers: u8) -> Result<(), Fail>
     ensures { OnOk result (size_of (disks_of drives.new) 0 ≡ size_of (disks_of drives.old) 0) }
 {
@@ -269,7 +269,7 @@ fn is_so<L: Ledger>(
     passes(alloc, &mut cache, drives, &mut steps, kind, trial)
 }
 
-/// The same, with a count of the calls.
+/// Tries it on a new drive in memory, and counts the calls.
 fn check(alloc: Global, kind: Kind, writers: u8, trial: Trial) -> Result<(), Fail> {
     let mut drives = MemoryDrives::new(alloc);
     match is_so::<Brand>(alloc, Blank::new(1), &mut drives, kind, writers, trial) {
@@ -513,7 +513,7 @@ fn entries_are_written_by_their_sectors(rt: HostRuntime) -> Result<(), Fail> {
     check(rt.alloc(), Kind::Ibm3740, 3, Trial::Entries)
 }
 
-/// Sector 16 of a floppy behind the system's tracks, the first of block 2, is sector 71 of the image.
+/// Sector 16 of a floppy after the system's tracks, the first of block 2, is sector 71 of the image.
 fn is_placed<L: Ledger>(cache: &mut Cache, drives: &mut MemoryDrives, steps: &mut Steps<L>) -> bool
     requires size { size_of (disks_of drives.old) 0 ≡ Some 256256 }
     requires coherent { IsCoherent cache.old (disks_of drives.old) }

@@ -59,19 +59,19 @@ runner instruction procs lists running =
 abbrev pub picked : Bool → Dispatcher → Dispatcher
 picked instruction d = record d { running = runner instruction d.procs d.lists d.running }
 
--- a process is put behind its equals
+-- a process is put after its equals
 abbrev pub rotated_in : Table → List (List Member) → ℕ → List (List Member)
 rotated_in procs lists p = rotated lists p (process_in procs p).priority
 
 abbrev pub behind_equals : ℕ → Dispatcher → Dispatcher
 behind_equals p d = record d { lists = rotated_in d.procs d.lists p }
 
--- a process gets another priority, and is put behind its new equals
+-- a process gets another priority, and is put after its new equals
 abbrev pub with_priority : ℕ → ℕ → Dispatcher → Dispatcher
 with_priority p priority d =
     behind_equals p (with_procs (with_process d.procs p (record (process_in d.procs p) { priority = priority })) d)
 
--- the process that runs, if it is ready, is put behind its equals
+-- the process that runs, if it is ready, is put after its equals
 unfoldable pub lists_behind : Option ℕ → Table → List (List Member) → List (List Member)
 lists_behind None procs lists = lists
 lists_behind (Some p) procs lists = if is_ready (list_of lists p) then rotated_in procs lists p else lists
@@ -132,7 +132,7 @@ lists_ready (Some p) procs lists = moved_in procs lists ready p
 abbrev pub made_ready : Option ℕ → Dispatcher → Dispatcher
 made_ready o d = record d { lists = lists_ready o d.procs d.lists }
 
--- the held call of another process, if any, is completed, behind those that were
+-- the held call of another process, if any, is completed, after those that were
 unfoldable pub also_completed : Option ℕ → List ℕ → List ℕ
 also_completed None ps = ps
 also_completed (Some p) ps = ps ++ p ∷ []

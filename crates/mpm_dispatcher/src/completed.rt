@@ -53,7 +53,7 @@ impl Completed {
         self.count = count as u8;
     }
 
-    /// One more process, behind the others. There is room for 64.
+    /// One more process, after the others. There is room for 64.
     pub fn push(&mut self, p: Pid)
         requires { length self.old < 64 }
         ensures { self.new ≡ self.old ++ p ∷ [] }

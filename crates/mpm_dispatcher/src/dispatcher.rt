@@ -98,7 +98,7 @@ impl Dispatcher {
         }
     }
 
-    /// A ready process is put behind those of its priority.
+    /// A ready process is put after those of its priority.
     #[cold]
     #[inline(never)]
     pub fn rotate(&mut self, p: Pid)
@@ -110,7 +110,7 @@ impl Dispatcher {
         self.lists.rotate(p, priority);
     }
 
-    /// A ready process gets another priority, and is put behind those of it.
+    /// A ready process gets another priority, and is put after those of it.
     #[cold]
     #[inline(never)]
     #[tactic(auto, using(mpm_procs::proofs::MapLaws::lives_changed))]
@@ -124,7 +124,7 @@ impl Dispatcher {
         self.rotate(p);
     }
 
-    /// The process that runs, if it is ready, is put behind its equals.
+    /// The process that runs, if it is ready, is put after its equals.
     #[tactic(auto, unfolding(crate::specs::Dispatch::lists_behind))]
     pub fn runner_behind(&mut self)
         requires { (p : ℕ) → self.old.running ≡ Some p → Lives self.old.procs p }
@@ -260,7 +260,7 @@ impl Dispatcher {
         }
     }
 
-    /// The held call of another process, if any, is completed, behind those that were.
+    /// The held call of another process, if any, is completed, after those that were.
     #[tactic(auto, unfolding(crate::specs::Dispatch::lists_ready, crate::specs::Dispatch::also_completed))]
     pub fn wake_other(&mut self, other: Option<Pid>)
         requires lives { IfSome other (λ p. Lives self.old.procs p) }

@@ -1,11 +1,11 @@
--- What an image that an attach brings stands for, by what is told of it before.
+-- What an image that an attach brings stands for, by what is known of it before.
 use Rattle.std.specs.Prelude.{◌≡◌, ℕ, List, Ok}
 use Rattle.mpm_base.specs.declared.kind.Kind.{Kind}
 use Rattle.mpm_port.specs.Disks.{ToldImage, Brings}
 use Rattle.mpm_mount.specs.Drives.{Drive}
 use Rattle.mpm_mount.specs.Images.{files_of}
 
--- what is told of images by their names
+-- what is known of images by their names
 abbrev pub Images : Type 0
 Images = List ℕ → ToldImage
 

@@ -5,7 +5,7 @@ use Rattle.mpm_functions.specs.declared.functions.FileFunction.{FileFunction}
 use Rattle.mpm_functions.specs.declared.ends.RecordEnd.{RecordEnd}
 use Rattle.mpm_functions.specs.Ends.{coded}
 
--- so many are told, and never more than that
+-- so many are answered, and never more than that
 pub told_whole : (function : FileFunction) (moved multi : ℕ) (end : Option RecordEnd) (value : ℕ) → IfSome end (λ end. moved < multi) → value ≡ coded function (min moved (multi - 1)) end
     → value ≡ coded function moved end
 told_whole function moved multi None value few is = is

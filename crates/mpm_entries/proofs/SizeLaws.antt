@@ -1,4 +1,4 @@
--- The size of a file, by a walk over its entries: what is left behind the last that was found tells it, or else that one does.
+-- The size of a file, by a walk over its entries: what is left after the last that was found tells it, or else that one does.
 use Rattle.std.proofs.Common.{◌≡◌, ◌∙◌, ℕ, ◌+◌, ◌*◌, ◌≤◌, ◌==◌, Bool, true, false, ◌&&◌, cond, List, [], ◌∷◌, Option, Some, None, length, sym, refl, ap}
 use Rattle.std.specs.Prelude.{bytes_eq, filter, option_map}
 use Rattle.std.specs.List as lists
@@ -91,7 +91,7 @@ none_kept wide earlier [] narrow none = refl
 none_kept wide earlier (x ∷ xs) narrow none =
     none_kept_step wide earlier x (lists.find wide xs) xs (wide x) refl none (narrow x) (none_kept wide earlier xs narrow)
 
--- what is left of a file's entries behind the last that was found
+-- what is left of a file's entries after the last that was found
 abbrev pub size_behind : Drive → FileName → Kind → Option Found → ℕ → ℕ
 size_behind files file kind last size =
     size_or size (filter (λ e. ((e.0.user == file.user) && bytes_eq e.0.name file.name) && is_above (option_map (found_name kind file.user) last) e.0) (entries files.extents))

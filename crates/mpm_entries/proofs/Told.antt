@@ -1,4 +1,4 @@
--- What is told of a file by the directory is what the drive has that it stands for.
+-- What is answered of a file by the directory is what the drive has that it stands for.
 use Rattle.std.proofs.Common.{◌≡◌, ◌∙◌, ℕ, ◌+◌, ◌≤◌, ◌<◌, Bool, false, List, [], ◌∷◌, Option, Some, None, length, replicate, sym, refl, ap, arith}
 use Rattle.std.specs.Prelude.{unwrap_or}
 use Rattle.std.specs.FinMap.{get}

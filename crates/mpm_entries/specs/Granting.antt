@@ -53,7 +53,7 @@ opened_block drive g None = g.block
 opened_block drive g (Some made) =
     opened g.block (attributes_of (extents_of drive (file_in g))) (record_count drive (file_in g) (g.block.ex % 32)) made.mode made.number
 
--- the position behind a call on records: that of a sequential one goes on by the records that were moved, that of a random one
+-- the position after a call on records: that of a sequential one goes on by the records that were moved, that of a random one
 -- becomes the random record
 abbrev pub position_by : FileFunction → ℕ → ℕ → ℕ
 position_by ReadSequential first moved = first + moved
@@ -63,7 +63,7 @@ position_by function first moved = first
 abbrev pub position_of : Granted → ℕ
 position_of g = position_by g.function g.first g.ended.moved
 
--- where its block doesn't stay, the position behind a call is one that a block can have
+-- where its block doesn't stay, the position after a call is one that a block can have
 abbrev pub IsPlaced : Granted → Type 0
 IsPlaced g = does_stay g.ended.moved g.ended.end ≡ false → position_of g ≤ 262271
 

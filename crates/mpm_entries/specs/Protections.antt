@@ -1,4 +1,4 @@
--- What an XFCB and the directory label keep: their bytes, what a call puts into them, and what is told of them. (MP/M II Programmer's
+-- What an XFCB and the directory label keep: their bytes, what a call puts into them, and what is answered of them. (MP/M II Programmer's
 -- Guide, "Extended File Control Blocks", "Directory Labels".)
 use Rattle.std.specs.Prelude.{ℕ, Bool, List, ◌∷◌, ◌++◌, Option, option_map, unwrap_or, bit_and, bit_or, if◌then◌else◌}
 use Rattle.mpm_base.specs.Lists.{zeros}

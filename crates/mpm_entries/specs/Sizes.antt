@@ -5,7 +5,7 @@ use Rattle.mpm_dirent.specs.declared.kinds.Entry.TheVariants.{Free, File, Xfcb, 
 use Rattle.mpm_mount.specs.Faults.{extent_of}
 use Rattle.mpm_mount.specs.Drives.{PhysicalExtent}
 
--- the record behind the last of an entry
+-- the record after the last of an entry
 abbrev pub size_at : Entry → ℕ
 size_at (File f) = 128 * extent_of f + f.rc
 size_at Free = 0

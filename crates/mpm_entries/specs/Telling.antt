@@ -1,4 +1,4 @@
--- What is told of a file: an entry as a search tells it, and what a file control block gets of a file that was opened, of a position,
+-- What is answered of a file: an entry as a search tells it, and what a file control block gets of a file that was opened, of a position,
 -- of its size and of its XFCB. (MP/M II Programmer's Guide, "File Control Block Definition", "Function 17: Search for First".)
 use Rattle.std.specs.Prelude.{ℕ, ◌<◌, ◌≤◌, ◌/◌, ◌%◌, false, List, [], ◌++◌, Option, Some, None, unwrap_or, replicate}
 use Rattle.std.specs.FinMap.{get}
@@ -20,7 +20,7 @@ use Rattle.mpm_fcb.specs.Positions.{at_position}
 use Rattle.mpm_fcb.specs.Positions as positions
 use Rattle.mpm_fcb.specs.Opening.{opened}
 
--- a directory entry as a search tells it, with S1 and map zero, and three free ones behind it
+-- a directory entry as a search tells it, with S1 and map zero, and three free ones after it
 unfoldable pub told_bytes : ℕ → List ℕ → ℕ → ℕ → List ℕ
 told_bytes user name last count =
     entry.bytes_of (File (record {
@@ -71,7 +71,7 @@ told_in d file extent = told_where d (extent_slot d file extent)
 abbrev pub record_count : Drive → FileName → ℕ → ℕ
 record_count drive file extent = unwrap_or (extent_count drive file extent) 0
 
--- the block of a file that was opened or made, and one at the position behind a call on records
+-- the block of a file that was opened or made, and one at the position after a call on records
 abbrev pub file_in : ℕ → ControlBlock → FileName
 file_in owner b = record { user = owner; name = plain b.name }
 

@@ -26,7 +26,7 @@ pub struct OpenedAs {
     pub number: u8,
 }
 
-/// A call that isn't refused, behind its turns: what its reply goes by, besides what its drive then has.
+/// A call that isn't refused, after its turns: what its reply goes by, besides what its drive then has.
 #[derive(Clone, Copy)]
 pub struct Granted {
     /// The call's function.
@@ -96,7 +96,7 @@ fn block_as(granted: &Granted, mounted: &Mounted, made: OpenedAs) -> ControlBloc
     block
 }
 
-/// The block behind a call on records, which stays or moves on.
+/// The block after a call on records, which stays or moves on.
 fn moved_block(granted: &Granted, mounted: &Mounted) -> ControlBlock
     ensures { (image : List ℕ) (drive : Drive) → Stands image mounted.now drive → spec.IsPlaced granted.now
         → result ≡ spec.moved_block drive granted.now }
@@ -118,7 +118,7 @@ fn placed_block(granted: &Granted, mounted: &Mounted) -> ControlBlock
     block
 }
 
-/// The position behind a call on records from one on, of which so many were moved.
+/// The position after a call on records from one on, of which so many were moved.
 fn position_behind(function: FileFunction, first: u32, moved: u8) -> u32
     requires { first ≤ 16777216 }
     ensures { result ≡ spec.position_by function first moved }
@@ -129,7 +129,7 @@ fn position_behind(function: FileFunction, first: u32, moved: u8) -> u32
     }
 }
 
-/// The position behind a call on records, at most 262,271.
+/// The position after a call on records, at most 262,271.
 fn position_of(granted: &Granted) -> u32
     ensures low { result ≤ 262271 }
     ensures position { spec.position_of granted.now ≤ 262271 → result ≡ spec.position_of granted.now }

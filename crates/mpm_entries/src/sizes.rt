@@ -10,7 +10,7 @@ ghost use Rattle.mpm_entries.specs.Sizes as spec;
 use mpm_dirent::{Entry, FileEntry, plain_name};
 use mpm_mount::{Found, Mounted};
 
-/// The record behind the last of an entry of a file.
+/// The record after the last of an entry of a file.
 fn end_of(file: &FileEntry) -> u32
     ensures value { result ≡ 128 * extent_of file.now + file.now.rc }
     ensures small { result ≤ 1077375 }
@@ -18,7 +18,7 @@ fn end_of(file: &FileEntry) -> u32
     128 * (32 * u32::from(file.s2) + u32::from(file.ex)) + u32::from(file.rc)
 }
 
-/// The record behind the last of a directory entry, if it is one of a file.
+/// The record after the last of a directory entry, if it is one of a file.
 fn size_at(entry: &Entry) -> u32
     ensures value { result ≡ spec.size_at entry.now }
     ensures small { result ≤ 1077375 }
@@ -29,7 +29,7 @@ fn size_at(entry: &Entry) -> u32
     }
 }
 
-/// The size of a file behind an entry that was found: by that one, where it is the file's.
+/// The size of a file after an entry that was found: by that one, where it is the file's.
 fn size_after(mounted: &Mounted, sought: &[u8; 11], found: &Found, size: u32) -> u32
     requires slot { found.now.slot ≤ (geometry_of mounted.now.kind).drm }
     requires small { size ≤ 1077375 }

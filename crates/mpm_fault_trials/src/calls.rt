@@ -1,8 +1,8 @@
-//! File calls of a program on each kind of disk, at once and in turns of twenty steps, of which each call of the drive fails: in which
-//! step the run ends, what text comes before, and what is there of the disk, which mounts again. Of the calls that read the directory
+//! File calls of a program on each kind of disk, at once and in turns of twenty steps, of which each call of the drive fails. It is seen in
+//! which step the run ends, what text comes before, and what is there of the disk, which mounts again. Of the calls that read the directory
 //! as a drive is mounted, the first and the last fail here; all of them fail in `runs` and in `ways`.
 //!
-//! A call of the program is four instructions, and the fifth of its steps is the gate's; the next call's first is in the step behind that
+//! A call of the program is four instructions, and the fifth of its steps is the gate's; the next call's first is in the step after that
 //! in which it is over. Where it enters service in step e and takes t turns, turn i is in step e + 20 i, and it is over in step e + 20 t.
 ghost use Rattle.std.specs.Prelude.{IfOk};
 ghost use Rattle.mpm_machine_file.specs.MachineFiles.{IsMachine};
@@ -22,7 +22,7 @@ use std::test::Fail;
 const STEPS: u64 = 600;
 
 /// A call of a program: its function, its parameter, how many turns it takes, which are none where no disk serves it, and its line
-/// behind the step and the process.
+/// after the step and the process.
 type Call = (u8, u16, u64, &'static str);
 
 /// Sixteen records at once (44); SECRET and 80h (26) for A.TXT, which is made (22); sixteen records (26) are written to it (21); G.TXT is
@@ -44,7 +44,7 @@ const READS: [Call; 3] = [
     (33, 0x4300, 1, "33 00 0021 4300 0000"),
 ];
 
-/// The blocks of the files, behind the program's first byte, and the password.
+/// The blocks of the files, after the program's first byte, and the password.
 const DATA: [(usize, &[u8]); 5] = [
     (0x100, b"\0A    \xA0  TXT"),
     (0x200, b"\0B       TXT"),
@@ -133,7 +133,7 @@ impl Scene<'_> {
     }
 }
 
-/// What comes of a run whose drive fails behind so many calls: the step in which it ends, and the directory.
+/// What comes of a run whose drive fails after so many calls: the step in which it ends, and the directory.
 #[derive(Clone, Copy)]
 struct Course {
     left: u64,
@@ -273,7 +273,7 @@ fn machine_on(alloc: Global, name: &str, turn: u64) -> Result<MachineFile, Fail>
 }
 
 /// The call that fails in a round, counted from 1: those that mount the drive up to the first sector of its directory, that of the
-/// last sector, and each behind that.
+/// last sector, and each after that.
 fn failing_call(kind: Kind, round: u64) -> u64 {
     if round < 4 {
         round
@@ -320,7 +320,7 @@ fn first_on(
     Err(Fail::from("a run without an end"))
 }
 
-/// The same on a machine with a kind of disk by its name.
+/// The first call whose failing ends otherwise, if any, on a machine with a kind of disk by its name.
 fn first_other(
     alloc: Global,
     scene: &Scene<'_>,

@@ -129,7 +129,7 @@ pub(crate) fn run_by_words(
     Ok(run_words(alloc, words.as_slice(), &mut files, drives, sink))
 }
 
-/// Calls the drives up to the call of a number, which fails, and lists one behind that to fail.
+/// Calls the drives up to the call of a number, which fails, and lists one after that to fail.
 pub(crate) fn fail_behind(drives: &mut MemoryDrives, number: u64, call: u64) -> Result<(), Fail> {
     drives.fail_at(number)?;
     drives.fail_at(number.saturating_add(call))?;

@@ -184,7 +184,7 @@ fn from_line<'a>(text: &'a [u8], line: &[u8]) -> Option<&'a [u8]> {
     None
 }
 
-/// Whether a text has these lines of the consoles, one behind the other.
+/// Whether a text has these lines of the consoles, one after the other.
 fn is_shown(text: &[u8]) -> bool {
     let mut rest = text;
     for line in SHOWN {
@@ -214,13 +214,13 @@ fn first_other(
     Ok(None)
 }
 
-/// The same on these drives.
+/// The first put, if any, that doesn't end a run on these drives so.
 fn first_on(alloc: Global, drives: &mut MemoryDrives) -> Result<Option<u64>, Fail> {
     let mut whole = sink(alloc, 0)?;
     first_other(alloc, drives, &mut whole)
 }
 
-/// The same on the run's drives.
+/// The first put, if any, that doesn't end a run on new drives so.
 fn first_of_run(alloc: Global) -> Result<Option<u64>, Fail> {
     let mut drives = drives(alloc)?;
     first_on(alloc, &mut drives)

@@ -140,7 +140,7 @@ fn ends(alloc: Global, played: Played<'_>, call: u64, put: u64) -> Result<Status
     ends_beside(alloc, played, call, put, &mut first)
 }
 
-/// The same, by its words over these devices, and by the calls of the machine over equal ones.
+/// How a run ends by its words over these devices, and by the calls of the machine over equal ones, which is alike.
 fn ends_beside(
     alloc: Global,
     played: Played<'_>,
@@ -198,7 +198,7 @@ fn failing_calls(alloc: Global, played: Played<'_>) -> Result<u64, Fail> {
     Err(Fail::from("a run without an end"))
 }
 
-/// The same of the sink.
+/// How many calls of the sink a run makes, each of which fails once.
 fn failing_puts(alloc: Global, played: Played<'_>) -> Result<u64, Fail> {
     for put in 1..200 {
         match ends(alloc, played, 0, put)? {

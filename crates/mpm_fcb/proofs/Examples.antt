@@ -21,12 +21,12 @@ letter = record {
   random = 0 ∷ 0 ∷ 0 ∷ [];
 }
 
--- behind 129 records it stands at record 1 of extent 1, which has one record
+-- after 129 records it stands at record 1 of extent 1, which has one record
 pub behind_129_records : at_position letter 129 1 ≡ record letter { ex = 1; rc = 1; cr = 1 }
 unfolding at_position
 behind_129_records = refl
 
--- behind the last record it stands in the last extent
+-- after the last record it stands in the last extent
 pub behind_the_last_record : at_position letter 262144 128 ≡ record letter { ex = 31; s2 = 63; rc = 128; cr = 128 }
 unfolding at_position
 behind_the_last_record = refl
@@ -50,7 +50,7 @@ pub opened_unlocked :
 unfolding opened with_attributes
 opened_unlocked = refl
 
--- a handle with other bytes behind its number names nothing
+-- a handle with other bytes after its number names nothing
 pub other_bytes_name_nothing : item_of (record letter { map = 5 ∷ 0 ∷ 1 ∷ replicate 13 0 }) ≡ None
 unfolding item_of
 other_bytes_name_nothing = refl

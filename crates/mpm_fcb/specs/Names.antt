@@ -9,7 +9,7 @@ use Rattle.mpm_fcb.specs.declared.block.ControlBlock.{ControlBlock}
 abbrev pub drive_of : ℕ → ControlBlock → ℕ
 drive_of own b = if b.drive == 0 then own else b.drive - 1
 
--- the name that a renaming gives, behind the byte of a second drive
+-- the name that a renaming gives, after the byte of a second drive
 abbrev pub new_name_of : ControlBlock → List ℕ
 new_name_of b = part 1 11 b.map
 

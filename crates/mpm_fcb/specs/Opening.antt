@@ -23,7 +23,7 @@ handle_of item = (item + 1) ∷ replicate 15 0
 abbrev pub item_numbered : ℕ → Option ℕ
 item_numbered number = if number == 0 || nat_lt LAST_NUMBER number then None else (Some (number - 1))
 
--- the open file of a block's handle, which has nothing but zeros behind its number
+-- the open file of a block's handle, which has nothing but zeros after its number
 unfoldable pub item_of : ControlBlock → Option ℕ
 item_of b = if bytes_eq (drop 1 b.map) (replicate 15 0) then item_numbered (slice_index b.map 0) else None
 

@@ -5,7 +5,7 @@ use crate::floppies::name_of_slot;
 use mpm_base::{Call, Reply};
 use mpm_procs::Process;
 
-/// A line of a scene: what the next calls have, a call with what it is answered, or what is seen behind it.
+/// A line of a scene: what the next calls have, a call with what it is answered, or what is seen after it.
 #[derive(Clone, Copy)]
 pub enum Line<'a> {
     /// This process calls from here on: of user 0, with drive A, a record a call, and no default password.
@@ -36,7 +36,7 @@ pub enum Line<'a> {
     Sends(&'a [u8]),
     /// Bytes of one value stand there.
     Fills(u8),
-    /// Behind so many records of the first byte that stands there stand bytes of this value.
+    /// After so many records of the first byte that stands there stand bytes of this value.
     After(u8, u8),
     /// A call of a function, and its value.
     Asks(u8, u16),
@@ -90,7 +90,7 @@ fn block_of(drive: u8, name: &[u8; 11]) -> [u8; 36] {
     block
 }
 
-/// So many records of a byte, behind those of another.
+/// So many records of a byte, after those of another.
 fn filled(first: u8, byte: u8, other: u8) -> [u8; 4096] {
     let mut bytes = [byte; 4096];
     for (place, old) in bytes.iter_mut().enumerate() {

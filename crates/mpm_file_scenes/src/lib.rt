@@ -1,4 +1,4 @@
-//! Scenes of file calls: who calls, what they are answered, and what is seen behind it, on two floppy disks. Each is played with its
+//! Scenes of file calls: who calls, what they are answered, and what is seen after it, on two floppy disks. Each is played with its
 //! calls done at once, as any caller does them, and once more turn by turn.
 #![tactic(auto)]
 

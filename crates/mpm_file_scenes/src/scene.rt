@@ -68,7 +68,7 @@ fn login_vector(bdos: &Bdos, process: &Process) -> (u16, Option<Extended>) {
     (reply.hl, extended)
 }
 
-/// The same of one that is done turn by turn, where the drives that are mounted are told the same before each turn.
+/// Serves a call turn by turn, and answers its extended error. It fails where the login vector changes before the call's last turn.
 fn serves_in_turns<D: Drives, L: Ledger>(
     bdos: &mut Bdos,
     drives: &mut D,
@@ -157,7 +157,7 @@ fn takes_turns<D: Drives, L: Ledger>(
     true
 }
 
-/// Whether a call that enters service takes so many turns, and answers a value without an extended error behind them.
+/// Whether a call that enters service takes so many turns, and answers a value without an extended error after them.
 fn serves<D: Drives, L: Ledger>(
     bdos: &mut Bdos,
     drives: &mut D,
@@ -336,7 +336,7 @@ fn wrong_on<L: Ledger>(
     Ok(first_wrong(&mut bdos, drives, &mut steps, &mut desk, lines))
 }
 
-/// The same, with a count of the calls of the drives.
+/// The first line that isn't so on these disks, whose calls are counted.
 fn wrong_by(
     alloc: Global,
     drives: &mut Floppies,
@@ -362,7 +362,7 @@ pub fn first_wrong_line(
     first_wrong_failing(alloc, a, b, None, lines)
 }
 
-/// The same, where a drive fails in each call that writes to it: with each call done at once, or else turn by turn.
+/// The first line that isn't so, where a drive may fail in each call that writes to it: with each call done at once, or else turn by turn.
 ///
 /// # Errors
 /// There isn't enough memory for the disks.

@@ -86,7 +86,7 @@ fn a_record_at_random_takes_a_block(rt: HostRuntime) -> Result<(), Fail> {
     Ok(())
 }
 
-/// A random position stands still, a sequential one goes on behind the records, also from where a call at random left it.
+/// A random position stands still, a sequential one goes on after the records, also from where a call at random left it.
 #[test]
 fn positions_stand_still_or_go_on(rt: HostRuntime) -> Result<(), Fail> {
     let lines = [

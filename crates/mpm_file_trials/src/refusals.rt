@@ -393,7 +393,6 @@ fn what_tells_of_a_drive_needs_the_drive(rt: HostRuntime) -> Result<(), Fail> {
     Ok(())
 }
 
-/// R is read-only by T1', and G is opened in read-only mode, by F6'.
 /// The first line that isn't so of a function that writes two records, where the last call answers this. R is read-only by T1', and G
 /// is opened in read-only mode, by F6'.
 fn wrong_of_writing(alloc: Global, function: u8, last: u16) -> Result<Option<usize>, Fail> {
@@ -451,7 +450,7 @@ fn wrong_of_writing(alloc: Global, function: u8, last: u16) -> Result<Option<usi
     wrong_of(alloc, &lines)
 }
 
-/// A has no record that 41 could replace.
+/// Function 41 finds no record of A that it could replace.
 #[test]
 fn records_are_written_or_refused_in_order(rt: HostRuntime) -> Result<(), Fail> {
     let rows = [
@@ -467,10 +466,7 @@ fn records_are_written_or_refused_in_order(rt: HostRuntime) -> Result<(), Fail> 
     Ok(())
 }
 
-/// R is read-only by T1', and G is opened in read-only mode, by F6'.
-/// R is read-only by T1', and G is opened in read-only mode, by F6'.
-/// R is read-only by T1', and G is opened in read-only mode, by F6'.
-/// Where no record is, 20 answers 1, also beyond the last that a file can have.
+/// Where no record is, function 20 answers 1, also where the records go beyond the last that a file can have.
 #[test]
 fn records_are_read_in_order(rt: HostRuntime) -> Result<(), Fail> {
     let lines = [

@@ -132,7 +132,7 @@ fn a_lock_is_its_owners_until_that_ends(rt: HostRuntime) -> Result<(), Fail> {
     Ok(())
 }
 
-/// A process has at most 32 locks. Another's lock is told before that, and its own record needs none more.
+/// A process has at most 32 locks. Another's lock is reported before that, and its own record needs none more.
 #[test]
 fn a_process_has_thirty_two_locks(rt: HostRuntime) -> Result<(), Fail> {
     let lines = [

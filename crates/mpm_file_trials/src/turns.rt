@@ -44,7 +44,7 @@ fn a_deletion_by_a_pattern_takes_the_turns_of_its_files(rt: HostRuntime) -> Resu
     Ok(())
 }
 
-/// The XFCB that has the new name goes first; then each entry and the XFCB get it. Behind that N has an XFCB and three entries.
+/// The XFCB that has the new name goes first; then each entry and the XFCB get it. After that N has an XFCB and three entries.
 #[test]
 fn a_renaming_takes_a_turn_for_each_entry(rt: HostRuntime) -> Result<(), Fail> {
     let lines = [

@@ -1,4 +1,4 @@
--- What is told of a device's faults where it wasn't called, and by calls behind one that went well.
+-- What is known of a device's faults where it wasn't called, and by calls after one that went well.
 use Rattle.std.proofs.Common.{◌≡◌, ℕ, Result, Ok, Err, refl, subst, arith}
 use Rattle.mpm_port.specs.Causes.{HasCause}
 

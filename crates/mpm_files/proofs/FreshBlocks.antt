@@ -74,7 +74,7 @@ stands_into d files block [] image free each stands = stands
 stands_into d files block (w ∷ ws) image free each stands =
     stands_into d files block ws (with_sector image (place_of d.kind w.sector) w.bytes) free each.1 (one_into d files block w image free each.0 stands)
 
--- what a sector has behind some writes
+-- what a sector has after some writes
 unfoldable behind_writes : List Write → ℕ → List ℕ → List ℕ
 behind_writes [] s before = before
 behind_writes (w ∷ ws) s before = behind_writes ws s (if w.sector == s then w.bytes else before)

@@ -83,7 +83,7 @@ ended_by before job j Label whole size all = refl
 ended_by before job j Xfcb whole size all = refl
 ended_by before job j Nothing whole size all = refl
 
--- behind all turns a call tells why it ended
+-- after all turns a call tells why it ended
 pub error_told : (before : Drive) (job : Job) (work : Work) → IsWhole (file_of_job job) before → IsServing before job (turns_of before job) work
     → told_error work ≡ error_after before job (turns_of before job)
 unfolding plan_of untested_plan

@@ -26,7 +26,7 @@ pub on_err : {A E P Q : Type 0} (result : Result A E) → (P → Q) → OnErr re
 on_err (Ok x) f p = tt
 on_err (Err e) f p = f p
 
--- a unit is next, and the work behind it serves the job
+-- a unit is next, and the work after it serves the job
 pub record IsDone (before : Drive) (job : Job) (j : ℕ) (new : Work) (unit : FileUnit) : Type 0 where
   pub unit_is : unit_at before job j ≡ unit
   pub serving : IsServing before job (suc j) (one_ended new)

@@ -98,7 +98,7 @@ pub few_read : (before : Drive) (job : Job) (j : ℕ) (work : Work) → IsServin
 few_read before job j work serving is h suits =
     omega (arith, reads_more before job j work serving is h, ap (λ (q : Job). q.count) serving.job_is, suits.count, serving.moved, serving.ended, moves_few (plan_of before job).units j)
 
--- bytes that are put behind others
+-- bytes that are put after others
 pub put_behind : (front bytes rest : List ℕ) (n : ℕ) → length front ≡ n → take n (front ++ drop n rest) ++ (bytes ++ drop (n + 128) (front ++ drop n rest)) ≡ front ++ (bytes ++ drop (n + 128) rest)
 put_behind front bytes rest n size =
     ap (λ k. take k (front ++ drop n rest) ++ (bytes ++ drop (n + 128) (front ++ drop n rest))) (sym size)
@@ -137,7 +137,7 @@ moved_read before job j work serving is =
     serving.moved ∙ sym (as_many_read (plan_of before job).units j before
     (subst (λ k. AllSo OneEach before (plan_by before job k).units) (sym (kind_is before job j work serving is)) (reads_each job.count before (file_of_job job) job.first)))
 
--- one more is kept behind them
+-- one more is kept after them
 flat : List (List ℕ) → List ℕ
 flat rs = flat_map (λ bytes. bytes) rs
 

@@ -1,5 +1,5 @@
 -- Calls that change entries alone: each record is seen, after any number of turns, as before the call or as after it. What a unit
--- changes of a record's entry is changed by none behind it.
+-- changes of a record's entry is changed by none after it.
 use Rattle.std.proofs.Common.{◌≡◌, ◌≢◌, ◌⊎◌, inl, inr, ℕ, zero, suc, ◌/◌, Bool, true, false, not, ◌==◌, cond, List, [], ◌∷◌, ◌++◌, Option, Some, None, take, refl, sym, ap, subst, ◌∙◌}
 use Rattle.std.specs.Prelude.{nat_le, is_some, option_and_then, if◌then◌else◌}
 use Rattle.std.specs.List.{AllByRecursion, list_any}

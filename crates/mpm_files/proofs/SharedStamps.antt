@@ -36,7 +36,7 @@ still_there : (d : Directory) (file : FileName) (slot other : ℕ) (x : XfcbEntr
     → entry_in (with_entry d slot (File g)) other ≡ Xfcb x
 still_there d file slot other x g has was = get_or-set_other d.entries slot other (File g) Free (other_slot d file slot other x has was) ∙ has.entry
 
--- the stamped XFCB may stand in its place behind the other entry
+-- the stamped XFCB may stand in its place after the other entry
 pub still_beside : (d : Directory) (file : FileName) (slot other : ℕ) (x y : XfcbEntry) (g : FileEntry) (moment : List ℕ) → HasXfcb d file other x → is_file (entry_in d slot) ≡ true
     → slot ≤ (geometry_of d.kind).drm → cause_of d.kind (others d.entries slot) (File g) ≡ None → y ≡ record x { second = moment }
     → cause_of d.kind (others (with_entry d slot (File g)).entries other) (Xfcb y) ≡ None

@@ -1,4 +1,4 @@
--- Stamps that are put into XFCBs, alone and behind other changes.
+-- Stamps that are put into XFCBs, alone and after other changes.
 use Rattle.std.proofs.Common.{◌≡◌, ℕ, List, [], ◌∷◌, Option, Some, None, Result, Ok, Err, refl, sym, ap, subst, ◌∙◌}
 use Rattle.std.specs.FinMap.{get}
 use Rattle.mpm_port.specs.Disks.{Disks}
@@ -77,7 +77,7 @@ no_xfcb {A = A} {E = E} disks drive image d files change file moment result miss
     nothing None = refl
     nothing (Some moment) = ap (λ (o : Option Protection). where_there o (λ xfcb. with_xfcb files file (change moment xfcb) ∷ [])) (xfcb_missing image d files file stands missing)
 
--- a stamp behind other changes
+-- a stamp after other changes
 pub then_stamped : {A B E : Type 0} (mid new : Disks) (drive : ℕ) (d now : Directory) (files : Drive) (xs : List Drive) (file : FileName) (moment : Option (List ℕ)) (done : A)
     (result : Result B E) → d.drive ≡ drive → GoesThrough {A = A} {E = E} mid drive d files xs (Ok done)
     → ((image : List ℕ) (before : Drive) → mid.image d.drive ≡ Some image → Stands image d before
@@ -98,7 +98,7 @@ pub idles : {A E : Type 0} (disks : Disks) (drive : ℕ) (now : Directory) (file
 unfolding stages
 idles disks drive now files file moment result goes = does disks drive now files (Idles file moment) (stamped first_stamped file moment files) result refl goes
 
--- a stamp behind nothing
+-- a stamp after nothing
 pub only_stamped : {A E : Type 0} (disks : Disks) (drive : ℕ) (now : Directory) (files : Drive) (file : FileName) (moment : Option (List ℕ)) (xs : List Drive) (result : Result A E)
     → [] ≡ xs → GoesThrough disks drive now files (stamped second_stamped file moment files) result → GoesThrough disks drive now files (with_stamp file moment files xs) result
 unfolding last_of

@@ -148,7 +148,7 @@ record_there before job j work serving is h = by_missed work.has_missed refl
     by_missed true missed = subst (IsThere (units_done before job j)) (next_passed before job j work serving is h missed).0 there
     by_missed false missed = by_test missed (has_record (units_done before job j) (file_of_job work.job) (read_now work) (test_now work).expected) refl
 
--- whether one was missed behind a unit more
+-- whether one was missed after a unit more
 any_last : {X : Type 0} (p : X → Bool) (xs : List X) (x : X) (b : Bool) → p x ≡ b → list_any p (xs ++ (x ∷ [])) ≡ (list_any p xs || b)
 any_last p [] x true is = ap (λ b. b || false) is
 any_last p [] x false is = ap (λ b. b || false) is

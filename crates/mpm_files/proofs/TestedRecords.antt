@@ -1,4 +1,4 @@
--- The same of a call that tests records and writes them; and by jobs.
+-- What is seen of each record in a call that tests records and writes them; and in any job that writes.
 use Rattle.std.proofs.Common.{◌≡◌, ◌⊎◌, inl, inr, ℕ, zero, suc, ◌+◌, ◌/◌, ◌<◌, Bool, true, false, ◌&&◌, not, List, [], ◌∷◌, Option, Some, None, take, length, refl, sym, ap, subst, ◌∙◌, arith, take_all, le_refl}
 use Rattle.std.specs.Prelude.{is_some, if◌then◌else◌}
 use Rattle.std.specs.FinMap.{get}

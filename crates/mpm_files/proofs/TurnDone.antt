@@ -65,7 +65,7 @@ idle_turn disks d before job j work service turn over =
 pub service_stands : (disks : Disks) (d : Directory) (before : Drive) (job : Job) (j : ℕ) (work : Work) → InService disks d before job j work → StandsOn disks d (units_done before job j)
 service_stands disks d before job j work service = record { image = service.image; told = service.told; stands = service.service.stands }
 
--- where the device failed in the turn behind j that have ended, the image stands for a drive that the job contains
+-- where the device failed in the turn after j that have ended, the image stands for a drive that the job contains
 pub failure_contained : (disks : Disks) (drive : ℕ) (before : Drive) (job : Job) (j : ℕ) (stopped : Contained disks drive before job j) → IsContained before job j stopped.within.files
 failure_contained disks drive before job j stopped =
     among_all (IsContained before job j) (units_done before job j) (stages (unit_at before job j) (units_done before job j)) stopped.within.files

@@ -179,7 +179,7 @@ units_show d file n bytes stamp cleared whole =
     units_by d file n bytes stamp (clears_blocks d.kind && (needs_block d file n && not cleared)) whole (get d.extents (entry_name d.kind file (n / 128)))
     (get d.extents (entry_name d.kind file (n / 128))) refl refl
 
--- what is seen of a record stays as those behind it are written
+-- what is seen of a record stays as those after it are written
 kept_by : (file : FileName) (m : ℕ) (b : List ℕ) (d : Drive) (error : Option RecordError) (units : List FileUnit) (plan : Plan) → visible_of d file m ≡ Some b
     → visible_of (all_applied d (units ++ plan.units)) file m ≡ Some b → visible_of (all_applied d (unless_failing error (behind units plan)).units) file m ≡ Some b
 unfolding all_applied
@@ -199,7 +199,7 @@ still_seen (bytes ∷ records) d file n stamp m b whole h shown =
     (ap (λ x. visible_of x file m) (all_applied_append units rest.units d)
     ∙ still_seen records after file (n + 1) None m b done.whole (omega arith) ((units_show d file n bytes stamp false whole).changes.stays m b (λ same. absurd (omega (arith, same))) shown))
 
--- a number of units: some of the first record's, or all of them and some behind
+-- a number of units: some of the first record's, or all of them and some after
 parted : (us vs : List FileUnit) (j : ℕ) → ((j < length us) × (take j (us ++ vs) ≡ take j us)) ⊎ ((i : ℕ) × (take j (us ++ vs) ≡ us ++ take i vs))
 parted [] vs j = inr (j, refl)
 parted (u ∷ us) vs zero = inl (omega arith, refl)

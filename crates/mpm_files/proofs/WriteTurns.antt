@@ -43,7 +43,7 @@ unit_fits before job j unit kind h is =
     (so_at Fits (plan_of before job).units j (Idles (file_of_job job) None) before
     (subst (λ k. AllSo Fits before (plan_by before job k).units) (sym kind) (writing_fits (records_of_job job) before (file_of_job job) job.first job.stamp)) h)
 
--- the record that is next, and those behind it
+-- the record that is next, and those after it
 abbrev pub bytes_now : Work → List ℕ
 bytes_now work = record_at work.job.bytes work.moved
 

@@ -93,9 +93,8 @@ pub record IsWithin (unit : FileUnit) (before now : Drive) : Type 0 where
   pub keeps : Keeps (unit_names unit) (names_label unit) before now
   pub records : SameRecords before now ⊎ SameRecords (applied before unit) now
 
--- a drive as a failure leaves it, in some turn of a call from turn j on: files and XFCBs that the job doesn't name are as before the
--- call, and so is the label but in a job of the label; record counts and visible records are those after some number of units, at
--- least j
+-- a drive as a failure leaves it, in some turn of a call from turn j on. Files and XFCBs that the job doesn't name are as before the call,
+-- and so is the label but in a job of the label. Record counts and visible records are those after some number of units, at least j
 pub record IsContained (before : Drive) (job : Job) (j : ℕ) (now : Drive) : Type 0 where
   pub keeps : Keeps (names before job) (is_label_job job.kind) before now
   pub turn : ℕ

@@ -98,7 +98,7 @@ missed_by drive job j Nothing = false
 abbrev pub has_missed : Drive → Job → ℕ → Bool
 has_missed drive job j = missed_by drive job j job.kind
 
--- why a call ends is told once its last turn is done
+-- why a call ends is known once its last turn is done
 abbrev pub error_after : Drive → Job → ℕ → Option RecordError
 error_after drive job j = if nat_lt j (turns_of drive job) then None else (plan_of drive job).error
 

@@ -37,8 +37,8 @@ pub record MayRename (drive : Drive) (job : Job) : Type 0 where
   pub other : is_same_file (new_file_of_job job) (file_of_job job) ≡ false
   pub none : has_file drive (new_file_of_job job) ≡ false
 
--- what is asked of a drive by the sort of a job: of records that are written, that none is above the last that a file may have; of a
--- name by which entries are sought one after the other, that it fits one name alone; of an XFCB or a label that comes, a free entry
+-- what is asked of a drive by the sort of a job. Of records that are written none is above the last that a file may have. A name by which
+-- entries are sought one after the other fits one name alone. An XFCB or a label that comes has a free entry
 abbrev pub SuitsKind : Drive → Job → JobKind → Type 0
 SuitsKind drive job Read = Unit {0}
 SuitsKind drive job Write = job.first + job.count ≤ 262144
@@ -114,7 +114,7 @@ pub record InService (disks : Disks) (d : Directory) (before : Drive) (job : Job
   pub told : disks.image d.drive ≡ Some image
   pub service : IsInService image d before job j work
 
--- a device failed in the turn behind j that have ended: the image stands within its unit
+-- a device failed in the turn after j that have ended: the image stands within its unit
 pub record Contained (disks : Disks) (drive : ℕ) (before : Drive) (job : Job) (j : ℕ) : Type 0 where
   pub within : StandsWithin disks drive (units_done before job j) (unit_at before job j)
 

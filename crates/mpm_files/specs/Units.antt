@@ -15,7 +15,7 @@ pub data FileUnit : Type 0 where
   Idles : FileName → Option (List ℕ) → FileUnit
   -- a record is read
   ReadsRecord : FileName → ℕ → FileUnit
-  -- a record is passed behind one that had other bytes than were named
+  -- a record is passed after one that had other bytes than were named
   PassesRecord : FileName → ℕ → FileUnit
   -- a directory entry for an extent of a file is added
   AddsEntry : FileName → ℕ → FileUnit

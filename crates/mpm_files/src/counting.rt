@@ -133,7 +133,7 @@ fn are_in_one_block(kind: Kind, m: u32, n: u32) -> bool
     are_in_one_entry(kind, m, n) && block_place(kind, m) == block_place(kind, n)
 }
 
-/// What record n of a job needs, behind others of the job or as the first.
+/// What record n of a job needs, after others of the job or as the first.
 fn needs_of(mounted: &Mounted, job: &Job, is_later: bool, n: u32) -> Needs
     requires record { n ≤ 262286 }
     ensures entry { result.entry ≡ spec.entry_more mounted.now.kind (spec.lacks_entry mounted.now (plans.file_of_job job.now)) is_later n }

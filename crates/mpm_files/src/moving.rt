@@ -46,7 +46,7 @@ fn stamp(job: &Job, done: u32) -> Option<[u8; 4]>
     if done == 0 { job.stamp } else { None }
 }
 
-/// Puts a record that was read behind those that were read before it.
+/// Puts a record that was read after those that were read before it.
 fn keep(work: &mut Work, bytes: &[u8; 128])
     requires { work.old.moved < 32 }
     ensures kept { work.new ≡ turning.with_record_read work.old bytes.now }

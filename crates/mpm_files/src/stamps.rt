@@ -117,7 +117,7 @@ pub(crate) fn idle<D: Drives, L: Ledger>(
 }
 
 /// Puts an entry of the job's file in the place of another of its entries, and the second stamp into its XFCB: in one write where
-/// that is in the same sector, else behind it.
+/// that is in the same sector, else after it.
 pub(crate) fn put_stamped<D: Drives, L: Ledger>(
     mounted: &mut Mounted,
     cache: &mut Cache,

@@ -293,7 +293,7 @@ fn put_raised<D: Drives, L: Ledger>(
     }
 }
 
-/// Writes a record into a free block, behind zeros in the block's other sectors, of which some are zeros already.
+/// Writes a record into a free block, after zeros in the block's other sectors, of which some are zeros already.
 fn put_with_block<D: Drives, L: Ledger>(
     mounted: &Mounted,
     cache: &mut Cache,

@@ -76,7 +76,7 @@ const NEXT: [u8; 341] = [
     0x00, 0x00, 0x00, 0x00, 0x00,
 ];
 
-/// Both programs run on an empty disk, one behind the other, and write that.
+/// Both programs run on an empty disk, one after the other, and write that.
 fn write<'a>(rt: &HostRuntime, first: &'a [u8], second: &'a [u8], text: &[u8]) -> Result<(), Fail> {
     let scene = Scene {
         machine: SHARING,

@@ -21,7 +21,7 @@ kind = \"ibm3740\"
 image = \"a.img\"
 ";
 
-/// The same, whose disk serves file calls in turns.
+/// The machine of `ON_A_DISK`, but with a disk that serves file calls in turns.
 const IN_TURNS: &[u8] = b"version = 1
 consoles = 1
 disk_turn = 20
@@ -52,7 +52,7 @@ image = \"a.img\"
 /// What a program does.
 #[derive(Clone, Copy)]
 pub(crate) enum Act {
-    /// Calls a function with a parameter, and keeps the word that it answers behind those of its calls before, which must be
+    /// Calls a function with a parameter, and keeps the word that it answers after those of its calls before, which must be
     /// that one: six instructions, of which the fifth is the call.
     Calls(u8, u16, u16),
     /// Puts a byte at an address: two instructions.
@@ -61,14 +61,14 @@ pub(crate) enum Act {
 
 use Act::{Calls, Puts};
 
-/// A part of a program's data: it stands so many bytes behind the program's first.
+/// A part of a program's data: it stands so many bytes after the program's first.
 #[derive(Clone, Copy)]
 pub(crate) struct Data<'a>(pub usize, pub &'a [u8]);
 
-/// A program of that length, which stands behind its base page.
+/// A program of that length, which follows its base page.
 pub(crate) type Program = [u8; 3072];
 
-/// Where the words stand that a program's calls answered, behind the program's first byte.
+/// Where the words stand that a program's calls answered, after the program's first byte.
 const ANSWERS: u16 = 0x0180;
 
 /// Puts bytes into a program at a place.
@@ -87,7 +87,7 @@ fn first_answer(base: u8) -> u16 {
         .wrapping_add(ANSWERS)
 }
 
-/// The program that does that, one after another, with its data; it stands in a segment with that base page. Behind all it does
+/// The program that does that, one after another, with its data; it stands in a segment with that base page. After all it does
 /// there is a HALT.
 pub(crate) fn program(base: u8, acts: &[Act], data: &[Data]) -> Program {
     let mut program = [0; 3072];
@@ -131,7 +131,7 @@ fn steps_of(acts: &[Act]) -> u64 {
     steps
 }
 
-/// What is seen behind all that in a segment with that base page: what each call answered, and these.
+/// What is seen after all that in a segment with that base page: what each call answered, and these.
 fn seen(base: u8, acts: &[Act], sights: &[Sight]) -> [Sight; 64] {
     let mut all = [Lives(0, true); 64];
     let mut answer = first_answer(base);
@@ -164,7 +164,7 @@ fn on_a_disk<'a>(first: &'a [u8], second: &'a [u8], disk: &'a [Entry]) -> Scene<
     }
 }
 
-/// The same where the disk serves calls in turns.
+/// The scene of one or two programs on a drive with these entries, whose disk serves calls in turns.
 pub(crate) fn in_turns<'a>(first: &'a [u8], second: &'a [u8], disk: &'a [Entry]) -> Scene<'a> {
     Scene {
         machine: IN_TURNS,
@@ -175,7 +175,7 @@ pub(crate) fn in_turns<'a>(first: &'a [u8], second: &'a [u8], disk: &'a [Entry])
 /// In how many steps more the disk has served all calls of a program here, of which each turn takes twenty.
 const TURNS: u64 = 2000;
 
-/// A program that does that on a drive with these entries is answered as it says, writes nothing, and that is seen behind it; so it
+/// A program that does that on a drive with these entries is answered as it says, writes nothing, and that is seen after it; so it
 /// is where the disk serves its calls in turns.
 fn plays(
     rt: &HostRuntime,
@@ -202,7 +202,7 @@ fn plays_at_once(
     on_a_disk(first, b"", disk).shows(rt.alloc(), &[Behind(steps, b"", sights)])
 }
 
-/// The same where the disk serves calls in turns.
+/// That is seen of a program so many steps on, where the disk serves calls in turns.
 fn plays_in_turns(
     rt: &HostRuntime,
     first: &[u8],
@@ -213,7 +213,7 @@ fn plays_in_turns(
     in_turns(first, b"", disk).shows(rt.alloc(), &[Behind(steps, b"", sights)])
 }
 
-/// The same of a program in a segment of all pages below common memory, on a drive without files.
+/// That text is written and that is seen, of a program in a segment of all pages below common memory, on a drive without files.
 fn plays_below(
     rt: &HostRuntime,
     acts: &[Act],
@@ -694,8 +694,8 @@ fn records_cross_into_common_memory_and_past_the_last_address(rt: HostRuntime) -
     plays_below(&rt, &acts, &data, b"", &sights)
 }
 
-/// A call of a program in the mode in which errors are told and answered (45), with 16 records at once (44) at the last address
-/// (26), answers that, with that text, and that is seen behind it.
+/// A call of a program in the mode in which errors are displayed and answered (45), with 16 records at once (44) at the last address
+/// (26), answers that, with that text, and that is seen after it.
 fn is_answered(
     rt: &HostRuntime,
     function: u8,

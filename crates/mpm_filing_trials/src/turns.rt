@@ -1,7 +1,7 @@
 //! File calls that the disk serves in turns of twenty steps, while another program runs.
 //!
 //! A call of the form of `Act::Calls` comes to its gate in its fifth step. Where it enters service in step e and takes t turns, it is
-//! over in step e + 20 t, and what it answered is kept in the step behind that, as its program has the better priority.
+//! over in step e + 20 t, and what it answered is kept in the step after that, as its program has the better priority.
 use crate::file_calls::Act::Calls;
 use crate::file_calls::{Act, Data, Program, in_turns, one_record, program};
 use mpm_machine_scenes::Register::Hl;
@@ -21,9 +21,9 @@ fn letters() -> [u8; 2048] {
     bytes
 }
 
-/// The calls of a program that detaches its console, makes OUT.TXT and writes sixteen records to it: it comes to the gates of these
-/// calls in steps 5, 11, 17 and 23; 29, from which on the making takes a turn; and 55, from which on the writing takes sixteen, up to
-/// step 375.
+/// The calls of a program that detaches its console, makes OUT.TXT and writes sixteen records to it. It comes to the gates of the first
+/// four in steps 5, 11, 17 and 23. In step 29 it comes to that of the making, which takes a turn; and in step 55 to that of the writing,
+/// which takes sixteen turns, up to step 375.
 const WRITES: [Act; 6] = [
     Calls(145, 100, 0),
     Calls(147, 0, 0),
@@ -33,7 +33,7 @@ const WRITES: [Act; 6] = [
     Calls(21, 0x4300, 0),
 ];
 
-/// The same of one that attaches its console.
+/// The calls of a program that writes as that one does, but attaches its console in place of detaching it.
 const ATTACHES_AND_WRITES: [Act; 6] = [
     Calls(145, 100, 0),
     Calls(146, 0, 0),

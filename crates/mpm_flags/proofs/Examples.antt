@@ -12,7 +12,7 @@ set_once = refl
 pub set_twice : set_answer (after_set Clear) ≡ Overrun
 set_twice = refl
 
--- of two processes that wait the second is told so, and the first waits on
+-- of two processes that wait the second is answered that, and the first waits on
 pub second_waits : wait_answer 4 (waited_for 3 Clear) ≡ Underrun
 second_waits = refl
 

@@ -5,8 +5,8 @@ use Rattle.mpm_port.specs.Causes.{Rose}
 use Rattle.mpm_port.specs.Disks.{Disks, ToldImage, Brings, Attaches, KeepsTold}
 use Rattle.mpm_repair.specs.Freeing.{freed_image, FreesOn}
 
--- of drives: what is known of images by their names; the images of the drives that are attached, and which of these have writes that
--- weren't synced; how many faults there were, and the names on which an attach failed, oldest first
+-- of drives: what is known of images by their names; the images of the drives that are attached, and which have unsynced writes; how many
+-- faults there were, and the names on which an attach failed, oldest first
 pub record DrivesSeen : Type 0 where
   pub known : List ℕ → ToldImage
   pub disks : Disks

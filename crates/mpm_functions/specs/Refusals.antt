@@ -39,7 +39,7 @@ refusals_of LabelData = NotMounted ∷ []
 refusals_of ReadXfcb = NotMounted ∷ Ambiguous ∷ NotFound ∷ []
 refusals_of WriteXfcb = NotMounted ∷ Ambiguous ∷ NotFound ∷ ProtectedDrive ∷ WrongPassword ∷ InUse ∷ DirectoryFull ∷ []
 
--- and behind them those of each file that it names, file by file
+-- and after them those of each file that it names, file by file
 unfoldable pub refusals_of_each : FileFunction → List Refusal
 refusals_of_each DeleteFile = ReadOnlyFile ∷ WrongPassword ∷ InUse ∷ []
 refusals_of_each function = []

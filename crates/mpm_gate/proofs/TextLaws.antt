@@ -1,4 +1,4 @@
--- Texts: as a walk through memory finds them, and that one goes on behind another.
+-- Texts: as a walk through memory finds them, and that one goes on after another.
 use Rattle.std.proofs.Common.{◌≡◌, ℕ, suc, ◌+◌, ◌-◌, ◌<◌, ◌≤◌, Bool, true, false, not, cond, List, [], ◌∷◌, ◌++◌, length, get_or, take, map, refl, ap, sym, ◌∙◌, arith}
 use Rattle.std.specs.Prelude.{take_while}
 use Rattle.std.proofs.lemmas.Bool.{not-true}
@@ -63,7 +63,7 @@ ends_at_once end memory address n stops =
     take_while-cons p (memory (onward address 0)) rest
     ∙ ap (λ b. cond (not b) (memory (onward address 0) ∷ take_while p rest) []) stops
 
--- a text of at most so many bytes, behind a part of it
+-- a text of at most so many bytes, after a part of it
 text_behind : (end : TextEnd) (memory : ℕ → ℕ) (address k n : ℕ) → text_from end memory address k ≡ bytes_from memory address k → text_from end memory address (k + n) ≡ bytes_from memory address k ++ text_from end memory (onward address k) n
 unfolding text_from
 text_behind end memory address k n whole =
@@ -103,7 +103,7 @@ text_ended end memory address k n short =
     ap (take_while p) (bytes_split memory address k n)
     ∙ front_of_first p (bytes_from memory address k) (bytes_from memory (onward address k) n) shorter
 
--- one that doesn't goes on behind them
+-- one that doesn't goes on after them
 pub text_goes_on : (end : TextEnd) (memory : ℕ → ℕ) (address k n : ℕ) → length (text_from end memory address k) ≡ k → text_from end memory address (k + n) ≡ text_from end memory address k ++ text_from end memory (onward address k) n
 unfolding text_from
 text_goes_on end memory address k n full =

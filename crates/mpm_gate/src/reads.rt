@@ -12,13 +12,13 @@ pub enum Reads {
     /// So many bytes at the parameter, then some at the address that stands in them as the word at `offset`.
     Pointing { size: u16, offset: u16, count: u16 },
     /// Process descriptors of 16 bytes: the one at the parameter, and those that are chained to it by their links, up to a
-    /// link 0, at most 32. Behind each comes the word at its stack pointer.
+    /// link 0, at most 32. After each comes the word at its stack pointer.
     Descriptors,
     /// The string at the parameter up to a dollar sign, at most 4,096 bytes.
     DollarString,
     /// The text at the DMA address up to 00h or CR, at most 128 bytes.
     TextAtDma,
-    /// Two bytes at the parameter, then the text behind them up to 00h or CR, at most 128 bytes.
+    /// Two bytes at the parameter, then the text after them up to 00h or CR, at most 128 bytes.
     Command,
     /// The file control block at the parameter, then so many bytes at the DMA address.
     File(u16),

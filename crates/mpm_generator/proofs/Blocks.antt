@@ -1,4 +1,4 @@
--- One block more, and the numbers behind it.
+-- One block more, and the numbers after it.
 use Rattle.std.proofs.Common.{◌≡◌, ℕ, suc, ◌+◌, ◌*◌, List, ◌++◌, refl, ap, arith, ◌∙◌, sym, append-nil, add-one}
 use Rattle.std.proofs.lemmas.List.{append_assoc}
 use Rattle.mpm_generator.specs.Draws.{nth_behind}

@@ -6,7 +6,7 @@ use Rattle.std.proofs.lemmas.List.{append_assoc}
 use Rattle.mpm_generator.specs.Sizes.{filled_to, blocks_for, in_blocks}
 use Rattle.mpm_generator.specs.Images.{number_at}
 
--- behind a file's blocks there is no number
+-- after a file's blocks there is no number
 pub none_behind : (first count place : ℕ) → count ≤ place → number_at first count place ≡ 0
 none_behind first count place behind = grind (arith, nat_tests)
 
@@ -17,7 +17,7 @@ each_number first count place x among behind = elim (cases_lt place count) [
   | inr beyond ↦ behind beyond ∙ sym (none_behind first count place beyond)
 ]
 
--- three parts, one behind the other, where nothing was
+-- three parts, one after the other, where nothing was
 pub three_parts : (none x y z a b c one two three : List ℕ) → none ≡ [] → x ≡ none ++ a → y ≡ x ++ b → z ≡ y ++ c
     → a ≡ one → b ≡ two → c ≡ three → z ≡ one ++ (two ++ three)
 three_parts none x y z a b c one two three n ex ey ez ea eb ec =
@@ -27,7 +27,7 @@ three_parts none x y z a b c one two three n ex ey ez ea eb ec =
     ∙ ap (λ p. one ++ (p ++ c)) eb
     ∙ ap (λ p. one ++ (two ++ p)) ec
 
--- a file in whole blocks behind what is there
+-- a file in whole blocks after what is there
 pub put_behind : (image file : List ℕ) (count : ℕ) → count ≡ blocks_for (length file)
     → (image ++ file) ++ replicate (2048 * count - length file) 0 ≡ image ++ in_blocks file
 unfolding filled_to

@@ -6,7 +6,7 @@ use Rattle.mpm_generator.specs.Sizes.{filled_to}
 as_many : (n m : ℕ) → (n + m) - n ≡ m
 as_many n m = omega arith
 
--- all bytes stay where more come behind them
+-- all bytes stay where more come after them
 pub all_taken : (xs : List ℕ) (count value : ℕ) → take (length xs + count) xs ++ replicate ((length xs + count) - length xs) value ≡ xs ++ replicate count value
 all_taken xs count value =
     ap (λ front. front ++ replicate ((length xs + count) - length xs) value) (take_all (length xs + count) xs (omega arith))

@@ -8,7 +8,7 @@ use Rattle.mpm_generator.specs.Draws.{nth_behind}
 use Rattle.mpm_generator.specs.Sizes.{filled_to, records_for, blocks_for, in_blocks}
 use Rattle.mpm_generator.specs.Programs.{program_behind}
 
--- the number of the block at a place of a file that has so many, from one on; 0 behind them
+-- the number of the block at a place of a file that has so many, from one on; 0 after them
 abbrev pub number_at : ℕ → ℕ → ℕ → ℕ
 number_at first count place = if nat_lt place count then first + place else 0
 

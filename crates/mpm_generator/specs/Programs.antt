@@ -46,7 +46,7 @@ code_of NewLine = 0x1e ∷ 0x0d ∷ 0x0e ∷ 0x02 ∷ 0xcd ∷ 0x05 ∷ 0x00 ∷
 abbrev pub block_behind : ℕ → Block
 block_behind x = block_of (drawn 6 (nth_behind 1 x)) (drawn 32 (nth_behind 2 x)) (drawn 26 (nth_behind 3 x))
 
--- the code of so many blocks, each of three of the numbers behind a number
+-- the code of so many blocks, each of three of the numbers after a number
 unfoldable pub blocks_behind : ℕ → ℕ → List ℕ
 blocks_behind zero x = []
 blocks_behind (suc n) x = blocks_behind n x ++ code_of (block_behind (nth_behind (3 * n) x))
@@ -62,7 +62,7 @@ start =
 abbrev pub ending : List ℕ
 ending = 0x0e ∷ 0x00 ∷ 0xcd ∷ 0x05 ∷ 0x00 ∷ []
 
--- the code of a program, of the numbers behind a number; and the program, in whole records
+-- the code of a program, of the numbers after a number; and the program, in whole records
 unfoldable pub code_behind : ℕ → List ℕ
 code_behind x = start ++ (blocks_behind 400 x ++ ending)
 

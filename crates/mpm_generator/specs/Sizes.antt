@@ -1,7 +1,7 @@
 -- Bytes that are filled up to a size: records of 128 bytes, blocks of 2,048.
 use Rattle.std.specs.Prelude.{ℕ, ◌+◌, ◌-◌, ◌*◌, ◌/◌, List, ◌++◌, length, replicate}
 
--- some bytes, and behind them as many of a value as come to a size
+-- some bytes, and after them as many of a value as come to a size
 unfoldable pub filled_to : ℕ → ℕ → List ℕ → List ℕ
 filled_to size value bytes = bytes ++ replicate (size - length bytes) value
 

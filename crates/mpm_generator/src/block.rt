@@ -55,7 +55,7 @@ impl Block {
         Block::of(kind, number, value)
     }
 
-    /// Its code comes behind other code.
+    /// Its code comes after other code.
     pub(crate) fn put(self, code: &mut Vec<u8>) -> Result<(), AllocError>
         ensures code { OnOk result (code.new.items ≡ code.old.items ++ code_of self) }
         ensures size { OnOk result (length code.new.items ≤ length code.old.items + 23) }
@@ -81,7 +81,7 @@ impl Block {
     }
 }
 
-/// The code that locks or unlocks a record comes behind other code.
+/// The code that locks or unlocks a record comes after other code.
 fn put_lock(code: &mut Vec<u8>, function: u8, number: u8) -> Result<(), AllocError>
     ensures code { OnOk result (code.new.items ≡ code.old.items ++ lock_code function number) }
     ensures size { OnOk result (length code.new.items ≤ length code.old.items + 23) }

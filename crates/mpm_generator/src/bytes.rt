@@ -3,7 +3,7 @@ ghost use Rattle.mpm_generator.specs.Sizes.{filled_to as filled};
 
 use std::alloc::AllocError;
 
-/// So many bytes of a value come behind some, at most 4,194,304 in all.
+/// So many bytes of a value come after some, at most 4,194,304 in all.
 #[tactic(auto, using(crate::proofs::Sizes::all_taken))]
 pub(crate) fn append(bytes: &mut Vec<u8>, count: usize, value: u8) -> Result<(), AllocError>
     requires { length bytes.old.items + count ≤ 4194304 }
@@ -12,7 +12,7 @@ pub(crate) fn append(bytes: &mut Vec<u8>, count: usize, value: u8) -> Result<(),
     bytes.resize(bytes.len() + count, value)
 }
 
-/// Bytes of a value come behind some, up to a size of at most 4,194,304.
+/// Bytes of a value come after some, up to a size of at most 4,194,304.
 #[tactic(auto, unfolding(crate::specs::Sizes::filled_to), using(crate::proofs::Sizes::size_filled))]
 pub(crate) fn fill_to(bytes: &mut Vec<u8>, size: usize, value: u8) -> Result<(), AllocError>
     requires room { length bytes.old.items ≤ size }

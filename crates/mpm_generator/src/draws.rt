@@ -18,7 +18,7 @@ impl Model for Draws {
 }
 
 impl Draws {
-    /// Those behind a seed.
+    /// Those after a seed.
     pub(crate) fn behind(seed: u32) -> Draws
         ensures { result ≡ seed }
     {

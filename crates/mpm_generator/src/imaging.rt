@@ -67,7 +67,7 @@ fn put_image(image: &mut Vec<u8>, first: &[u8], second: &[u8]) -> Result<(), All
     fill_to(image, IMAGE, 0)
 }
 
-/// Two programs and the file of records come behind the directory.
+/// Two programs and the file of records come after the directory.
 fn put_files(image: &mut Vec<u8>, first: &[u8], second: &[u8]) -> Result<(), AllocError>
     requires directory { length image.old.items ≡ 16384 }
     requires first { length first.now ≤ 9344 }
@@ -138,7 +138,7 @@ fn numbers_from(first: u16, count: u16) -> [u16; 16]
     numbers
 }
 
-/// A file comes behind what is there, in whole blocks.
+/// A file comes after what is there, in whole blocks.
 fn put_file(image: &mut Vec<u8>, file: &[u8]) -> Result<(), AllocError>
     requires room { length image.old.items ≤ 26624 }
     requires few { length file.now ≤ 9344 }

@@ -7,7 +7,7 @@ use crate::bytes::fill_to;
 use crate::draws::Draws;
 use std::alloc::{AllocError, Global};
 
-/// A jump to 0140h, and behind it the drive and the name in the file control block of the file that a program uses: with
+/// A jump to 0140h, and after it the drive and the name in the file control block of the file that a program uses: with
 /// bit 7 of the name's fifth byte it is opened in unlocked mode.
 const JUMP_AND_NAME: [u8; 15] = *b"\xC3\x40\x01\x00DATA\xA0   DAT";
 
@@ -72,7 +72,7 @@ fn put_start(code: &mut Vec<u8>) -> Result<(), AllocError>
     code.extend_from_slice(&OPENING)
 }
 
-/// The blocks of a program come behind its start.
+/// The blocks of a program come after its start.
 fn put_blocks(code: &mut Vec<u8>, draws: &mut Draws) -> Result<(), AllocError>
     ensures code { OnOk result (code.new.items ≡ code.old.items ++ blocks_behind 400 draws.old) }
     ensures size { OnOk result (length code.new.items ≤ length code.old.items + 9200) }

@@ -10,7 +10,7 @@ use Rattle.std.specs.Io.KnownBytes.{Appends, Consumes, IsAtEnd, Keeps}
 use Rattle.std.proofs.KnownBytes.{Appends-nil, Appends-trans, Consumes-trans}
 use Rattle.mpm_host.specs.Sent.{Sent, Sends, SendsPart}
 
--- what was written of the bytes: some first part, behind which the rest is left
+-- what was written of the bytes: some first part, after which the rest is left
 pub record Put {W : Type 0} (contents : W → Option (List ℕ)) (old : Sent W) (bytes rest : List ℕ) (new : Sent W) : Type 0 where
   pub done : List ℕ
   pub split : bytes ≡ done ++ rest
@@ -69,11 +69,11 @@ pub none_sent : {W : Type 0} (contents : W → Option (List ℕ)) (old new : Sen
     → Keeps (contents old.output) (contents new.output) → Sends contents [] old new
 none_sent contents old new text kept = record { text = text ∙ sym (append-nil old.text); taken = kept_appends (contents old.output) (contents new.output) kept }
 
--- a first part of the bytes stands behind the text
+-- a first part of the bytes follows the text
 pub part_appended : {W : Type 0} (contents : W → Option (List ℕ)) (old new : Sent W) (bytes : List ℕ) → SendsPart contents bytes old new → AppendsPart old.text bytes new.text
 part_appended contents old new bytes p = record { part = p.part; begins = p.begins; new_is = p.sends.text }
 
--- what a writer took behind what it kept
+-- what a writer took after what it kept
 pub appends_later : (a b c : Option (List ℕ)) (bytes : List ℕ) → Keeps a b → Appends b c bytes → Appends a c bytes
 appends_later None b c bytes k h = tt
 appends_later (Some text) None c bytes k h = absurd k

@@ -7,8 +7,8 @@ pub record Held : Type 0 where
   pub name : List ℕ
   pub bytes : List ℕ
 
--- of each of the sixteen drives what it holds, if it is attached, and whether a write to it was asked for since it was last
--- attached or synced; the names on which attach answered that it failed, oldest first; and the count of faults
+-- of each of the sixteen drives what it holds, if it is attached, and whether it has unsynced writes; the names on which attach answered
+-- that it failed, oldest first; and the count of faults
 pub record RealDisks : Type 0 where
   pub held : List (Option Held)
   pub unsynced : List Bool
@@ -29,7 +29,7 @@ disks_in held = record { image = λ drive. option_map (λ h. h.bytes) (held_by h
 abbrev pub disks_of : RealDisks → Disks
 disks_of disks = disks_in disks.held
 
--- of a name nothing is told before a drive is attached by it
+-- of a name nothing is known before a drive is attached by it
 abbrev pub told_of : RealDisks → List ℕ → ToldImage
 told_of disks name = Untold
 

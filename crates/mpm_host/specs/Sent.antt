@@ -9,7 +9,7 @@ pub record Sent (W : Type 0) : Type 0 where
   pub text : List ℕ
   pub faults : ℕ
 
--- the writer took the bytes: where it is known what it holds, it holds them behind what it held
+-- the writer took the bytes: where it is known what it holds, it holds them after what it held
 pub record Sends {W : Type 0} (contents : W → Option (List ℕ)) (bytes : List ℕ) (old new : Sent W) : Type 0 where
   pub text : new.text ≡ old.text ++ bytes
   pub taken : Appends (contents old.output) (contents new.output) bytes

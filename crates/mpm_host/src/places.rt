@@ -1,8 +1,7 @@
 use std::fs::File;
 
-/// Files that may only be read, in the place of each standard stream that was closed, for as long as this is kept: else an image
-/// that is opened would be the standard output, and the text would be written into it. Where there is no `/dev/null` nothing is
-/// held.
+/// Files that may only be read, in the place of each standard stream that was closed, for as long as this is kept. Else an image that is
+/// opened would be the standard output, and the text would be written into it. Where there is no `/dev/null` nothing is held.
 #[derive(Drop)]
 pub struct HeldPlaces {
     files: [Option<File>; 3],

@@ -22,7 +22,7 @@ fn has_sector(drives: &mut MemoryDrives, sector: u32) -> bool
     128 * u64::from(sector) + 128 <= size
 }
 
-/// The bytes of a record that is counted behind the system's tracks, if the image has it.
+/// The bytes of a record that is counted after the system's tracks, if the image has it.
 pub fn read_record(drives: &mut MemoryDrives, kind: Kind, number: u32) -> Option<[u8; 128]> {
     let sector = place(kind, number);
     let mut bytes = [0; 128];

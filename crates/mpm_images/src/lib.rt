@@ -71,7 +71,7 @@ const SKEW: [u32; 26] = [
     0, 6, 12, 18, 24, 4, 10, 16, 22, 2, 8, 14, 20, 1, 7, 13, 19, 25, 5, 11, 17, 23, 3, 9, 15, 21,
 ];
 
-/// Where in an image the sector of a record is that is counted behind the system's tracks, which are two on a floppy disk.
+/// Where in an image the sector of a record is that is counted after the system's tracks, which are two on a floppy disk.
 pub fn place(kind: Kind, number: u32) -> u32 {
     match kind {
         Kind::Ibm3740 => {
@@ -147,7 +147,7 @@ fn block_at(kind: Kind, entry: &Entry, index: u32) -> u32 {
     }
 }
 
-/// Where behind the system's tracks the record of a number is in a file, by the entry that covers it, if that has its block.
+/// Where after the system's tracks the record of a number is in a file, by the entry that covers it, if that has its block.
 pub fn record_at(kind: Kind, entry: &Entry, number: u32) -> Option<u32> {
     let layout = layout_of(kind);
     let block = block_at(kind, entry, number % layout.entry / layout.block);
@@ -193,7 +193,7 @@ pub fn put_sector(image: &mut [u8], sector: u32, bytes: &[u8; 128]) {
     }
 }
 
-/// Puts a text into an image as a record that is counted behind the system's tracks, with zeros behind the text.
+/// Puts a text into an image as a record that is counted after the system's tracks, with zeros after the text.
 pub fn put_text(image: &mut [u8], kind: Kind, number: u32, text: &[u8]) {
     let mut bytes = [0; 128];
     for (byte, value) in bytes.iter_mut().enumerate() {

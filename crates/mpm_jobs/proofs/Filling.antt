@@ -9,7 +9,7 @@ pub filled_by_one : (one bytes : List ℕ) → one ≡ bytes → length bytes �
 unfolding filled
 filled_by_one one bytes e few = ap (λ front. front ++ drop (length bytes) (replicate 4096 0)) (e ∙ sym (take_all 4096 bytes few))
 
--- the first part was copied to the front, and the second to what is behind it
+-- the first part was copied to the front, and the second to what is after it
 pub filled_by_two : (one two first second back : List ℕ) → one ≡ first → two ≡ second → back ≡ drop (length first) (replicate 4096 0)
     → length first + length second ≤ 4096 → one ++ (two ++ drop (length second) back) ≡ filled (first ++ second)
 filled_by_two one two first second back e f g few =

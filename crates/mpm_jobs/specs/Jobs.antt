@@ -4,7 +4,7 @@ use Rattle.mpm_base.specs.Lists.{zeros}
 use Rattle.mpm_jobs.specs.declared.jobs.JobKind.{JobKind}
 use Rattle.mpm_jobs.specs.declared.jobs.Job.{Job}
 
--- the room of a job's bytes: the 4,096 that count at most, and zeros behind them
+-- the room of a job's bytes: the 4,096 that count at most, and zeros after them
 unfoldable pub filled : List ℕ → List ℕ
 filled bytes = take 4096 bytes ++ drop (length bytes) (replicate 4096 0)
 

@@ -47,13 +47,13 @@ pub struct Job {
     /// The date and the time that the file's XFCB gets: the first stamp for `Nothing`, the second one with the first record
     /// that is written.
     pub stamp: Option<[u8; 4]>,
-    /// Of `Write` the records. Of `TestWrite` the bytes that they must have, and behind them those that they get. Of `Make`,
+    /// Of `Write` the records. Of `TestWrite` the bytes that they must have, and after them those that they get. Of `Make`,
     /// `Label` and `Xfcb` the mode or data byte, the decode byte, the password as it is stored, eight bytes, and two stamps of
     /// four.
     pub bytes: [u8; 4096],
 }
 
-/// The room of a job's bytes: zeros behind those that count, at most 4,096.
+/// The room of a job's bytes: zeros after those that count, at most 4,096.
 pub fn filled(bytes: &[u8]) -> [u8; 4096]
     requires { length bytes.now ≤ 4096 }
     ensures { result ≡ spec.filled bytes.now }
@@ -63,7 +63,7 @@ pub fn filled(bytes: &[u8]) -> [u8; 4096]
     room
 }
 
-/// The same of two parts.
+/// The room of a job's bytes of two parts: zeros after those that count, at most 4,096.
 fn filled_with(first: &[u8], second: &[u8]) -> [u8; 4096]
     requires { length first.now + length second.now ≤ 4096 }
     ensures { result ≡ spec.filled (first.now ++ second.now) }
@@ -167,7 +167,7 @@ pub fn writing(
 }
 
 /// The bytes of a job that tests records: of the bytes of a call on so many records, those that the first of them must have, and
-/// behind them those that these get.
+/// after them those that these get.
 #[tactic(auto, unfolding(crate::specs::Jobs::testing_bytes))]
 fn testing_bytes(bytes: &[u8], records: u8, count: u8) -> [u8; 4096]
     requires { count ≤ 16 }

@@ -10,7 +10,7 @@ use Rattle.mpm_base.specs.declared.functions.TheConstants.{READ_QUEUE}
 use Rattle.mpm_queues.specs.Queue.{block_size, with_given}
 use Rattle.mpm_kernel.specs.Completion.{completion_of}
 
--- the block of a call stays as it is given a message, and the message stands behind it
+-- the block of a call stays as it is given a message, and the message follows it
 zero_at : (n k : ℕ) → get_or (replicate {A = ℕ} n 0) k 0 ≡ 0
 zero_at n k = elim (cases_lt k n) [
   | inl below ↦ get_or-replicate n k 0 0 below

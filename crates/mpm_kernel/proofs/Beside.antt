@@ -1,5 +1,5 @@
--- What a change of the kernel leaves of a process, whoever makes it: whether it lives, where, whether its end is put off, the
--- function that it called last, and its error mode and multi-sector count, but where that function sets it.
+-- What a change of the kernel leaves of a process, whoever makes it: whether it lives, where, whether its end is put off, and the function
+-- that it called last. Its error mode and multi-sector count stay too, but where that function sets them.
 use Rattle.std.proofs.Common.{◌≡◌, ◌≢◌, ◌∙◌, ℕ, ◌≤◌, List, length, inl, inr, sym, ap, get_or-set_other}
 use Rattle.std.proofs.lemmas.Bool.{cases_eq, cases_lt}
 use Rattle.std.proofs.lemmas.List.{set_past}

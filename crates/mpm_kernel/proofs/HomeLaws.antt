@@ -1,5 +1,5 @@
 -- In which segments the processes live, which of them are aborted, and which calls they keep, after the kernel's calls and
--- events, and where a process is handed out. The laws on its parts are told here too.
+-- events, and where a process is handed out. The laws on its parts are stated here too.
 use Rattle.std.proofs.Common.{◌≡◌, ◌∙◌, ℕ, ◌||◌, Bool, true, false, ◌==◌, [], ◌∷◌, List, Option, Some, None, length, drop, refl, sym, ap, arith}
 use Rattle.std.specs.Prelude.{nat_lt}
 use Rattle.std.proofs.lemmas.Bool.{eqb-true}

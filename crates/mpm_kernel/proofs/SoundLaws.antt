@@ -1,4 +1,4 @@
--- What a sound kernel stays through: its calls and its events. The laws on its parts are told here too.
+-- What a sound kernel stays through: its calls and its events. The laws on its parts are stated here too.
 use Rattle.std.proofs.Common.{◌≡◌, ◌≢◌, ◌∙◌, ℕ, ◌+◌, ◌<◌, ◌≤◌, Bool, true, false, ◌==◌, List, [], ◌∷◌, if◌then◌else◌, refl, sym, ap, subst, arith}
 use Rattle.std.specs.List.{AllByRecursion}
 use Rattle.std.proofs.lemmas.Bool.Decides.{nat_tests}

@@ -531,7 +531,7 @@ sound_fewer kernel flags clock queues s size are fewer = record {
   runs = s.runs;
 }
 
--- a ready process is put behind its equals
+-- a ready process is put after its equals
 pub turned : (kernel : Kernel) (p : ℕ) → IsReady kernel.dispatcher p → dispatched (behind_equals p) kernel ≡ dispatched (moved ready p) kernel
 unfolding reinserted
 turned kernel p is_ready =
@@ -563,7 +563,7 @@ procs_all_ready ps kernel = refl
 pub running_all_ready : (ps : List ℕ) (kernel : Kernel) → (dispatched (all_ready ps) kernel).dispatcher.running ≡ kernel.dispatcher.running
 running_all_ready ps kernel = refl
 
--- who runs is put behind its equals
+-- who runs is put after its equals
 behind_if : (b : Bool) (kernel : Kernel) (p : ℕ) → IsSound kernel → (b ≡ true → IsReady kernel.dispatcher p)
     → IsSound (record kernel { dispatcher = record kernel.dispatcher { lists = if b then rotated_in kernel.dispatcher.procs kernel.dispatcher.lists p else kernel.dispatcher.lists } })
 behind_if true kernel p s h = sound_behind_equals kernel p s (listed kernel p ready s (h refl)) (h refl)

@@ -12,7 +12,7 @@ completion_value function =
     if function == POLL || (function == FLAG_WAIT || (function == WRITE_QUEUE || (function == DELAY || (function == SEND_CLI_COMMAND || function == CALL_RESIDENT_SYSTEM_PROCEDURE)))) then 0
     else 65535
 
--- the reply: a reader's message stands behind the block that it read
+-- the reply: a reader's message follows the block that it read
 unfoldable pub completion_of : Taken → Answer
 completion_of call =
     if call.function == READ_QUEUE then record (answering 0) { at = word_at call 2; bytes = drop block_size call.bytes }

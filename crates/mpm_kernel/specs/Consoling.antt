@@ -118,7 +118,7 @@ unfoldable pub printer_called : Taken → ℕ → Kernel → Called
 printer_called call p kernel =
     if length kernel.units.printers == 0 then valued failure_code kernel else (done_by printer_rows call p (process_in kernel.dispatcher.procs p) kernel)
 
--- the calls on consoles and printers, and the numbers that are told
+-- the calls on consoles and printers, and the numbers that are answered
 abbrev pub unit_rows : List Row
 unit_rows =
     row (ATTACH_CONSOLE ∷ []) (λ call p process kernel. attached p (ConsoleUnit process.console) kernel)

@@ -20,7 +20,7 @@ is_served kernel p = is_call_of p kernel.disk.served
 abbrev pub in_turns : ℕ → Kernel → Kernel
 in_turns turn_steps kernel = with_disk (λ _. no_service turn_steps) kernel
 
--- a process runs no more, stands in no list of the dispatcher, and its call waits behind all of equal or better priority
+-- a process runs no more, stands in no list of the dispatcher, and its call waits after all of equal or better priority
 unfoldable pub waiting_for_disk : ℕ → Kernel → Kernel
 waiting_for_disk p kernel = record kernel {
   dispatcher = descheduled p kernel.dispatcher;

@@ -25,7 +25,7 @@ MayCome (Int flag) = flag < 32
 abbrev pub with_tick : Kernel → Kernel
 with_tick kernel = record kernel { clock = ticked kernel.clock }
 
--- a tick of the clock: those whose delays end are woken, and who runs is put behind its equals
+-- a tick of the clock: those whose delays end are woken, and who runs is put after its equals
 unfoldable pub clock_ticked : Kernel → Kernel
 clock_ticked kernel =
     dispatched runner_behind (dispatched (all_woken (woken_by_tick kernel.clock.delays)) (with_tick kernel))
@@ -58,7 +58,7 @@ happens (Int flag) kernel = flag_came flag kernel
 abbrev pub happened : Event → Kernel → Kernel
 happened event kernel = happens event (afresh kernel)
 
--- a call 151 that was held got the message of its queue, which stands behind its block
+-- a call 151 that was held got the message of its queue, which follows its block
 abbrev pub inside_of : Option ℕ → ℕ → ℕ → Kernel → Kernel
 inside_of None p message kernel = kernel
 inside_of (Some q) p message kernel = inside p q message kernel

@@ -19,9 +19,9 @@ use Rattle.mpm_service.specs.Places.{at_disk}
 use Rattle.mpm_dispatcher.specs.Dispatch.{new_dispatcher, IsReady, with_procs, with_completed}
 use Rattle.mpm_dispatcher.specs.declared.dispatcher.Dispatcher.{Dispatcher}
 
--- the dispatcher, which has the processes, the flags, the clock, the polled devices, the consoles and printers with those who
--- wait for them, the queues, how many of them are the system's, which have the lowest numbers, the file calls at the disk, and
--- what is left to be handed out: what the last call that echoes or the last event wrote to its console by itself, and the process that the last event
+-- the dispatcher, which has the processes, the flags, the clock, the polled devices, the consoles and printers with those who wait for
+-- them, the queues, how many of them are the system's, and the file calls at the disk. The system's queues have the lowest numbers. Left to
+-- be handed out are what the last call that echoes or the last event wrote to its console by itself, and the process that the last event
 -- aborts
 pub record Kernel : Type 0 where
   pub dispatcher : Dispatcher
@@ -78,8 +78,8 @@ is_resident procs p = is_none (process_in procs p).seg
 abbrev pub is_aborted : Table → ℕ → Bool
 is_aborted procs p = lives procs p && (process_in procs p).abort_due
 
--- the places where a process stands: it is in a list, it waits for flags, delays are its, it waits at queues, it waits for a
--- console or a printer, it waits at its gate as the owner of a console, it waits for the disk or is served by it
+-- the places where a process stands: in a list, at flags, with delays, at queues, where it waits for a console or a printer, at its gate as
+-- the owner of a console, and at the disk, where it waits or is served
 
 unfoldable pub in_lists : Option ℕ → ℕ
 in_lists None = 0
@@ -127,8 +127,8 @@ HasConsole kernel console = console < length kernel.units.consoles
 abbrev pub IsOfTwo : Queues → ℕ → Type 0
 IsOfTwo queues q = width_of queues q ≡ Some 2
 
--- what is so of the kernel after each step: the owners of consoles and printers live; a process is in at most one place, and
--- only living ones are; the system's queues are there, and so are those in whose resident procedures processes are
+-- what is so of the kernel after each step. The owners of consoles and printers live. A process is in at most one place, and only living
+-- ones are. The system's queues are there, and so are those in whose resident procedures processes are
 pub record IsSound (kernel : Kernel) : Type 0 where
   pub units : AreUnitsSound kernel.units
   pub owners : (unit : Unit) (p : ℕ) → HasUnit kernel.units unit → owns kernel.units p unit ≡ true → Lives kernel.dispatcher.procs p

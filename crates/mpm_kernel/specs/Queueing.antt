@@ -3,7 +3,7 @@
 -- Write Queue", "Function 140: Conditional Write Queue".)
 -- A queue control block has the queue's name at 2, the length of its messages at 10 and their number at 12. A user queue
 -- control block has the queue's pointer, which is its number and 1, the message's address at 2 and the queue's name at 4; the
--- message that a call writes stands behind its twelve bytes.
+-- message that a call writes follows its twelve bytes.
 use Rattle.std.specs.Prelude.{ℕ, ◌+◌, ◌<◌, Bool, true, false, not, [], ◌∷◌, ⊤, Option, Some, None, ◌&&◌, is_none, nat_le, if◌then◌else◌}
 use Rattle.mpm_base.specs.Calls.{Taken, answering, word_at, name_at}
 use Rattle.mpm_base.specs.declared.number.Name8.{Name8}

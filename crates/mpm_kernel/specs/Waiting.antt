@@ -68,7 +68,7 @@ flag_set call kernel =
     if is_flag flag then valued (set_value (set_answer (flag_at kernel.flags flag))) (signalled flag kernel)
     else (valued failure_code kernel)
 
--- function 141: a process waits for ticks; for none, it is put behind its equals, as function 142 does
+-- function 141: a process waits for ticks; for none, it is put after its equals, as function 142 does
 unfoldable pub process_delayed : Taken → ℕ → Kernel → Called
 process_delayed call p kernel =
     if call.word == 0 then done (dispatched (behind_equals p) kernel)

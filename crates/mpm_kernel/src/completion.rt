@@ -4,7 +4,7 @@ ghost use Rattle.mpm_kernel.specs.Completion.{completion_of, completion_value as
 use mpm_base::{Call, Reply, functions};
 use mpm_queues::BLOCK_SIZE;
 
-/// Answers a held call as it is completed: a read with the message that was put behind its user queue control block.
+/// Answers a held call as it is completed: a read with the message that was put after its user queue control block.
 #[tactic(auto, unfolding(crate::specs::Completion::completion_of))]
 pub(crate) fn complete(call: &Call, reply: &mut Reply)
     ensures { reply.new ≡ completion_of call.now }

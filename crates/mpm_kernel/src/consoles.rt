@@ -102,7 +102,7 @@ impl Kernel {
         }
     }
 
-    /// The calls on consoles and printers: they are attached, detached, changed or assigned, or their numbers are told.
+    /// The calls on consoles and printers: they are attached, detached, changed or assigned, or their numbers are answered.
     #[cold]
     #[inline(never)]
     #[tactic(auto, using(crate::proofs::UnitLaws::has_own_console, crate::proofs::UnitCalls::stays_unit_called), unfolding(crate::specs::Consoling::unit_called))]

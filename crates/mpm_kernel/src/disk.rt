@@ -40,7 +40,7 @@ impl Kernel {
         }
     }
 
-    /// The file call of a ready process waits for the disk from now on, behind all of equal or better priority: the process runs no
+    /// The file call of a ready process waits for the disk from now on, after all of equal or better priority: the process runs no
     /// more, and stands in no list of the dispatcher.
     #[tactic(auto, using(crate::proofs::DiskLaws::ready_waits_not, crate::proofs::DiskLaws::ready_served_not), unfolding(crate::specs::Disk::waiting_for_disk))]
     pub fn wait_for_disk(&mut self, p: Pid)
@@ -57,7 +57,7 @@ impl Kernel {
         self.disk.enter(p, priority);
     }
 
-    /// A step of the disk. Behind the `last` turn of a call its process stands nowhere, until `end_disk_call` makes it ready; then
+    /// A step of the disk. After the `last` turn of a call its process stands nowhere, until `end_disk_call` makes it ready; then
     /// it is made once more, so that the next call enters service. It asks that `begin_disk_call` followed each `Starts`.
     pub fn turn_disk(&mut self) -> Turn
         requires sound { IsSound self.old }

@@ -11,10 +11,10 @@ impl Kernel {
     ghost use Rattle.mpm_kernel.specs.Kernel.{IsSound, CompletedLive};
     ghost use Rattle.mpm_kernel.specs.Ending.{dropped_out, all_returned, consoles_left, printers_left, discharged, Leaves};
 
-    /// A process ends: it stands in no list and waits for nothing, the message of its resident procedure goes back and then
-    /// those of the mutual exclusion queues that it holds, by rising number, its consoles and then its printers pass on by
-    /// number, each to the process that waits for it first, and its slot is free: it holds nothing then. The held calls that
-    /// are completed by that are handed out in the order in which they were.
+    /// A process ends: it stands in no list and waits for nothing. The message of its resident procedure goes back, and then those of the
+    /// mutual exclusion queues that it holds, by rising number. Its consoles and then its printers pass on by number, each to the process
+    /// that waits for it first. Its slot is free then, and it holds nothing. The held calls that are completed by that are handed out in
+    /// the order in which they were.
     #[tactic(auto, using(crate::proofs::EndingLaws::lives_dropped, crate::proofs::EndingLaws::few_given_back))]
     pub fn discharge(&mut self, p: Pid)
         requires sound { IsSound self.old }

@@ -26,7 +26,7 @@ impl Kernel {
         }
     }
 
-    /// A flag is set from outside, as by function 133; that one is set already is told to nobody.
+    /// A flag is set from outside, as by function 133; that one is set already is reported to nobody.
     #[tactic(auto, unfolding(crate::specs::Events::flag_came))]
     fn flag_came(&mut self, flag: u8)
         requires sound { IsSound self.old }
@@ -37,7 +37,7 @@ impl Kernel {
         }
     }
 
-    /// The clock ticks: those whose delays end are woken, and who runs is put behind its equals.
+    /// The clock ticks: those whose delays end are woken, and who runs is put after its equals.
     #[tactic(auto, unfolding(crate::specs::Events::clock_ticked))]
     fn tick(&mut self)
         requires { IsSound self.old }

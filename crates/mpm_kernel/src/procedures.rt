@@ -68,7 +68,7 @@ impl Kernel {
     }
 
     /// A process whose held call is handed out is in a resident procedure, where it is a call 151: it got the message, which
-    /// stands behind its block.
+    /// follows its block.
     #[tactic(auto, unfolding(crate::specs::Events::with_procedure, crate::specs::Procedures::inside))]
     pub(crate) fn enter_where_held(&mut self, p: Pid)
         requires { Lives self.old.dispatcher.procs p }

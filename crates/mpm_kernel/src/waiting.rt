@@ -88,7 +88,7 @@ impl Kernel {
         }
     }
 
-    /// A process waits for so many ticks; for none, it is put behind its equals. (MP/M II Programmer's Guide, "Function 141:
+    /// A process waits for so many ticks; for none, it is put after its equals. (MP/M II Programmer's Guide, "Function 141:
     /// Delay".)
     #[cold]
     #[inline(never)]

@@ -26,11 +26,11 @@ pub enum Line {
     Idle,
     /// So many of its steps that aren't the last of a turn.
     Pass(u32),
-    /// The same at once.
+    /// So many of its steps that aren't the last of a turn, passed at once.
     PassAtOnce(u32),
     /// The last step of a turn of this process that isn't its last turn.
     Work(u8),
-    /// The last step of its last turn, behind which it is ready again.
+    /// The last step of its last turn, after which it is ready again.
     Over(u8),
     /// A step in which this process enters service, for so many turns.
     Start(u8, u32),
@@ -207,7 +207,7 @@ pub fn play(alloc: Global, lines: &[Line]) -> Result<(), Fail> {
     play_on(&mut kernel, lines)
 }
 
-/// The same of that kernel.
+/// A scene of such a kernel.
 fn play_on(kernel: &mut Kernel, lines: &[Line]) -> Result<(), Fail>
     requires { Serves kernel.old }
 {

@@ -69,7 +69,7 @@ pub enum Line<'a> {
     Keys(u8, u8),
     /// A byte is written to a console, with tabs expanded or not: so many spaces stand for it.
     Write(u8, u8, bool, u8),
-    /// The last event aborts that process, as is told once.
+    /// The last event aborts that process, as is answered once.
     Aborts(Option<u8>),
     /// The last call placed those bytes from an address on.
     Places(u16, &'a [u8]),
@@ -142,7 +142,7 @@ pub(crate) fn kernel_of_one(alloc: Global) -> Result<Kernel, OutOfMemory>
     Ok(kernel)
 }
 
-/// The same with one console, no printer, and a queue of the system's for 15 messages of 130 bytes.
+/// A kernel of one console and no printer, with that process, and with a queue of the system's for 15 messages of 130 bytes.
 ///
 /// # Errors
 /// There isn't enough memory for it.
@@ -454,7 +454,7 @@ fn passes(kernel: &mut Kernel, seen: &mut Seen, line: Line) -> bool
     }
 }
 
-/// A call, a dispatch or what is told once comes to what the line says; so does what changes nothing.
+/// A call, a dispatch or what is answered once comes to what the line says; so does what changes nothing.
 fn answers(kernel: &mut Kernel, seen: &mut Seen, line: Line) -> bool
     requires { IsSound kernel.old }
     ensures { IsSound kernel.new }
@@ -570,7 +570,7 @@ pub fn play(alloc: Global, lines: &[Line]) -> Result<(), Fail> {
     play_on(&mut kernel, lines)
 }
 
-/// The same of that kernel.
+/// A scene of such a kernel.
 ///
 /// # Errors
 /// The number of the first line that isn't so.

@@ -1,4 +1,4 @@
-//! Tests of whole kernels, as scenes of mpm_kernel_scenes: what calls, events and ends come to, and what is seen behind them. They stand
+//! Tests of whole kernels, as scenes of mpm_kernel_scenes: what calls, events and ends come to, and what is seen after them. They stand
 //! above the crate that plays them, so that it isn't proved once more for its tests.
 #![tactic(auto)]
 

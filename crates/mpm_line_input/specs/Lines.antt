@@ -10,7 +10,7 @@ use Rattle.mpm_line_input.specs.declared.line.LineKey.TheVariants.{End, Rubout, 
 abbrev pub so_far : List ℕ → ℕ → List ℕ
 so_far kept count = take count kept
 
--- a line as it is kept: at the front, and the bytes behind it as they were
+-- a line as it is kept: at the front, and the bytes after it as they were
 unfoldable pub stored : List ℕ → List ℕ → List ℕ
 stored line kept = line ++ drop (length line) kept
 
@@ -53,6 +53,6 @@ line_end = 13 ∷ []
 abbrev pub written_by : List ℕ → ℕ → ℕ → List ℕ
 written_by line greatest key = echo_of line key ++ (if ends line greatest key then line_end else [])
 
--- the answer to a line that ended, for a buffer at an address: its length behind the greatest length, and its bytes
+-- the answer to a line that ended, for a buffer at an address: its length after the greatest length, and its bytes
 unfoldable pub line_answer : List ℕ → ℕ → Answer
 line_answer line address = record (answering 0) { at = (address + 1) % 65536; bytes = length line ∷ line }

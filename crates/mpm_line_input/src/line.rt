@@ -85,7 +85,7 @@ pub fn edited(line: &mut [u8; 255], count: &mut u8, greatest: u8, key: u8) -> Ed
 }
 
 /// Answers a line that ended to the buffer at an address, whose first byte is the greatest length: the line's length comes
-/// behind it, and then the line.
+/// after it, and then the line.
 #[tactic(auto, unfolding(crate::specs::Lines::line_answer))]
 pub fn answer_line(line: &[u8; 255], count: u8, address: u16, reply: &mut Reply)
     ensures { reply.new ≡ line_answer (so_far line.now count) address }
@@ -97,7 +97,7 @@ pub fn answer_line(line: &[u8; 255], count: u8, address: u16, reply: &mut Reply)
     reply.answer_with(0, address.wrapping_add(1), &bytes[..1 + size]);
 }
 
-/// What is written with a key: CR behind its echo, where the line ends.
+/// What is written with a key: CR after its echo, where the line ends.
 fn with_end(shown: Echo, ends: bool) -> Echo
     requires { length shown ≤ 3 }
     ensures { result ≡ shown ++ (if ends then line_end else []) }

@@ -30,7 +30,7 @@ part_of_two before low high one next ordered =
     ∙ ap (λ (k : ℕ). drop (low - before) (take (high - before) one) ++ drop k (take (high - before - length one) next)) from
     ∙ ap (λ (k : ℕ). drop (low - before) (take (high - before) one) ++ drop (low - (before + length one)) (take k next)) to
 
--- the whole file has its code, behind what stands before it and before what stands behind it
+-- the whole file has its code, after what stands before it and before what follows it
 pub code_of_file : (header code rest : List ℕ) → part 0 (length header) (length header + length code) (header ++ (code ++ rest)) ≡ code
 unfolding part
 code_of_file header code rest =

@@ -4,11 +4,11 @@ use Rattle.std.specs.Prelude.{ℕ, ◌+◌, ◌*◌, ◌/◌, ◌≤◌, ◌<◌
 use Rattle.mpm_prl.specs.Relocation.{word_at}
 use Rattle.mpm_loader.specs.declared.plan.Plan.{Plan}
 
--- a page relocatable program: its code stands behind a header of 256 bytes, and behind it a bit for each byte
+-- a page relocatable program: its code follows a header of 256 bytes, and after it a bit for each byte
 unfoldable pub relocatable_plan : ℕ → ℕ → Plan
 relocatable_plan length extra = record { start = 256; length = length; room = length + extra; bits = (length + 7) / 8 }
 
--- that of a file by its first records: the length of its code is the word at 1, what it wants behind the code the word at 4;
+-- that of a file by its first records: the length of its code is the word at 1, what it wants after the code the word at 4;
 -- none where there aren't two records, or where there is no code
 unfoldable pub plan_of : List ℕ → Option Plan
 plan_of records =
@@ -19,11 +19,11 @@ plan_of records =
 unfoldable pub absolute_plan : ℕ → Plan
 absolute_plan records = record { start = 0; length = 128 * records; room = 128 * records; bits = 0 }
 
--- the pages that its code and what it wants behind it take with 128 bytes for its stack, the base page and the last page
+-- the pages that its code and what it wants after it take with 128 bytes for its stack, the base page and the last page
 unfoldable pub pages_of : Plan → ℕ
 pages_of plan = (plan.room + 128 + 255) / 256 + 2
 
--- where the code ends and its bits begin, and where the last bits end: what stands behind doesn't count
+-- where the code ends and its bits begin, and where the last bits end: what follows doesn't count
 abbrev pub code_end : Plan → ℕ
 code_end plan = plan.start + plan.length
 
@@ -38,7 +38,7 @@ pub record IsPlan (plan : Plan) : Type 0 where
   pub few : plan.bits ≤ 8192
   pub marks : 8 * plan.bits < plan.length + 8
 
--- behind the base page it fits into so many pages, with 128 bytes for its stack, before the last page
+-- after the base page it fits into so many pages, with 128 bytes for its stack, before the last page
 pub record FitsIn (plan : Plan) (pages : ℕ) : Type 0 where
   pub behind_base : 3 ≤ pages
   pub before_last : plan.length + 640 ≤ 256 * pages

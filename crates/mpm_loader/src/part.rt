@@ -25,7 +25,7 @@ fn first(bytes: &[u8], most: u32) -> &[u8]
     }
 }
 
-/// What stands behind so many bytes.
+/// What follows so many bytes.
 fn behind(bytes: &[u8], count: u32) -> &[u8]
     ensures bytes { result.now ≡ drop count bytes.now }
     ensures size { length result.now ≤ length bytes.now }

@@ -11,14 +11,14 @@ pub struct Plan {
     pub start: u32,
     /// How many bytes of code there are.
     pub length: u32,
-    /// How many bytes the program wants for its code and behind it.
+    /// How many bytes the program wants for its code and after it.
     pub room: u32,
-    /// How many bytes stand behind the code, with a bit for each byte of it.
+    /// How many bytes follow the code, with a bit for each byte of it.
     pub bits: u32,
 }
 
 impl Plan {
-    /// That of a page relocatable program, by its header: the code stands behind 256 bytes, and its bits behind it.
+    /// That of a page relocatable program, by its header: the code follows 256 bytes, and its bits after it.
     #[tactic(auto, unfolding(crate::specs::Plans::relocatable_plan))]
     pub fn relocatable(header: PrlHeader) -> Plan
         ensures plan { result ≡ relocatable_plan header.length header.extra }

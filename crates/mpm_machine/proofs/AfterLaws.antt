@@ -1,5 +1,4 @@
 -- A machine as it begins: it is whole, and nobody is left to be handed out.
--- the openings
 use Rattle.std.proofs.Common.{◌∙◌, ℕ, ◌≤◌, false, List, All, length, refl, sym, ap, arith}
 use Rattle.mpm_dispatcher.specs.Dispatch.{picked}
 use Rattle.mpm_script.specs.declared.event.Timed.{Timed}
@@ -14,6 +13,8 @@ use Rattle.mpm_system.proofs.SizeLaws.{memory_new}
 use Rattle.mpm_system.proofs.PlacedLaws.{booted_is_bare, opening_is_bare}
 use Rattle.mpm_system.proofs.OpeningLaws.{boots, whole_picked, no_completions_picked}
 use Rattle.mpm_system.proofs.ResidingLaws.{all_begun}
+
+-- the openings
 
 -- a machine as a program begins
 pub opening_whole : (program : List ℕ) → length program ≤ 48512 → IsWhole (opening_system program)

@@ -1,6 +1,5 @@
 -- A file call that a process has made is done at once, or waits for the disk: what becomes of the system, of files, and of what is
 -- written; and where it stopped.
--- it is done at once, or waits
 use Rattle.std.proofs.Common.{◌≡◌, ◌∙◌, ℕ, ◌+◌, ◌*◌, ◌<◌, ◌≤◌, ◌==◌, ◌&&◌, Bool, true, false, if◌then◌else◌, List, Option, Some, None, IfSome, Result, Ok, Err, OnOk, IfErr, refl, sym, ap, subst, arith}
 use Rattle.std.specs.Prelude.{is_some, is_none, option_map}
 use Rattle.std.proofs.lemmas.Bool.{false≢true, or_parts}
@@ -45,6 +44,7 @@ use Rattle.mpm_machine.proofs.KeepingLaws.{ready_unserved, concluded_serves}
 use Rattle.mpm_machine.proofs.TurnLaws.{worked_on}
 use Rattle.mpm_machine.proofs.BegunLaws.{waiting_serves}
 
+-- it is done at once, or waits
 once_is : (told : Directly) (p : ℕ) (system : System) → is_done_at_once p system ≡ true → file_called told p system ≡ concluded told p system
 unfolding file_called
 once_is told p system done = ap (λ b. if b then concluded told p system else silent (with_kernel (waiting_for_disk p) system)) done
@@ -279,7 +279,7 @@ pub served_directly : (p : ℕ) (old : System) → (is_some (function_of (call_o
     → is_done_at_once p old ≡ true → function_of (call_of old.kernel.dispatcher.procs p).function ≡ None
 served_directly p old off done = and_none (function_of (call_of old.kernel.dispatcher.procs p).function) (is_done_at_once p old) off done
 
--- what holds of drives and of what is kept does so behind its work
+-- what holds of drives and of what is kept does so after its work
 
 own_filed : (served : Option Served) (kernel : Kernel) (old new : Option InService) → (is_some served ≡ true → new ≡ old)
     → IfSome served (λ (call : Served). IsOwn kernel.dispatcher.procs call.p old) → IfSome served (λ (call : Served). IsOwn kernel.dispatcher.procs call.p new)

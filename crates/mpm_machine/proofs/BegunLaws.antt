@@ -1,4 +1,4 @@
--- What holds of drives, of what is kept of file calls and of those at the disk holds behind what a step begins with, and the disk serves
+-- What holds of drives, of what is kept of file calls and of those at the disk holds after what a step begins with, and the disk serves
 -- the same call, in turns of as many steps.
 use Rattle.std.proofs.Common.{◌≡◌, ◌∙◌, ℕ, ◌+◌, ◌<◌, Bool, true, false, if◌then◌else◌, Option, Some, None, IfSome, is_some, refl, sym, ap, subst, arith, eqb-true}
 use Rattle.std.proofs.lemmas.Bool.{false≢true, false_from_ne_true}

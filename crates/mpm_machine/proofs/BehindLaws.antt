@@ -1,6 +1,5 @@
--- For which drives the images stand behind a step whose disk's step they allow, also where its sink failed: nothing behind a turn's work
+-- For which drives the images stand after a step whose disk's step they allow, also where its sink failed: nothing after a turn's work
 -- changes an image.
--- the drives that files say stand, where files do
 use Rattle.std.proofs.Common.{◌≡◌, ◌∙◌, ◌-◌, ℕ, Bool, true, false, List, Option, Some, None, is_some, option_map, inl, inr, refl, sym, ap, subst, arith}
 use Rattle.std.specs.Prelude.{◌⊎◌, slice_index_or, slice_set, unwrap_or}
 use Rattle.std.proofs.lemmas.Bool.{false≢true}
@@ -42,6 +41,7 @@ use Rattle.mpm_machine.proofs.ServeLaws.{IsNotLast, over_served, over_files, ove
 use Rattle.mpm_machine.proofs.EnterLaws.{none_served, files_kept, worked_between, entered_so, files_so, nobody_enters, files_stay}
 use Rattle.mpm_machine.proofs.StandingLaws.{within_by}
 
+-- the drives that files say stand, where files do
 stand_in : (served : Option Served) (kept : Kept) (disks : Disks) (files : Files) → StandsServed served kept disks files
     → StandEach (images_of disks) kept.mounted (drives_in served files)
 unfolding drives_in
@@ -52,7 +52,7 @@ stand_in (Some call) kept disks (Within s) stands =
     let ended : stands.turns ≡ turns_ended call s = omega (arith, stands.left) in
     subst (λ (j : ℕ). StandEach (images_of disks) kept.mounted (drives_after s j)) ended stands.serves.stand
 
--- behind the step of the disk
+-- after the step of the disk
 
 record StandIn (kept : Kept) (disks : Disks) (served : Option Served) (files : Files) : Type 0 where
   pub within : AreWithin served files
@@ -180,7 +180,7 @@ entered_stands system kept disks files stands = elim (none_or system.kernel.disk
       (subst (λ (s : System). Drives kept disks s.kernel.disk.served files) (sym (nobody_enters (turns_within files) system some)) stands.stand)
 ]
 
--- behind the disk's step, and behind the whole rest of the step
+-- after the disk's step, and after the whole rest of the step
 
 given_within : (owed : List Bool) (served : Option Served) (files : Files) → AreWithin served files → AreWithin served (given_back owed files)
 given_within owed None (Between filing) within = tt

@@ -110,7 +110,7 @@ calls_calling call p system keeps w h is_ready =
     calls_then system.kernel done.system.kernel _ (calls_to_all call p system w.sound h (ready_apart p system.kernel w.sound is_ready))
     (calls_native done.outcome done.reply call p done.system stays.whole stays.lives)
 
--- or has a text told
+-- or has a text written
 calls_telling : (call : Taken) (p : ℕ) (system : System) → SystemKeepsCalls system (telling_step call p system).system
 unfolding telling_step speaking
 calls_telling call p system =

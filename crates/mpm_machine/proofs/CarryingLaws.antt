@@ -1,5 +1,4 @@
 -- The call in service as it is carried to its end: the turns that are left to it, its answer, the ends that are then due, and the records.
--- the call in service, with the turns that are left to it
 use Rattle.std.proofs.Common.{◌≡◌, ◌∙◌, ℕ, ◌+◌, Bool, List, [], ◌++◌, Option, Some, None, refl, sym, ap, subst, arith}
 use Rattle.std.proofs.lemmas.Option.{same_Some}
 use Rattle.std.specs.Prelude.{Result, Ok, Err, IsOk, option_map}
@@ -43,6 +42,7 @@ use Rattle.mpm_machine.proofs.DiskStepLaws.{whole_all_paid}
 use Rattle.mpm_machine.proofs.KeepingLaws.{finishing_disk, concluded_serves, ends_serve}
 use Rattle.mpm_machine.proofs.TurnLaws.{stands_idle, paid_stands, drives_left}
 
+-- the call in service, with the turns that are left to it
 pub record InCall (files : Files) (served : Option Served) (p : ℕ) (kept : Filed) (disks : Disks) : Type 0 where
   pub call : Situation
   pub is : files ≡ Within call
@@ -85,7 +85,7 @@ pub nobody_left : (kernel : Kernel) → (with_disk unserved kernel).disk.served 
 unfolding unserved
 nobody_left kernel = refl
 
--- behind its answer nobody is served
+-- after its answer nobody is served
 
 pub over_idle : (told : Directly) (p : ℕ) (system : System) → system.kernel.disk.served ≡ None → (call_over told p system).system.kernel.disk.served ≡ None
 unfolding call_over

@@ -1,6 +1,5 @@
--- What a step leaves of memory: each byte of a segment that is written neither by the instruction of a process that lives there
--- nor by the reply to a call of one, and each byte of common memory that no instruction and no reply writes.
--- an end, and a call before its reply, change no byte
+-- What a step leaves of memory. It leaves each byte of a segment that is written neither by the instruction of a process that lives there
+-- nor by the reply to a call of one. It leaves each byte of common memory that no instruction and no reply writes.
 use Rattle.std.proofs.Common.{◌≡◌, ◌≢◌, ◌∙◌, ℕ, ◌<◌, ◌≤◌, true, false, not, ◌&&◌, List, [], ◌∷◌, length, Option, Some, None, ◌==◌, inl, inr, refl, sym, ap, subst, ◌||◌}
 use Rattle.std.specs.List.{range_with_len}
 use Rattle.std.proofs.lemmas.Bool.{cases_eq, false_from_ne_true}
@@ -61,6 +60,7 @@ use Rattle.mpm_machine.specs.Stepping.{begun_alone}
 use Rattle.mpm_machine.proofs.FinishLaws.{first_finished, left_completed, home_dequeued}
 use Rattle.mpm_machine.proofs.WholeStepLaws.{whole_first, whole_first_answered, lives_dequeued, lives_in_time, whole_if_due, whole_due_end}
 
+-- an end, and a call before its reply, change no byte
 vacated_alike : (memory : Memory) (procs : Table) (seg : Option ℕ) → SameBytes memory (vacated_if_empty memory procs seg)
 unfolding vacated_if_empty
 vacated_alike memory procs None = same_bytes_itself memory
@@ -382,7 +382,7 @@ pub answers_common : (system : System) (seg at : ℕ) → IsWhole system → 491
     → byte_at (all_finished system).memory seg at ≡ byte_at system.memory seg at
 answers_common system seg at w above none = among_common system.kernel.dispatcher.completed system seg at w refl above none
 
--- so does the first that a step completed, and those behind it
+-- so does the first that a step completed, and those after it
 
 first_segments : (p : ℕ) (system : System) (seg at : ℕ) → Lives system.kernel.dispatcher.procs p → at < 49152
     → ((chains p system.kernel ≡ false) × Answers p system seg at → ⊥) → byte_at (finished_or_ended p system).memory seg at ≡ byte_at system.memory seg at

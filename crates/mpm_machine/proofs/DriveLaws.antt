@@ -1,5 +1,4 @@
 -- The drives with which a machine begins, and what steps leave of them, one after another.
--- nothing was done, or one thing after another
 use Rattle.std.proofs.Common.{◌≡◌, ◌≢◌, ◌∙◌, ℕ, List, [], ◌∷◌, Option, Some, None, sym, ap, subst, arith, get_or-set_same, get_or-set_other}
 use Rattle.std.specs.Prelude.{option_map, slice_set}
 use Rattle.std.specs.List.{AllByRecursion}
@@ -22,6 +21,7 @@ use Rattle.mpm_machine.proofs.FilingLaws.{label_none}
 use Rattle.mpm_machine.proofs.FirstFiles.{many_places}
 use Rattle.mpm_machine.proofs.MountedLaws.{none_mounted}
 
+-- nothing was done, or one thing after another
 pub keeps_still : (told : Images) (disks : Disks) (one other : List (Option Directory)) → other ≡ one → KeepsMounted told told disks disks one other
 keeps_still told disks one other same = record {
   labels = λ number. ap (λ m. option_map labelled (directory_at m number)) same;

@@ -1,5 +1,4 @@
 -- Ends that were put off: one after another, by slot, and none where nobody is aborted.
--- nobody's end is due where nobody is aborted
 use Rattle.std.proofs.Common.{◌≡◌, ◌∙◌, ℕ, suc, ◌+◌, ◌-◌, ◌<◌, Bool, true, false, not, ◌&&◌, if◌then◌else◌, List, [], ◌∷◌, ◌++◌, Option, Some, None, Result, OnOk, length, refl, sym, ap, subst, append_assoc, arith}
 use Rattle.std.proofs.lemmas.Bool.{false≢true}
 use Rattle.std.proofs.lemmas.List.{append-nil}
@@ -23,6 +22,7 @@ use Rattle.mpm_machine.specs.After.{followed}
 use Rattle.mpm_machine.proofs.RecordsLaws.{cleared, out_apart, terminated_beside, ends_beside}
 use Rattle.mpm_machine.proofs.FinishLaws.{completed_none, no_completions_finished}
 
+-- nobody's end is due where nobody is aborted
 stands_still : (p : ℕ) (system : System) → NobodyAborted system.kernel → ended_if_due p system ≡ system
 unfolding ended_if_due
 stands_still p system none =
@@ -65,7 +65,7 @@ pub end_out : (p : ℕ) (system now : System) → is_due system.kernel p ≡ tru
 unfolding ended_if_due
 end_out p system now due is = ap records_out is ∙ ap (λ (b : Bool). records_out (if b then all_finished (ended p system) else system)) (sym due)
 
--- the slots so far: what is left of all ends, behind what came out so far
+-- the slots so far: what is left of all ends, after what came out so far
 pub record DueSo (start now : System) (slot : ℕ) (o m : Outside) : Type 0 where
   pub emitted : List Output
   pub wrote : Wrote o m emitted
@@ -87,7 +87,7 @@ due_nothing start o none = record {
     all_of : (rest : ℕ) → 0 + rest ≡ 32 → 32 ≡ rest
     all_of rest all = omega arith
 
--- the next slot, and those behind it
+-- the next slot, and those after it
 one_more : (p : ℕ) (ps : List ℕ) (system : System)
     → records_out (due_terminated (p ∷ ps) system) ≡ followed (records_out (ended_if_due p system)) (records_out (due_terminated ps (records_out (ended_if_due p system)).system))
 unfolding due_terminated

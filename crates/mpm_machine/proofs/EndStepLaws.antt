@@ -38,7 +38,7 @@ use Rattle.mpm_machine.proofs.ServeLaws.{over_serves, none_behind}
 use Rattle.mpm_machine.proofs.EnterLaws.{paid_kernel, pays}
 use Rattle.mpm_machine.proofs.CarryingLaws.{keeps_by}
 
--- what comes behind the disk's step
+-- what comes after the disk's step
 abbrev ended_by : Bool → System → System
 ended_by instruction served =
     let paid = all_paid (records_out (with_ends served)).system in record paid { kernel = with_dispatcher (picked instruction) paid.kernel }
@@ -202,7 +202,7 @@ pub ended_turn_steps : (instruction : Bool) (old served new : System) → EndsSe
 ended_turn_steps instruction old served new so made =
     so.serves.steps ∙ ap (λ (system : System). system.kernel.disk.turn_steps) made.1 ∙ steps_entered_after made.0 old
 
--- the sink failed: in the disk's step, or behind it
+-- the sink failed: in the disk's step, or after it
 
 served_stops : (instruction : Bool) (telling : Telling) (o n : Outside) (old : System) → Stopped o n (disk_served telling.at_disk old).emitted
     → Stopped o n (rest_of instruction telling (silent old)).emitted
@@ -227,7 +227,7 @@ pub ending_stopped : (instruction : Bool) (files : Files) (o m n : Outside) (old
 ending_stopped instruction files o m n old served kept disks has stopped =
     ends_stop instruction (telling_then nothing_told old files) o m n old served (served_so files o m old served kept disks has) (said_so files o m old served kept disks has) stopped
 
--- what is so of the system behind the disk's step, and behind the rest of a step
+-- what is so of the system after the disk's step, and after the rest of a step
 
 pub served_nobody : (old new : System) → old.kernel.dispatcher.completed ≡ [] → IsServedFrom old new → new.kernel.dispatcher.completed ≡ []
 served_nobody old new none made = ap (λ (system : System). system.kernel.dispatcher.completed) made.1 ∙ none_entered_after made.0 old none

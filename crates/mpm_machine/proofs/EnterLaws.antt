@@ -1,6 +1,5 @@
--- The disk's step as the code makes it, behind the turn of the call in service: those who ended give back, and the first that waits
+-- The disk's step as the code makes it, after the turn of the call in service: those who ended give back, and the first that waits
 -- enters service, in the situation of that moment.
--- where nobody is in service
 use Rattle.std.proofs.Common.{◌≡◌, ◌∙◌, ◌<◌, ◌==◌, ℕ, Bool, true, false, if◌then◌else◌, List, Option, Some, None, Result, OnOk, is_some, option_map, IfSome, refl, sym, ap, subst, arith}
 use Rattle.std.proofs.lemmas.Bool.{false≢true}
 use Rattle.std.proofs.lemmas.Result.{on_ok_weaker}
@@ -44,6 +43,7 @@ use Rattle.mpm_machine.proofs.FilingLaws.{named_by}
 use Rattle.mpm_machine.proofs.ServeLaws.{IsServedBy, somebody}
 use Rattle.mpm_machine.proofs.TurnLaws.{who, stands_idle, entered_first, paid_stands, entry_stands}
 
+-- where nobody is in service
 pub nobody_served : (disk : DiskService) → disk.served ≡ None → served_process disk ≡ None
 unfolding served_process
 nobody_served disk none = ap (option_map (λ (call : Served). call.p)) none

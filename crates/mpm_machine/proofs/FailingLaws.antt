@@ -1,6 +1,4 @@
 -- What the images stand for where a step stopped.
--- the call's drive within a turn: what the call doesn't name is as before it, and records are seen as some number of its units leaves them,
--- no fewer than had ended
 use Rattle.std.proofs.Common.{◌≡◌, ◌≢◌, ◌<◌, ◌≤◌, ◌+◌, ◌*◌, ◌∙◌, ℕ, zero, suc, true, List, [], ◌∷◌, Option, Some, None, Result, inl, inr, refl, sym, ap, subst, arith, get_or-set_other}
 use Rattle.std.specs.Prelude.{◌⊎◌, OnErr, is_some, option_map, unwrap_or, slice_index_or, slice_set}
 use Rattle.std.proofs.lemmas.Bool.{false≢true, cases_eq}
@@ -48,6 +46,8 @@ use Rattle.mpm_machine.specs.FileCalls.{looked_at, situation_of}
 use Rattle.mpm_machine.specs.Failing.{working_at_once, working_if, turns_done, HaveImages, HaveImagesOf, IsWithin, FailsWithin, StopsOn, StopsWithImages}
 use Rattle.mpm_machine.proofs.FilingLaws.{named_by, situation_is}
 
+-- the call's drive within a turn: what the call doesn't name is as before it, and records are seen as some number of its units leaves them,
+-- no fewer than had ended
 pub within_contained : (call : Situation) (ended most : ℕ) (files : Drive) (within : IsWithin call ended most files) → IsContained (drive_at call) within.job ended files
 within_contained call ended most files within =
     among_all (IsContained (drive_at call) within.job ended) (units_done (drive_at call) within.job within.turn)

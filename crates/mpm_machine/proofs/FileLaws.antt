@@ -108,7 +108,7 @@ whole_file_replied : (reply : Answer) (p : ℕ) (system : System) → IsWhole sy
 unfolding file_replied
 whole_file_replied reply p system w h = whole_reply_by (process_in system.kernel.dispatcher.procs p).seg reply p system w h
 
--- or its extended error is told
+-- or its extended error is displayed
 
 pub whole_told : (error : Extended) (p : ℕ) (system : System) → IsWhole system → Lives system.kernel.dispatcher.procs p
     → StaysWhole p system (error_told error p system).system
@@ -152,7 +152,7 @@ whole_concluded told p system w h =
     let changed = whole_caller told.caller p system w h in
     whole_answered_by told.extended told.answer p (with_caller told.caller p system) changed.whole changed.lives
 
--- what is said: where a part fails, and what comes behind it
+-- what is said: where a part fails, and what comes after it
 
 pub told_fails : (device : Device) (answers : Bool) (error : Extended) (reply : Answer) (p : ℕ) (system : System) (o n : Outside)
     → Fails device o n (error_told error p system).emitted → Fails device o n (told_then answers error reply p system).emitted

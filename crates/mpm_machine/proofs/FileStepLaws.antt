@@ -1,5 +1,4 @@
--- A step by what a file call comes to, if one is made in it: when none is, and what is so behind it.
--- none is made where no process runs, or the one that runs is at no gate
+-- A step by what a file call comes to, if one is made in it: when none is, and what is so after it.
 use Rattle.std.proofs.Common.{◌≡◌, ◌∙◌, ℕ, ◌+◌, ◌≤◌, Bool, true, false, not, ◌&&◌, ◌==◌, [], Option, Some, None, is_some, if◌then◌else◌, length, refl, sym, ap, subst, arith}
 use Rattle.mpm_base.proofs.Choices.{either}
 use Rattle.mpm_base.specs.Calls.{Answer}
@@ -28,6 +27,7 @@ use Rattle.mpm_machine.specs.Stepping.{Telling, begun_with, begun_as, is_instruc
 use Rattle.mpm_machine.proofs.TallyLaws.{Tally, tally, OneMore, none_more, one_more_behind, answering_more, more_have_room, begun_more, all_answered_steps, all_finished_steps, ends_steps}
 use Rattle.mpm_machine.proofs.StepWithLaws.{no_file_at}
 
+-- none is made where no process runs, or the one that runs is at no gate
 pub nobody_calls : (system : System) → system.kernel.dispatcher.running ≡ None → file_caller system ≡ None
 unfolding file_caller
 nobody_calls system idle = ap (λ running. file_caller_by (is_some (coming (counted system))) running system) idle

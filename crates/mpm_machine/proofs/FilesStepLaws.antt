@@ -18,7 +18,7 @@ use Rattle.mpm_machine.specs.After.{IsOfSome, HasSteppedTo, StopsBy, HasBegunTo,
 use Rattle.mpm_machine.proofs.MadeLaws.{IsMade}
 use Rattle.mpm_machine.proofs.RestLaws.{rest_emitted}
 
--- what a step begins with, and the rest of it, by what is told at the disk and for how many turns the next call enters
+-- what a step begins with, and the rest of it, by what is known at the disk and for how many turns the next call enters
 abbrev joined : Directly → Telling → Telling
 joined at_gate rest = record { at_gate = at_gate; at_disk = rest.at_disk; turns = rest.turns }
 
@@ -96,7 +96,7 @@ stepped_files : (old : System) (files : Files) → (stepped old files).files ≡
 unfolding stepped
 stepped_files old files = refl
 
--- the rest of it is that behind what it begins with
+-- the rest of a step is the one after what it begins with
 rest_here : (old middle : System) (files : Files) → middle ≡ (before_disk old files).system
     → telling_then nothing_told middle (files_begun old files) ≡ telling_then nothing_told (before_disk old files).system (files_begun old files)
 rest_here old middle files is = ap (λ (s : System). telling_then nothing_told s (files_begun old files)) is

@@ -1,5 +1,4 @@
 -- A file call in a step: what becomes of its caller, what it comes to, and what those leave who end in the step.
--- a row of a table of numbers
 use Rattle.std.proofs.Common.{◌≡◌, ◌∙◌, ℕ, suc, ◌+◌, ◌-◌, ◌<◌, ◌==◌, ◌&&◌, Bool, true, false, List, [], ◌∷◌, Option, Some, None, IsSome, IfSome, Result, Ok, Err, IfOk, if◌then◌else◌, refl, ap, sym, subst, arith, eqb-true}
 use Rattle.std.specs.Prelude.{is_none, find, option_map}
 use Rattle.std.specs.List.{AllByRecursion, range_with_len}
@@ -40,6 +39,7 @@ use Rattle.mpm_machine.specs.Mounting.{HasNoDrive}
 use Rattle.mpm_machine.specs.Filed.{IsOutcome, left_if}
 use Rattle.mpm_machine.specs.FileCalls.{looked_at, entering, situation_of, outcome_by, outcome_in, told_by, told_of}
 
+-- a row of a table of numbers
 row_by : {X : Type 0} (P : ℕ → X → Type 0) (row : ℕ × X) (rest : Option (ℕ × X)) (number : ℕ) (x : X) (b : Bool) → (row.0 == number) ≡ b → P row.0 row.1
     → (option_map (λ r. r.1) rest ≡ Some x → P number x) → option_map (λ r. r.1) (if b then Some row else rest) ≡ Some x → P number x
 row_by P row rest number x true same here others is =
@@ -174,7 +174,7 @@ caller_changed filing p system =
     let number = (call_of system.kernel.dispatcher.procs p).function in
     changed_by (function_of number) (direct_of number) filing p system refl refl
 
--- so what is told is all that its caller sees
+-- so what is answered is all that its caller sees
 pub told_all : (filing : Filing) (p : ℕ) (system : System)
     → told_of (call_of system.kernel.dispatcher.procs p) (outcome_in filing p system).answer (outcome_in filing p system).extended ≡ told_by (outcome_in filing p system)
 told_all filing p system =
@@ -291,7 +291,7 @@ disk_is disks now filing p system kept new caller process call moment answer res
     (λ extended comes. comes_to now filing p system new s function answer extended is found.1 (idle function its) comes)
     (ok filing.drives function its stands.stand)
 
--- behind it no call is in service
+-- after it no call is in service
 pub at_once_idle : (call kept : Taken) {service : Option InService} → call ≡ kept → IsSome (function_of kept.function)
     → ((function : FileFunction) → function_of call.function ≡ Some function → service ≡ None) → service ≡ None
 at_once_idle call kept calls some idle =

@@ -1,5 +1,4 @@
 -- The files with which a machine begins: its drives in their places, each image standing for what is on its drive.
--- two lists of places that change in one place
 use Rattle.std.proofs.Common.{◌≡◌, ◌∙◌, ℕ, zero, suc, List, [], ◌∷◌, Option, Some, None, length, refl, sym, subst}
 use Rattle.std.specs.Prelude.{IsSomeAnd, replicate, slice_index_or, slice_set, unwrap_or}
 use Rattle.std.proofs.lemmas.List.{length-set}
@@ -20,6 +19,7 @@ use Rattle.mpm_machine.specs.Files.{Between, StandsBetween, StandsForFiles}
 use Rattle.mpm_machine.specs.Mounting.{HasMounted, OpensOn, untouched}
 use Rattle.mpm_machine.proofs.TurnLaws.{stands_idle}
 
+-- two lists of places that change in one place
 set_both : {X Y : Type 0} (P : ℕ → Option X → Option Y → Type 0) (xs : List (Option X)) (ys : List (Option Y)) (n : ℕ) (x : X) (y : Y) → length xs ≡ length ys
     → P n (Some x) (Some y) → ((number : ℕ) → P number (slice_index_or xs number None) (slice_index_or ys number None))
     → (number : ℕ) → P number (slice_index_or (slice_set xs n (Some x)) number None) (slice_index_or (slice_set ys n (Some y)) number None)

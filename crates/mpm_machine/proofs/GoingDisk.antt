@@ -1,5 +1,5 @@
--- The command line interpreter goes on with the segment that it has reserved through the disk's part of a step: a step of the call in
--- service, which is over behind its last turn, what is paid, and the entry of the next call.
+-- The command line interpreter goes on with the segment that it has reserved through the disk's part of a step. That is a step of the call
+-- in service, which is over after its last turn, what is paid, and the entry of the next call.
 use Rattle.std.proofs.Common.{ℕ, zero, suc, ◌≡◌, ◌≢◌, true, false, Option, Some, None, option_map, refl, subst}
 use Rattle.mpm_directories.specs.Direct.{Directly}
 use Rattle.mpm_kernel.proofs.AwaitingLaws.{awaits_heir}

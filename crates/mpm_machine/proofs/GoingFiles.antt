@@ -1,6 +1,5 @@
--- The command line interpreter makes a file call, which is done at once, or waits for the disk, is served, and is over in a later step:
--- while it is at the disk, the interpreter's row is one that makes such a call, and behind it the interpreter awaits nothing.
--- a row that makes a call on files neither reserves nor reads a command
+-- The command line interpreter makes a file call, which is done at once, or waits for the disk, is served, and is over in a later step.
+-- While it is at the disk, the interpreter's row is one that makes such a call, and after it the interpreter awaits nothing.
 use Rattle.std.proofs.Common.{ℕ, zero, suc, ◌≡◌, ◌≢◌, ◌∙◌, ◌==◌, ◌<◌, ◌||◌, if◌then◌else◌, Bool, true, false, Option, Some, None, inl, inr, refl, sym, ap, subst, arith}
 use Rattle.std.proofs.lemmas.Bool.{false≢true, cases_lt, eq-eqb}
 use Rattle.std.specs.Option.{option_map}
@@ -45,6 +44,7 @@ use Rattle.mpm_machine.specs.DiskStep.{file_called, is_done_at_once, ready_again
 use Rattle.mpm_machine.specs.FileCalls.{answered_by, concluded, error_met, told_then, is_of_files, called_next, is_file_number, calls_files}
 use Rattle.mpm_machine.specs.Interpreting.{Interprets, IsActing, is_reading, awaited}
 
+-- a row that makes a call on files neither reserves nor reads a command
 no_files_there : (row : Row) (cli : Interpreter) → is_of_files (call_at row cli).function ≡ true → (is_reserving row ≡ false) × (is_reading row ≡ false)
 unfolding is_of_files Rattle.mpm_functions.specs.Functions.function_of Rattle.mpm_functions.specs.Functions.direct_of
 no_files_there ReadCommand cli is = absurd (cc)
@@ -73,7 +73,7 @@ pub neither_at : (cli : Interpreter) → is_of_files (next_call cli).function �
 unfolding next_call
 neither_at cli is = no_files_there cli.row cli is
 
--- a file call comes to what is told
+-- a file call comes to what is answered
 
 goes_caller : (change : CallerChange) (p : ℕ) (system : System) → Interprets system → Interprets (with_caller change p system)
 unfolding with_caller

@@ -381,7 +381,7 @@ begun_own true seg new system i may is w none =
     (ap (λ (r : Row). is_loading (took_at r i.acting.cli (answering 0)).row) is)
 begun_own false seg new system i may is w none = interprets_taken system (answering failure_code) i (ap is_reserving is) none
 
--- its text is told
+-- its text is written
 told_own : (call : Taken) (system : System) (i : Interprets system) → (call.function == PRINT_STRING) ≡ true → is_reserving i.acting.cli.row ≡ false → AwaitsNothing system.kernel
     → Interprets (native_step Ask call 0 system).system
 unfolding telling_step speaking spoke

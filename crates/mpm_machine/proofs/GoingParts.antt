@@ -1,6 +1,5 @@
 -- The command line interpreter goes on: through each part of what another process does it acts in slot 0 with the segment that it has
 -- reserved, and awaits what it awaited.
--- laws of parts
 use Rattle.std.proofs.Common.{ℕ, ◌≡◌, ◌≢◌, ◌∙◌, zero, suc, ◌==◌, ◌&&◌, not, Bool, true, false, List, length, Option, Some, None, refl, sym, ap, subst, arith}
 use Rattle.std.specs.Prelude.{nat_lt}
 use Rattle.std.proofs.lemmas.Bool.{and_parts}
@@ -68,6 +67,7 @@ use Rattle.mpm_machine.proofs.GoingOn.{own_call, not_resident}
 use Rattle.mpm_machine.proofs.KeepingLaws.{created_disk}
 use Rattle.mpm_machine.proofs.OwnLaws.{KeepsOwn, AwaitsNothing, awaits_now, own_itself, own_same, own_reserved, own_released, own_without, interprets_with, interprets_another}
 
+-- laws of parts
 unchanged : (old new : System) → new.memory ≡ old.memory → KeepsOwn old.memory new.memory
 unchanged old new same = subst (KeepsOwn old.memory) (sym same) (own_itself old.memory)
 

@@ -1,5 +1,4 @@
 -- The command line interpreter goes on with the segment that it has reserved in every step.
--- what it begins with
 use Rattle.std.proofs.Common.{ℕ, zero, suc, ◌≡◌, ◌&&◌, not, Bool, true, Option, Some, None, IfSome, refl, sym, subst}
 use Rattle.std.specs.Prelude.{is_some}
 use Rattle.std.proofs.lemmas.Bool.{and_parts}
@@ -27,6 +26,7 @@ use Rattle.mpm_machine.specs.FileCalls.{calls_files, file_caller, file_caller_by
 use Rattle.mpm_machine.specs.Interpreting.{Interprets}
 use Rattle.mpm_machine.specs.Stepping.{Telling, begun_as, begun_with, ended_after, entered_after, is_instruction, rest_of, step_with, telling_of}
 
+-- what it begins with
 pub goes_begun_with : (caller : Option ℕ) (told : Directly) (system : System) → IsWhole system → IfSome caller (λ p. Lives system.kernel.dispatcher.procs p)
     → IfSome caller (λ p. IsReady system.kernel.dispatcher p) → IfSome caller (λ p. calls_files p system ≡ true) → Interprets system
     → Interprets (begun_with caller told system).system

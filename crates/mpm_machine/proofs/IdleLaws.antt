@@ -1,5 +1,4 @@
 -- Steps in which nothing is done, as no process runs and none is ready.
--- nothing is done
 use Rattle.std.proofs.Common.{◌≡◌, ◌∙◌, ℕ, zero, suc, ◌+◌, ◌<◌, false, None, refl, sym, ap, subst, arith, add-one}
 use Rattle.mpm_service.specs.Disk.{DiskService}
 use Rattle.mpm_service.specs.Ahead.{passed_by}
@@ -25,6 +24,7 @@ use Rattle.mpm_machine.proofs.QuietLaws.{none_comes, step_quiet, picked_same}
 use Rattle.mpm_machine.proofs.PassingLaws.{still_ahead, passes_on, fewer_pass, rest_still, none_before, within_on}
 use Rattle.mpm_machine.proofs.PassedLaws.{later_none}
 
+-- nothing is done
 nothing_acted : (system : System) → system.kernel.dispatcher.running ≡ None → acted system ≡ silent system
 unfolding acted
 nothing_acted system idle = ap (λ o. acted_by o (running_segment o system) system) idle

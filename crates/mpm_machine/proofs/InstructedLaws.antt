@@ -1,5 +1,4 @@
 -- What a listed instruction changes besides memory: its process's registers, and the readiness of devices that it reads.
--- a device is ready after an instruction only where it was before
 use Rattle.std.proofs.Common.{◌≡◌, ◌∙◌, ℕ, zero, suc, ◌-◌, Bool, true, false, ◌&&◌, nat_le, List, [], ◌∷◌, Option, Some, None, IsSome, get_or, set, refl, ap}
 use Rattle.mpm_base.proofs.Choices.{either}
 use Rattle.z80_regs.specs.Outcome.{Outcome, Action, Write, Input}
@@ -20,6 +19,7 @@ use Rattle.mpm_machine.specs.Stepping.{Telling, rest_of, step_with}
 use Rattle.mpm_machine.specs.Contained.{Instructs, OnlyInstructed}
 use Rattle.mpm_machine.proofs.QuietLaws.{step_quiet}
 
+-- a device is ready after an instruction only where it was before
 clears_one : (ready : List Bool) (k device : ℕ) → get_or (set ready k false) device false ≡ true → get_or ready device false ≡ true
 clears_one [] k device h = h
 clears_one (x ∷ ready) zero zero h = absurd (cc)

@@ -233,7 +233,7 @@ pub ends_serve : (system : System) → ServesSame system (with_ends system)
 unfolding with_ends
 ends_serve system = each_due_serves (range_with_len 0 32) system
 
--- a file call is concluded, at the gate or behind its last turn
+-- a file call is concluded, at the gate or after its last turn
 caller_disk : (change : CallerChange) (p : ℕ) (system : System) → (with_caller change p system).kernel.disk ≡ system.kernel.disk
 unfolding with_caller
 caller_disk Stays p system = refl

@@ -1,6 +1,5 @@
--- A program's file comes into the segment that the interpreter reserved: each piece's code is placed, then code is moved by its marks,
--- then the next piece is read; once the whole file came, its code stands there, moved to the segment's first page.
--- what a piece has of a part of the file
+-- A program's file comes into the segment that the interpreter reserved: each piece's code is placed, then code is moved by its marks, then
+-- the next piece is read. Once the whole file came, its code stands there, moved to the segment's first page.
 use Rattle.std.proofs.Common.{◌≡◌, ◌∙◌, ℕ, ◌+◌, ◌-◌, ◌*◌, ◌/◌, ◌%◌, ◌<◌, ◌≤◌, ◌==◌, Bool, true, false, if◌then◌else◌, List, length, min, take, drop, get_or, Option, Some, None, inl, inr, refl, sym, ap, subst, arith, length-take, length-drop}
 use Rattle.std.specs.Prelude.{◌⊎◌, nat_lt, is_some}
 use Rattle.std.proofs.lemmas.Bool.{cases_lt, false≢true}
@@ -39,6 +38,7 @@ use Rattle.mpm_machine.specs.Interpreting.{HasReserved, Interprets}
 use Rattle.mpm_machine.specs.Loaded.{IsPiece, code_byte, HasCode, HasLoadedAt}
 use Rattle.mpm_machine.proofs.InterpretingLaws.{moves_always, range_is_there}
 
+-- what a piece has of a part of the file
 part_at : (before low high i : ℕ) (file piece : List ℕ) → IsPiece file before piece → i < length (part before low high piece)
     → get_or (part before low high piece) i 0 ≡ get_or file (before + (low - before + i)) 0
 unfolding part

@@ -38,7 +38,7 @@ IsLoadedAs file memory cli = IsLoadedIn cli.row cli file memory
 pub unloaded : (cli : Interpreter) (file : List ℕ) (memory : Memory) → is_loading cli.row ≡ false → HasCome cli.row cli.load → IsLoadedAs file memory cli
 unloaded cli file memory none came = record { code = λ loading. absurd (false≢true (sym none ∙ loading)); came = came }
 
--- where the whole file came, the row behind a piece is the one that closes it
+-- where the whole file came, the row after a piece is the one that closes it
 came_behind_marks : (load : Loading) → HasCome (row_behind_marks load) load
 unfolding row_behind_marks
 came_behind_marks load = either (λ (row : Row). HasCome row load) (has_all load) Close ReadOn (λ all. all) (λ _. tt)

@@ -1,6 +1,5 @@
--- What of a program's file stands in the segment that the interpreter reserved, in every step and in a run of them: as a program begins,
+-- What of a program's file stands in the segment that the interpreter reserved, in every step and in a run of them. As a program begins,
 -- all of its code stands there.
--- in a row that makes a call on files, or reads a command, nothing is handed over
 use Rattle.std.proofs.Common.{◌≡◌, ◌≢◌, ◌∙◌, ℕ, zero, suc, ◌+◌, ◌*◌, ◌<◌, ◌==◌, Bool, true, false, if◌then◌else◌, List, [], ◌∷◌, Option, Some, None, IfSome, refl, sym, ap, subst, arith}
 use Rattle.std.specs.List.{range_with_len}
 use Rattle.std.proofs.lemmas.Bool.{false≢true}
@@ -67,6 +66,7 @@ use Rattle.mpm_machine.specs.Loaded.{HasCome, HasLoadedAt, IsLoading, IsReadIn, 
 use Rattle.mpm_machine.specs.Serving.{fulfilling, reply_at_entry, with_entry}
 use Rattle.mpm_machine.specs.Stepping.{Telling, begun_as, begun_with, ended_after, entered_after, is_instruction, rest_of, step_with, telling_of}
 
+-- in a row that makes a call on files, or reads a command, nothing is handed over
 files_ask : (row : Row) (cli : Interpreter) → is_of_files (call_at row cli).function ≡ true → hands row ≡ false
 unfolding is_of_files Rattle.mpm_functions.specs.Functions.function_of Rattle.mpm_functions.specs.Functions.direct_of
 files_ask ReadCommand cli is = refl
@@ -116,7 +116,7 @@ reads_ask Give is = absurd (false≢true is)
 reads_ask PlaceBasePage is = absurd (false≢true is)
 reads_ask Begin is = absurd (false≢true is)
 
--- a file call comes to what is told
+-- a file call comes to what is answered
 
 rests_ended : (p : ℕ) (system : System) → Rests system (ended p system)
 unfolding ended
@@ -406,7 +406,7 @@ pub loads_nothing : (file : List ℕ) (cli : Interpreter) (system : System) → 
 loads_nothing file cli system acts is =
     loads_still file cli system acts (unloaded cli file system.memory (ap is_loading is) (subst (λ (row : Row). HasCome row cli.load) (sym is) tt))
 
--- as a program begins, all of its code stands behind the base page of its segment, as its file has it, each byte moved that is marked
+-- as a program begins, all of its code stands after the base page of its segment, as its file has it, each byte moved that is marked
 pub stands_as_it_begins : (n : ℕ) (file : List ℕ) (s : State) → IsWhole s.system → Interprets s.system → IsReadIn file n s → IsLoading file s.system
     → (cli : Interpreter) → native_in (after n s).system.residents 0 ≡ Some (Cli cli) → cli.row ≡ Begin
     → (place : ℕ) → place < cli.load.plan.length

@@ -1,4 +1,4 @@
--- What is so of the system behind a step, whatever its file calls came to.
+-- What is so of the system after a step, whatever its file calls came to.
 use Rattle.std.proofs.Common.{◌≡◌, ◌+◌, sym, subst}
 use Rattle.mpm_system.specs.declared.system.System.{System}
 use Rattle.mpm_system.specs.Whole.{IsWhole, NoCompletions}

@@ -1,5 +1,4 @@
 -- What is kept of files as a machine begins holds its drives.
--- what is so of each directory by its number is so of what stands in each place
 use Rattle.std.proofs.Common.{◌≡◌, ◌≢◌, ◌∙◌, ℕ, ◌<◌, Bool, true, false, List, [], ◌∷◌, Option, Some, None, IfSome, inl, inr, ◌==◌, refl, sym, ap, subst, arith}
 use Rattle.std.specs.Prelude.{◌⊎◌, is_some, bytes_eq}
 use Rattle.std.specs.List.{AllByRecursion}
@@ -34,6 +33,7 @@ use Rattle.mpm_machine.specs.Files.{Between, StandsForFiles}
 use Rattle.mpm_machine.proofs.FirstFiles.{opens_on_none}
 use Rattle.mpm_machine.specs.Mounting.{HasMounted, HasNoDrive, untouched}
 
+-- what is so of each directory by its number is so of what stands in each place
 each_placed : (P : ℕ → Directory → Type 0) (ds : List Directory) → AllByRecursion (λ (d : Directory). P d.drive d) ds → (number : ℕ)
     → IfSome (directory_at (in_places ds) number) (P number)
 unfolding all_put

@@ -1,5 +1,4 @@
 -- Steps that are instructions of one process.
--- a view that a process already has, and one after another
 use Rattle.std.proofs.Common.{◌≡◌, ◌∙◌, ℕ, zero, suc, ◌+◌, ◌-◌, ◌*◌, ◌<◌, ◌≤◌, false, ◌&&◌, Option, Some, None, is_some, option_map, inl, inr, length, refl, sym, ap, subst, arith, add-one, set-set, get_or-set_same}
 use Rattle.std.proofs.lemmas.Bool.{cases_eq}
 use Rattle.z80_regs.specs.declared.regs.Regs.{Regs}
@@ -51,6 +50,7 @@ use Rattle.mpm_machine.proofs.PlainLaws.{plain_next, files_still}
 use Rattle.mpm_machine.proofs.QuietLaws.{none_comes, step_quiet, picked_same}
 use Rattle.mpm_machine.proofs.PassingLaws.{still_ahead, passes_on, passes_nothing, fewer_pass, can_pass_on, rest_still, none_before, within_on}
 
+-- a view that a process already has, and one after another
 view_itself : (system : System) (p : ℕ) → with_view system p (view_of system p) 0 ≡ system
 unfolding with_view
 view_itself system p =
@@ -172,7 +172,7 @@ settled_view : (system : System) (p n : ℕ) (view : View) → p < length system
 unfolding with_view
 settled_view system p n view below none = nobody_view system.kernel view.devices (passed_by n system.kernel.disk) p view.regs below none
 
--- no call is in service behind steps that passed where none was before
+-- no call is in service after steps that passed where none was before
 handed_unpassed : (system : System) (p n : ℕ) (view : View) → NoCompletions system → NoCompletions (unpassed system p view n)
 unfolding passed_by
 handed_unpassed system p n view none =
@@ -290,7 +290,7 @@ pub moved_disk : (n p seg : ℕ) (old new : System) → Moved n p seg old new �
 unfolding with_view
 moved_disk n p seg old new moved = ap (λ (system : System). system.kernel.disk) moved.is
 
--- nobody's end is due behind them
+-- nobody's end is due after them
 pub moved_settled : (n p seg : ℕ) (old new : System) → IsWhole old → RunsOn old p seg → Moved n p seg old new → NobodyAborted new.kernel
 moved_settled n p seg old new w on moved =
     let lives = runner_lives old.kernel p w.sound on.running in
@@ -323,7 +323,7 @@ unfolding with_view
 page_moved n p seg old new moved =
     ap (λ (s : System). last_page s.memory seg) moved.is ∙ ap (λ (v : View). last_page v.memory seg) moved.moves.is ∙ page_moves n seg (view_of old p)
 
--- what lies ahead still does behind them
+-- what lies ahead still does after them
 pub ahead_moved : (n : ℕ) (ahead : Ahead) (old new : System) → IsWhole old → n ≤ ahead.last - old.steps → Moved n ahead.p ahead.seg old new → RunsAhead ahead old
     → RunsAhead ahead new
 unfolding with_view passed_by

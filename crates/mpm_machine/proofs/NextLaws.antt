@@ -1,5 +1,4 @@
 -- Laws of the steps of a state.
--- what a step makes of the system
 use Rattle.std.proofs.Common.{◌≡◌, ◌∙◌, ℕ, zero, suc, ◌+◌, ◌-◌, ◌<◌, ◌≤◌, Bool, List, refl, ap, sym, subst, arith, add-one}
 use Rattle.mpm_render.specs.Outputs.{rendered}
 use Rattle.mpm_system.specs.declared.system.System.{System}
@@ -18,6 +17,7 @@ use Rattle.mpm_machine.proofs.FiledValue.{filed_by_value, over_by_value, enters_
 use Rattle.mpm_machine.proofs.StepWithLaws.{whole_with, no_completions_with, instructed_with, served_with}
 use Rattle.mpm_machine.proofs.FileStepLaws.{steps_with}
 
+-- what a step makes of the system
 pub next_is : (s : State) → (next s).system ≡ (step_with (telling_of s.system s.files) s.system).system
 unfolding next stepped
 next_is s = refl

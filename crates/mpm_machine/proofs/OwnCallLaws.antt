@@ -1,6 +1,5 @@
--- The gate step of a call that concerns its caller alone: what it takes is kept, its process changes, the value is placed behind the
+-- The gate step of a call that concerns its caller alone: what it takes is kept, its process changes, the value is placed after the
 -- return address, and its record joins the others.
--- function by function
 use Rattle.std.proofs.Common.{◌≡◌, ◌≢◌, ◌∙◌, ℕ, ◌==◌, Bool, true, false, ◌&&◌, if◌then◌else◌, List, [], refl, sym, ap, subst}
 use Rattle.std.proofs.lemmas.Bool.{false≢true}
 use Rattle.mpm_base.specs.Calls.{Taken, answering}
@@ -36,6 +35,7 @@ use Rattle.mpm_machine.specs.FileCalls.{is_of_files}
 use Rattle.mpm_machine.specs.Serving.{served, served_to_all, telling, after_echo, is_entry, with_entry, reply_at_entry, fulfilling, completing, outcome_of, gate_step}
 use Rattle.mpm_machine.proofs.WholeLaws.{same_regs}
 
+-- function by function
 pub no_file_function : (f : ℕ) → is_own f ≡ true → is_of_files f ≡ false
 unfolding is_of_files function_of direct_of
 no_file_function f is = own_each (λ n. is_of_files n ≡ false) f is refl refl refl refl refl refl refl

@@ -1,5 +1,4 @@
 -- The step that is nothing but a call that concerns its caller alone.
--- the disk, where no call is at it
 use Rattle.std.proofs.Common.{◌≡◌, ◌∙◌, ℕ, ◌+◌, ◌-◌, ◌*◌, ◌<◌, true, false, not, ◌&&◌, if◌then◌else◌, List, [], ◌∷◌, ◌++◌, Option, Some, None, IfSome, is_some, option_map, refl, sym, ap, subst, arith, Bool}
 use Rattle.mpm_port.specs.Disks.{Disks}
 use Rattle.mpm_base.specs.Calls.{answering, Taken, Answer}
@@ -67,6 +66,7 @@ use Rattle.mpm_machine.proofs.StandingLaws.{stands_within}
 use Rattle.mpm_machine.proofs.BegunLaws.{keeps_alone, holds_kept}
 use Rattle.mpm_machine.proofs.OwnCallLaws.{OwnRow, own_row, no_file_function, asks_own, own_changed, own_at_gate}
 
+-- the disk, where no call is at it
 passes_so : (n : ℕ) (disk : DiskService) → disk.served ≡ None → passed_by n disk ≡ disk
 unfolding passed_by
 passes_so n disk idle =
@@ -275,7 +275,7 @@ own_stepped_to files o n p seg old new kept disks w makes is wrote stands =
       stands = subst (StandsForFiles new.kernel.disk kept disks) (sym (files_are p seg old files w makes (stands_within old.kernel.disk kept disks files stands))) behind;
     }
 
--- what holds of drives holds behind it
+-- what holds of drives holds after it
 
 kernel_still : (p seg : ℕ) (old : System) → IsWhole old → (makes : MakesOwnCall p seg old) → (behind_gate p seg old makes).kernel ≡ (with_own_call p seg old).system.kernel
 kernel_still p seg old w makes = sym (ap (λ (c : Change). c.system.kernel) (gate_out p seg old w makes))
@@ -294,7 +294,7 @@ pub own_turn_steps : (p seg : ℕ) (old new : System) → IsWhole old → MakesO
 own_turn_steps p seg old new w makes is =
     ap (λ (s : System). s.kernel.disk.turn_steps) is ∙ ap (λ (disk : DiskService). disk.turn_steps) (disk_still p seg old w makes)
 
--- as it is made: the call is kept, its process changes, and the value is placed behind the return address; then the step is counted
+-- as it is made: the call is kept, its process changes, and the value is placed after the return address; then the step is counted
 
 abbrev call_now : ℕ → System → Called
 call_now p kept = call_done (call_of kept.kernel.dispatcher.procs p) p (process_in kept.kernel.dispatcher.procs p) kept.kernel
@@ -429,7 +429,7 @@ makes_ahead ahead system here alone before own at = record {
   nobody = (here.alone alone).1;
 }
 
--- and still lies ahead behind it: the call leaves the lists, who runs, the disk, what is due and who owes
+-- and still lies ahead after it: the call leaves the lists, who runs, the disk, what is due and who owes
 
 pub record LeavesOthers (old new : System) : Type 0 where
   pub running : new.kernel.dispatcher.running ≡ old.kernel.dispatcher.running

@@ -55,7 +55,7 @@ pub calls_idle : (n : ℕ) (old new : System) → new ≡ later old n → CallsA
 calls_idle n old new is =
     subst (λ (system : System). CallsAlike old.kernel.dispatcher.procs system.kernel.dispatcher.procs) (sym is) (alike_itself old.kernel.dispatcher.procs)
 
--- so what holds of drives, of what is kept and of those at the disk holds behind them
+-- so what holds of drives, of what is kept and of those at the disk holds after them
 
 own_alike : (old new : Table) (p : ℕ) (service : Option InService) → CallsAlike old new → IsOwn old p service → IsOwn new p service
 own_alike old new p service alike own = record {

@@ -176,7 +176,7 @@ pub none_before : (served : Option Served) (n : ℕ) → option_map (passed_on n
 none_before None n is = refl
 none_before (Some call) n is = absurd (cc)
 
--- behind some of them the others can pass
+-- after some of them the others can pass
 pub can_pass_on : (n m : ℕ) (disk : DiskService) → CanPass (n + m) disk → CanPass m (passed_by n disk)
 unfolding passed_by
 can_pass_on n m disk can = record {

@@ -1,5 +1,4 @@
 -- A step in which no event comes, and in which nobody's held call is completed.
--- no interrupt comes where none is due
 use Rattle.std.proofs.Common.{◌≡◌, ◌∙◌, ℕ, Bool, true, [], Option, Some, None, refl, ap}
 use Rattle.std.proofs.lemmas.Bool.{false≢true}
 use Rattle.mpm_service.specs.Disk.{served_process, turn_answer}
@@ -24,6 +23,7 @@ use Rattle.mpm_machine.specs.Moving.{is_still}
 use Rattle.mpm_machine.specs.Stepping.{Telling, begun_with, begun_as, is_instruction, rest_of, step_with}
 use Rattle.mpm_machine.proofs.FinishLaws.{answered_nobody}
 
+-- no interrupt comes where none is due
 pub none_comes : (system : System) → due system.steps system.interrupts ≡ None → coming system ≡ None
 unfolding coming
 none_comes system none = none_due (lets_in system.kernel.dispatcher.running system.kernel) (due system.steps system.interrupts) none

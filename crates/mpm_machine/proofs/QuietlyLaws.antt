@@ -120,7 +120,7 @@ went_nowhere disks drives o machine w none holds = record {
   bdos = refl;
 }
 
--- some steps, and more behind them; no step leaves the system as it is, so that nobody is due behind it who wasn't before
+-- some steps, and more after them; no step leaves the system as it is, so that nobody is due after it who wasn't before
 
 due_both : {D : Type 0} (disks : D → Disks) (drives : D) (o : Outside) (m n : ℕ) (old middle new : Machine)
     → WentOn disks drives o m old middle → WentOn disks drives o n middle new → 0 < m + n → NobodyDue new.system.kernel

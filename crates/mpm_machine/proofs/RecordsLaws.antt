@@ -1,5 +1,4 @@
--- Records of completed calls: they come out behind one another, and what becomes of a system else doesn't depend on those that it has.
--- behind other outputs, and behind other records
+-- Records of completed calls: they come out one after another, and what becomes of a system else doesn't depend on those that it has.
 use Rattle.std.proofs.Common.{◌≡◌, ◌∙◌, ℕ, Bool, true, false, List, [], ◌∷◌, ◌++◌, Option, Some, None, if◌then◌else◌, refl, sym, ap, append_assoc}
 use Rattle.std.proofs.lemmas.List.{append-nil}
 use Rattle.std.specs.List.{range_with_len}
@@ -20,6 +19,7 @@ use Rattle.mpm_machine.specs.Finishing.{finished, completion_dequeued, finishing
 use Rattle.mpm_machine.specs.Due.{is_due, ended_if_due, due_terminated, with_ends}
 use Rattle.mpm_machine.specs.After.{followed}
 
+-- after other outputs, and after other records
 pub recorded_twice : (calls : List Completion) (said before : List Output)
     → recorded_behind calls (said ++ before) ≡ recorded_behind calls (said ++ []) ++ before
 recorded_twice calls said before =

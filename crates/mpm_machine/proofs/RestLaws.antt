@@ -1,5 +1,5 @@
--- The rest of a step, behind what it begins with: the system stays whole, nobody is left to be answered, nobody's end is due, and no
--- step is counted; what it says comes behind what was said before.
+-- The rest of a step, after what it begins with: the system stays whole, nobody is left to be answered, nobody's end is due, and no
+-- step is counted; what it says comes after what was said before.
 use Rattle.std.proofs.Common.{◌≡◌, ◌∙◌, Bool, List, [], ◌++◌, Option, Some, None, refl, ap}
 use Rattle.mpm_dispatcher.specs.declared.dispatcher.Dispatcher.{Dispatcher}
 use Rattle.mpm_service.specs.declared.service.Served.{Served}
@@ -60,7 +60,7 @@ nobody_due_rest instruction telling begun w =
     due_picked instruction (with_ends (entered_after telling begun.system)).kernel
     (due_with_ends (entered_after telling begun.system) (whole_entered_after telling begun.system w))
 
--- what it says comes behind what was said before
+-- what it says comes after what was said before
 pub rest_emitted : (instruction : Bool) (telling : Telling) (begun : Change)
     → (rest_of instruction telling begun).emitted ≡ (rest_of instruction telling (silent begun.system)).emitted ++ begun.emitted
 unfolding rest_of

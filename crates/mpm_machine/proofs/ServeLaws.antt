@@ -1,5 +1,4 @@
 -- The disk's step as the code makes it: a call that is over, and a step of the turn of the one in service.
--- a call that is over: what is told of it is what it came to
 use Rattle.std.proofs.Common.{◌≡◌, ◌∙◌, ℕ, Bool, true, false, List, [], Option, Some, None, Result, Ok, Err, IfErr, IfSome, option_map, is_some, if◌then◌else◌, ◌==◌, inl, inr, length, arith, ◌+◌, ◌-◌, refl, sym, ap, subst}
 use Rattle.std.specs.Prelude.{◌⊎◌, OnOk, OnErr, option_and_then}
 use Rattle.std.proofs.lemmas.Bool.{false≢true}
@@ -45,6 +44,7 @@ use Rattle.mpm_machine.proofs.DiskStepLaws.{whole_ready_again, whole_call_over}
 use Rattle.mpm_machine.proofs.KeepingLaws.{ServesSame, same_then, concluded_serves, finishing_serves}
 use Rattle.mpm_machine.proofs.TurnLaws.{passing_stands, turn_stands, last_turn_serves, whose_turn}
 
+-- a call that is over: what is answered of it is what it came to
 abbrev told_here : ℕ → System → Answer → Option Extended → Directly
 told_here p system answer extended = told_of (call_of system.kernel.dispatcher.procs p) answer extended
 
@@ -87,7 +87,7 @@ pub answered_nobody : {A E : Type 0} (r : Result A E) (told : Directly) (p : ℕ
 answered_nobody r told p old new =
     on_ok_weaker r (λ (is : new ≡ (call_over told p old).system). ap (λ (s : System). s.kernel.dispatcher.completed) is ∙ nobody_over told p old)
 
--- nobody is served behind it
+-- nobody is served after it
 pub over_serves : (told : Directly) (p : ℕ) (system : System) → system.kernel.disk.served ≡ None → ServesSame system (call_over told p system).system
 unfolding call_over
 over_serves told p system none =
@@ -308,7 +308,7 @@ not_last turn p is = λ q last. apart p q (sym is ∙ last)
     apart : (p q : ℕ) → Work p false ≡ Work q true → ⊥
     apart p q e = absurd (cc)
 
--- the system behind the disk's step, and whose call it was
+-- the system after the disk's step, and whose call it was
 pub passed_is : (old : System) (kernel : Kernel) → kernel ≡ with_disk turned old.kernel → record old { kernel = kernel } ≡ step_passed old
 passed_is old kernel is = ap (λ (k : Kernel). record old { kernel = k }) is
 
@@ -337,7 +337,7 @@ begun_so disk after answer some is so =
       | inr works ↦ subst (λ (turn : Turn). IsAfter turn after) (is ∙ works.2) so
     ]
 
--- behind the last nobody is served
+-- after the last nobody is served
 
 none_by : (turn_steps : ℕ) (served : Option Served) (first : Option ℕ) (p : ℕ) → answer_by turn_steps served first ≡ Work p true → served_after turn_steps served first ≡ None
 none_by turn_steps None None p works = absurd (cc)

@@ -1,5 +1,4 @@
 -- A call is served by what it took and by who has which segment, and never by the bytes of memory.
--- the same segment is the lowest that is free
 use Rattle.std.proofs.Common.{◌≡◌, ◌∙◌, ℕ, zero, suc, cond, not, ◌+◌, Bool, true, false, List, [], ◌∷◌, ◌++◌, Option, Some, None, ◌&&◌, ◌==◌, nat_le, nat_lt, length, get_or, if◌then◌else◌, inl, inr, refl, sym, ap, subst, arith, ◌||◌}
 use Rattle.std.specs.List.{position_or_len}
 use Rattle.std.proofs.lemmas.Bool.{cases_eq, cases_lt}
@@ -42,6 +41,7 @@ use Rattle.mpm_machine.specs.Finishing.{all_answered}
 use Rattle.mpm_machine.specs.Stepping.{Telling, begun_with, begun_as, is_instruction, rest_of, step_with}
 use Rattle.mpm_machine.specs.Contained.{DiffersInBytes, ServedAlike, Calls, ServedByValue}
 
+-- the same segment is the lowest that is free
 fits_alike : (base : Option ℕ) (pages : ℕ) (one other : Segment) → other.base ≡ one.base → other.pages ≡ one.pages
     → other.allocation ≡ one.allocation → fits base pages other ≡ fits base pages one
 fits_alike base pages one other first count hands =
@@ -250,7 +250,7 @@ calling_alike p one other d = record {
   reply = ap (λ kernel. (called p kernel).reply) d.kernel;
 }
 
--- the same is told
+-- the same is answered
 
 descriptors_alike : (n : ℕ) (one other : Memory) → SameSegments one other → segment_descriptors n other ≡ segment_descriptors n one
 unfolding segment_descriptors

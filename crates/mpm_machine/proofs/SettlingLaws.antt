@@ -44,7 +44,7 @@ unfolding carried_out
 end_stands (Between filing) system served kept disks s = between_stand served kept disks filing s
 end_stands (Within call) system served kept disks s = between_stand served kept disks (filing_in (carried_out call system).files) s
 
--- behind the end
+-- after the end
 
 pub carried_shows : (s : State) (o m : Outside) (old new : System) (kept : Filed) (disks : Disks) (first : List ℕ) → old ≡ s.system
     → HasCarried s.files o m old new kept disks → Shows o.kept o.written s.outputs first → Shows m.kept m.written (carried s).outputs first

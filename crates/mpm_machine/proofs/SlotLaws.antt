@@ -244,7 +244,7 @@ all_lodge consoles (suc n) start w few has =
     subst (λ (k : ℕ). Lodges consoles k (k + 1) (with_terminal (lowest_free system.kernel.dispatcher.procs) n system)) (add-one n)
     (lodges_more consoles n system begun.whole (omega (arith, few, begun.whole.sound.units.consoles, begun.consoles)) others)
 
--- the spooler and the scheduler behind them
+-- the spooler and the scheduler after them
 
 lodges_kernel : (consoles n count : ℕ) (system : System) (kernel : Kernel) → kernel.dispatcher ≡ system.kernel.dispatcher → Lodges consoles n count system → Lodges consoles n count (record system { kernel = kernel })
 lodges_kernel consoles n count system kernel same has =
@@ -272,7 +272,7 @@ queue_beside : (kernel : Kernel) (name : Name8) (width count : ℕ) → (with_sy
 unfolding with_system_queue with_queue
 queue_beside kernel name width count = refl
 
--- one that begins behind the others, in the slot that is the lowest free one
+-- one that begins after the others, in the slot that is the lowest free one
 resident_kernel : (q : ℕ) (named : Name8) (other : Native) (system : System) (kernel : Kernel) → kernel.dispatcher ≡ system.kernel.dispatcher → HasResident q named other system
     → HasResident q named other (record system { kernel = kernel })
 resident_kernel q named other system kernel same has =

@@ -1,4 +1,4 @@
--- What a machine stands for behind a step.
+-- What a machine stands for after a step.
 use Rattle.std.proofs.Common.{◌≡◌, ◌∙◌, ℕ, List, ◌++◌, Option, Some, None, option_map, ap, sym, subst, refl}
 use Rattle.mpm_port.specs.Disks.{Disks}
 use Rattle.mpm_service.specs.Disk.{DiskService}

@@ -59,7 +59,7 @@ alone_begun_to files o n old new kept disks none serves is wrote stands =
       stands = subst (StandsWorked new.kernel.disk kept disks) (sym (files_stay old files none)) (worked_on old.kernel.disk new.kernel.disk kept disks files serves.served serves.steps stands);
     }
 
--- whatever is told of no call
+-- whatever is answered of no call
 pub alone_made : (old new : System) → file_caller old ≡ None → new ≡ all_answered (begun_alone old).system → IsOfSome (λ (told : Directly). (begun_as told old).system) new
 alone_made old new none is = (nothing_told, is ∙ ap (λ (c : Change). c.system) (sym (begun_is nothing_told old none)))
 

@@ -1,6 +1,5 @@
 -- A step as the code makes it: the disk's work, what it begins with, and the rest of it. Which of them works on a drive, and for which
 -- drives the images stand where one stopped.
--- a step that works on no drive does in no part of it
 use Rattle.std.proofs.Common.{◌≡◌, ◌∙◌, ℕ, ◌+◌, ◌*◌, ◌<◌, ◌≤◌, ◌==◌, ◌&&◌, ◌||◌, Bool, true, false, List, Option, Some, None, Result, Ok, Err, refl, sym, ap, subst, arith}
 use Rattle.std.specs.Prelude.{is_some, is_none}
 use Rattle.std.proofs.lemmas.Bool.{and_parts, false≢true, or_parts, true_from_ne_false}
@@ -37,6 +36,7 @@ use Rattle.mpm_machine.proofs.BehindLaws.{rest_images}
 use Rattle.mpm_machine.proofs.BegunLaws.{made_serves, begun_as_serves}
 use Rattle.mpm_machine.proofs.FilesStepLaws.{stepped_drives}
 
+-- a step that works on no drive does in no part of it
 pub does_nothing : (system : System) → does_work system ≡ false → (works_at_once (file_caller system) system ≡ false) × (works_in_turn system ≡ false)
 unfolding does_work
 does_nothing system none = or_parts (works_at_once (file_caller system) system) (works_in_turn system) none
@@ -116,7 +116,7 @@ unfolding working_in
 turn_fails_so system disks (Within s) mounted have = have
 turn_fails_so system disks (Between filing) mounted have = absurd (none-some have.are.found have.are.is)
 
--- for which drives the images stand where the sink failed: in what the step begins with, or behind it
+-- for which drives the images stand where the sink failed: in what the step begins with, or after it
 
 pub write_stops : (instruction : Bool) (files : Files) (old middle : System) (disks : Disks) (mounted : List (Option Directory))
     → instruction ≡ is_instruction (file_caller old) old → middle ≡ (before_disk old files).system
@@ -183,7 +183,7 @@ ended_stays x y z one two three before behind first cause = record {
   failed = tt;
 }
 
--- what holds of drives behind the rest of a step
+-- what holds of drives after the rest of a step
 
 pub holds_ended : {D : Type 0} (disks : D → Disks) (old new : Kernel) (kept kept' : Kept) (drives : D) → HoldsKept disks old kept drives
     → AreFiled new → OwnsService new kept'.service → HasBegun new.disk → EndKeeps kept kept'

@@ -204,7 +204,7 @@ begun_has_room event old begun none is =
     let P : System → Type 0 = λ s. HasRoomForAll (length s.records + 1) in
     subst P (sym is) (more_have_room old (begun_by event old).system none (begun_more event old))
 
--- what comes behind it leaves the steps
+-- what comes after it leaves the steps
 
 finished_steps : (seg : Option ℕ) (p : ℕ) (system : System) → (finished seg p system).steps ≡ system.steps
 unfolding with_entry fulfilling answering_call recorded replied

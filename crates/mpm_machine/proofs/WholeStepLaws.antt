@@ -1,5 +1,4 @@
 -- A whole system stays whole through each part of a step: the event, the answers, the ends that are due, and the step.
--- an event comes
 use Rattle.std.proofs.Common.{◌≡◌, ◌∙◌, ℕ, ◌+◌, Bool, true, false, List, [], ◌∷◌, Option, Some, None, inl, inr, refl, sym, ap, subst, IfSome, All, arith}
 use Rattle.std.proofs.lemmas.Bool.{and_parts, and_cases}
 use Rattle.std.proofs.lemmas.Bool.Decides.{nat_tests}
@@ -40,6 +39,7 @@ use Rattle.mpm_machine.proofs.WholeLaws.{whole_steps, whole_ended, aborted_by, a
 use Rattle.mpm_machine.proofs.SendingLaws.{LetsIn, lets_in as lets_command_in, lives_let_in}
 use Rattle.mpm_machine.proofs.ActedLaws.{whole_acted}
 
+-- an event comes
 pub whole_unhalted : (running : Option ℕ) (system : System) → IsWhole system → system.kernel.dispatcher.running ≡ running
     → IsWhole (record system { kernel = unhalted running system.kernel })
 whole_unhalted None system w e = w

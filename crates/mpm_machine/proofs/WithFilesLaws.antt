@@ -1,6 +1,5 @@
 -- What a step begins with in which a process makes a file call: the call is made, it is done at once or waits, and the held calls that
 -- this completed are answered.
--- who makes it lives, and is ready
 use Rattle.std.proofs.Common.{◌≡◌, ◌∙◌, ℕ, ◌+◌, ◌*◌, ◌≤◌, ◌&&◌, true, false, List, [], Option, Some, None, refl, sym, ap, subst, arith}
 use Rattle.std.specs.Prelude.{is_some, ⊤}
 use Rattle.std.proofs.lemmas.Option.{MatchOption-at_some}
@@ -44,6 +43,7 @@ use Rattle.mpm_machine.proofs.TurnLaws.{worked_on}
 use Rattle.mpm_machine.proofs.AtGateLaws.{no_disk_fault}
 use Rattle.mpm_machine.proofs.BegunLaws.{made_serves, called_serves, filed_called, keeps_answered}
 
+-- who makes it lives, and is ready
 pub lives_to_call : (p : ℕ) (system : System) → IsWhole system → file_caller system ≡ Some p → Lives system.kernel.dispatcher.procs p
 lives_to_call p system w is = MatchOption-at_some ⊤ (λ q. Lives system.kernel.dispatcher.procs q) p is (caller_lives system w)
 

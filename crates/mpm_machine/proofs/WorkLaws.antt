@@ -1,5 +1,4 @@
 -- What the disk's work is in a step, where it failed, and what those who ended give back.
--- whether a call is in service, as it is asked
 use Rattle.std.proofs.Common.{◌≡◌, ◌∙◌, ℕ, ◌<◌, Bool, true, false, not, ◌&&◌, List, Option, Some, None, is_some, option_map, IfSome, refl, sym, ap, subst, arith}
 use Rattle.std.proofs.lemmas.Bool.{false≢true}
 use Rattle.mpm_base.specs.Calls.{Taken}
@@ -32,6 +31,7 @@ use Rattle.mpm_machine.specs.Failing.{Working, is_work, working_turn, working_tu
 use Rattle.mpm_machine.proofs.FailingLaws.{turn_fails}
 use Rattle.mpm_machine.proofs.TurnLaws.{none_works}
 
+-- whether a call is in service, as it is asked
 nobody_by : (served : Option Served) (result : Bool) → is_some (option_map (λ (call : Served). call.p) served) ≡ not result → result ≡ true → served ≡ None
 nobody_by None result e is = refl
 nobody_by (Some call) result e is = absurd (false≢true (sym (e ∙ ap not is)))

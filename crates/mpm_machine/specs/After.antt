@@ -64,8 +64,8 @@ EntersByValue system =
     (filing : Filing) (function : FileFunction) (p : ℕ) (other : System) → DiffersInBytes system other
     → situation_of filing function p other ≡ situation_of filing function p system
 
--- what is so of the step of a state, by what its files tell: each byte that it changes is one that it writes or answers; an instruction
--- leaves all but what is its own; and a call is served by what it took
+-- what is so of the step of a state, by what its files show: each byte that it changes is one that it writes or answers. An instruction
+-- leaves all but what is its own, and a call is served by what it took
 pub record IsStepOf (s : State) : Type 0 where
   pub contained : IsContainedBy (telling_of s.system s.files) s.system (next s).system
   pub instruction : (p seg : ℕ) → Instructs s.system p seg → OnlyInstructed (telling_of s.system s.files) p s.system (next s).system

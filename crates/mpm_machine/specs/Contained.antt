@@ -114,7 +114,7 @@ AnswersOne system seg at = AnswersAmong system.kernel.dispatcher.completed syste
 abbrev pub AnswersAtEnd : ℕ → System → ℕ → ℕ → Type 0
 AnswersAtEnd p system seg at = (is_due system.kernel p ≡ true) × AnswersOne (ended p system) seg at
 
--- so does the one that was completed first, unless it chained, or one of those behind it
+-- so does the one that was completed first, unless it chained, or one of those after it
 abbrev pub AnswersFrom : Option ℕ → System → ℕ → ℕ → Type 0
 AnswersFrom None system seg at = ⊥
 AnswersFrom (Some p) system seg at =
@@ -156,8 +156,8 @@ IsAnsweredIn telling old seg at =
     AnswersFrom (first_completed begun.kernel.dispatcher.completed) begun seg at
     ⊎ (IsOverBy (process_over answered.system) telling.at_disk answered.system seg at ⊎ AnswersAtEnds (range_with_len 0 32) (entered_after telling answered.system) seg at)
 
--- a byte of a segment stays unless a process that lives there writes it or has its call's reply placed there, or a resident
--- hands over what is written there, and a byte of common memory, whoever reads it, unless some process does
+-- a byte of a segment stays unless a process that lives there writes it or has its call's reply placed there, or a resident hands over what
+-- is written there. A byte of common memory, whoever reads it, stays unless some process does so
 pub record IsContainedBy (telling : Telling) (old new : System) : Type 0 where
   pub segments : (seg at : ℕ) → at < 49152 → (IsWrittenBy (file_caller old) telling.at_gate old seg at → ⊥)
       → (IsAnsweredIn telling old seg at → ⊥) → byte_at new.memory seg at ≡ byte_at old.memory seg at
@@ -208,9 +208,9 @@ pub record Calls (system : System) (p seg : ℕ) : Type 0 where
   pub home : (process_in system.kernel.dispatcher.procs p).seg ≡ Some seg
   pub gate : gate_before p seg system ≡ Some Call
 
--- the call that a process asked was served by what it took: whatever bytes had stood in memory then, the kernel, the hands that
--- have the segments, the outcome and the reply would be the same; its outcome followed, then what was completed was answered, and then
--- came the rest of the step
+-- the call that a process asked was served by what it took: whatever bytes had stood in memory then, the kernel, the hands that have the
+-- segments, the outcome and the reply would be the same. Its outcome followed, then what was completed was answered, and then came the rest
+-- of the step
 pub record ServedByValue (telling : Telling) (p seg : ℕ) (old new : System) : Type 0 where
   pub done : Served
   pub by_value : (other : System) → DiffersInBytes (keeping p (asked p seg (counted old)) (counted old)) other
@@ -226,7 +226,7 @@ pub record Resides (system : System) (p : ℕ) (native : Native) : Type 0 where
   pub acts : native_in system.residents p ≡ Some native
 
 -- it did what its row says: whatever bytes had stood in memory then, its call would be served alike, and what it hands over would be
--- answered alike, and leave systems that differ in bytes alone; then what was completed was answered, and then came the rest of the step
+-- answered alike, and leave systems that differ in bytes alone. Then what was completed was answered, and then came the rest of the step
 pub record ResidedByValue (telling : Telling) (p : ℕ) (native : Native) (old new : System) : Type 0 where
   pub call : (other : System) → DiffersInBytes (asking p (native_call native) (counted old)) other
       → ServedAlike (served_to_all (native_call native) p (asking p (native_call native) (counted old))) (served_to_all (native_call native) p other)

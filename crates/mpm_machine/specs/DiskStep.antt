@@ -1,4 +1,4 @@
--- A step of the disk: a call that waits for it, a step of the turn of the one in service, how that is over behind its last turn, and
+-- A step of the disk: a call that waits for it, a step of the turn of the one in service, how that is over after its last turn, and
 -- how the next enters. (This project's own; the order in which calls wait is that of the dispatcher: MP/M II Programmer's Guide,
 -- "Dispatcher".)
 use Rattle.std.specs.Prelude.{ℕ, Bool, List, Option, Some, None, is_none, option_and_then, ◌==◌, ◌||◌, if◌then◌else◌}
@@ -31,7 +31,7 @@ is_done_at_once p system = is_none (function_of (call_of system.kernel.dispatche
 abbrev pub with_kernel : (Kernel → Kernel) → System → System
 with_kernel f system = record system { kernel = f system.kernel }
 
--- a file call that was made is done at once, and then it comes to what is told, or waits
+-- a file call that was made is done at once, and then it comes to what is answered, or waits
 unfoldable pub file_called : Directly → ℕ → System → Change
 file_called told p system = if is_done_at_once p system then concluded told p system else silent (with_kernel (waiting_for_disk p) system)
 
@@ -48,7 +48,7 @@ abbrev pub told_at_gate : ℕ → System → Files → Directly
 told_at_gate p system files =
     let outcome = outcome_in (filing_in files) p system in told_of (call_of system.kernel.dispatcher.procs p) outcome.answer outcome.extended
 
--- the process whose call is over is ready again; the call comes to what is told, and where that ends its process, the held calls that
+-- the process whose call is over is ready again; the call comes to what is answered, and where that ends its process, the held calls that
 -- this end completes are answered
 abbrev pub ready_again : ℕ → System → System
 ready_again p system = with_kernel (made_ready_again p) system
@@ -56,7 +56,7 @@ ready_again p system = with_kernel (made_ready_again p) system
 unfoldable pub call_over : Directly → ℕ → System → Change
 call_over told p system = then_also (concluded told p (ready_again p system)) all_finished
 
--- a step of the call in service, by what it is: behind the last step of its last turn the call is over
+-- a step of the call in service, by what it is: after the last step of its last turn the call is over
 abbrev pub step_passed : System → System
 step_passed system = with_kernel (with_disk turned) system
 

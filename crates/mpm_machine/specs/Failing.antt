@@ -111,7 +111,7 @@ pub record HaveImagesOf (Are : List (Option Drive) → Type 0) (disks : Disks) (
   pub are : Are drives
   pub images : HaveImages disks mounted drives
 
--- what is on the drive of a call within one of the next turns, behind those that ended: what there was before it, or one of those that
+-- what is on the drive of a call within one of the next turns, after those that ended: what there was before it, or one of those that
 -- its unit goes through
 pub record IsWithin (call : Situation) (ended most : ℕ) (files : Drive) : Type 0 where
   pub job : Job
@@ -130,7 +130,7 @@ pub record FailsWithin (working : Option Working) (drives : List (Option Drive))
   pub within : IsWithin found.call found.ended found.most files
   pub drives_are : drives ≡ slice_set found.call.filing.drives (drive_number found.call) (Some files)
 
--- what is on the drives where a step stopped: where the sink failed, what the images stand for behind it
+-- what is on the drives where a step stopped: where the sink failed, what the images stand for after it
 abbrev pub StopsOn : StepFault → System → Files → List (Option Drive) → Type 0
 StopsOn WriteFault system files drives = let step = stepped system files in drives ≡ drives_in step.change.system.kernel.disk.served step.files
 StopsOn DiskFault system files drives = FailsWithin (working_in system files) drives

@@ -31,8 +31,8 @@ use Rattle.mpm_machine.specs.Step.{gate_before, then_also}
 unfoldable pub is_of_files : ℕ → Bool
 is_of_files number = is_some (function_of number) || is_some (direct_of number)
 
--- the number of the function that a process calls as it goes on, if it calls one: one of a segment does at the gate of calls, and
--- a resident by what it fills in, which has the number 0 where it hands something over
+-- the number of the function that a process calls as it goes on, if it calls one. One of a segment does at the gate of calls, and a
+-- resident by what it fills in, which has the number 0 where it hands something over
 abbrev pub at_gate : Option Gate → ℕ → Option ℕ
 at_gate None number = None
 at_gate (Some End) number = None
@@ -95,7 +95,7 @@ told_by outcome = record { caller = outcome.caller; answer = outcome.answer; ext
 abbrev pub told_of : Taken → Answer → Option Extended → Directly
 told_of call reply error = record { caller = change_of call error; answer = reply; extended = error }
 
--- by its process's error mode an extended error is answered, or told and answered, or told, and ends the process
+-- by its process's error mode an extended error is answered, or displayed and answered, or displayed, and ends the process
 abbrev pub answered_or_ended : Bool → Answer → ℕ → System → System
 answered_or_ended answers reply p system = if answers then file_replied reply p system else ended p system
 

@@ -31,14 +31,14 @@ drives_in served (Between filing) = filing.drives
 drives_in None (Within s) = s.filing.drives
 drives_in (Some call) (Within s) = drives_after s (turns_ended call s)
 
--- between two calls what is kept, and the directory in memory of each mounted drive and its image, as it is told, stand for what file
+-- between two calls what is kept, and the directory in memory of each mounted drive and its image, as it is known, stand for what file
 -- calls find
 pub record StandsBetween (kept : Kept) (disks : Disks) (filing : Filing) : Type 0 where
   pub idle : kept.service ≡ None
   pub filing_is : filing_of kept filing.drives ≡ filing
   pub stand : StandEach (images_of disks) kept.mounted filing.drives
 
--- within a call with so many turns ended they stand for its drives behind these, and its work is that of its job, with the others left
+-- within a call with so many turns ended they stand for its drives after these, and its work is that of its job, with the others left
 pub record StandsWithin (call : Served) (kept : Kept) (disks : Disks) (s : Situation) : Type 0 where
   pub turns : ℕ
   pub left : turns + call.left ≡ call_turns s

@@ -31,9 +31,9 @@ OwnsService kernel service = IfSome kernel.disk.served (λ call. IsOwn kernel.di
 abbrev pub AreFiled : Kernel → Type 0
 AreFiled kernel = (p : ℕ) → 0 < at_disk kernel.disk p → is_some (function_of (call_of kernel.dispatcher.procs p).function) ≡ true
 
--- what holds at each moment of a step: who waits for the disk, or is served, keeps a call that the disk serves; the one in service has
--- turns left; each mounted drive has an image of its kind's size, and what is cached is what the images have; and where no drive is
--- mounted no call in service has work
+-- what holds at each moment of a step. Who waits for the disk, or is served, keeps a call that the disk serves. The one in service has
+-- turns left. Each mounted drive has an image of its kind's size, and what is cached is what the images have. Where no drive is mounted no
+-- call in service has work
 pub record HoldsKept {D : Type 0} (disks : D → Disks) (kernel : Kernel) (kept : Kept) (drives : D) : Type 0 where
   pub filed : AreFiled kernel
   pub own : OwnsService kernel kept.service

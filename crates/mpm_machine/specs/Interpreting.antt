@@ -29,8 +29,8 @@ pub record HasReserved (cli : Interpreter) (memory : Memory) : Type 0 where
 abbrev pub sets_or_chains : ℕ → Bool
 sets_or_chains f = f == SET_BDOS_ERROR_MODE || f == CHAIN_TO_PROGRAM
 
--- an interpreter acts in slot 0 and in no other; its process lives in no segment, takes extended errors as answers, no end of it is
--- put off, and none of these functions is what it called last; the interpreter counts the consoles that there are
+-- an interpreter acts in slot 0 and in no other. Its process lives in no segment, takes extended errors as answers, no end of it is put
+-- off, and none of these functions is what it called last. The interpreter counts the consoles that there are
 pub record IsActing (system : System) : Type 0 where
   pub cli : Interpreter
   pub acts : native_in system.residents 0 ≡ Some (Cli cli)
@@ -43,8 +43,8 @@ pub record IsActing (system : System) : Type 0 where
   pub stands : Stands cli
   pub consoles : cli.consoles ≡ length system.kernel.units.consoles
 
--- an interpreter awaits a command as it reads one, and the answer to its file call while that is at the disk, at which it stands at so
--- many places; else it awaits nothing, is ready, and each answer comes at once
+-- an interpreter awaits a command as it reads one, and the answer to its file call while that is at the disk, at which it stands at so many
+-- places. Else it awaits nothing, is ready, and each answer comes at once
 abbrev pub is_reading : Row → Bool
 is_reading ReadCommand = true
 is_reading _ = false
@@ -52,9 +52,9 @@ is_reading _ = false
 abbrev pub awaited : ℕ → Row → ℕ
 awaited places of_row = if is_reading of_row then 1 else places
 
--- and there are sixteen segments at most, in each of which a process may live; where the interpreter has a segment, it is the one
--- that it has reserved; where its call is at the disk, its row makes one on files; and no held call of slot 0 is completed but the one
--- that reads a command
+-- and there are sixteen segments at most, in each of which a process may live. Where the interpreter has a segment, it is the one that it
+-- has reserved. Where its call is at the disk, its row makes one on files. No held call of slot 0 is completed but the one that reads a
+-- command
 pub record Interprets (system : System) : Type 0 where
   pub acting : IsActing system
   pub few : length system.memory.segments ≤ 16

@@ -1,4 +1,4 @@
--- What of a program's file stands in the segment that the interpreter reserved, as the file comes in: its code, behind the base page, moved
+-- What of a program's file stands in the segment that the interpreter reserved, as the file comes in: its code, after the base page, moved
 -- to the segment's first page as far as its marks were gone through. (MP/M II System Guide, "Page Relocatable Programs".)
 use Rattle.std.specs.Prelude.{◌≡◌, ℕ, ◌+◌, ◌*◌, ◌/◌, ◌<◌, nat_lt, if◌then◌else◌, true, List, length, min, drop, slice_index, Some, ⊤}
 use Rattle.mpm_banks.specs.Memory.{Memory, byte_at}
@@ -26,13 +26,13 @@ code_byte plan file page marked place =
     if nat_lt (code_end plan + place / 8) marked then relocated_byte (drop plan.start file) (drop (code_end plan) file) page place
     else slice_index (drop plan.start file) place
 
--- where so many bytes of the file came, the code among them stands behind the base page of a segment, each byte at its place
+-- where so many bytes of the file came, the code among them stands after the base page of a segment, each byte at its place
 abbrev pub HasCode : Plan → List ℕ → ℕ → ℕ → ℕ → ℕ → Memory → Type 0
 HasCode plan file page seg came marked memory =
     (place : ℕ) → place < plan.length → plan.start + place < came → byte_at memory seg (256 * page + 256 + place) ≡ code_byte plan file page marked place
 
--- in each row of the interpreter so much of the file was placed, and so much gone through for marks: as it places a piece's code, or
--- moves code by its marks, what came before the piece, and in any other row the piece too
+-- in each row of the interpreter so much of the file was placed, and so much gone through for marks. As it places a piece's code, or moves
+-- code by its marks, it is what came before the piece; in any other row it is the piece too
 abbrev pub placed_by : Row → Loading → ℕ
 placed_by Place load = load.before
 placed_by of_row load = load.before + length load.piece

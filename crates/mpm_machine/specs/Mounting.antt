@@ -45,8 +45,8 @@ pub record HasDrives (disks : Disks) (specs : List DriveSpec) (mounted : List (O
   pub each : AllByRecursion (IsInPlace disks mounted) specs
   pub others : (number : ℕ) → AllByRecursion (λ spec. number_of spec ≢ number) specs → directory_at mounted number ≡ None
 
--- what steps leave of drives, whether one fails or not: each directory is of the drive and the kind of which it was, each drive has
--- its name and its size, and one whose name no mounted drive has its image as it was; and what is told of other names stays
+-- what steps leave of drives, whether one fails or not. Each directory is of the drive and the kind of which it was. Each drive has its
+-- name and its size, and one whose name no mounted drive has its image as it was. What is known of other names stays
 pub record KeepsMounted (told told' : Images) (disks now : Disks) (old new : List (Option Directory)) : Type 0 where
   pub labels : (number : ℕ) → option_map labelled (directory_at new number) ≡ option_map labelled (directory_at old number)
   pub beside : StaysBeside old disks now

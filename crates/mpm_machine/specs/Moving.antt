@@ -51,8 +51,8 @@ pub record RunsOn (system : System) (p seg : ℕ) : Type 0 where
   pub none_deferred : system.abort_deferred ≡ false
   pub settled : NobodyAborted system.kernel
 
--- what lies ahead: who runs, and in which segment, in the steps up to the last one that is told, in which no interrupt is due and the
--- disk's only pass; where its calls are told to be alone, no call is at the disk. The segment's gate of calls is told too
+-- what lies ahead: who runs, and in which segment, in the steps up to the last one that is known, in which no interrupt is due and the
+-- disk's only pass. Where its calls are known to be alone, no call is at the disk. The segment's gate of calls is known too
 pub record RunsAhead (ahead : Ahead) (system : System) : Type 0 where
   pub on : RunsOn system ahead.p ahead.seg
   pub quiet : (step : ℕ) → step ≤ ahead.last → system.steps < step → due step system.interrupts ≡ None
@@ -60,7 +60,7 @@ pub record RunsAhead (ahead : Ahead) (system : System) : Type 0 where
   pub alone : ahead.alone ≡ true → (system.kernel.disk.served ≡ None) × (first_of system.kernel.disk.waiting ≡ None)
   pub gate : ahead.gate ≡ 256 * last_page system.memory ahead.seg + call_gate
 
--- where calls are told to be alone, no record of them is asked for
+-- where calls are known to be alone, no record of them is asked for
 abbrev pub IsUntraced : Option Ahead → Bool → Type 0
 IsUntraced ahead traced = IfSome ahead (λ a. a.alone ≡ true → traced ≡ false)
 

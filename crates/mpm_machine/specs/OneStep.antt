@@ -17,8 +17,8 @@ use Rattle.mpm_machine.specs.Mounting.{KeepsMounted}
 use Rattle.mpm_machine.specs.Failing.{Left, StopsWithImages}
 use Rattle.mpm_machine.specs.After.{next, after, ShowsBefore, EndsInStep}
 
--- so many were done: they are counted, the machine is whole, nobody is left to be answered, nobody's end is due, no two locks are of one
--- record, an interpreter that acts goes on with the segment that it has, and the disk's turns have as many steps as before
+-- so many were done: they are counted, the machine is whole, nobody is left to be answered, nobody's end is due, and no two locks are of
+-- one record. An interpreter that acts goes on with the segment that it has, and the disk's turns have as many steps as before
 pub record LeavesMachine (steps : ℕ) (old new : Machine) : Type 0 where
   pub count : new.system.steps ≡ old.system.steps + steps
   pub whole : IsWhole new.system
@@ -30,8 +30,8 @@ pub record LeavesMachine (steps : ℕ) (old new : Machine) : Type 0 where
 
 -- it stopped, as the step of a state. Where the sink failed, all of the steps before it was written, and then a first part of what it
 -- writes, which isn't empty; each image stands for what is on its drive after it. Where a drive failed nothing of it was written, and what
--- is kept to be written is that of the state; the image of the call's drive stands for what it is within the turn, and each other one
--- for what the call found
+-- is kept to be written is that of the state. The image of the call's drive stands for what it is within the turn, and each other one for
+-- what the call found
 pub record StopsStep (fault : StepFault) (trace : Bool) (left : Left) (s : State) (first : List ℕ) : Type 0 where
   pub text : EndsBy fault left.written first (rendered trace s.outputs) (rendered trace (next s).outputs)
   pub shown : ShowsBefore fault left.kept left.written s first
@@ -43,8 +43,8 @@ pub record StopsRun (error : RunFault) (trace : Bool) (left : Left) (n : ℕ) (s
   pub shown : ShowsBefore error.fault left.kept left.written (after (error.step - 1 - s.system.steps) s) first
   pub images : StopsWithImages error.fault left.disks left.mounted (after (error.step - 1 - s.system.steps) s)
 
--- whether they were done or not: each drive is that of the same name, of the same kind and size, an image that is no mounted drive's is as it
--- was, no name joined the failed ones, and a drive that isn't synced isn't so still
+-- whether they were done or not, each drive is that of the same name, of the same kind and size. An image that is no mounted drive's is as
+-- it was, no name joined the failed ones, and a drive that isn't synced isn't so still
 pub record LeavesDrives {D : Type 0} (disks : D → Disks) (told : D → Images) (failed : D → List (List ℕ)) (owes : D → ℕ → Bool) (mounted mounted' : List (Option Directory)) (old new : D) : Type 0 where
   pub keeps : KeepsMounted (told old) (told new) (disks old) (disks new) mounted mounted'
   pub names : failed new ≡ failed old

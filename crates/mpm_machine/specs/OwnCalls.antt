@@ -1,4 +1,4 @@
--- A step that is nothing but a call that concerns its caller alone, which the running process makes: no event comes in it, no call is at
+-- A step that is nothing but a call that concerns its caller alone, which the running process makes. No event comes in it, no call is at
 -- the disk, no end by an abort is put off, and the process runs on. (MP/M II Programmer's Guide, functions 12 and 163, return version
 -- number; 25, return current disk; 26, set DMA address; 32, set or get user code; 44, set multi-sector count; 45, set BDOS error mode.)
 use Rattle.std.specs.Prelude.{◌≡◌, ℕ, ◌+◌, true, List, [], ◌∷◌, Some, None}

@@ -61,7 +61,7 @@ aborting p system = aborting_this (target system.kernel.dispatcher.procs p) p sy
 abbrev pub telling : Answer → System → Served
 telling reply system = record { system = system; outcome = Done; reply = reply }
 
--- the system data page is told, and the descriptor of the process that asks
+-- the system data page is answered, and the descriptor of the process that asks
 abbrev pub telling_system : System → Served
 telling_system system = telling (system_answer (length system.kernel.units.consoles) system.memory) system
 

@@ -40,7 +40,7 @@ ended_at_end told p system = with_ends (all_paid (over_at_end told p system).sys
 unfoldable pub ended_with : Directly → ℕ → System → Change
 ended_with told p system = with_records (record (over_at_end told p system) { system = all_paid (ended_at_end told p system) })
 
--- files behind it: the whole change of the call, and what was then given back
+-- files after it: the whole change of the call, and what was then given back
 abbrev pub files_at_end : Directly → Situation → System → Files
 files_at_end told s system =
     let p = s.caller.process in

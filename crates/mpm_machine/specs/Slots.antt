@@ -1,4 +1,4 @@
--- Who has which slot as a machine begins to run: the command line interpreter the lowest, behind it a terminal message processor for each
+-- Who has which slot as a machine begins to run: the command line interpreter the lowest, after it a terminal message processor for each
 -- console, by number, and then the spooler and the scheduler, where the machine has them.
 use Rattle.std.specs.Prelude.{◌≡◌, ℕ, ◌+◌, ◌<◌, Bool, true, false, Some, None, codes, length}
 use Rattle.mpm_base.specs.Counts.{one_if}
@@ -33,12 +33,12 @@ pub record HasResident (p : ℕ) (named : Name8) (native : Native) (system : Sys
   pub name : (process_in system.kernel.dispatcher.procs p).name ≡ named
   pub resident : native_in system.residents p ≡ Some native
 
--- the slot behind the number of a console has the process of its terminal message processor, which is at its opening
+-- the slot after the number of a console has the process of its terminal message processor, which is at its opening
 abbrev pub HasTerminal : ℕ → System → Type 0
 HasTerminal console system = HasResident (console + 1) (terminal_name console) (Tmp (opening console)) system
 
--- the interpreter, a terminal message processor for each of so many consoles, the spooler in the slot behind theirs and the scheduler in the next
--- one, where there are these, and no other resident; and the system's queues, which are the only ones
+-- the interpreter, a terminal message processor for each of so many consoles, the spooler in the slot after theirs and the scheduler in the
+-- next one, where there are these, and no other resident. The system's queues are the only ones
 pub record HasResidents (consoles : ℕ) (spool sched : Bool) (system : System) : Type 0 where
   pub interpreter : HasInterpreter consoles system
   pub terminals : (console : ℕ) → console < consoles → HasTerminal console system

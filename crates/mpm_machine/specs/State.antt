@@ -13,7 +13,7 @@ pub record State : Type 0 where
   pub outputs : List Output
   pub files : Files
 
--- a system, what its renderer keeps and what its sink was told stand for a state's system and outputs, behind a first text
+-- a system, what its renderer keeps and what its sink was given stand for a state's system and outputs, after a first text
 pub record StandsFor (system : System) (kept : Kept) (written : List ℕ) (s : State) (first : List ℕ) : Type 0 where
   pub parts : system ≡ s.system
   pub shown : Shows kept written s.outputs first

@@ -51,7 +51,7 @@ entered_after telling system = call_entered telling.turns (paid_after telling.at
 unfoldable pub ended_after : Telling → System → System
 ended_after telling system = with_ends (entered_after telling system)
 
--- the rest of a step, behind what it begins with, which was an instruction or not
+-- the rest of a step, after what it begins with, which was an instruction or not
 abbrev pub unwritten_rest : Telling → Change → Change
 unwritten_rest telling begun =
     record (then_so begun (disk_served telling.at_disk)) { system = all_paid (ended_after telling begun.system) }
@@ -67,7 +67,7 @@ step_with telling system = rest_of (is_instruction (file_caller system) system) 
 abbrev pub nothing_told : Directly
 nothing_told = record { caller = Stays; answer = answering 0; extended = None }
 
--- what the file call comes to that a process makes, and files behind it
+-- what the file call comes to that a process makes, and files after it
 abbrev pub told_first_by : Option ℕ → System → Files → Directly
 told_first_by None system files = nothing_told
 told_first_by (Some p) system files = told_at_gate p (call_made p system) files
@@ -95,7 +95,7 @@ told_by_process (Some p) (Within s) system = told_of_call s p system
 unfoldable pub told_within : Files → System → Directly
 told_within files system = told_by_process (process_over system) files system
 
--- files behind its turn, as the next call may enter, and as it has
+-- files after its turn, as the next call may enter, and as it has
 unfoldable pub files_paid : System → Files → Files
 files_paid system files = given_back (disk_served (told_within files system) system).system.owed (files_served system files)
 
@@ -107,7 +107,7 @@ unfoldable pub telling_then : Directly → System → Files → Telling
 telling_then at_gate system files =
     record { at_gate = at_gate; at_disk = told_within files system; turns = turns_within (files_then system files) }
 
--- and files are this behind it
+-- and files are this after it
 unfoldable pub files_rest : System → Files → Files
 files_rest system files = given_back (ended_after (telling_then nothing_told system files) system).owed (files_then system files)
 

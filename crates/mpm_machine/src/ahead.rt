@@ -107,7 +107,7 @@ fn look_ahead(system: &System, traced: bool) -> Option<Ahead>
 }
 
 /// A burst: instructions of the process that runs ahead, at most so many, up to a gate or an unlisted opcode, or to the last step
-/// that is told. Answers how many were done.
+/// that is known. Answers how many were done.
 #[inline(always)]
 fn run_burst(system: &mut System, ahead: &Ahead, most: u64) -> u64
     requires whole { IsWhole system.old }

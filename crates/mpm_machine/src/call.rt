@@ -82,7 +82,7 @@ fn conclude<S: Sink>(
     conclude_undone(system, outcome, p, seg, render, sink)
 }
 
-/// The same of a call that is done.
+/// As `conclude`, for a call that is done.
 #[inline(always)]
 fn conclude_done<S: Sink>(
     system: &mut System,
@@ -102,7 +102,7 @@ fn conclude_done<S: Sink>(
     complete(system, p, seg, reply, render, sink)
 }
 
-/// The same of a call that isn't done.
+/// As `conclude`, for a call that isn't done.
 #[cold]
 #[inline(never)]
 fn conclude_undone<S: Sink>(

@@ -28,8 +28,8 @@ pub(crate) fn is_done_at_once(system: &System, p: Pid) -> bool
         || system.kernel.disk().turn_steps() == 0
 }
 
-/// The file call of a process is over, whose turns were served, with this reply and this extended error: its process is ready
-/// again, and it is answered, or its error is met; the held calls that its end then completes are answered.
+/// The file call of a process is over, whose turns were served, with this reply and this extended error. Its process is ready again, and it
+/// is answered, or its error is met. The held calls that its end then completes are answered.
 #[tactic(auto, unfolding(crate::specs::DiskStep::call_over))]
 pub(crate) fn end_file_call<S: Sink>(
     system: &mut System,

@@ -16,7 +16,7 @@ use mpm_port::{Failed, Sink};
 use mpm_render::Render;
 use mpm_system::System;
 
-/// The error modes of a process that takes extended errors as answers, and of one that has them told beside.
+/// The error modes of a process that takes extended errors as answers, and of one that has them displayed too.
 const ANSWERS: u8 = 0xFF;
 
 const TELLS_AND_ANSWERS: u8 = 0xFE;
@@ -56,7 +56,7 @@ fn calls_files(system: &System, p: Pid) -> bool
     }
 }
 
-/// The same of a resident, by what it fills in.
+/// Whether a resident calls one as it goes on, by what it fills in.
 fn asks_for_files(system: &System, p: Pid) -> bool
     ensures { result ≡ is_file_number (called_next None p system.now) }
 {
@@ -66,8 +66,8 @@ fn asks_for_files(system: &System, p: Pid) -> bool
     }
 }
 
-/// The same of a process of a segment: it calls one where it stands at the gate of calls. Its register C is asked first, as a
-/// look for the gate takes longer.
+/// Whether a process of a segment calls one as it goes on: it does where it stands at the gate of calls. Its register C is asked first, as
+/// a look for the gate takes longer.
 #[inline(always)]
 #[tactic(auto, using(crate::proofs::FileStepLaws::no_file_called))]
 fn calls_files_at_gate(system: &System, p: Pid, seg: Seg) -> bool
@@ -145,7 +145,7 @@ fn meet_error<S: Sink>(
     )
 }
 
-/// An extended error is told, and then it is answered, or ends its process.
+/// An extended error is displayed, and then it is answered, or ends its process.
 #[tactic(auto, unfolding(crate::specs::FileCalls::told_then))]
 fn tell_and_meet<S: Sink>(
     system: &mut System,
@@ -167,7 +167,7 @@ fn tell_and_meet<S: Sink>(
     Ok(())
 }
 
-/// A file call whose extended error was told is answered, or ends its process.
+/// A file call whose extended error was displayed is answered, or ends its process.
 fn answer_or_end(system: &mut System, p: Pid, answers: bool, reply: &Reply)
     requires whole { IsWhole system.old }
     requires lives { Lives system.old.kernel.dispatcher.procs p }

@@ -103,7 +103,7 @@ pub(crate) fn call_files<D: Drives, L: Ledger>(
     }
 }
 
-/// The same of a call that the disk serves.
+/// As `call_files`, for a call that the disk serves.
 fn call_disk<D: Drives, L: Ledger>(
     system: &System,
     bdos: &mut Bdos,
@@ -144,7 +144,7 @@ fn call_disk<D: Drives, L: Ledger>(
     )
 }
 
-/// The same of one that no disk serves.
+/// As `call_files`, for a call that no disk serves.
 fn call_directly(system: &System, bdos: &Bdos, p: Pid, reply: &mut Reply) -> Option<Extended>
     requires lives { Lives system.now.kernel.dispatcher.procs p }
     requires function { function_of (call_of system.now.kernel.dispatcher.procs p).function ≡ None }

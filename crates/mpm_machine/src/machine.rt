@@ -71,10 +71,10 @@ impl Machine {
     ghost use Rattle.mpm_machine.specs.Mounting.{HasMounted, HasNoDrive, HasDrives, KeepsMounted, OpensOn, untouched};
     ghost use Rattle.mpm_machine.specs.Failing.{leaving, HaveImagesOf, StopsOn, StopsWithImages, does_work, turns_done, working_in};
 
-    /// The machine of a machine file, and of its script's events, as it is run: the command queue, the command line
-    /// interpreter, a terminal message processor for each console, and the spooler and the scheduler with their queues, where
-    /// the file asks for them. Its drives are attached to their images and mounted,
-    /// one after another in order of their letters, and synced then; no image changes, and no other drive.
+    /// The machine of a machine file, and of its script's events, as it is run. It has the command queue, the command line interpreter, a
+    /// terminal message processor for each console, and the spooler and the scheduler with their queues, where the file asks for them. Its
+    /// drives are attached to their images and mounted, one after another in order of their letters, and synced then; no image changes, and
+    /// no other drive.
     ///
     /// # Errors
     /// `BootError::Image` comes exactly where that drive is the first whose image has a fault, `BootError::DiskFault` only
@@ -230,7 +230,7 @@ impl Machine {
     }
 
     /// Puts a program into a segment in which no process lives, with its base page, and adds its process, with that name,
-    /// priority and console. No step was done. The program has room behind the base page, 128 bytes for its stack, and the
+    /// priority and console. No step was done. The program has room after the base page, 128 bytes for its stack, and the
     /// gates' page.
     pub fn place(&mut self, seg: Seg, name: Name8, priority: u8, console: u8, program: &[u8]) -> Pid
         requires { MayPlace self.old.system seg console (length program.now) }
@@ -282,7 +282,7 @@ impl Machine {
     }
 
     /// One step. After an error the machine isn't stepped again. A function on files is done in the step in which it is called where
-    /// turns have no steps; else it waits for the disk, which serves one at a time in turns, and is done behind its last one. No
+    /// turns have no steps; else it waits for the disk, which serves one at a time in turns, and is done after its last one. No
     /// drive is synced.
     #[inline(always)]
     pub fn step<D: Drives, S: Sink, L: Ledger>(

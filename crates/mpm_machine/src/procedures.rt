@@ -22,7 +22,7 @@ pub(crate) fn enter(system: &mut System, p: Pid, reply: &mut Reply)
     }
 }
 
-/// The same of a process that keeps a call 151.
+/// A process that keeps a call 151 enters a resident procedure, where that call got its message.
 #[cold]
 #[inline(never)]
 #[tactic(auto, unfolding(crate::specs::Serving::with_entry, crate::specs::Serving::reply_at_entry))]

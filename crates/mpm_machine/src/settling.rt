@@ -59,9 +59,9 @@ impl Machine {
         ensures cause { HaveCause itself (counts S.faults D.faults sink.old drives.old) (counts S.faults D.faults sink.new drives.new) result }
         ensures keeps { KeepsMounted (D.told drives.old) (D.told drives.new) (D.disks drives.old) (D.disks drives.new) self.old.bdos.mounted self.new.bdos.mounted }
 
-        // The end stops as the call in service is carried to its end, and no drive is synced; or as the drives are synced, of which those
-        // before the one that fails are then; or, where all are, as lines are closed. Each turn that is left calls a drive at most 20
-        // times, and each drive is synced by one call. Where no call is in service no image changes.
+        // The end stops as the call in service is carried to its end, and no drive is synced. Or it stops as the drives are synced, of
+        // which those before the one that fails are then. Or all are, and it stops as lines are closed. Each turn that is left calls a
+        // drive at most 20 times, and each drive is synced by one call. Where no call is in service no image changes.
         ensures synced { OnOk result (BehindTurns self.old.system self.old.bdos (SyncsAll self.new.bdos.mounted) (called D.unsynced drives.old steps.old) (called D.unsynced drives.new steps.new)) }
         ensures syncs { IfErr result (λ fault. StopsSettling fault self.new.bdos.mounted self.old.bdos
             (called D.unsynced drives.old steps.old) (called D.unsynced drives.new steps.new) self.old.system) }
@@ -180,7 +180,7 @@ impl Machine {
         }
     }
 
-    /// Behind its turns it is answered, and the ends that are due come.
+    /// After its turns it is answered, and the ends that are due come.
     fn end_call<S: Sink>(&mut self, p: Pid, render: &mut Render, sink: &mut S) -> Result<(), Failed>
         requires whole { IsWhole self.old.system }
         requires over { IsOver p self.old.system.kernel }

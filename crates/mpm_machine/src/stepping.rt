@@ -392,7 +392,7 @@ impl Machine {
         }
     }
 
-    /// The same where somebody may have ended.
+    /// As `pay`, where somebody may have ended.
     #[cold]
     #[inline(never)]
     fn pay_back(&mut self)

@@ -133,7 +133,7 @@ impl Scene<'_> {
         self.is_so_in(alloc, &file, look, apart)
     }
 
-    /// The same of the machine of one program.
+    /// Whether a new run of the machine of one program shows what is said of it.
     fn is_so_alone(&self, alloc: Global, look: &Behind, apart: bool) -> Result<bool, Fail> {
         if 48512 < self.first.len() {
             return Err(Fail::from("the program is too long"));
@@ -148,7 +148,7 @@ impl Scene<'_> {
         }
     }
 
-    /// The same of the machine of a machine file.
+    /// Whether a new run of the machine of a machine file shows what is said of it.
     fn is_so_in(
         &self,
         alloc: Global,

@@ -10,15 +10,15 @@ const YIELDING: &[u8] = b"\x0E\x8E\xCD\x05\x40\x18\xFE";
 /// LD C,157; LD DE,4109h; CALL 4005h; HALT; and the block of the abort of FIRST on console 0.
 const ABORTING_BY_NAME: &[u8] = b"\x0E\x9D\x11\x09\x41\xCD\x05\x40\x76\x00\x00\x00\x00FIRST   \x00";
 
-/// The same with the address F800h, of the descriptor of process 0; name and console are another's.
+/// Such an abort by the address F800h, of the descriptor of process 0; name and console are another's.
 const ABORTING_BY_ADDRESS: &[u8] =
     b"\x0E\x9D\x11\x09\x41\xCD\x05\x40\x76\x00\xF8\x00\x00SECOND  \x07";
 
-/// The same of OTHER, of which there is none.
+/// Such an abort of OTHER, of which there is none.
 const ABORTING_NOBODY: &[u8] = b"\x0E\x9D\x11\x09\x41\xCD\x05\x40\x76\x00\x00\x00\x00OTHER   \x00";
 
-/// Makes the queue `MXtest  ` (function 134, its block at 412Eh), opens it (135, its block at 413Ch), writes its message (139)
-/// and reads it (137), lets the other program run (142), writes the message back (139), and comes to HALT.
+/// Makes the queue `MXtest  ` (function 134, its block at 412Eh), opens it (135, its block at 413Ch), writes its message (139) and reads it
+/// (137). Lets the other program run (142), writes the message back (139), and comes to HALT.
 const HOLDING: &[u8] = b"\x0E\x86\x11\x2E\x41\xCD\x05\x40\
 \x0E\x87\x11\x3C\x41\xCD\x05\x40\
 \x0E\x8B\x11\x3C\x41\xCD\x05\x40\

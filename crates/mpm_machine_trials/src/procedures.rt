@@ -19,7 +19,7 @@ const CALLING: &[u8] = b"\x0E\x86\x11\x3A\x01\xCD\x05\x00\
 \x58\x01\x34\x12PROC    \
 \x00\x02";
 
-/// The same queue with the message 4121h; calls the procedure that stands there, which lets others run (142) for ever.
+/// Makes such a queue with the message 4121h, and calls the procedure that stands there, which lets others run (142) for ever.
 const STAYING: &[u8] = b"\x0E\x86\x11\x28\x41\xCD\x05\x40\
 \x0E\x87\x11\x36\x41\xCD\x05\x40\
 \x0E\x8B\x11\x36\x41\xCD\x05\x40\

@@ -131,7 +131,7 @@ c0         .^C\\r
 
 #[test]
 fn a_console_is_assigned_and_left_for_another(rt: HostRuntime) -> Result<(), Fail> {
-    // Gives console 1 to SECOND (149), and stands behind it (145); JR to itself.
+    // Gives console 1 to SECOND (149), and takes a worse priority (145); JR to itself.
     let first =
         b"\x0E\x95\x11\x20\x41\xCD\x05\x40\x0E\x91\x1E\xC9\xCD\x05\x40\x18\xFE\0\0\0\0\0\0\0\0\0\0\0\0\0\0\0\
 \x01SECOND  \0";
@@ -152,7 +152,7 @@ c1 X\\
 
 #[test]
 fn a_printer_is_left_for_who_asks_next(rt: HostRuntime) -> Result<(), Fail> {
-    // Prints P (5), stands behind the other (145), leaves the printer (159); JR to itself.
+    // Prints P (5), takes a worse priority (145), leaves the printer (159); JR to itself.
     let first =
         b"\x0E\x05\x1E\x50\xCD\x05\x40\x0E\x91\x1E\xC9\xCD\x05\x40\x0E\x9F\xCD\x05\x40\x18\xFE";
     // Asks for the printer without waiting (161), prints LF (5), asks for printers 1 and 0 (160); JR to itself.

@@ -33,7 +33,7 @@ use Rattle.mpm_mount.proofs.Orders.{entry_total}
 use Rattle.mpm_mount.proofs.LookedUp.{nowhere}
 use Rattle.mpm_mount.proofs.FreeEntries.{extents_apart}
 
--- a block of an entry: one of files, that nothing behind holds, and that stands once
+-- a block of an entry: one of files, that nothing after it holds, and that stands once
 pub record IsOwn (kind : Kind) (f : FileEntry) (i : ℕ) (rest : List Entry) : Type 0 where
   pub low : (geometry_of kind).directory_blocks ≤ block_at f i
   pub high : block_at f i ≤ last_block kind

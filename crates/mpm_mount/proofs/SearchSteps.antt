@@ -1,4 +1,4 @@
--- A search over the entries of a directory, step by step: what is found next either passes a test, or the search goes on behind it.
+-- A search over the entries of a directory, step by step: what is found next either passes a test, or the search goes on after it.
 use Rattle.std.proofs.Common.{◌≡◌, ◌∙◌, ℕ, zero, suc, ◌<◌, ◌≤◌, ◌==◌, Bool, true, false, ◌&&◌, cond, List, [], ◌∷◌, Option, Some, None, length, get_or, sym, refl, ap, arith, eqb-true}
 use Rattle.std.specs.Prelude.{T, option_map, count_by}
 use Rattle.std.specs.List as lists
@@ -53,7 +53,7 @@ found_alike R x p q (e ∷ es) below alike =
     ap (λ b. cond b (Some e) (lists.find (λ f. p f.0) es)) (alike e.0 parts.0)
     ∙ ap (λ o. cond (q e.0) (Some e) o) (found_alike R x p q es parts.1 alike)
 
--- of two tests, of which the later passes nothing up to x, and behind x what the earlier passes: the earlier finds x, where it
+-- of two tests, of which the later passes nothing up to x, and after x what the earlier passes: the earlier finds x, where it
 -- passes that, or what the later finds
 pub record AreSteps {K : Type 0} (R : K → K → Ordering) (wide earlier later : K → Bool) (x : K) : Type 0 where
   pub narrow : (k : K) → wide k ≡ false → earlier k ≡ false
@@ -112,7 +112,7 @@ above_through kind user None found u name number above less = refl
 above_through kind user (Some l) found u name number above less =
     less_through (found_name kind user l) (found_name kind user found) (record { user = u; name = name; number = number }) above less
 
--- fewer entries are left behind what was found
+-- fewer entries are left after what was found
 fewer_step : {X : Type 0} (p q : X → Bool) (x : X) (xs : List X) (a b : Bool) → q x ≡ a → p x ≡ b → (q x ≡ true → p x ≡ true) → count_by q xs ≤ count_by p xs → count_by q (x ∷ xs) ≤ count_by p (x ∷ xs)
 fewer_step p q x xs true b is p_is so rest = omega (arith, count_cons q x xs, count_cons p x xs, one_if_true (q x) is, one_if_true (p x) (so is), rest)
 fewer_step p q x xs false b is p_is so rest = omega (arith, count_cons q x xs, count_cons p x xs, one_if_false (q x) is, rest)

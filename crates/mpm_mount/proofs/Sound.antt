@@ -18,7 +18,7 @@ use Rattle.mpm_mount.proofs.UsedBlocks.{nowhere_at, inside_at}
 use Rattle.mpm_mount.proofs.FirstFault.{faultless_at}
 use Rattle.mpm_mount.proofs.Others.{others_none}
 
--- a file's entry that is not at fault behind others
+-- a file's entry that is not at fault after others
 pub record IsSoundBehind (kind : Kind) (earlier : List Entry) (f : FileEntry) : Type 0 where
   pub few : nat_lt 128 f.rc ≡ false
   pub inside : some_place kind (is_outside kind f) ≡ false

@@ -1,4 +1,4 @@
--- A directory stays without a fault where an entry is replaced by one that is not at fault behind all others.
+-- A directory stays without a fault where an entry is replaced by one that is not at fault after all others.
 use Rattle.std.proofs.Common.{◌≡◌, ◌≢◌, ℕ, zero, suc, ◌<◌, ◌≤◌, ◌==◌, Bool, true, false, ◌&&◌, ◌||◌, not, inl, inr, List, [], ◌∷◌, Some, None, length, get_or, take, drop, refl, sym, ap, ◌∙◌, arith}
 use Rattle.std.specs.Prelude.{slice_set, bytes_eq, if◌then◌else◌}
 use Rattle.std.specs.List.{list_any}
@@ -102,7 +102,7 @@ front_set p entries slot k new inside h none clear =
           ∙ none_in p (take k entries) j Free none (omega (arith, length-take-le k entries h))
     ])
 
--- the new entry does not clash with another that it is not at fault behind
+-- the new entry does not clash with another after which it is not at fault
 abbrev IsClear : Kind → Entry → Entry → Type 0
 IsClear kind (File f) new = ((i : ℕ) → i < places kind → block_at f i ≢ 0 → holds kind (block_at f i) new ≡ false) × (is_named kind (name_of kind f) new ≡ false)
 IsClear kind (Label l) new = is_label new ≡ false

@@ -1,4 +1,4 @@
--- A fact on each item of a list and those behind it, from one on the item and all others.
+-- A fact on each item of a list and those after it, from one on the item and all others.
 use Rattle.std.proofs.Common.{ℕ, suc, ◌<◌, List, [], ◌∷◌, length, get_or, arith}
 use Rattle.mpm_mount.specs.Directories.{others}
 

@@ -154,7 +154,7 @@ same_number : (kind : Kind) (f : FileEntry) (i block ex s2 rc : ℕ) → entry_n
     → name_of kind (with_block f i block ex s2 rc) ≡ name_of kind f
 same_number kind f i block ex s2 rc number = same_entry (name_of kind (with_block f i block ex s2 rc)) (name_of kind f) refl refl number
 
--- no fault behind all others
+-- no fault after all others
 pub still_taking : (d : Directory) (slot : ℕ) (f : FileEntry) (i block ex s2 rc : ℕ) → first_fault d.kind d.entries ≡ None → TakesBlock d slot f i block ex s2 rc
     → cause_of d.kind (others d.entries slot) (File (with_block f i block ex s2 rc)) ≡ None
 still_taking d slot f i block ex s2 rc faultless takes =

@@ -20,7 +20,7 @@ use Rattle.mpm_mount.specs.Images.{slot_entry, entries_to, entries_of, contents_
 use Rattle.mpm_mount.specs.Directories.{Directory, Stands}
 use Rattle.mpm_mount.proofs.Ranges.{map_same, none_at}
 
--- the sectors of a file's blocks are behind those of the directory, and no two blocks have one
+-- the sectors of a file's blocks are after those of the directory, and no two blocks have one
 pub behind_directory : (kind : Kind) (block r slot : ℕ) → (geometry_of kind).directory_blocks ≤ block → slot < (geometry_of kind).drm + 1 → slot / 4 ≢ block * block_records kind + r
 behind_directory Ibm3740 block r slot h less same = omega arith
 behind_directory Hd4 block r slot h less same = omega arith

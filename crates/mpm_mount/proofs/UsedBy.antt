@@ -110,7 +110,7 @@ unfolding some_place
 taken_same kind earlier f blocks by none =
     any_same (clashes blocks f) (is_taken kind earlier f) (places kind) (taken_at kind earlier f blocks by none)
 
--- an entry without blocks behind others
+-- an entry without blocks after others
 pub used_past : (kind : Kind) (earlier : List Entry) (entry same : Entry) (blocks : Blocks) → entry ≡ same → ((block : ℕ) → holds kind block same ≡ false)
     → IsUsedBy kind earlier blocks → IsUsedBy kind (earlier ++ (entry ∷ [])) blocks
 used_past kind earlier entry same blocks is none by =

@@ -78,14 +78,14 @@ abbrev pub name_cause : Kind → List Entry → FileEntry → Option ℕ
 name_cause kind earlier f =
     if list_any (is_named kind (name_of kind f)) earlier then Some 5 else (if nat_lt 63 f.s2 || nat_lt 31 f.ex then Some 6 else None)
 
--- the least cause by which a file's entry is at fault behind others
+-- the least cause by which a file's entry is at fault after others
 unfoldable pub file_cause : Kind → List Entry → FileEntry → Option ℕ
 file_cause kind earlier f =
     if nat_lt 128 f.rc then Some 2
     else (if some_place kind (is_outside kind f) then Some 3
     else (if some_place kind (is_taken kind earlier f) then Some 4 else name_cause kind earlier f))
 
--- the least cause by which an entry is at fault behind others
+-- the least cause by which an entry is at fault after others
 abbrev pub cause_of : Kind → List Entry → Entry → Option ℕ
 cause_of kind earlier (File f) = file_cause kind earlier f
 cause_of kind earlier (Label l) = if list_any is_label earlier then Some 7 else None

@@ -20,7 +20,7 @@ fn is_outside(kind: Kind, file: &FileEntry, place: usize) -> bool
     block != 0 && (block < sizes.directory_blocks || sizes.dsm < block)
 }
 
-/// Whether an entry has a block's number that isn't 0 and that no file's block has: one of the directory's, or one behind the last.
+/// Whether an entry has a block's number that isn't 0 and that no file's block has: one of the directory's, or one after the last.
 #[tactic(auto, using(crate::proofs::UsedBlocks::some_found, crate::proofs::UsedBlocks::some_none))]
 pub fn has_outside(kind: Kind, file: &FileEntry) -> bool
     ensures { result ≡ faults.some_place kind (faults.is_outside kind file.now) }

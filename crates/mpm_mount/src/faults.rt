@@ -35,7 +35,7 @@ pub(crate) fn first_fault(
     None
 }
 
-/// The least cause by which an entry is at fault behind others; else its blocks become used too.
+/// The least cause by which an entry is at fault after others; else its blocks become used too.
 fn cause(kind: Kind, earlier: &[Entry], entry: &Entry, blocks: &mut BlockMap) -> Option<u8>
     requires { IsUsedBy kind earlier.now blocks.old }
     ensures cause { result ≡ spec.cause_of kind earlier.now entry.now }
@@ -50,14 +50,14 @@ fn cause(kind: Kind, earlier: &[Entry], entry: &Entry, blocks: &mut BlockMap) ->
     }
 }
 
-/// The cause by which a label is at fault behind others.
+/// The cause by which a label is at fault after others.
 fn label_cause(earlier: &[Entry]) -> Option<u8>
     ensures { result ≡ (if list_any spec.is_label earlier.now then Some 7 else None) }
 {
     if has_label(earlier) { Some(7) } else { None }
 }
 
-/// The cause by which an XFCB is at fault behind others.
+/// The cause by which an XFCB is at fault after others.
 fn xfcb_cause(earlier: &[Entry], xfcb: &XfcbEntry) -> Option<u8>
     ensures { result ≡ (if list_any (spec.is_xfcb xfcb.now.user (names.plain xfcb.now.name)) earlier.now then Some 8 else None) }
 {
@@ -68,7 +68,7 @@ fn xfcb_cause(earlier: &[Entry], xfcb: &XfcbEntry) -> Option<u8>
     }
 }
 
-/// The least cause by which a file's entry is at fault behind others; else its blocks become used too.
+/// The least cause by which a file's entry is at fault after others; else its blocks become used too.
 #[tactic(auto, unfolding(crate::specs::Faults::file_cause))]
 fn file_cause(kind: Kind, earlier: &[Entry], file: &FileEntry, blocks: &mut BlockMap) -> Option<u8>
     requires { IsUsedBy kind earlier.now blocks.old }
@@ -87,7 +87,7 @@ fn file_cause(kind: Kind, earlier: &[Entry], file: &FileEntry, blocks: &mut Bloc
     name_cause(kind, earlier, file)
 }
 
-/// The cause by which a file's entry is at fault for its number or its extent, behind others.
+/// The cause by which a file's entry is at fault for its number or its extent, after others.
 fn name_cause(kind: Kind, earlier: &[Entry], file: &FileEntry) -> Option<u8>
     ensures { result ≡ spec.name_cause kind earlier.now file.now }
 {

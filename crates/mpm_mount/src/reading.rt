@@ -46,7 +46,7 @@ pub fn read_directory<D: Drives>(
     Ok(entries)
 }
 
-/// Reads the four entries of a sector of the directory, behind those that were read.
+/// Reads the four entries of a sector of the directory, after those that were read.
 fn read_sector<D: Drives>(
     drives: &mut D,
     drive: u8,
@@ -76,7 +76,7 @@ fn read_sector<D: Drives>(
     }
 }
 
-/// Puts the four entries of a sector behind those that are there.
+/// Puts the four entries of a sector after those that are there.
 fn push_entries(bytes: &[u8; 128], wide: bool, entries: &mut Vec<Entry>) -> Result<(), OutOfMemory>
     ensures entries { OnOk result (entries.new.items ≡ entries.old.items ++ entries_in bytes.now wide 4) }
     ensures proper { All (IsProper wide) entries.old.items → OnOk result (All (IsProper wide) entries.new.items) }

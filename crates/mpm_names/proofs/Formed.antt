@@ -11,7 +11,7 @@ use Rattle.mpm_names.specs.Forms.{drive_text, type_text, password_text, HasForm}
 use Rattle.mpm_names.proofs.Runs.{run_before, taken_before}
 use Rattle.mpm_names.proofs.Marks.{Ends, what_ends, other_than, no_blank, point_is_none, colon_is_none, semicolon_is_none}
 
--- what is behind blanks that something else follows
+-- what is after blanks, where something else follows
 behind_blanks_is : (blanks rest : List ℕ) → AllPass is_blank blanks → is_blank (get_or rest 0 0) ≡ false → behind_blanks (blanks ++ rest) ≡ rest
 behind_blanks_is blanks rest all off =
     ap (λ n. drop n (blanks ++ rest)) (run_before is_blank blanks rest all off) ∙ drop_at blanks rest (length blanks) refl
@@ -38,7 +38,7 @@ behind_password_is [] rest all ends = rw (unmarked 59 rest ends.semicolon) refl
 behind_password_is (c ∷ cs) rest all ends =
     rw (marked_is 59 (c ∷ cs) rest all ends.character, ne_eqb (length (c ∷ cs)) 0 (λ same. absurd (omega arith))) (behind_field 59 (c ∷ cs) rest)
 
--- what stands behind a type: the password's mark, or the end
+-- what follows a type: the password's mark, or the end
 pub record Follows (byte : ℕ) : Type 0 where
   pub character : is_character byte ≡ false
   pub point : (byte == 46) ≡ false
@@ -57,7 +57,7 @@ behind_type_is : (dotted : Bool) (kind rest : List ℕ) → AllPass is_character
 behind_type_is true kind rest all ends = rw (marked_is 46 kind rest all ends.character) (behind_field 46 kind rest)
 behind_type_is false kind rest all ends = rw ends.point refl
 
--- what stands behind a name: a mark but `:`, or the end
+-- what follows a name: a mark but `:`, or the end
 pub record Stops (byte : ℕ) : Type 0 where
   pub character : is_character byte ≡ false
   pub colon : (byte == 58) ≡ false
@@ -91,7 +91,7 @@ behind_drive_is : (letter drive : ℕ) (rest : List ℕ) → drive ≤ 16 → (0
 behind_drive_is letter zero rest few is off = rw (no_drive rest off) refl
 behind_drive_is letter (suc drive) rest few is off = rw (a_drive letter drive rest few (is (omega arith)), ne_eqb (suc drive) 0 (λ same. absurd (omega arith))) refl
 
--- the first byte behind the blanks
+-- the first byte after the blanks
 not_upper : (blank letter drive : ℕ) → letter ≡ blank → upper blank ≡ blank → upper letter ≡ 64 + suc drive → blank ≤ 32 → ⊥
 not_upper blank letter drive same stays is low =
     let at : blank ≡ 64 + suc drive = sym stays ∙ ap upper (sym same) ∙ is in

@@ -1,4 +1,4 @@
--- The parts that are taken from a text stand in it one behind the other.
+-- The parts that are taken from a text stand in it one after the other.
 use Rattle.std.proofs.Common.{◌≡◌, ℕ, zero, suc, ◌+◌, ◌-◌, ◌<◌, ◌≤◌, Bool, true, false, ◌==◌, ◌&&◌, List, [], ◌∷◌, ◌++◌, length, get_or, take, drop, sym, ap, ◌∙◌, arith, refl}
 use Rattle.std.specs.Prelude.{nat_le, Some, None, if◌then◌else◌, slice_index}
 use Rattle.std.specs.List.{AllPass, prefix_len}
@@ -18,7 +18,7 @@ field_split : (text : List ℕ) → text ≡ field_of text ++ drop (length (fiel
 field_split text =
     sym (ap (λ n. field_of text ++ drop n text) (length-prefix_len is_character text) ∙ take-append-drop (prefix_len is_character text) text)
 
--- a mark, its field and what is behind it
+-- a mark, its field and what is after it
 mark_field : (mark first : ℕ) (text : List ℕ) → first ≡ mark → marked mark (first ∷ text) ≡ field_of text
 unfolding marked
 mark_field mark first text same = rw (eq-eqb first mark same) refl
@@ -95,7 +95,7 @@ drive_letter : (drive : ℕ) (text : List ℕ) → drive_of text ≡ drive → 0
 drive_letter zero text is more = absurd (omega arith)
 drive_letter (suc drive) text is more = (drive_facts_of text drive is).1
 
--- what is taken behind a mark are characters
+-- what is taken after a mark are characters
 marked_passes_by : (is : Bool) (mark : ℕ) (text : List ℕ) → (get_or text 0 0 == mark) ≡ is → AllPass is_character (marked mark text)
 unfolding marked
 marked_passes_by true mark text is = rw is (taken_passes is_character (drop 1 text))

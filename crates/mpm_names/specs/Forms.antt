@@ -1,4 +1,4 @@
--- The form of a file name, by its parts as they stand one behind the other. (MP/M II Programmer's Guide, "Function 152:
+-- The form of a file name, by its parts as they stand one after the other. (MP/M II Programmer's Guide, "Function 152:
 -- Parse Filename".)
 use Rattle.std.specs.Prelude.{◌≡◌, ◌≤◌, ◌<◌, ℕ, zero, suc, ◌+◌, Bool, true, false, List, [], ◌∷◌, ◌++◌, length, slice_index}
 use Rattle.std.specs.List.{AllPass}

@@ -1,4 +1,4 @@
--- How file names are spelled: blanks, a drive, a name, a type, a password, and a delimiter that ends them. Behind a
+-- How file names are spelled: blanks, a drive, a name, a type, a password, and a delimiter that ends them. After a
 -- text's end stands 00h. (MP/M II Programmer's Guide, "Function 152: Parse Filename".)
 use Rattle.std.specs.Prelude.{ℕ, ◌+◌, ◌-◌, Bool, List, [], ◌++◌, Option, Some, None, ◌==◌, ◌&&◌, ◌||◌, not, nat_le, nat_lt, length, drop, map, replicate, slice_index, if◌then◌else◌, take_while}
 use Rattle.std.specs.List.{range_with_len, prefix_len, position_or_len}
@@ -9,7 +9,7 @@ use Rattle.mpm_names.specs.declared.file_name.Parsed.{Parsed}
 abbrev pub field_of : List ℕ → List ℕ
 field_of text = take_while is_character text
 
--- what stands behind the blanks
+-- what follows the blanks
 abbrev pub behind_blanks : List ℕ → List ℕ
 behind_blanks text = drop (prefix_len is_blank text) text
 
@@ -19,19 +19,19 @@ drive_of text =
     let letter = upper (slice_index text 0) in
     if slice_index text 1 == 58 && nat_le 65 letter && nat_le letter 80 then letter - 64 else 0
 
--- what stands behind the drive
+-- what follows the drive
 abbrev pub behind_drive : List ℕ → List ℕ
 behind_drive text = if drive_of text == 0 then text else drop 2 text
 
--- the characters behind a mark, where the text begins with it
+-- the characters after a mark, where the text begins with it
 unfoldable pub marked : ℕ → List ℕ → List ℕ
 marked mark text = if slice_index text 0 == mark then field_of (drop 1 text) else []
 
--- what stands behind `.` and a type
+-- what follows `.` and a type
 abbrev pub behind_type : List ℕ → List ℕ
 behind_type text = if slice_index text 0 == 46 then drop (1 + length (marked 46 text)) text else text
 
--- what stands behind `;` and a password; `;` alone is none
+-- what follows `;` and a password; `;` alone is none
 abbrev pub behind_password : List ℕ → List ℕ
 behind_password text = if length (marked 59 text) == 0 then text else drop (1 + length (marked 59 text)) text
 
@@ -72,7 +72,7 @@ is_form s =
 abbrev pub star_of : List ℕ → ℕ
 star_of field = position_or_len (λ byte. byte == 42) field
 
--- a byte of a field as it is kept: a letter in upper case, `?` from the `*` on, a space behind the last character
+-- a byte of a field as it is kept: a letter in upper case, `?` from the `*` on, a space after the last character
 unfoldable pub kept_at : List ℕ → ℕ → ℕ → ℕ
 kept_at field star place =
     if nat_lt place star then upper (slice_index field place) else (if star == length field then 32 else 63)

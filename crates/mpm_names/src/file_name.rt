@@ -16,7 +16,7 @@ pub struct Parsed {
     pub password: [u8; 8],
     /// The password's length, 0 to 8.
     pub password_length: u8,
-    /// The place of the delimiter behind the name, from the text's start; none where that is 00h, CR or the text's end.
+    /// The place of the delimiter after the name, from the text's start; none where that is 00h, CR or the text's end.
     pub next: Option<u16>,
 }
 
@@ -24,9 +24,10 @@ pub struct Parsed {
 #[derive(Clone, Copy, Debug, PartialEq, Eq)]
 pub struct BadName;
 
-/// Reads a file name at the start of a text of at most 128 bytes, behind blanks: an optional drive A to P and `:`, a
-/// name of 1 to 8 characters, an optional `.` and type of at most 3, an optional `;` and password of 1 to 8, each taken
-/// as long as it goes. It is bad exactly where that isn't met, or where what follows is `.`, `:`, `;` or no delimiter.
+/// Reads a file name at the start of a text of at most 128 bytes, after blanks. It has an optional drive A to P and
+/// `:`, a name of 1 to 8 characters, an optional `.` and type of at most 3, an optional `;` and password of 1 to 8.
+/// Each is taken as long as it goes. It is bad exactly where that isn't met, or where what follows is `.`, `:`, `;` or
+/// no delimiter.
 #[tactic(auto, using(crate::proofs::Taken::form_found, crate::proofs::Taken::no_form), unfolding(crate::specs::Spellings::parsed))]
 pub fn parse_filename(text: &[u8]) -> Result<Parsed, BadName>
     requires { length text.now ≤ 128 }

@@ -55,14 +55,14 @@ pub fn is_name(parts: &Parts<'_>) -> bool
         && ends_a_name(byte_at(parts.rest, 0))
 }
 
-/// The byte at a place; 00h behind the text's end.
+/// The byte at a place; 00h after the text's end.
 pub fn byte_at(text: &[u8], place: usize) -> u8
     ensures { result ≡ slice_index text.now place }
 {
     if place < text.len() { text[place] } else { 0 }
 }
 
-/// What stands behind the blanks.
+/// What follows the blanks.
 fn skip_blanks(text: &[u8]) -> &[u8]
     ensures rest { result.now ≡ behind_blanks text.now }
     ensures size { length result.now ≤ length text.now }
@@ -118,7 +118,7 @@ fn drive_at(text: &[u8]) -> u8
     }
 }
 
-/// What stands behind the drive.
+/// What follows the drive.
 fn skip_drive(text: &[u8]) -> &[u8]
     ensures rest { result.now ≡ behind_drive text.now }
     ensures size { length result.now ≤ length text.now }
@@ -130,7 +130,7 @@ fn skip_drive(text: &[u8]) -> &[u8]
     }
 }
 
-/// The characters behind a mark, where the text begins with it.
+/// The characters after a mark, where the text begins with it.
 #[tactic(auto, unfolding(crate::specs::Spellings::marked))]
 fn characters_behind(text: &[u8], mark: u8) -> &[u8]
     requires { 0 < mark }
@@ -144,7 +144,7 @@ fn characters_behind(text: &[u8], mark: u8) -> &[u8]
     }
 }
 
-/// What stands behind `.` and a type.
+/// What follows `.` and a type.
 fn skip_type(text: &[u8]) -> &[u8]
     ensures rest { result.now ≡ behind_type text.now }
     ensures size { length result.now ≤ length text.now }
@@ -156,7 +156,7 @@ fn skip_type(text: &[u8]) -> &[u8]
     }
 }
 
-/// What stands behind `;` and a password.
+/// What follows `;` and a password.
 fn skip_password(text: &[u8]) -> &[u8]
     ensures rest { result.now ≡ behind_password text.now }
     ensures size { length result.now ≤ length text.now }

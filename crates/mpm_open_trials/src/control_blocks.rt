@@ -66,7 +66,7 @@ fn thirty_six_bytes_are_a_block_and_come_back(rt: HostRuntime) -> Result<(), Fai
     Ok(())
 }
 
-/// Whether numbers from 1 to 64 name open files, and other bytes behind one name none.
+/// Whether numbers from 1 to 64 name open files, and other bytes after one name none.
 fn are_numbered() -> bool {
     let mut block = ControlBlock::read(&BYTES);
     block.map[15] = 1;
@@ -93,7 +93,7 @@ fn stands(position: u32, count: u8) -> [u8; 4] {
     [block.ex, block.s2, block.rc, block.cr]
 }
 
-/// Whether positions are an extent and a record of it. Position 129 stands behind 129 records, the last of which is the first of
+/// Whether positions are an extent and a record of it. Position 129 comes after 129 records, the last of which is the first of
 /// extent 1.
 fn are_positions() -> bool {
     stands(129, 1) == [1, 0, 1, 1]
@@ -215,7 +215,7 @@ fn an_opening_puts_attributes_count_and_handle(rt: HostRuntime) -> Result<(), Fa
     Ok(())
 }
 
-/// Whether an XFCB is told by byte 12 and bytes 24 to 31.
+/// Whether what is answered of an XFCB stands in byte 12 and bytes 24 to 31.
 fn is_told() -> bool {
     let mut block = ControlBlock::read(&[0xAA; 36]);
     block.tell_xfcb(0xC0, &[1, 2, 3, 4], &[5, 6, 7, 8]);
@@ -225,7 +225,7 @@ fn is_told() -> bool {
     block.write() == bytes
 }
 
-/// Whether a renaming has its new name behind a second drive.
+/// Whether a renaming has its new name after a second drive.
 fn has_a_new_name() -> bool {
     let mut block = letter();
     block.map[0] = 9;

@@ -7,7 +7,7 @@ fn plain(drive: u8, name: &[u8; 11], next: Option<u16>) -> Result<Parsed, BadNam
     locked(drive, name, &[0; 8], 0, next)
 }
 
-/// The same with a password.
+/// The drive, the name, the password and the place of what follows, of a text with a password.
 fn locked(
     drive: u8,
     name: &[u8; 11],
@@ -84,7 +84,7 @@ fn blanks_and_ends(rt: HostRuntime) -> Result<(), Fail> {
     Ok(())
 }
 
-/// Whether texts of 128 bytes are read: a name that is too long, and one behind blanks alone.
+/// Whether texts of 128 bytes are read: a name that is too long, and one after blanks alone.
 fn are_long_texts_read() -> bool {
     let mut blanks = [b' '; 128];
     blanks[127] = b'z';

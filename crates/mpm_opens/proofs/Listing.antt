@@ -8,7 +8,7 @@ use Rattle.std.proofs.lemmas.List.Sums.{sum_by-set}
 use Rattle.std.proofs.lemmas.Option.{same_Some}
 use Rattle.mpm_base.proofs.CountLaws.{one_if, count_cons, one_if_true, one_if_false}
 
--- two lists, one behind the other
+-- two lists, one after the other
 pub count_append : {X : Type 0} (test : X → Bool) (xs ys : List X) → count_by test (xs ++ ys) ≡ count_by test xs + count_by test ys
 count_append test [] ys = omega arith
 count_append test (x ∷ xs) ys = omega (arith, count_append test xs ys, count_cons test x (xs ++ ys), count_cons test x xs)

@@ -124,8 +124,8 @@ pub record HasLeft (p : ℕ) (among : FileKey → Bool) (old new : OpenFiles) : 
   pub items : (number : ℕ) → place_at new.items number ≡ left_in p among (place_at old.items number)
   pub owners : (file : FileKey) (number : ℕ) → owner_of new.locks file number ≡ owner_left (among file) p (owner_of old.locks file number)
 
--- a process has a file open by a number: the item that it had is counted up, or a new one stands where none did, in the mode that
--- was asked; all other items and all locks are as they were
+-- a process has a file open by a number: the item that it had is counted up, or a new one stands where none did, in the mode that was
+-- asked. All other items and all locks are as they were
 pub record IsOpened (p : ℕ) (file : FileKey) (mode : Mode) (number : ℕ) (old new : OpenFiles) : Type 0 where
   pub others : (k : ℕ) → k ≢ number → place_at new.items k ≡ place_at old.items k
   pub again : IsLive old number → place_at new.items number ≡ Some (opened_again (item_of old number))

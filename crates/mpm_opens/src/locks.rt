@@ -55,7 +55,7 @@ impl Locks {
         self.as_slice().len()
     }
 
-    /// One more lock, behind the others.
+    /// One more lock, after the others.
     fn push(&mut self, lock: RecordLock)
         requires { length self.old < LOCKS }
         ensures { self.new ≡ self.old ++ lock ∷ [] }

@@ -1,4 +1,4 @@
--- Laws of writing: nothing, one part behind another, and a failure in a later part.
+-- Laws of writing: nothing, one part after another, and a failure in a later part.
 use Rattle.std.proofs.Common.{◌≡◌, ◌∙◌, ℕ, Bool, List, [], ◌∷◌, ◌++◌, ◌≤◌, Result, Ok, Err, OnOk, OnErr, IsErr, inl, inr, refl, ap, sym, subst, append_assoc, arith}
 use Rattle.std.proofs.lemmas.List.{append-nil}
 use Rattle.mpm_port.specs.Causes.{Rose, HasCause}
@@ -39,7 +39,7 @@ rendered_onward trace (o ∷ emitted) os =
     begins_trans (rendered trace os) (rendered trace (emitted ++ os)) (rendered trace (o ∷ (emitted ++ os)))
     (rendered_onward trace emitted os) (rendered_grows trace o (emitted ++ os))
 
--- nothing, and one part behind another
+-- nothing, and one part after another
 
 pub wrote_nothing : (o : Outside) → Wrote o o []
 wrote_nothing o = record { shown = λ outputs first shows. shows; faults = refl; trace = refl }
@@ -53,7 +53,7 @@ wrote_after o m n a b p q = record {
   trace = q.trace ∙ p.trace;
 }
 
--- what fails behind some outputs, and before others, fails in all of them
+-- what fails after some outputs, and before others, fails in all of them
 pub fails_within : (device : Device) (o m n : Outside) (a b c : List Output) → Wrote o m a → Fails device m n b → Fails device o n (c ++ (b ++ a))
 fails_within TheSink o m n a b c p q =
     let trace = o.kept.trace in

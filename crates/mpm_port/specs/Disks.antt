@@ -1,7 +1,7 @@
--- The images of attached drives, what is told of images before they are attached, and what a sector of one is.
+-- The images of attached drives, what is known of images before they are attached, and what a sector of one is.
 use Rattle.std.specs.Prelude.{◌≡◌, ◌≢◌, ℕ, ◌+◌, ◌*◌, ◌≤◌, List, ◌++◌, take, drop, length, slice_range, Option, Some, IfSome, IsSomeAnd, option_map, ⊤}
 
--- what is told of the image of a name before a drive is attached to it: nothing, that there is none, or its bytes
+-- what is known of the image of a name before a drive is attached to it: nothing, that there is none, or its bytes
 pub data ToldImage : Type 0 where
   Untold : ToldImage
   Missing : ToldImage
@@ -48,7 +48,7 @@ pub record Writes (drive sector : ℕ) (bytes : List ℕ) (old new : Disks) : Ty
   pub others : (other : ℕ) → old.name_of other ≢ old.name_of drive → new.image other ≡ old.image other
   pub sizes : (other : ℕ) → size_of new other ≡ size_of old other
 
--- what is told of images but that of one name is as it was, and nothing that was told is untold
+-- what is known of images but that of one name is as it was, and what was known stays known
 pub record KeepsTold (name : Option (List ℕ)) (old new : List ℕ → ToldImage) : Type 0 where
   pub others : (other : List ℕ) → name ≢ Some other → new other ≡ old other
   pub still : (other : List ℕ) → new other ≡ Untold → old other ≡ Untold

@@ -1,4 +1,4 @@
--- What a fetch leaves in the vector, by what is told of the file.
+-- What a fetch leaves in the vector, by what is known of the file.
 use Rattle.std.specs.Prelude.{◌≡◌, ℕ, ◌+◌, ◌<◌, ◌≤◌, List, ◌++◌, take, length, Option, Result, Ok, Err, MatchOption, ⊤}
 use Rattle.mpm_port.specs.Texts.{Begins}
 use Rattle.mpm_port.specs.declared.files.Fetched.{Fetched}

@@ -9,8 +9,8 @@ use Rattle.mpm_port.specs.declared.named.Named.{Named}
 use Rattle.mpm_port.specs.declared.links.Link.{Link}
 use Rattle.mpm_port.specs.declared.files.FetchError.{FetchError}
 
--- the images, the attached drives, the names on which attach answered that it failed, oldest first, the calls, the count of
--- faults, and of each drive by its number whether a write to it was asked for since it was last attached or synced
+-- the images, the attached drives, the names on which attach answered that it failed, oldest first, the calls, the count of faults, and of
+-- each drive by its number whether it has unsynced writes
 pub record MemoryDisks : Type 0 where
   pub images : List Named
   pub links : List Link
@@ -34,7 +34,7 @@ shelved images links = record { image = λ drive. option_and_then (contents_of i
 abbrev pub disks_of : MemoryDisks → Disks
 disks_of table = shelved table.images table.links
 
--- what is told of an image that is there, or isn't
+-- what is known of an image that is there, or isn't
 abbrev pub found : Option (List ℕ) → ToldImage
 found None = Missing
 found (Some bytes) = Bytes bytes

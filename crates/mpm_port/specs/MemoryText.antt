@@ -17,7 +17,7 @@ empty_text room = record { text = []; room = room; calls = record { done = 0; fa
 unfoldable pub put_fails : MemoryText → List ℕ → Bool
 put_fails sink bytes = next_is_listed sink.calls || nat_lt sink.room (length sink.text + length bytes)
 
--- after a put: all the bytes stand behind the text, or none where it failed
+-- after a put: all the bytes follow the text, or none where it failed
 unfoldable pub after_put : MemoryText → List ℕ → MemoryText
 after_put sink bytes = if put_fails sink bytes
     then record sink { calls = after_call sink.calls; faults = one_more sink.faults }

@@ -4,7 +4,7 @@ use Rattle.std.specs.List.{find}
 use Rattle.mpm_port.specs.declared.named.Named.{Named}
 use Rattle.mpm_port.specs.declared.links.Link.{Link}
 
--- the items with one more: in the place of the first that passes, or behind all where none does
+-- the items with one more: in the place of the first that passes, or after all where none does
 unfoldable pub with_item : {X : Type 0} → (X → Bool) → List X → X → List X
 with_item p [] item = item ∷ []
 with_item p (x ∷ xs) item = if p x then item ∷ xs else (x ∷ with_item p xs item)
@@ -17,7 +17,7 @@ is_named name item = bytes_eq item.name name
 unfoldable pub contents_of : List Named → List ℕ → Option (List ℕ)
 contents_of items name = option_map (λ item. item.contents) (find (is_named name) items)
 
--- the items with these contents under a name: in the place of the item that had it, or behind all the others
+-- the items with these contents under a name: in the place of the item that had it, or after all the others
 unfoldable pub with_contents : List Named → List ℕ → List ℕ → List Named
 with_contents items name contents = with_item (is_named name) items (record { name = name; contents = contents })
 

@@ -6,7 +6,7 @@ pub record Begins (part whole : List ℕ) : Type 0 where
   pub rest : List ℕ
   pub whole_is : whole ≡ part ++ rest
 
--- some first part of the bytes stands behind the old text
+-- some first part of the bytes follows the old text
 pub record AppendsPart (old more new : List ℕ) : Type 0 where
   pub part : List ℕ
   pub begins : Begins part more

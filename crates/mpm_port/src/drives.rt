@@ -9,7 +9,7 @@ pub trait Drives {
     /// The image of each attached drive, and the name that it was attached by.
     ghost disks: { Self → Disks };
 
-    /// What is told of the image of each name.
+    /// What is known of the image of each name.
     ghost told: { Self → List ℕ → ToldImage };
 
     /// Whether a write to the drive was asked for since it was last attached, or synced without a failure.
@@ -74,7 +74,7 @@ pub trait Drives {
         ensures unsynced { OnErr result (unsynced self.new drive ≡ unsynced self.old drive) }
         ensures beside { (other : ℕ) → other ≢ drive → unsynced self.new other ≡ unsynced self.old other };
 
-    /// What is told of the image of an attached drive's name is what the drive has.
+    /// What is known of the image of an attached drive's name is what the drive has.
     ghost agrees: { (drives : Self) (drive : ℕ) (name : List ℕ) → (disks drives).name_of drive ≡ Some name
         → IfSome ((disks drives).image drive) (Brings (told drives name)) };
 }

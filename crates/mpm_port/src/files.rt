@@ -22,10 +22,10 @@ pub enum FetchError {
 
 /// Files by their names.
 pub trait Files {
-    /// What each file holds, where it is told; nothing is told of a missing file.
+    /// What each file holds, where it is known; nothing is known of a missing file.
     ghost contents: { Self → List ℕ → Option (List ℕ) };
 
-    /// The file is told to be missing.
+    /// The file is known to be missing.
     ghost missing: { Self → List ℕ → Type 0 };
 
     /// The names on which a call answered Failed, oldest first.

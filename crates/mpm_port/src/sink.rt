@@ -18,7 +18,7 @@ pub trait Sink {
     /// What a failed put of these bytes leaves.
     ghost dropped: { Self → List ℕ → Self → Type 0 };
 
-    /// Writes the bytes behind what was written before. A failed call has written some first part of them.
+    /// Writes the bytes after what was written before. A failed call has written some first part of them.
     fn put(&mut self, bytes: &[u8]) -> Result<(), Failed>
         ensures took { OnOk result (took self.old bytes.now self.new) }
         ensures dropped { OnErr result (dropped self.old bytes.now self.new) }

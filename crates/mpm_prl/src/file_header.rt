@@ -4,9 +4,9 @@ ghost use Rattle.mpm_prl.specs.Relocation.{word_at};
 /// The header of a page relocatable program, the first 128 bytes of its file, as far as it is used.
 #[derive(Clone, Copy, Debug, PartialEq, Eq)]
 pub struct PrlHeader {
-    /// The bytes of code, 1 to 65,535. Their bits follow behind them.
+    /// The bytes of code, 1 to 65,535. Their bits follow.
     pub length: u16,
-    /// The bytes of memory that the program wants behind its code.
+    /// The bytes of memory that the program wants after its code.
     pub extra: u16,
 }
 
@@ -14,7 +14,7 @@ pub struct PrlHeader {
 #[derive(Clone, Copy, Debug, PartialEq, Eq)]
 pub struct BadHeader;
 
-/// Reads a header: the length is the word at byte 1, what is wanted behind the code the word at byte 4, each with its
+/// Reads a header: the length is the word at byte 1, what is wanted after the code the word at byte 4, each with its
 /// low byte first. It is bad exactly where the length is 0.
 pub fn header(bytes: &[u8; 128]) -> Result<PrlHeader, BadHeader>
     ensures ok { OnOk result (word_at bytes.now 1 ≢ 0) }

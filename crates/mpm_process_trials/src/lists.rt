@@ -17,7 +17,7 @@ fn put_all(lists: &mut Lists, list: u8, rows: &[(u8, u8)])
     }
 }
 
-/// Puts a process back behind its equals if it is in a list.
+/// Puts a process back after its equals if it is in a list.
 fn rotate(lists: &mut Lists, p: Pid, priority: u8) {
     if lists.list_of(p).is_some() {
         lists.rotate(p, priority);
@@ -37,7 +37,7 @@ fn empties(lists: &mut Lists, list: u8, order: &[u8]) -> bool
     lists.first(list).is_none()
 }
 
-/// Whether a process that runs goes behind those that it woke.
+/// Whether a process that runs goes after those that it woke.
 fn goes_behind(lists: &mut Lists) -> bool {
     put_all(lists, 0, &[(7, 200), (3, 200), (4, 199)]);
     rotate(lists, Pid(7), 200);

@@ -56,7 +56,7 @@ fn next(dispatcher: &mut Dispatcher, instruction: bool) -> Option<Pid> {
     }
 }
 
-/// A process is put behind its equals, if it is ready.
+/// A process is put after its equals, if it is ready.
 fn turn(dispatcher: &mut Dispatcher, p: Pid) {
     if dispatcher.procs.lives(p) && dispatcher.lists.list_of(p) == Some(READY) {
         dispatcher.rotate(p);
@@ -120,7 +120,7 @@ fn who_has_interrupts_off_keeps_the_processor(rt: HostRuntime) -> Result<(), Fai
     Ok(())
 }
 
-/// Whether a new priority puts a process behind its equals.
+/// Whether a new priority puts a process after its equals.
 fn goes_behind(dispatcher: &mut Dispatcher) -> bool {
     let begun = three(dispatcher).is_ok();
     set_priority(dispatcher, Pid(1), 200);

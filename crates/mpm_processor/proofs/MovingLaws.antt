@@ -46,7 +46,7 @@ moves_more inside n seg old now new m can is =
       ];
     }
 
--- some behind others
+-- some after others
 
 pub moves_join : (inside : Bool) (n m seg : ℕ) (old now new : View) → Moves inside n seg old now → Moves inside m seg now new
     → Moves inside (n + m) seg old new

@@ -15,7 +15,7 @@ use Rattle.mpm_gate.specs.Gates.{gate_of}
 use Rattle.mpm_processor.specs.Moving.{View, instruction_in, moved, Moves, IsPaused}
 use Rattle.mpm_processor.proofs.MovingLaws.{view_is, moves_none, moves_more, moves_to, unmoved, some_unless, ran_or_not}
 
--- a view whose registers have so many beginnings behind them
+-- a view whose registers have so many beginnings after them
 abbrev pub begun_view : ℕ → View → View
 begun_view n view = record view { regs = begun_times n view.regs }
 

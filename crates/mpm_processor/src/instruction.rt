@@ -34,7 +34,7 @@ fn opcode_below_gates(spec: SegmentSpec, address: u16, segment: &[u8]) -> Option
     None
 }
 
-/// The opcode at an address and the two bytes behind it, of a segment below its last page.
+/// The opcode at an address and the two bytes after it, of a segment below its last page.
 #[inline(always)]
 #[tactic(auto, unfolding(mpm_banks::specs::Memory::place_of, mpm_banks::specs::Memory::byte_at))]
 fn fetch_below_gates(spec: SegmentSpec, address: u16, segment: &[u8]) -> Option<Fetched>
@@ -57,7 +57,7 @@ fn fetch_below_gates(spec: SegmentSpec, address: u16, segment: &[u8]) -> Option<
     None
 }
 
-/// The opcode at an address and the two bytes behind it, None where a gate is for a process in a resident procedure (`inside`) or
+/// The opcode at an address and the two bytes after it, None where a gate is for a process in a resident procedure (`inside`) or
 /// in none.
 #[inline(always)]
 #[tactic(auto, using(mpm_gate::proofs::GateLaws::none_below, mpm_base::proofs::Options::none_there))]
@@ -97,7 +97,7 @@ fn fetch(
     })
 }
 
-/// Acts as the instruction at PC does, whose opcode and the two bytes behind it are fetched, but for how it begins. Where it
+/// Acts as the instruction at PC does, whose opcode and the two bytes after it are fetched, but for how it begins. Where it
 /// isn't plain its opcode is answered, and nothing has changed.
 #[inline(always)]
 fn execute_unbegun(

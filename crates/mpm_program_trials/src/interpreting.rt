@@ -137,7 +137,7 @@ fn gives(driven: &mut Driven, given: u8) -> bool {
     expected && answer(driven, 0, b"")
 }
 
-/// Whether it begins PROG of user 1 on a drive in segment 2, which lies there, at console 0; whether a slot is free is told.
+/// Whether it begins PROG of user 1 on a drive in segment 2, which lies there, at console 0, where it is answered whether a slot is free.
 fn begins(driven: &mut Driven, base: u8, last_page: u8, drive: u8, value: u16) -> bool {
     let act = driven.cli.next(&mut driven.call);
     let expected = match act {

@@ -3,7 +3,7 @@ use mpm_loader::{Load, Plan};
 use mpm_prl::PrlHeader;
 use std::test::Fail;
 
-/// The pages of a page relocatable program with so many bytes of code, which wants so many behind it.
+/// The pages of a page relocatable program with so many bytes of code, which wants so many after it.
 fn relocatable_pages(length: u16, extra: u16) -> Option<u8> {
     Plan::relocatable(PrlHeader { length, extra }).pages()
 }
@@ -38,7 +38,7 @@ fn a_program_takes_its_bytes_and_128_and_two_pages(rt: HostRuntime) -> Result<()
     Ok(())
 }
 
-/// Bytes that can be told from their neighbours.
+/// Bytes that differ from their neighbours.
 fn bytes() -> [u8; 2048] {
     let mut bytes = [0; 2048];
     for place in 0..2048 {

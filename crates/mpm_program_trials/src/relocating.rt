@@ -14,7 +14,7 @@ const MOVED: [u8; 18] = [
     0x0A, 0x24,
 ];
 
-/// Whether a header of these bytes 1, 2, 4 and 5 says this length and what is wanted behind it, or is bad.
+/// Whether a header of these bytes 1, 2, 4 and 5 says this length and what is wanted after it, or is bad.
 fn says(bytes: [u8; 4], expected: Result<(u16, u16), BadHeader>) -> bool {
     let mut first = [0; 128];
     first[1] = bytes[0];

@@ -163,7 +163,7 @@ front_kept bytes size kept fits is (inr few) =
     let all : kept ≡ size = omega arith in
     ap (λ (k : ℕ). take k bytes) all ∙ sym (take_all 12 (take size bytes) (omega (arith, length-take size bytes)))
 
--- the bytes of a call without what stands behind its user queue control block
+-- the bytes of a call without what follows its user queue control block
 pub block_kept : (bytes : List ℕ) (size kept lacking : ℕ) → size ≤ length bytes → kept ≡ min size 12 → lacking ≡ 12 - kept → take kept bytes ++ take lacking (replicate 12 0) ≡ in_width 12 (take size bytes)
 unfolding in_width
 block_kept bytes size kept lacking fits is lacks =
@@ -172,7 +172,7 @@ block_kept bytes size kept lacking fits is lacks =
     let front : take kept bytes ≡ take 12 (take size bytes) = front_kept bytes size kept fits is (cases_lt 12 size) in
     ap (λ (xs : List ℕ). xs ++ take lacking (replicate 12 0)) front ∙ ap (λ (xs : List ℕ). take 12 (take size bytes) ++ xs) zeros
 
--- a message put behind the block of a call
+-- a message put after the block of a call
 pub given_bytes : (array message afterwards old : List ℕ) (size width : ℕ) → length array ≡ 4096 → size ≤ 4096 → take size array ≡ in_width 12 old → length message ≡ width → take (12 + width) (take 12 array ++ (message ++ afterwards)) ≡ in_width 12 old ++ message
 given_bytes array message afterwards old size width whole fits block is =
     let twelve : size ≡ 12 = omega (arith, ap length block, length-take size array, length_in_width 12 old) in

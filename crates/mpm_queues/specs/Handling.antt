@@ -83,7 +83,7 @@ queues_without_waiter t p = record t { waiters = removed t.waiters p }
 abbrev pub place_for : ℕ → Bool → ℕ
 place_for q reader = if reader then q else (32 + q)
 
--- a process waits at a queue, behind all of equal or better priority
+-- a process waits at a queue, after all of equal or better priority
 unfoldable pub enlisted : Queues → ℕ → ℕ → ℕ → Bool → Queues
 enlisted t p priority q reader =
     record t { waiters = inserted t.waiters (place_for q reader) (record { slot = p; priority = priority }) }

@@ -1,4 +1,4 @@
--- How a ring of bytes stands for the messages of a queue: one behind the other, the oldest first.
+-- How a ring of bytes stands for the messages of a queue: one after the other, the oldest first.
 use Rattle.std.specs.Prelude.{◌≡◌, ℕ, zero, suc, ◌*◌, ◌≤◌, List, [], ◌∷◌, Option, length, take, drop}
 use Rattle.circular_buffer.specs.Buffer.{Buffer}
 use Rattle.mpm_base.specs.declared.number.Name8.{Name8}

@@ -56,7 +56,7 @@ read_by p queue = held_by p (shortened queue)
 unfoldable pub with_message : List ℕ → Queue → Queue
 with_message message queue = record queue { messages = queue.messages ++ message ∷ []; holder = None }
 
--- where a message stands in the bytes of a call: behind its user queue control block of twelve bytes
+-- where a message stands in the bytes of a call: after its user queue control block of twelve bytes
 abbrev pub block_size : ℕ
 block_size = 12
 
@@ -68,8 +68,8 @@ message_of width call = in_width width (drop block_size call.bytes)
 unfoldable pub with_given : List ℕ → Taken → Taken
 with_given message call = record call { bytes = in_width block_size call.bytes ++ message }
 
--- what is so of a queue at any time: its messages have its length, there is room for all of them, in at most 2,048 bytes,
--- and a message that is held is that of a mutual exclusion queue, which is empty
+-- what is so of a queue at any time. Its messages have its length, and there is room for all of them, in at most 2,048 bytes. A message
+-- that is held is that of a mutual exclusion queue, which is empty
 pub record IsProper (queue : Queue) : Type 0 where
   pub widths : AllByRecursion (λ message. length message ≡ queue.width) queue.messages
   pub room : length queue.messages ≤ queue.count

@@ -110,8 +110,8 @@ without t q = record t {
 unfoldable pub without_queue : Queues → ℕ → Queues
 without_queue t q = if may_end t q then without t q else t
 
--- what is so of the queues at any time: a number that names no queue has nothing; queues are proper, have room, and differ
--- in their names; a process waits at most at one, a reader only at one without messages, a writer only at a full one
+-- what is so of the queues at any time. A number that names no queue has nothing. Queues are proper, have room, and differ in their names.
+-- A process waits at most at one, a reader only at one without messages, a writer only at a full one
 pub record IsSound (t : Queues) : Type 0 where
   pub alive : length t.alive ≡ 32
   pub queues : length t.queues ≡ 32

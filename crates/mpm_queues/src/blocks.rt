@@ -4,7 +4,7 @@ ghost use Rattle.mpm_queues.specs.Blocks.{address_of as address_in, writing};
 use crate::queues::Queues;
 use mpm_base::{Call, functions};
 
-/// The length of a user queue control block, in bytes; the message of a call that writes to a queue stands behind it.
+/// The length of a user queue control block, in bytes; the message of a call that writes to a queue follows it.
 pub const BLOCK_SIZE: usize = 12;
 
 /// The greatest pointer to a queue.

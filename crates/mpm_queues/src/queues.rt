@@ -221,10 +221,9 @@ impl Queues {
         QueueOutcome::Done { other }
     }
 
-    /// A process writes the message of the call that it keeps, which begins behind the call's first 12 bytes, to a queue:
-    /// to the reader that waits first, into the call that it keeps, or else as the last one of the queue. NotNow comes exactly
-    /// where there is no room. (MP/M II Programmer's Guide, "Function 139: Write Queue", "Function 140: Conditional Write
-    /// Queue".)
+    /// A process writes the message of the call that it keeps, which begins after the call's first 12 bytes, to a queue. It goes to the
+    /// reader that waits first, into the call that it keeps, or else becomes the last one of the queue. NotNow comes exactly where there is
+    /// no room. (MP/M II Programmer's Guide, "Function 139: Write Queue", "Function 140: Conditional Write Queue".)
     #[tactic(auto, using(crate::proofs::RunLaws::conserves_write))]
     pub fn write(&mut self, p: Pid, q: u8, procs: &mut Procs) -> QueueOutcome
         requires queue { IsMade self.old q }
@@ -258,8 +257,8 @@ impl Queues {
         QueueOutcome::Done { other }
     }
 
-    /// A process that waits at no queue waits at one from now on, to read from it where there is no message or to write to it
-    /// where there is no room, behind all of equal or better priority (0 is best, 255 worst).
+    /// A process that waits at no queue waits at one from now on, after all of equal or better priority (0 is best, 255 worst). It waits to
+    /// read where there is no message, or to write where there is no room.
     #[tactic(auto, using(crate::proofs::SoundLaws::sound_enlisted), unfolding(crate::specs::Handling::enlisted))]
     pub fn enlist(&mut self, p: Pid, priority: u8, q: u8, reader: bool)
         requires queue { IsMade self.old q }

@@ -13,7 +13,7 @@ use std::marker::Model;
 /// How many bytes all messages of a queue may have together.
 pub const ROOM: usize = 2048;
 
-/// A queue, with its messages one behind the other in a ring of bytes. Contracts see them as a list.
+/// A queue, with its messages one after the other in a ring of bytes. Contracts see them as a list.
 #[derive(Drop)]
 pub struct Store {
     name: Name8,
@@ -195,7 +195,7 @@ impl Store {
     }
 }
 
-/// The bytes of a call behind its user queue control block.
+/// The bytes of a call after its user queue control block.
 fn behind_block(call: &Call) -> &[u8]
     ensures { result.now ≡ drop block_size call.now.bytes }
 {
@@ -213,7 +213,7 @@ fn keep_block(call: &mut Call)
     call.append(&[0; BLOCK_SIZE][..lacking]);
 }
 
-/// Puts a message of so many bytes behind the others: what is there of it, and zeros for what lacks.
+/// Puts a message of so many bytes after the others: what is there of it, and zeros for what lacks.
 #[tactic(auto, unfolding(mpm_base::specs::Lists::in_width))]
 fn append(bytes: &mut HeapCircularBuffer<u8>, message: &[u8], width: usize)
     requires { length bytes.old.items + width ≤ bytes.old.capacity }
@@ -224,7 +224,7 @@ fn append(bytes: &mut HeapCircularBuffer<u8>, message: &[u8], width: usize)
     append_zeros(bytes, width - there);
 }
 
-/// Puts so many zeros behind the others.
+/// Puts so many zeros after the others.
 fn append_zeros(bytes: &mut HeapCircularBuffer<u8>, count: usize)
     requires { length bytes.old.items + count ≤ bytes.old.capacity }
     ensures { bytes.new ≡ buffer (bytes.old.items ++ replicate count 0) bytes.old.capacity }

@@ -38,7 +38,7 @@ impl Lists {
         }
     }
 
-    /// Puts a process that is in no list into one, behind all of equal or better priority (0 is best, 255 worst).
+    /// Puts a process that is in no list into one, after all of equal or better priority (0 is best, 255 worst).
     pub fn insert(&mut self, list: u8, p: Pid, priority: u8)
         requires below { list < 96 }
         requires unlisted { list_of self.old p ≡ None }
@@ -82,7 +82,7 @@ impl Lists {
         Some(place.list)
     }
 
-    /// Takes a process that is in a list out of it and puts it back in with a priority, behind its equals.
+    /// Takes a process that is in a list out of it and puts it back in with a priority, after its equals.
     #[tactic(auto, using(crate::proofs::TableLaws::list_of_removed), unfolding(crate::specs::Tables::reinserted))]
     pub fn rotate(&mut self, p: Pid, priority: u8)
         requires { list_of self.old p ≢ None }

@@ -43,7 +43,7 @@ impl Node {
         Node(p.0)
     }
 
-    /// The node of a list, which stands before its first process and behind its last.
+    /// The node of a list, which stands before its first process and after its last.
     pub fn end(list: u8) -> Node
         requires { list < 96 }
         ensures { result ≡ 32 + list }

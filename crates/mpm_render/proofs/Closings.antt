@@ -44,7 +44,7 @@ unfolding closed
 closed_is kept written first os s =
     ap (λ text. rendered kept.trace os ++ text) (closings_same (line_of kept) (λ place. pending place os) 12 s.lines ∙ closings_all (λ place. pending place os))
 
--- once each line is closed, all is told
+-- once each line is closed, all is written
 pub written_closed : (kept : Kept) (written now first : List ℕ) (os : List Output) → now ≡ written ++ closings (line_of kept) 12 → Shows kept written os first → now ≡ first ++ closed kept.trace os
 written_closed kept written now first os writes s =
     writes ∙ ap (λ t. t ++ closings (line_of kept) 12) s.written_is

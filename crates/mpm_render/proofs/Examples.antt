@@ -29,7 +29,7 @@ pub line_of_string : trace_line (completion 5 0 9 0x00 0x0009 0x010D 0x0000) ≡
 unfolding trace_line digits hex_byte hex_word
 line_of_string = refl
 
--- a version was told by the fourth
+-- a version was answered in the fourth
 pub line_of_version : trace_line (completion 4 0 12 0x30 0x010C 0x0000 0x0130) ≡ codes "t 4 0 12 30 010C 0000 0130" ++ 10 ∷ []
 unfolding trace_line digits hex_byte hex_word
 line_of_version = refl
@@ -59,7 +59,7 @@ pub rendered_printer : rendered false (said (Printer 3) (35 ∷ 10 ∷ []) []) �
 unfolding said since_end pending text_at text_with rendered ended_line cut_line escaped
 rendered_printer = refl
 
--- 200 bytes are a line, and an LF behind them ends an empty one
+-- 200 bytes are a line, and an LF after them ends an empty one
 pub rendered_full : rendered false (said (Console 0) (replicate 200 65 ++ 10 ∷ []) []) ≡ codes "c0 " ++ (replicate 200 65 ++ (92 ∷ 10 ∷ (codes "c0 " ++ 10 ∷ [])))
 unfolding said since_end pending text_at text_with rendered ended_line cut_line escaped
 rendered_full = refl

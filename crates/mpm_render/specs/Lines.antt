@@ -49,13 +49,13 @@ ended_line place bytes = label place ++ (flat_map escaped bytes ++ (10 ∷ []))
 unfoldable pub cut_line : ℕ → List ℕ → List ℕ
 cut_line place bytes = label place ++ (flat_map escaped bytes ++ (92 ∷ 10 ∷ []))
 
--- what a byte behind an unfinished line writes: an LF that line, a 200th byte that line with itself, cut
+-- what a byte after an unfinished line writes: an LF that line, a 200th byte that line with itself, cut
 unfoldable pub text_with : ℕ → ℕ → List ℕ → List ℕ
 text_with place byte kept =
     if byte == 10 then ended_line place kept
     else (if length kept == 199 then cut_line place (kept ++ (byte ∷ [])) else [])
 
--- the unfinished line behind that byte
+-- the unfinished line after that byte
 unfoldable pub line_with : ℕ → List ℕ → List ℕ
 line_with byte kept =
     if byte == 10 then []

@@ -1,5 +1,5 @@
 -- The outputs of a run, and the text that they are rendered to. Outputs are a list, newest first: what stands
--- before a position is the list behind it.
+-- before a position is the list after it.
 use Rattle.std.specs.Prelude.{ℕ, ◌%◌, Bool, List, [], ◌∷◌, ◌++◌, ◌==◌, take, reverse, length, flat_map, if◌then◌else◌}
 use Rattle.mpm_render.specs.declared.unit.Unit2.{Unit2}
 use Rattle.mpm_render.specs.Lines.{place_of, places, cut_line, text_with}
@@ -32,7 +32,7 @@ pending place outputs =
 abbrev pub record_text : Bool → Completion → List ℕ
 record_text trace call = if trace then trace_line call else []
 
--- what an output writes, behind those before it
+-- what an output writes, after those before it
 unfoldable pub text_at : Bool → Output → List Output → List ℕ
 text_at trace (Said unit byte) before = text_with (place_of unit) byte (pending (place_of unit) before)
 text_at trace (Completed call) before = record_text trace call

@@ -25,7 +25,7 @@ pub record StopsAt {S : Type 0} (took dropped : S → List ℕ → S → Type 0)
   pub some : slice_index_or texts number [] ≢ []
   pub failed : dropped middle (slice_index_or texts number []) new
 
--- what a byte to a console or a printer writes, behind the unfinished line that is kept of it
+-- what a byte to a console or a printer writes, after the unfinished line that is kept of it
 abbrev pub text_put : Unit2 → ℕ → Kept → List ℕ
 text_put unit byte kept = text_with (place_of unit) byte (line_of kept (place_of unit))
 

@@ -103,7 +103,7 @@ impl Render {
     }
 
     /// Writes each line that isn't empty, consoles first, by number, each with one `put`, up to the first that fails. Each line
-    /// that was written is empty then; the one that failed and those behind it stay.
+    /// that was written is empty then; the one that failed and those after it stay.
     pub fn finish<S: Sink>(&mut self, sink: &mut S) -> Result<(), Failed>
         ensures ok { (os : List Output) (first : List ℕ) → Shows self.old (S.written sink.old) os first
             → OnOk result (S.written sink.new ≡ first ++ closed self.old.trace os) }

@@ -84,7 +84,7 @@ impl LineText {
         self.bytes.as_slice()
     }
 
-    /// The text with an LF behind it.
+    /// The text with an LF after it.
     pub fn end(&mut self)
         requires { length self.old < 805 }
         ensures { self.new ≡ self.old ++ (10 ∷ []) }
@@ -92,7 +92,7 @@ impl LineText {
         self.bytes.push(b'\n');
     }
 
-    /// The text with a backslash and an LF behind it.
+    /// The text with a backslash and an LF after it.
     pub fn cut(&mut self)
         requires { length self.old < 804 }
         ensures { self.new ≡ self.old ++ (92 ∷ 10 ∷ []) }
@@ -100,7 +100,7 @@ impl LineText {
         self.push_pair(b'\n');
     }
 
-    /// The text with a byte behind it, as it is written in a line.
+    /// The text with a byte after it, as it is written in a line.
     #[tactic(auto, unfolding(crate::specs::Lines::escaped))]
     pub fn push_escaped(&mut self, byte: u8)
         requires { length self.old + 4 ≤ 805 }
@@ -137,7 +137,7 @@ impl LineText {
         LineText { bytes }
     }
 
-    /// The text with a backslash and a letter behind it.
+    /// The text with a backslash and a letter after it.
     fn push_pair(&mut self, letter: u8)
         requires { length self.old < 804 }
         ensures { self.new ≡ self.old ++ (92 ∷ letter ∷ []) }
@@ -146,7 +146,7 @@ impl LineText {
         self.bytes.push(letter);
     }
 
-    /// The text with a space and a number behind it, in decimal.
+    /// The text with a space and a number after it, in decimal.
     fn push_decimal(&mut self, number: u64)
         requires { length self.old + 21 ≤ 805 }
         ensures text { self.new ≡ self.old ++ (32 ∷ decimal number) }
@@ -158,7 +158,7 @@ impl LineText {
         self.bytes.try_extend_from_slice(digits).unwrap();
     }
 
-    /// The text with a space and a byte behind it, in two hexadecimal digits.
+    /// The text with a space and a byte after it, in two hexadecimal digits.
     fn push_byte(&mut self, byte: u8)
         requires { length self.old + 3 ≤ 805 }
         ensures text { self.new ≡ self.old ++ (32 ∷ hex_byte byte) }
@@ -168,7 +168,7 @@ impl LineText {
         self.push_hex(byte);
     }
 
-    /// The text with a space and a word of 16 bits behind it, in four hexadecimal digits.
+    /// The text with a space and a word of 16 bits after it, in four hexadecimal digits.
     fn push_word(&mut self, word: u16)
         requires { length self.old + 5 ≤ 805 }
         ensures text { self.new ≡ self.old ++ (32 ∷ word_text word) }
@@ -178,7 +178,7 @@ impl LineText {
         self.bytes.try_extend_from_slice(&hex_word(word)).unwrap();
     }
 
-    /// The text with a byte behind it, in two upper-case hexadecimal digits.
+    /// The text with a byte after it, in two upper-case hexadecimal digits.
     #[tactic(auto, unfolding(crate::specs::Lines::hex_byte))]
     fn push_hex(&mut self, byte: u8)
         requires { length self.old + 2 ≤ 805 }

@@ -1,4 +1,4 @@
--- What is told of an entry by what is found of it.
+-- What is reported of an entry by what is found of it.
 use Rattle.std.proofs.Common.{◌≡◌, ℕ, ◌<◌, ◌==◌, Bool, true, false, ◌||◌, List, Option, Some, None, refl, sym, ap, ◌∙◌}
 use Rattle.std.specs.Prelude.{option_map, is_some, nat_lt, position, if◌then◌else◌}
 use Rattle.std.specs.List.{list_any}

@@ -1,4 +1,4 @@
--- Which entries of a directory are at fault beside those that stay: slot by slot, each judged behind the earlier ones that stay. What
+-- Which entries of a directory are at fault beside those that stay: slot by slot, each judged after the earlier ones that stay. What
 -- doesn't stay leaves its slot free, so that nothing clashes with it any more.
 use Rattle.std.specs.Prelude.{ℕ, zero, suc, ◌==◌, ◌&&◌, not, Bool, true, false, List, [], ◌∷◌, ◌++◌, Option, Some, None, option_map, length, position, take, slice_index_or, if◌then◌else◌}
 use Rattle.std.specs.List.{range_with_len, filter_map}
@@ -53,7 +53,7 @@ file_clash kind earlier slot f cause =
     if cause == 4 then shared_in kind earlier slot f
     else (if cause == 5 then position (is_named kind (name_of kind f)) earlier else None)
 
--- the lowest slot with which the entry in a slot clashes, behind those that stay
+-- the lowest slot with which the entry in a slot clashes, after those that stay
 unfoldable pub clash_of : Kind → List Entry → ℕ → Entry → ℕ → Option ℕ
 clash_of kind earlier slot (File f) cause = file_clash kind earlier slot f cause
 clash_of kind earlier slot (Label l) cause = position is_label earlier
@@ -61,7 +61,7 @@ clash_of kind earlier slot (Xfcb x) cause = position (is_xfcb x.user (plain x.na
 clash_of kind earlier slot Free cause = None
 clash_of kind earlier slot (Kept bytes) cause = None
 
--- what is told of an entry that doesn't stay
+-- what is reported of an entry that doesn't stay
 abbrev pub told_of : Kind → List Entry → ℕ → Entry → ℕ → SlotFault
 told_of kind earlier slot entry cause = record { slot = slot; cause = cause; other = clash_of kind earlier slot entry cause }
 

@@ -72,8 +72,8 @@ abbrev pub EndsBy : Bool → ℕ → View → Replayed → Type 0
 EndsBy inside most view replayed =
     ((replayed.done < most) × (stop_at inside view ≡ Some replayed.why)) ⊎ ((replayed.done ≡ most) × (replayed.why ≡ Steps))
 
--- a replay of at most so many instructions: `done` is the least number, below that, of instructions after which there is a reason to
--- stop, and all of them where there is none; what is left is what so many leave
+-- a replay of at most so many instructions: `done` is the least number, below that, of instructions after which there is a reason to stop,
+-- and all of them where there is none. What is left is what so many leave
 pub record IsReplay (inside : Bool) (most : ℕ) (old : View) (regs : Regs) (memory : Memory) (replayed : Replayed) : Type 0 where
   pub goes : (k : ℕ) → k < replayed.done → stop_at inside (moves k 0 old) ≡ None
   pub ends : EndsBy inside most (moves replayed.done 0 old) replayed

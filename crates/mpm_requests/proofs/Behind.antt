@@ -1,4 +1,4 @@
--- A search behind a place goes on from an entry that stands there or before it, and tests what it comes to.
+-- A search after a place goes on from an entry that stands there or before it, and tests what it comes to.
 use Rattle.std.proofs.Common.{◌≡◌, ◌∙◌, ℕ, ◌≤◌, ◌<◌, nat_lt, length, Bool, true, false, ◌&&◌, List, Option, Some, sym, refl, ap, arith}
 use Rattle.std.specs.declared.cmp.Ordering.TheVariants.{Less}
 use Rattle.std.specs.Ordering.{is_lt, nat_cmp, ordering_then}
@@ -30,7 +30,7 @@ by_number user name m n less =
     ∙ ap (λ r. ordering_then r (nat_cmp m n)) (tied_itself nat_list_cmp_total name)
     ∙ sym (nat_cmp_is m n Less less))
 
--- behind an entry is behind one of a lower number too
+-- what is after an entry is after one of a lower number too
 pub lower : (user : ℕ) (name : List ℕ) (m n : ℕ) (entry : FileName × ℕ) → m ≤ n → is_behind (Some (record { user = user; name = name }, n)) entry ≡ true
     → is_behind (Some (record { user = user; name = name }, m)) entry ≡ true
 lower user name m n entry h behind = by_test (nat_lt m n) refl
@@ -47,7 +47,7 @@ pub starts_at : (user : ℕ) (kind : Kind) (place : EntryPlace) (extent slot : �
     → MissesNothing user kind (Some place) (Some (record { name = place.name; extent = extent; slot = slot }))
 starts_at user kind place extent slot h = λ entry behind. lower user (plain place.name) (entry_number kind extent) place.number entry h behind
 
--- the search for a place's next is that from where it begins, for what stands behind the place
+-- the search for a place's next is that from where it begins, for what comes after the place
 abbrev pub is_sought : Kind → ℕ → Option (FileName × ℕ) → (FileName × ℕ) → Bool
 is_sought kind extent behind entry = is_of_extent kind extent entry && is_behind behind entry
 

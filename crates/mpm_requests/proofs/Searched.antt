@@ -1,4 +1,4 @@
--- A search over a drive's entries, step by step: what is found next either is what is sought, or the search goes on behind it.
+-- A search over a drive's entries, step by step: what is found next either is what is sought, or the search goes on after it.
 use Rattle.std.proofs.Common.{◌≡◌, ◌∙◌, ℕ, ◌==◌, Bool, true, false, ◌&&◌, cond, List, [], ◌∷◌, Option, Some, None, map, sym, refl, ap}
 use Rattle.std.specs.Prelude.{option_map}
 use Rattle.std.specs.List as lists
@@ -78,7 +78,7 @@ not_behind true true = refl
 not_behind true false = refl
 not_behind false c = refl
 
--- the search goes on behind what is found next
+-- the search goes on after what is found next
 pub next_step : (image : List ℕ) (d : Directory) (files : Drive) (user : ℕ) (pattern : List ℕ) (test : (FileName × ℕ) → Bool) (last : Option Found) (found : Found) → Stands image d files
     → IsNext d.kind (search_of d.kind user pattern last) d.entries (Some found)
     → next_in files user pattern test (option_map (entry_found d.kind user) last)

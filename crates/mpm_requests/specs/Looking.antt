@@ -15,7 +15,7 @@ entry_found kind user found = (record { user = user; name = plain found.name }, 
 abbrev pub at_place : ℕ → EntryPlace → (FileName × ℕ)
 at_place user place = (record { user = user; name = plain place.name }, place.number)
 
--- a search that goes on from what was found comes to each entry behind a place
+-- a search that goes on from what was found comes to each entry after a place
 abbrev pub MissesNothing : ℕ → Kind → Option EntryPlace → Option Found → Type 0
 MissesNothing user kind behind start =
     (entry : FileName × ℕ) → is_behind (option_map (at_place user) behind) entry ≡ true → is_behind (option_map (entry_found kind user) start) entry ≡ true

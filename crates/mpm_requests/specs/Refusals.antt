@@ -139,7 +139,7 @@ refuses_deleted drive opens by file refusal = false
 unfoldable pub file_refusal : Drive → OpenFiles → Deleter → FileName → Option Refusal
 file_refusal drive opens by file = find (refuses_deleted drive opens by file) (refusals_of_each DeleteFile)
 
--- and files one behind the other
+-- and files one after the other
 abbrev pub first_refused : (FileName → Option Refusal) → List FileName → Option Refusal
 first_refused refusal [] = None
 first_refused refusal (file ∷ files) = option_or (refusal file) (first_refused refusal files)

@@ -197,7 +197,7 @@ mode_in drive file b given default function = mode_asked drive file b given defa
 unfoldable pub mode_by : Situation → FileFunction → Mode
 mode_by s function = mode_in (drive_at s) (own_file s) (block s) (given_password s) s.caller.password function
 
--- the first directory entry of the user behind the last, whose name fits and that passes a test; what a search finds covers its
+-- the first directory entry of the user after the last, whose name fits and that passes a test; what a search finds covers its
 -- extent, or is any where that is `?`
 abbrev pub is_behind : Option (FileName × ℕ) → (FileName × ℕ) → Bool
 is_behind None entry = true

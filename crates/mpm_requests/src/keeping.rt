@@ -15,7 +15,7 @@ use mpm_dirent::plain_name;
 use mpm_fcb::ControlBlock;
 use mpm_functions::FileFunction;
 
-/// A search behind another entry.
+/// A search after another entry.
 fn behind(search: &LastSearch, place: EntryPlace) -> LastSearch
     ensures { result ≡ record search.now { found = place } }
 {
@@ -29,7 +29,7 @@ fn behind(search: &LastSearch, place: EntryPlace) -> LastSearch
     }
 }
 
-/// A search that goes on, behind the entry that it found.
+/// A search that goes on, after the entry that it found.
 fn going_on(search: Option<LastSearch>, place: EntryPlace) -> Option<LastSearch>
     ensures { (entry : FileName × ℕ) → IfSome search (λ search. entry ≡ at_place search.user place)
         → searched result ≡ option_map (spec.finding entry) (searched search) }
@@ -54,7 +54,7 @@ fn new_search(drive: u8, user: u8, block: &ControlBlock, place: EntryPlace) -> L
     }
 }
 
-/// The search of a call behind the entry that it found: the process's last, where that goes on, or a new one.
+/// The search of a call after the entry that it found: the process's last, where that goes on, or a new one.
 fn search_behind(
     search: Option<LastSearch>,
     drive: u8,

@@ -51,7 +51,7 @@ fn extent_of(kind: Kind, number: u16) -> u16
     number.saturating_mul(covered(kind))
 }
 
-/// What a search goes on from, so that it misses nothing behind a place.
+/// What a search goes on from, so that it misses nothing after a place.
 fn start_of(kind: Kind, behind: Option<EntryPlace>) -> Option<Found>
     ensures { (user : ℕ) → MissesNothing user kind behind result }
 {
@@ -91,7 +91,7 @@ fn is_before(place: &EntryPlace, other: &EntryPlace) -> bool
     plain(place).cmp(&plain(other)).is_lt()
 }
 
-/// Whether an entry that was found stands behind a place, if there is one.
+/// Whether an entry that was found is after a place, if there is one.
 fn is_behind(kind: Kind, behind: Option<EntryPlace>, found: &Found) -> bool
     ensures { (user : ℕ) → result ≡ spec.is_behind (option_map (at_place user) behind) (entry_found kind user found.now) }
 {
@@ -108,7 +108,7 @@ fn is_of_extent(kind: Kind, user: u8, extent: u8, found: &Found) -> bool
     extent == b'?' || number_of(kind, found.extent) == number_of(kind, u16::from(extent))
 }
 
-/// Whether an entry covers the extent that is sought, and stands behind a place, if there is one.
+/// Whether an entry covers the extent that is sought, and is after a place, if there is one.
 fn is_sought(kind: Kind, user: u8, extent: u8, behind: Option<EntryPlace>, found: &Found) -> bool
     ensures { result
         ≡ (spec.is_of_extent kind extent (entry_found kind user found.now) && spec.is_behind (option_map (at_place user) behind) (entry_found kind user found.now)) }
@@ -116,7 +116,7 @@ fn is_sought(kind: Kind, user: u8, extent: u8, behind: Option<EntryPlace>, found
     is_of_extent(kind, user, extent, found) && is_behind(kind, behind, found)
 }
 
-/// The first entry of a user behind a place, if there is one, whose name fits a pattern and that covers an extent. (MP/M II
+/// The first entry of a user after a place, if there is one, whose name fits a pattern and that covers an extent. (MP/M II
 /// Programmer's Guide, "Function 17: Search for First", "Function 18: Search for Next".)
 pub(crate) fn found_in(
     mounted: &Mounted,

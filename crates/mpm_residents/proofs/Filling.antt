@@ -61,7 +61,7 @@ base_page_size page tail few =
       tail_size tail few,
     )
 
--- a command has a name, so that its tail is shorter than its text, which stands behind two bytes of a message of 130
+-- a command has a name, so that its tail is shorter than its text, which follows two bytes of a message of 130
 
 pub message_size : (bytes : List ℕ) → length (message_in bytes) ≡ 130
 message_size bytes = length_in_width 130 bytes

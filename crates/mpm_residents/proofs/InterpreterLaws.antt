@@ -12,7 +12,7 @@ use Rattle.mpm_residents.specs.declared.cli.table.Message.{Message}
 use Rattle.mpm_residents.specs.declared.cli.table.Row.{Row}
 use Rattle.mpm_residents.specs.declared.cli.table.Row.TheVariants.{ReadCommand, Free, Close, Begin}
 
--- in a segment of the pages that were asked for, which ends below common memory, code stands behind the base page, at its
+-- in a segment of the pages that were asked for, which ends below common memory, code follows the base page, at its
 -- place, and ends before the last page
 pub code_stands_at : (spec : SegmentSpec) (plan : Plan) (asked place : ℕ) → FitsIn plan asked → asked ≤ spec.pages → spec.base + spec.pages ≤ 192 → place < plan.length → code_address spec place ≡ 256 * spec.base + 256 + place
 code_stands_at spec plan asked place fits enough below within =
@@ -23,7 +23,7 @@ pub code_ends_before : (spec : SegmentSpec) (plan : Plan) (asked place count : �
 code_ends_before spec plan asked place count fits enough below some within =
     omega (arith, fits.before_last, code_stands_at spec plan asked place fits enough below (omega arith))
 
--- where the segment is freed, the file is closed, the text is told, the console is given back and the next command is read
+-- where the segment is freed, the file is closed, the text is written, the console is given back and the next command is read
 pub told_after_freeing : (cli : Interpreter) (message : Message) (freed closed : Answer) → cli.row ≡ Free message → next_call (took (took cli freed) closed) ≡ asking PRINT_STRING cli.console (message_of message)
 unfolding took next_call
 told_after_freeing cli message freed closed is = ap (λ (row : Row). next_call (took (took_at row cli freed) closed)) is

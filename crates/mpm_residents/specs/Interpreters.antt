@@ -21,9 +21,9 @@ use Rattle.mpm_residents.specs.declared.cli.table.Message.TheVariants.{NotFound,
 use Rattle.mpm_residents.specs.declared.cli.table.Row.{Row}
 use Rattle.mpm_residents.specs.declared.cli.table.Row.TheVariants.{ReadCommand, OpenQueue, WriteQueue, SetUser, OpenRelocatable, OpenAbsolute, ReadHeader, ComputeSize, SetUserZero, Reserve, Place, Patch, ReadOn, Free, CloseAfter, Close, Tell, Give, PlaceBasePage, Begin}
 
--- an interpreter: how many consoles there are, its row, the console, the command and the tail that it follows, the pointer of
--- the queue of that name, the file control block of the program's file, the file as it comes in, and the segment that it
--- reserved, which lies there
+-- an interpreter: how many consoles there are, its row, the console, the command and the tail that it follows, the pointer of the queue of
+-- that name, and the file control block of the program's file. It has the file as it comes in, and the segment that it reserved, which lies
+-- there
 pub record Interpreter : Type 0 where
   pub consoles : ℕ
   pub row : Row
@@ -116,11 +116,11 @@ call_at Begin cli = handing []
 unfoldable pub next_call : Interpreter → Taken
 next_call cli = call_at cli.row cli
 
--- the address of a byte of code, which begins behind the base page; addresses go on from FFFFh to 0000h
+-- the address of a byte of code, which begins after the base page; addresses go on from FFFFh to 0000h
 abbrev pub code_address : SegmentSpec → ℕ → ℕ
 code_address spec place = (256 * spec.base + 256 + place) % 65536
 
--- the process of the program: it begins behind the base page, with the word below the last page on its stack
+-- the process of the program: it begins after the base page, with the word below the last page on its stack
 unfoldable pub process_of : Interpreter → NewProcess
 process_of cli = record {
   name = cli.command.name;
@@ -288,8 +288,8 @@ took_at Begin cli reply = record cli { row = if reply.hl == 0 then ReadCommand e
 unfoldable pub took : Interpreter → Answer → Interpreter
 took cli reply = took_at cli.row cli reply
 
--- what is so in a row: the pages that the file takes are asked for, two at least; where it places code the piece has some, where it
--- moves code it has marks, and where it reads on something is left
+-- what is so in a row. The pages that the file takes are asked for, two at least. Where it places code the piece has some, where it moves
+-- code it has marks, and where it reads on something is left
 abbrev pub IsRow : Row → Loading → Type 0
 IsRow (Reserve relocatable pages) load = (2 ≤ pages) × (pages ≡ pages_of load.plan)
 IsRow Place load = 0 < length (code_in load)

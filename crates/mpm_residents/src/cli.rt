@@ -543,7 +543,7 @@ fn records_in(reply: &Reply) -> &[u8]
     }
 }
 
-/// One of the bytes that were answered, 0 behind the last.
+/// One of the bytes that were answered, 0 after the last.
 fn byte_at(reply: &Reply, place: usize) -> u8
     ensures { result ≡ byte_of_reply reply.now place }
 {

@@ -1,4 +1,4 @@
--- Dates of the years 1978 to 2077 lie behind 31 December 1977, and their numbers fit into a word.
+-- Dates of the years 1978 to 2077 lie after 31 December 1977, and their numbers fit into a word.
 use Rattle.std.specs.Prelude.{nat_le, int_div}
 use lib.Signed.{non_neg}
 use mir.Syntax.{w16, w64}

@@ -29,7 +29,7 @@ decimal_great : (greatest before : ℕ) (rest : List ℕ) → greatest < before 
 unfolding decimal_of
 decimal_great greatest before rest h = let more = value_grows before rest in grind (arith, nat_tests)
 
--- at a place of a text: behind its end, a byte that is no digit, a digit, and a number that is too great
+-- at a place of a text: after its end, a byte that is no digit, a digit, and a number that is too great
 pub decimal_behind : (greatest before : ℕ) (text : List ℕ) (i : ℕ) → before ≤ greatest → length text ≤ i → decimal_of greatest before (drop i text) ≡ Some before
 decimal_behind greatest before text i fits h = rw (drop_all i text h) (decimal_ends greatest before fits)
 

@@ -9,7 +9,7 @@ use Rattle.mpm_script.specs.Keys.{key_of, keys_of}
 use Rattle.mpm_script.specs.Events.{keys_at}
 use Rattle.mpm_script.proofs.Finds.{onto, onto_more}
 
--- the keys that are left, as events behind those before them
+-- the keys that are left, as events after those before them
 abbrev pub keys_onto : List Timed → ℕ → ℕ → ℕ → List ℕ → Option (List Timed)
 keys_onto front step console most text = onto front (option_map (keys_at step console) (keys_of most text))
 
@@ -48,6 +48,6 @@ unfolding hex_digit
 no_second None = refl
 no_second (Some high) = refl
 
--- x with fewer than two bytes behind it
+-- x with fewer than two bytes after it
 pub hex_byte_short : (text : List ℕ) → length text < 3 → hex_byte (slice_index text 1) (slice_index text 2) ≡ None
 hex_byte_short text short = let past : slice_index text 2 ≡ 0 = get_or_past text 2 0 (omega arith) in rw past (no_second (hex_digit (slice_index text 1)))

@@ -55,7 +55,7 @@ unfolding key_of keys_of
 keys_step most [] key rest keys first others = absurd cc
 keys_step most (byte ∷ more) key rest keys first others = rw (first, others)
 
--- some keys, one behind the other
+-- some keys, one after the other
 abbrev pub all_spelled : List ℕ → List ℕ
 all_spelled [] = []
 all_spelled (key ∷ keys) = spelled key ++ all_spelled keys

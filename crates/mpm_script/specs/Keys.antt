@@ -1,8 +1,8 @@
--- Typed keys, as a script writes them. Behind a text's end stands 00h, which is no key.
+-- Typed keys, as a script writes them. After a text's end stands 00h, which is no key.
 use Rattle.std.specs.Prelude.{ℕ, zero, suc, ◌==◌, ◌&&◌, nat_le, if◌then◌else◌, List, [], ◌∷◌, drop, length, slice_index, Option, Some, None, option_map}
 use Rattle.mpm_script.specs.Numbers.{◌>>=◌, hex_byte}
 
--- the key of a letter behind a backslash: CR, LF, a tab, the backslash
+-- the key of a letter after a backslash: CR, LF, a tab, the backslash
 abbrev pub escape_of : ℕ → Option ℕ
 escape_of letter =
     if letter == 114 then Some 13
@@ -11,14 +11,14 @@ escape_of letter =
     else if letter == 92 then Some 92
     else None
 
--- the key that a text begins with behind a backslash, and what follows it: a letter, or x and two hexadecimal digits
+-- the key that a text begins with after a backslash, and what follows it: a letter, or x and two hexadecimal digits
 unfoldable pub escaped : List ℕ → Option (ℕ × List ℕ)
 escaped text =
     if slice_index text 0 == 120
     then option_map (λ byte. (byte, drop 3 text)) (hex_byte (slice_index text 1) (slice_index text 2))
     else option_map (λ byte. (byte, drop 1 text)) (escape_of (slice_index text 0))
 
--- the key that a text begins with, and what follows it: a printed byte that is no backslash, or one behind a backslash
+-- the key that a text begins with, and what follows it: a printed byte that is no backslash, or one after a backslash
 unfoldable pub key_of : List ℕ → Option (ℕ × List ℕ)
 key_of text =
     if slice_index text 0 == 92 then escaped (drop 1 text)

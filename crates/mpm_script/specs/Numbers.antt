@@ -7,7 +7,7 @@ infixl 10 ◌>>=◌
 abbrev pub ◌>>=◌ : {A B : Type 0} → Option A → (A → Option B) → Option B
 found >>= more = option_and_then more found
 
--- the number that digits stand for, behind the number of those before them
+-- the number that digits stand for, after the number of those before them
 unfoldable pub value_from : ℕ → List ℕ → ℕ
 value_from before [] = before
 value_from before (digit ∷ rest) = value_from (10 * before + (digit - 48)) rest

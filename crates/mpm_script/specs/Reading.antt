@@ -16,7 +16,7 @@ abbrev pub Adds : List Timed → List Timed → Result (Unit {0}) Refusal → Op
 Adds old new (Ok _) found = option_map (λ events. old ++ events) found ≡ Some new
 Adds old new (Err refusal) found = Refuses refusal found
 
--- the first bad line is told; want of memory may come in any case
+-- the first bad line is reported; want of memory may come in any case
 abbrev pub Faults : {A : Type 0} → ScriptError → Result A ℕ → Type 0
 Faults (script.Fault line) read = read ≡ Err line
 Faults script.OutOfMemory read = Unit {0}

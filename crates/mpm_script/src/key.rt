@@ -17,7 +17,7 @@ pub fn key(text: &[u8]) -> Option<(u8, &[u8])>
     }
 }
 
-/// The key that a text begins with behind a backslash, and what follows it.
+/// The key that a text begins with after a backslash, and what follows it.
 #[tactic(auto, using(crate::proofs::KeyLaws::hex_byte_short), unfolding(crate::specs::Keys::escaped))]
 fn escaped(text: &[u8]) -> Option<(u8, &[u8])>
     ensures key { option_map (λ k. (k.0, k.1.now)) result ≡ spec.escaped text.now }

@@ -1,7 +1,7 @@
 ghost use Rattle.std.specs.Prelude.{◌≡◌, ◌<◌, ◌≤◌, ◌==◌, length, slice_index};
 ghost use Rattle.std.specs.List.{position_or_len, before_first, after_first};
 
-/// The byte at a place; 00h behind the text's end.
+/// The byte at a place; 00h after the text's end.
 pub fn byte_at(text: &[u8], place: usize) -> u8
     ensures { result ≡ slice_index text.now place }
 {

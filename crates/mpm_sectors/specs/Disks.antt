@@ -5,8 +5,8 @@ use Rattle.mpm_cache.specs.declared.cache.Place.{Place}
 use Rattle.mpm_cache.specs.Coherent.{IsCoherent, HasNoAlias, StayApart}
 use Rattle.mpm_sectors.specs.Writes.{Elsewhere}
 
--- what is cached is what the images have, drives stay apart, this one too, and all is as before but the image of one drive,
--- what is known of it by its name, that it stays unsynced where it was, and the count of faults
+-- what is cached is what the images have, and drives stay apart, this one too. All is as before but the image of one drive, what is known
+-- of it by its name, that it stays unsynced where it was, and the count of faults
 pub record Leaves {D : Type 0} (disks : D → Disks) (told : D → List ℕ → ToldImage) (failed : D → List (List ℕ)) (unsynced : D → ℕ → Bool) (drive : ℕ) (cached new : List (Place × List ℕ)) (old now : D) : Type 0 where
   pub coherent : IsCoherent new (disks now)
   pub apart : StayApart drive cached new (disks old) (disks now)

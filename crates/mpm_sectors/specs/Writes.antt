@@ -5,7 +5,7 @@ use Rattle.mpm_base.specs.declared.kind.Kind.{Kind}
 use Rattle.mpm_blocks.specs.Geometries.{block_records, place_of}
 use Rattle.mpm_port.specs.Disks.{Disks, size_of, with_sector}
 
--- a sector, counted behind the system's tracks, and its bytes
+-- a sector, counted after the system's tracks, and its bytes
 pub record Write : Type 0 where
   pub sector : ℕ
   pub bytes : List ℕ

@@ -19,7 +19,7 @@ use mpm_dirent::Entry;
 use mpm_port::{Drives, Failed};
 use std::sync::ledger::Ledger;
 
-/// A drive with the kind of its disk. Sectors are counted from 0 behind the system's tracks, in the order in which they are
+/// A drive with the kind of its disk. Sectors are counted from 0 after the system's tracks, in the order in which they are
 /// used; `steps` counts the calls of the drives.
 ///
 /// Each call asks that the drive is attached to an image of its kind's size and that what is cached is what the images have,
@@ -114,8 +114,8 @@ impl Disk {
         Ok(())
     }
 
-    /// Writes a record at its index into a fresh allocation block, of which so many sectors are zeros already: zeros into its
-    /// other sectors, and then the record, by a call of the drives each, up to the first that fails.
+    /// Writes a record at its index into a fresh allocation block, of which so many sectors are zeros already. Zeros go into its other
+    /// sectors, and then the record, by a call of the drives each, up to the first that fails.
     pub fn put_block<D: Drives, L: Ledger>(
         &self,
         cache: &mut Cache,

@@ -1,4 +1,4 @@
--- At how many places of the disk a process stands behind each change of the service.
+-- At how many places of the disk a process stands after each change of the service.
 use Rattle.std.proofs.Common.{◌≡◌, ◌≢◌, ◌∙◌, ℕ, ◌+◌, ◌-◌, ◌<◌, ◌≤◌, ◌==◌, ◌||◌, ◌&&◌, Bool, true, false, not, cond, eqb, List, [], ◌∷◌, Option, Some, None, IfSome, option_map, refl, sym, ap, subst, arith}
 use Rattle.std.proofs.lemmas.Bool.{eq-eqb, ne_eqb, eqb-true}
 use Rattle.mpm_base.proofs.CountLaws.{one_if, one_if_true, one_if_false}

@@ -17,7 +17,7 @@ pub record DiskService : Type 0 where
 unfoldable pub no_service : ℕ → DiskService
 no_service turn_steps = record { turn_steps = turn_steps; waiting = []; served = None }
 
--- one more call waits, behind all of equal or better priority
+-- one more call waits, after all of equal or better priority
 unfoldable pub entered : DiskService → ℕ → ℕ → DiskService
 entered service p priority = record service { waiting = put_in service.waiting (record { slot = p; priority = priority }) }
 

@@ -69,7 +69,7 @@ impl Service {
         }
     }
 
-    /// A process's call waits from now on, behind all of equal or better priority (0 is best, 255 worst).
+    /// A process's call waits from now on, after all of equal or better priority (0 is best, 255 worst).
     #[tactic(auto, using(crate::proofs::SoundLaws::stays_begun), unfolding(crate::specs::Disk::entered))]
     pub fn enter(&mut self, p: Pid, priority: u8)
         requires steps { 0 < self.old.turn_steps }

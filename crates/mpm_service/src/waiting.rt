@@ -39,7 +39,7 @@ impl Waiting {
         }
     }
 
-    /// Puts a process that doesn't wait behind all of equal or better priority.
+    /// Puts a process that doesn't wait after all of equal or better priority.
     #[tactic(auto, using(crate::proofs::OneList::unlisted_before_put, crate::proofs::OneList::one_after_put, crate::proofs::OneList::list_after_put))]
     pub(crate) fn put(&mut self, p: Pid, priority: u8)
         requires { in_list p self.old ≡ false }

@@ -12,7 +12,7 @@ use Rattle.mpm_spool.specs.declared.list.SpoolList.{SpoolList}
 abbrev pub is_comma : ℕ → Bool
 is_comma byte = byte == 44
 
--- `[D]`, in either case, behind a name asks for the file's deletion
+-- `[D]`, in either case, after a name asks for the file's deletion
 abbrev pub is_mark : List ℕ → Bool
 is_mark text = bytes_eq text (codes "[D]") || bytes_eq text (codes "[d]")
 
@@ -59,7 +59,7 @@ listed parts = if nat_le (length parts) 8 then items_of parts else None
 unfoldable pub list_of : List ℕ → Option (List SpoolItem)
 list_of message = listed (parts_of (stripped (text_in message)))
 
--- no item, as it stands behind the last one of a list
+-- no item, as it follows the last one of a list
 abbrev pub no_item : SpoolItem
 no_item = record { drive = 0; name = zeros 11; password = zeros 8; delete = false }
 

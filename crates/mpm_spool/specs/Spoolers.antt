@@ -11,8 +11,9 @@ use Rattle.mpm_spool.specs.declared.list.SpoolItem.{SpoolItem}
 use Rattle.mpm_spool.specs.declared.table.Row.{Row}
 use Rattle.mpm_spool.specs.declared.table.Row.TheVariants.{ReadList, Open, Attach, AskStop, Read, Print, Detach, Close, Delete}
 
--- a spooler: its row, the items of its list that are yet to be opened, the one that it prints, the file's control block, the record that
--- it read last and the place in it of the next byte, how many bytes of the file it has printed, and whether that isn't printed to its end
+-- a spooler: its row, the items of its list that are yet to be opened, the one that it prints, and the file's control block. It has the
+-- record that it read last and the place in it of the next byte, how many bytes it has printed, and whether the file isn't printed to its
+-- end
 pub record Spooler : Type 0 where
   pub row : Row
   pub left : List SpoolItem
@@ -83,7 +84,7 @@ block_after (Some block) fcb = block
 abbrev pub with_block : Answer → Spooler → Spooler
 with_block reply s = record s { fcb = block_after reply.fcb s.fcb }
 
--- the record that was read, 128 bytes; behind its last byte it looks whether it is to stop, and 1Ah ends the text
+-- the record that was read, 128 bytes; after its last byte it looks whether it is to stop, and 1Ah ends the text
 abbrev pub record_in : Answer → List ℕ
 record_in reply = in_width 128 reply.bytes
 

@@ -230,7 +230,7 @@ impl Spool {
         self.unprinted = true;
     }
 
-    /// It was told to stop: neither this file nor the rest of the list is printed.
+    /// A stop was asked for: neither this file nor the rest of the list is printed.
     fn stop(&mut self)
         ensures { self.new ≡ record self.old { row = Detach; left = []; is_unprinted = true } }
     {
@@ -316,7 +316,7 @@ fn file_block(item: &SpoolItem) -> [u8; 36]
     block
 }
 
-/// The same with the attribute F6', by which a file is opened read-only.
+/// A file control block with the attribute F6', by which its file is opened read-only.
 fn read_only(block: [u8; 36]) -> [u8; 36]
     ensures { result ≡ block_read_only block }
 {

@@ -1,5 +1,4 @@
 -- Which interrupts there may be, and which may come.
--- an event that there may be may come
 use Rattle.std.proofs.Common.{◌≡◌, ℕ, Bool, true, false, Option, Some, None, All, IfSome, if◌then◌else◌, refl}
 use Rattle.std.specs.Bool.{OnTrue, OnFalse}
 use Rattle.mpm_script.specs.declared.event.Event.{Event}
@@ -10,6 +9,7 @@ use Rattle.mpm_interrupts.proofs.InterruptLaws.{due_is}
 use Rattle.mpm_kernel.specs.Events.{MayCome}
 use Rattle.mpm_kernel.proofs.SoundLaws.{may_come}
 
+-- an event that there may be may come
 some_may : (event : Option Event) → IfSome event IsEvent → IfSome event MayCome
 some_may None is = tt
 some_may (Some event) is = may_come event is

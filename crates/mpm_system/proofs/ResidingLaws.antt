@@ -125,7 +125,7 @@ spooling_here old new spool w only is = subst (λ (s : System). OnlyHas (spoolin
 pub spooler_few_here : (old new : System) (spool : Bool) → new ≡ with_spooler spool old → length new.residents ≤ length old.residents + 1
 spooler_few_here old new spool is = subst (λ (s : System). length s.residents ≤ length old.residents + 1) (sym is) (spooler_few spool old)
 
--- a resident that begins behind queues which were made for it
+-- a resident that begins after queues which were made for it
 
 pub queued_here : (old : System) (queued made kernel : Kernel) (residents : List Native) (begun : Bool) (new is : NewProcess) (native : Native) → queued ≡ made
     → kernel ≡ with_begun (lowest_free queued.dispatcher.procs) new queued → begun ≡ is_some (lowest_free queued.dispatcher.procs) → begun ≡ true → residents ≡ old.residents ++ native ∷ [] → new ≡ is

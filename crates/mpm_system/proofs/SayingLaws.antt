@@ -1,5 +1,4 @@
 -- What a call writes, by its function.
--- the text that is chosen
 use Rattle.std.proofs.Common.{◌≡◌, ◌≢◌, ◌∙◌, ℕ, ◌<◌, ◌≤◌, Bool, true, false, ◌&&◌, ◌==◌, if◌then◌else◌, List, [], ◌∷◌, refl, sym, ap, subst, arith, length}
 use Rattle.std.specs.Prelude.{nat_lt}
 use Rattle.std.proofs.lemmas.Bool.Decides.{nat_tests}
@@ -26,6 +25,7 @@ use Rattle.mpm_system.specs.Saying.{call_text, printed, said_by, echo_of}
 use Rattle.mpm_system.specs.Loading.{is_console}
 use Rattle.mpm_system.specs.Residents.{text_told}
 
+-- the text that is chosen
 first : (a b c : Bool) (x y z : List ℕ) → a ≡ true → (if a then x else (if b then y else (if c then z else []))) ≡ x
 first a b c x y z e = rw e refl
 

@@ -19,7 +19,7 @@ pub record WrittenTo (console : ℕ) (kernel kernel' : Kernel) (o m : Outside) (
   pub kernel_is : kernel' ≡ spoke kernel console (expanded (column_of kernel console) part)
   pub wrote : Wrote o m (spoken console (expanded (column_of kernel console) part))
 
--- the string has one byte more, and goes on behind it
+-- the string has one byte more, and goes on after it
 pub string_goes_on : (memory : ℕ → ℕ) (address k byte : ℕ) → text_from Dollar memory address k ≡ bytes_from memory address k → byte ≡ memory (onward address k)
     → ends Dollar byte ≡ false → k < 65536
     → text_from Dollar memory address 65536 ≡ bytes_from memory address k ++ (byte ∷ text_from Dollar memory (onward address (k + 1)) (65535 - k))

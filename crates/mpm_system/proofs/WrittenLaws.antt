@@ -1,4 +1,4 @@
--- Records of completed calls come out behind one another.
+-- Records of completed calls come out one after another.
 use Rattle.std.proofs.Common.{◌≡◌, ◌∙◌, ℕ, ◌+◌, ◌<◌, length, drop, get_or, List, [], ◌∷◌, ◌++◌, refl, sym, ap, subst, append_assoc}
 use Rattle.std.proofs.lemmas.List.{at_drop_more}
 use Rattle.mpm_render.specs.Completions.{Completion}
@@ -16,7 +16,7 @@ recorded_after (call ∷ calls) outputs =
     ∙ sym (append_assoc (recorded_behind calls []) (Completed call ∷ []) outputs)
     ∙ ap (λ (first : List Output). first ++ outputs) (sym (recorded_after calls (Completed call ∷ [])))
 
--- they are written one after another: what is left of them behind what came out so far
+-- they are written one after another: what is left of them after what came out so far
 pub record WrittenSo (calls rest : List Completion) (o m : Outside) : Type 0 where
   pub emitted : List Output
   pub wrote : Wrote o m emitted

@@ -32,7 +32,7 @@ use Rattle.mpm_system.specs.declared.system.System.{System}
 use Rattle.mpm_system.specs.Owing.{nobody_owes}
 use Rattle.mpm_system.specs.Whole.{IsWhole, NoCompletions}
 
--- a segment with a program: its base page, with an empty command tail, the program behind it, and below the last page the word
+-- a segment with a program: its base page, with an empty command tail, the program after it, and below the last page the word
 -- on which the stack begins, the address of the base page
 unfoldable pub laid_out : Memory → ℕ → List ℕ → Memory
 laid_out memory seg program =
@@ -40,7 +40,7 @@ laid_out memory seg program =
     let page = last_page memory seg in
     with_bytes (with_bytes (with_bytes memory seg (256 * base) (base_page page [])) seg (256 * base + 256) program) seg (256 * page - 2) (0 ∷ base ∷ [])
 
--- the process of a program: it begins behind the base page, with user 0 and drive A
+-- the process of a program: it begins after the base page, with user 0 and drive A
 unfoldable pub placed_process : SegmentSpec → ℕ → Name8 → ℕ → ℕ → NewProcess
 placed_process spec seg name priority console = record {
   name = name;
@@ -244,7 +244,7 @@ with_scheduler true queue system =
     let queued = record system { kernel = with_schedule_queue system.kernel } in
     with_resident (lowest_free queued.kernel.dispatcher.procs) scheduler_process (Sched (opening_scheduler queue)) queued
 
--- the queues of a system that has none of its own yet, with the command queue, and with the spooler's behind it
+-- the queues of a system that has none of its own yet, with the command queue, and with the spooler's after it
 abbrev pub command_queues : Queues
 command_queues = made no_queues 0 command_queue 130 15
 
@@ -252,7 +252,7 @@ abbrev pub spooling_queues : Bool → Queues
 spooling_queues false = command_queues
 spooling_queues true = made (made command_queues 1 spool_queue 128 8) 2 stop_queue 1 1
 
--- and with the scheduler's behind those
+-- and with the scheduler's after those
 abbrev pub resident_queues : Bool → Bool → Queues
 resident_queues spool false = spooling_queues spool
 resident_queues spool true = made (spooling_queues spool) (schedule_number spool) schedule_queue 128 8

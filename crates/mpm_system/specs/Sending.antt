@@ -21,7 +21,7 @@ use Rattle.mpm_system.specs.Calling.{with_kept}
 abbrev pub chained : Process → List ℕ → List ℕ
 chained process text = (16 * (process.user % 16) + process.drive % 16) ∷ process.console ∷ in_width 128 text
 
--- the call as it is written to the command queue, which is queue 0, so that its pointer is 1: the message behind the block
+-- the call as it is written to the command queue, which is queue 0, so that its pointer is 1: the message after the block
 abbrev pub framed : List ℕ → Taken → Taken
 framed message call = record { function = WRITE_QUEUE; word = call.word; dma = call.dma; fcb = zeros 36; bytes = 1 ∷ 0 ∷ (zeros 10 ++ message) }
 

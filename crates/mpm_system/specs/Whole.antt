@@ -57,9 +57,9 @@ IsOccupied memory seg = (segment_of memory seg).allocation ≡ Occupied
 abbrev pub NobodyAborted : Kernel → Type 0
 NobodyAborted kernel = (p : ℕ) → is_aborted kernel.dispatcher.procs p ≡ false
 
--- what is so of the system within a step and after it: the kernel is sound, whose held calls were completed lives, each
--- process's segment exists and is nobody's to reserve, memory has its segments, each with as many bytes as its pages have, the
--- script has events that there may be, and it is known where no end by an abort is put off
+-- what is so of the system within a step and after it. The kernel is sound, and whose held calls were completed lives. Each process's
+-- segment exists and is nobody's to reserve. Memory has its segments, each with as many bytes as its pages have. The script has events that
+-- there may be, and it is known where no end by an abort is put off
 pub record IsWhole (system : System) : Type 0 where
   pub sound : IsSound system.kernel
   pub live : CompletedLive system.kernel

@@ -5,7 +5,7 @@ use Rattle.mpm_render.specs.Outputs.{Output, Completed}
 use Rattle.mpm_system.specs.declared.system.System.{System}
 use Rattle.mpm_system.specs.Whole.{Change, silent}
 
--- the records of completed calls come out, in order, behind all else that the step says
+-- the records of completed calls come out, in order, after all else that the step says
 unfoldable pub recorded_behind : List Completion → List Output → List Output
 recorded_behind [] outputs = outputs
 recorded_behind (call ∷ calls) outputs = recorded_behind calls (Completed call ∷ outputs)

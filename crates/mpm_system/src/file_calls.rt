@@ -6,7 +6,7 @@ use crate::system::System;
 use mpm_base::{Pid, Reply, Seg, functions};
 use mpm_functions::Extended;
 
-/// Where the DMA address of a process begins: behind the base page's first half.
+/// Where the DMA address of a process begins: after the base page's first half.
 const FIRST_DMA: u8 = 0x80;
 
 impl System {
@@ -32,7 +32,7 @@ impl System {
         }
     }
 
-    /// The same of a process of a segment: its return address is taken from its stack.
+    /// A step begins in which a process of a segment makes its file call: its return address is taken from its stack.
     fn take_file_call(&mut self, p: Pid, seg: Seg)
         requires whole { IsWhole self.old }
         requires lives { Lives self.old.kernel.dispatcher.procs p }

@@ -1,5 +1,5 @@
-//! What a machine keeps from step to step: kernel, memory, residents, the interrupts to come. How it begins, and what is done to it in which
-//! no process ends and no instruction runs: a call is taken at the gate and answered, what a call writes comes out, memory segments
+//! What a machine keeps from step to step: kernel, memory, residents, the interrupts to come. How it begins, and what is done to it in
+//! which no process ends and no instruction runs. A call is taken at the gate and answered, what a call writes comes out, memory segments
 //! are reserved, programs are placed, consoles are passed on, and what lies ahead is looked for.
 #![tactic(auto)]
 

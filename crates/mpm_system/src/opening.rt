@@ -93,9 +93,9 @@ impl System {
         begin(&mut self.kernel, new)
     }
 
-    /// What a machine has as it is run, beside what its file says: the command queue, the process of the command line
-    /// interpreter, a terminal message processor for each console, and the spooler and the scheduler, where they are asked
-    /// for, with their queues. The first of the ready list runs.
+    /// What a machine has as it is run, beside what its file says: the command queue, the process of the command line interpreter, and a
+    /// terminal message processor for each console. Where they are asked for, it has the spooler and the scheduler, with their queues. The
+    /// first of the ready list runs.
     pub fn begin_residents(&mut self, consoles: u8, spool: bool, sched: bool)
         requires whole { IsWhole self.old }
         requires no_completions { NoCompletions self.old }
@@ -315,7 +315,7 @@ pub fn program_file(alloc: Global) -> Result<MachineFile, AllocError>
     })
 }
 
-/// Lays out a program in its segment: the base page, the program behind it, and the word on which the stack begins.
+/// Lays out a program in its segment: the base page, the program after it, and the word on which the stack begins.
 #[tactic(auto, unfolding(crate::specs::Opening::laid_out))]
 fn lay_out(banks: &mut Banks, seg: Seg, program: &[u8])
     requires exists { HasSegment banks.old seg }

@@ -26,7 +26,7 @@ impl System {
     }
 }
 
-/// Answers a call of function 152, which read two words and a text behind them: where that begins with a file name, its file
+/// Answers a call of function 152, which read two words and a text after them: where that begins with a file name, its file
 /// control block goes to the second of them.
 fn answer_name(call: &Call, reply: &mut Reply)
     requires { length call.now.bytes ≤ 132 }

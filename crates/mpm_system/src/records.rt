@@ -49,7 +49,7 @@ impl Record {
 }
 
 /// The records of the calls that this step completed and that aren't written yet, in order: the first `count` of `items`. There are at
-/// most one by what the step begins with, 65 behind it, and 64 by an end; one more by a call whose last turn is over.
+/// most one by what the step begins with, 65 after it, and 64 by an end; one more by a call whose last turn is over.
 #[derive(Drop)]
 pub struct Records {
     count: u8,
@@ -78,7 +78,7 @@ impl Records {
         }
     }
 
-    /// One more, behind the others: of a process's call of a function, in a step, which left these registers. It is filled in
+    /// One more, after the others: of a process's call of a function, in a step, which left these registers. It is filled in
     /// where it stands.
     #[inline(always)]
     pub(crate) fn put(&mut self, step: u64, p: Pid, function: u8, regs: &Regs)

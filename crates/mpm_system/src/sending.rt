@@ -13,7 +13,7 @@ const INTERPRETER: Pid = Pid(0);
 /// The user queue control block of the command queue, which is queue 0, so that its pointer is 1.
 const COMMAND_QUEUE: [u8; 12] = [1, 0, 0, 0, 0, 0, 0, 0, 0, 0, 0, 0];
 
-/// Where the console stands in a call that is written to the command queue: behind the block, and the user and drive.
+/// Where the console stands in a call that is written to the command queue: after the block, and the user and drive.
 const CONSOLE: usize = 13;
 
 impl System {

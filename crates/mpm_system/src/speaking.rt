@@ -41,7 +41,7 @@ impl System {
         self.speak_some(p, seg, render, sink)
     }
 
-    /// The same of a call whose number may be that of a function that writes.
+    /// As `speak`, for a call whose number may be that of a function that writes.
     #[cold]
     #[inline(never)]
     fn speak_some<S: Sink>(
@@ -94,7 +94,7 @@ impl System {
         self.speak_low(p, render, sink)
     }
 
-    /// The same of a call whose number may be that of a function that writes.
+    /// As `speak_byte`, for a call whose number may be that of a function that writes.
     #[inline(never)]
     fn speak_low<S: Sink>(
         &mut self,
@@ -159,7 +159,7 @@ impl System {
         self.put_some_echo(p, render, sink)
     }
 
-    /// The same of a call whose number may be that of a function that echoes.
+    /// As `put_echo`, for a call whose number may be that of a function that echoes.
     #[cold]
     #[inline(never)]
     fn put_some_echo<S: Sink>(

@@ -1,4 +1,4 @@
--- Directory entries of files in blocks behind one another have no fault.
+-- Directory entries of files in blocks one after another have no fault.
 use Rattle.std.proofs.Common.{◌≡◌, ◌≢◌, ◌∙◌, ℕ, zero, suc, ◌+◌, ◌<◌, ◌≤◌, ◌==◌, ◌&&◌, ◌||◌, ◌⊎◌, Bool, true, false, not, List, [], ◌∷◌, Some, None, length, map, take, get_or, refl, sym, ap, inl, inr, arith, ne_eqb, le-ltb}
 use Rattle.std.specs.Prelude.{Option, nat_lt, if◌then◌else◌}
 use Rattle.std.specs.List.{range_with_len, list_any}
@@ -96,7 +96,7 @@ none_taken name first count place earlier some less apart =
           ∙ and_right (not (first + place == 0)) false refl
     ])
 
--- it is at no fault behind others
+-- it is at no fault after others
 pub no_cause : (name : List ℕ) (first count : ℕ) (earlier : List Entry) → 8 ≤ first → first ≤ 18 → count ≤ 9344
     → ((block : ℕ) → first ≤ block → list_any (holds Hd4 block) earlier ≡ false) → list_any (is_named Hd4 (name_of Hd4 (file_for name first count))) earlier ≡ false
     → file_cause Hd4 earlier (file_for name first count) ≡ None
@@ -115,7 +115,7 @@ no_cause name first count earlier low high few apart other =
     ∙ ap by_blocks (some_none Hd4 (is_taken Hd4 earlier f) (λ place less. none_taken name first count place earlier (omega (arith, low)) less apart))
     ∙ ap by_name other
 
--- a directory of three files that are at no fault behind one another, and free entries
+-- a directory of three files, none at fault after those before it, and free entries
 pub three_files : (each : ℕ → Entry) (f g h : FileEntry) → each 0 ≡ File f → each 1 ≡ File g → each 2 ≡ File h → ((slot : ℕ) → 3 ≤ slot → slot < 512 → each slot ≡ Free)
     → file_cause Hd4 [] f ≡ None → file_cause Hd4 (File f ∷ []) g ≡ None → file_cause Hd4 (File f ∷ File g ∷ []) h ≡ None
     → first_fault Hd4 (map each (range_with_len 0 512)) ≡ None

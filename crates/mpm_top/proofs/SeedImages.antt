@@ -42,7 +42,7 @@ slot_part image slot =
     ∙ ap (take 32) (drop-drop within from image)
     ∙ ap (λ n. take 32 (drop n image)) whole
 
--- parts behind one another
+-- parts one after another
 
 part_at : (before here behind : List ℕ) (from count : ℕ) → length before ≡ from → length here ≡ count → part from count (before ++ (here ++ behind)) ≡ here
 part_at before here behind from count place size =

@@ -96,8 +96,8 @@ abbrev pub Scripted : Contents → Option (List ℕ) → List Timed → Type 0
 Scripted contents None events = events ≡ []
 Scripted contents (Some script) events = HoldsEvents contents script events
 
--- a command of a form begins with that state, where its file holds bytes of which `Of` holds: nothing is said yet, and on the
--- drives is what some images stand for, which are those that are known of their names, where such are
+-- a command of a form begins with that state, where its file holds bytes of which `Of` holds. Nothing is said yet, and on the drives is
+-- what some images stand for. They are those that are known of their names, where such are
 pub record BeginsOf (host : Host) (form : Form) (Of : List ℕ → Type 0) (s : State) : Type 0 where
   pub bytes : List ℕ
   pub events : List Timed

@@ -17,7 +17,7 @@ use Rattle.mpm_top.specs.Runs.{Printed, printed, StandFor, AreSyncedOf, KeepsOth
 use Rattle.mpm_top.specs.Endings.{UnlessReadFault, UnlessDiskFault, UnlessWriteFault, Ends, EndsAs, ending}
 
 -- what is seen of files, drives and output: what files hold and what is known of images by their names; the images of the drives that are
--- attached, and which of these have writes that weren't synced; what failed so far; and what was written
+-- attached, and which have unsynced writes; what failed so far; and what was written
 pub record Seen : Type 0 where
   pub host : Host
   pub disks : Disks
@@ -38,7 +38,7 @@ seen contents unfetched disks told unsynced faults unattached written failures f
 -- What was written, and what the images stand for then.
 
 -- All steps were done, and the end. There are bytes for each image that the machine file lists, those that are known of it where such are,
--- and the model begins with them: what was written is exactly the text of its outputs, and each image stands for what is on its drive in
+-- and the model begins with them. What was written is exactly the text of its outputs, and each image stands for what is on its drive in
 -- the end, and is synced. The image of a drive that it doesn't list is as it was, unless it has the name of a listed one
 pub record WritesAll (command : Command) (old new : Seen) : Type 0 where
   pub start : State
@@ -57,8 +57,8 @@ pub record WritesPart (command : Command) (old new : Seen) (step : ℕ) : Type 0
   pub stops : StopsAt (StandFor new.disks new.host.images (drives_listed command.form begins.bytes)) command.trace start command.steps old.printed new.printed step
   pub others : KeepsOthers old.host.images new.host.images old.disks new.disks (drives_listed command.form begins.bytes)
 
--- A drive failed in a step, in a turn that was left to the call in service, or as it was synced: there are such bytes, what was written is
--- the text of all before, and each image stands for what was then on its drive, that of the call which failed for what is within a turn
+-- A drive failed in a step, in a turn that was left to the call in service, or as it was synced. There are such bytes, and what was written
+-- is the text of all before. Each image stands for what was then on its drive, and that of the call which failed for what is within a turn
 pub record WritesClosed (command : Command) (old new : Seen) (step : ℕ) : Type 0 where
   pub start : State
   pub begins : Begins old.host command.form command.name start

@@ -69,7 +69,7 @@ AreSyncedOf unsynced specs = AllByRecursion (λ spec. unsynced (number_of spec) 
 abbrev pub SyncsAttached : Disks → Disks → (ℕ → Bool) → Type 0
 SyncsAttached disks now unsynced = (number : ℕ) → IsAttachedAs disks now number ⊎ (unsynced number ≡ false)
 
--- a drive that a machine file doesn't list has its name, and its image too where no listed drive has that name; what is known of the image
+-- a drive that a machine file doesn't list has its name, and its image too where no listed drive has that name. What is known of the image
 -- of a name that it doesn't list is as it was, and of which image something was known, it still is
 pub record KeepsOthers (told told' : Images) (disks now : Disks) (specs : List DriveSpec) : Type 0 where
   pub names : (number : ℕ) → AllByRecursion (λ spec. number_of spec ≢ number) specs → now.name_of number ≡ disks.name_of number

@@ -27,8 +27,8 @@ pub enum Status {
     TooLong { what: Input },
     /// A file that the words or the machine file name could not be read.
     ReadFault,
-    /// A drive couldn't be attached to its image, or failed, in this step: 0 as the drives were mounted; that in which a call on
-    /// files or a turn of one was done; or the last one, as the call in service was carried to its end or the drives were synced.
+    /// A drive couldn't be attached to its image, or failed, in this step. It is 0 as the drives were mounted, or the step in which a call
+    /// on files or a turn of one was done. It is the last one, as the call in service was carried to its end or the drives were synced.
     DiskFault { step: u64 },
     /// The output failed in this step, or after the last one, at the end of the run.
     WriteFault { step: u64 },

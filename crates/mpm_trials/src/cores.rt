@@ -102,7 +102,7 @@ fn fault(text: &[u8]) -> Option<u32> {
     }
 }
 
-/// The same with another byte at a place, which is put back then.
+/// Where some bytes with another byte at a place are seen to be no file of a core. The byte is put back then.
 fn fault_with(text: &mut [u8], place: usize, byte: u8) -> Option<u32> {
     let kept = match text.get(place) {
         Some(kept) => *kept,

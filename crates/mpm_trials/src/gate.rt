@@ -174,7 +174,7 @@ fn patterned(alloc: Global) -> Result<Banks, OutOfMemory> {
     Ok(banks)
 }
 
-/// The bytes of two ranges, one behind the other.
+/// The bytes of two ranges, one after the other.
 fn ranges(
     alloc: Global,
     banks: &Banks,
@@ -304,7 +304,7 @@ fn takes_commands(banks: &mut Banks) -> bool {
     sent && chained && cut
 }
 
-/// Whether descriptors are taken one behind the other with their names, at most 32 of them.
+/// Whether descriptors are taken one after the other with their names, at most 32 of them.
 fn takes_descriptors(banks: &mut Banks) -> bool {
     poke(banks, 0x0500, b"\x00\x06\x00\xC8\xF0\x10Reader  \x01\x00");
     poke(banks, 0x0600, b"\x00\x00\x00\xC9\xF8\x10Writer  \x02\x00");
@@ -353,7 +353,7 @@ fn addresses_go_on_from_the_last_to_the_first(rt: HostRuntime) -> Result<(), All
     Ok(())
 }
 
-/// Whether each address without memory reads FFh, before a segment, behind it, and in none.
+/// Whether each address without memory reads FFh, before a segment, after it, and in none.
 fn reads_ffh(banks: &mut Banks) -> bool {
     poke(banks, 0x3FFE, &[1, 2, 3, 4]);
     let password = called(

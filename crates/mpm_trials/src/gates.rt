@@ -1,7 +1,7 @@
 //! Where the gates of a segment are.
 use mpm_gate::{Gate, gate_at, is_gate};
 
-/// Whether the gate at an address of page 43h is this one, and there is one exactly where that is told.
+/// Whether the gate at an address of page 43h is this one, and there is one exactly where its place isn't 0.
 fn is_at(inside: bool, address: u16, place: u8) -> bool {
     let known = match gate_at(inside, 0x43, address) {
         Some(Gate::End) => 3,

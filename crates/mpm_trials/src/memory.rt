@@ -120,7 +120,7 @@ fn segments_are_reserved_and_lived_in(rt: HostRuntime) -> Result<(), Fail> {
     Ok(())
 }
 
-/// Writes four bytes: before segment 1, into it, behind it, and into common memory.
+/// Writes four bytes: before segment 1, into it, after it, and into common memory.
 fn write_four<B: Bus>(bus: &mut B) {
     bus.write(0x5FFF, 1);
     bus.write(0x6000, 2);

@@ -2,7 +2,7 @@
 use mpm_base::{Call, Kind, Name8, Pid, Reply, Seg, functions};
 use std::test::Fail;
 
-/// Whether kinds, processes, segments and names are told apart.
+/// Whether kinds, processes, segments and names differ.
 fn are_told_apart() -> bool {
     let kinds = Kind::Ibm3740 == Kind::Ibm3740
         && Kind::Ibm3740 != Kind::Hd4

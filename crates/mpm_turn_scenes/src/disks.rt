@@ -1,4 +1,4 @@
-//! A reader of disks in memory by their bytes: where entries and records are is told by the guides alone. (CP/M Alteration Guide,
+//! A reader of disks in memory by their bytes: where entries and records are is known by the guides alone. (CP/M Alteration Guide,
 //! "Disk Parameter Tables"; MP/M II System Guide, "Disk Definition Tables".)
 ghost use Rattle.std.specs.Prelude.{◌≡◌, ◌<◌, Some, IsSome, IsTrue, IfOk};
 ghost use Rattle.mpm_port.specs.Disks.{size_of};
@@ -77,7 +77,7 @@ pub(crate) fn entries(drives: &mut MemoryDrives, kind: Kind) -> [Entry; 8]
     entries
 }
 
-/// Where behind the system's tracks the record of a number is, if the entry is of the file of user 0 with that letter and has it.
+/// Where after the system's tracks the record of a number is, if the entry is of the file of user 0 with that letter and has it.
 fn record_of(kind: Kind, entry: &Entry, letter: u8, number: u32) -> Option<u32> {
     let covered = layout_of(kind).entry;
     let last = 32 * u32::from(entry[14]) + u32::from(entry[12]);
@@ -93,7 +93,7 @@ fn record_of(kind: Kind, entry: &Entry, letter: u8, number: u32) -> Option<u32> 
     record_at(kind, entry, number)
 }
 
-/// The same, if one of the entries has it.
+/// Where after the system's tracks the record of a number is, if one of the entries has it.
 fn record_among(kind: Kind, entries: &[Entry; 8], letter: u8, number: u32) -> Option<u32> {
     for entry in entries {
         if let Some(at) = record_of(kind, entry, letter, number) {

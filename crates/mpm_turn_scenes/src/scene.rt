@@ -5,8 +5,8 @@ use mpm_base::Kind;
 use mpm_files::Job;
 use mpm_images::{Entry, UNUSED};
 
-/// What is looked at of a slot: the first byte, which is the user or the sort, and that of the name; of a file its EX and RC; of an
-/// XFCB or a label its mode and the first bytes of its password and its two stamps.
+/// What is looked at of a slot: the first byte, which is the user or the sort, and that of the name. Of a file its EX and RC are looked at,
+/// of an XFCB or a label its mode and the first bytes of its password and its two stamps.
 pub type Slot = [u8; 6];
 
 /// A free slot.
@@ -153,7 +153,7 @@ fn make(seen: &mut Seen, first: u32, does: Does, calls: u64) -> Option<u64> {
     }
 }
 
-/// The same of what one call makes.
+/// What one call makes of it, if so many go that far. Says how many are left then.
 fn make_one(seen: &mut Seen, first: u32, does: Does, calls: u64) -> Option<u64> {
     let left = calls.checked_sub(1)?;
     match does {

@@ -250,7 +250,7 @@ fn done<L: Ledger>(
     }
 }
 
-/// The number of a call by its number behind those that mount a drive: one for its size before that and one by mounting, and one for
+/// The number of a call by its number after those that mount a drive: one for its size before that and one by mounting, and one for
 /// each sector of its directory.
 fn behind_mounting(kind: Kind, call: u64) -> u64 {
     let mounting = 2 + (u64::from(geometry(kind).drm) + 1) / 4;
@@ -274,7 +274,7 @@ fn call_up_to(drives: &mut MemoryDrives, kind: Kind, number: u64) -> Result<(), 
 /// How many calls there is room for in a round: more than the jobs make, and all that is done around them.
 const ROUND: u64 = 1_000;
 
-/// What the jobs of a scene leave in a round where the call of this number fails, counted from 1 behind those that mount the drive.
+/// What the jobs of a scene leave in a round where the call of this number fails, counted from 1 after those that mount the drive.
 fn left_in(
     alloc: Global,
     drives: &mut MemoryDrives,
@@ -315,8 +315,8 @@ pub fn left_of(alloc: Global, scene: &Scene<'_>) -> Result<Left, Fail> {
     }
 }
 
-/// The first call whose failing leaves something else than those before it make, and what it leaves; the call behind the last is none
-/// of the jobs', and they come to what is told.
+/// The first call whose failing leaves something else than those before it make, and what it leaves; the call after the last is none
+/// of the jobs', and they come to `came`.
 ///
 /// # Errors
 /// The image of the scene can't be made or mounted, or a call made more calls of the drive than there is room for.
@@ -331,7 +331,7 @@ pub fn first_other(
     }
 }
 
-/// The same on a drive that is there.
+/// The first call on a drive that is there whose failing leaves something else than those before it make, and what it leaves.
 fn first_in(
     alloc: Global,
     drives: &mut MemoryDrives,

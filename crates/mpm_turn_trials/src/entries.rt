@@ -148,7 +148,7 @@ fn protection(first: u8, letter: u8) -> Slot {
     [first, letter, 0xE0, b'7', 11, 22]
 }
 
-/// The same job on these entries, whose bytes aren't those of records: they are not looked at.
+/// A job that protects a file, on these entries. Its bytes aren't those of records, so that no record is looked at.
 fn protected(
     alloc: Global,
     kind: Kind,

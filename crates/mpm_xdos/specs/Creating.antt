@@ -19,9 +19,8 @@ home_base memory (Some seg) = (segment_of memory seg).base
 abbrev pub word_in : List ℕ → ℕ → ℕ
 word_in bytes at = word_of (slice_index bytes at) (slice_index bytes (at + 1))
 
--- the process that a descriptor of 16 bytes asks for, with the word at its stack pointer behind it: its priority at 3, its
--- stack pointer at 4, its name at 6, its console at 14; it begins at that word, in the segment, user and drive of the
--- process that makes it
+-- the process that a descriptor of 16 bytes asks for, with the word at its stack pointer after it: its priority at 3, its stack pointer at
+-- 4, its name at 6, its console at 14. It begins at that word, in the segment, user and drive of the process that makes it
 unfoldable pub child_of : Process → ℕ → List ℕ → NewProcess
 child_of parent base bytes = record {
   name = record { 0 = slice_range bytes 6 14 };

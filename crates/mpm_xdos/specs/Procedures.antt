@@ -10,8 +10,8 @@ use Rattle.mpm_procs.specs.declared.process.Process.{Process}
 use Rattle.mpm_kernel.specs.Kernel.{Kernel, with_changed}
 use Rattle.mpm_kernel.specs.Procedures.{given_back}
 
--- a process goes on at the address that is the message that it got, with the parameter of its call, the second word of what
--- the call read, in DE; its stack pointer makes room for the address to which the procedure returns
+-- a process goes on at the address that is the message that it got, with the parameter of its call, the second word of what the call read,
+-- in DE. Its stack pointer makes room for the address to which the procedure returns
 unfoldable pub entering : Taken → Process → Process
 entering call process = record process {
   back = process.regs.pc;

@@ -47,7 +47,7 @@ fn system_page(consoles: u8, banks: &Banks) -> [u8; 256]
     page
 }
 
-/// At most 240 bytes, and zeros behind them.
+/// At most 240 bytes, and zeros after them.
 #[tactic(auto, unfolding(mpm_base::specs::Lists::zeros))]
 fn with_zeros(bytes: &[u8]) -> [u8; 240]
     requires { length bytes.now ≤ 240 }

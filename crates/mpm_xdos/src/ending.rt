@@ -9,8 +9,8 @@ use mpm_banks::Banks;
 use mpm_base::{Pid, Seg};
 use mpm_kernel::Kernel;
 
-/// Ends a living process: it is taken out of the kernel, to which its messages go back and in which its consoles and printers
-/// pass on, and gives back the segments that it reserved, and its own where nobody else lives there.
+/// Ends a living process. It is taken out of the kernel, to which its messages go back and in which its consoles and printers pass on. It
+/// gives back the segments that it reserved, and its own where nobody else lives there.
 #[tactic(auto, using(mpm_banks::proofs::SegmentLaws::count_all_released, crate::proofs::Homes::vacated_if_empty_none), unfolding(crate::specs::Ending::memory_without))]
 pub fn end(kernel: &mut Kernel, banks: &mut Banks, p: Pid)
     requires sound { IsSound kernel.old }

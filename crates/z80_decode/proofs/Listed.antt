@@ -84,7 +84,7 @@ either_by : (test : Bool) (one other : Option Instr) (answer : Bool) → is_some
 either_by true one other answer same _ = same
 either_by false one other answer _ same = same
 
--- behind DDh and FDh
+-- after DDh and FDh
 index_listed : (page bits : Page) (second third fourth : ℕ) → second < 256 → fourth < 256 →
     is_some (index_instr_of page bits second third fourth) ≡ is_listed_indexed second fourth
 unfolding index_instr_of
@@ -95,7 +95,7 @@ index_listed page bits second third fourth small last =
     (index_by (index_form_of second) page second third fourth
     ∙ alike_below (λ opcode. is_some (index_form_of opcode)) (is_in listed_behind_dd) 256 index_table second small)
 
--- behind the prefixes
+-- after the prefixes
 prefixed_listed : (bytes : List ℕ) → slice_index bytes 1 < 256 → slice_index bytes 3 < 256 →
     is_some (prefixed_instr_of bytes) ≡
     (if slice_index bytes 0 == 0xcb then true

@@ -17,7 +17,7 @@ use Rattle.z80_decode.specs.declared.page_forms.IndexForm.TheVariants as index
 use Rattle.z80_decode.specs.Opcodes.{form_of}
 use Rattle.z80_decode.specs.PageOpcodes.{indexed_bit_form_of, extended_form_of, index_form_of}
 
--- what stands behind the opcode in each form
+-- what follows the opcode in each form
 abbrev pub tail_of : Form → Tail
 tail_of (LoadNumber operand) = Byte
 tail_of (CalculateNumber math) = Byte
@@ -55,7 +55,7 @@ index_tail_of (index.StoreTo operand) = Displacement
 index_tail_of (index.Calculate math Memory) = Displacement
 index_tail_of other = Nothing
 
--- the instruction of a page whose opcode is its byte of that number, from 1, and of the two bytes behind the opcode
+-- the instruction of a page whose opcode is its byte of that number, from 1, and of the two bytes after the opcode
 abbrev pub instr_with : Tail → Page → ℕ → ℕ → ℕ → ℕ → Instr
 instr_with Nothing page place opcode first second =
     record { length = place; page = page; opcode = opcode; displacement = 0; operand = 0 }
@@ -68,7 +68,7 @@ instr_with Displacement page place opcode first second =
 instr_with DisplacementByte page place opcode first second =
     record { length = place + 2; page = page; opcode = opcode; displacement = first; operand = second }
 
--- behind CBh
+-- after CBh
 abbrev pub bit_instr_of : ℕ → Instr
 bit_instr_of opcode = instr_with Nothing Cb 2 opcode 0 0
 
@@ -83,19 +83,19 @@ index_instr_by None page opcode first second = None
 index_instr_by (Some form) page opcode first second =
     Some (instr_with (index_tail_of form) page 2 opcode first second)
 
--- behind DDh CBh and FDh CBh: the displacement, then the opcode
+-- after DDh CBh and FDh CBh: the displacement, then the opcode
 abbrev pub index_bit_instr_by : Option BitForm → Page → ℕ → ℕ → Option Instr
 index_bit_instr_by None page displacement opcode = None
 index_bit_instr_by (Some form) page displacement opcode =
     Some (record { length = 4; page = page; opcode = opcode; displacement = displacement; operand = 0 })
 
--- behind DDh and FDh, by their page and the page that a CBh opens
+-- after DDh and FDh, by their page and the page that a CBh opens
 unfoldable pub index_instr_of : Page → Page → ℕ → ℕ → ℕ → Option Instr
 index_instr_of page bits second third fourth =
     if second == 203 then index_bit_instr_by (indexed_bit_form_of fourth) bits third fourth
     else (index_instr_by (index_form_of second) page second third fourth)
 
--- behind the prefixes CBh, EDh, DDh and FDh
+-- after the prefixes CBh, EDh, DDh and FDh
 unfoldable pub prefixed_instr_of : List ℕ → Option Instr
 prefixed_instr_of bytes =
     let first = slice_index bytes 0 in

@@ -1,4 +1,4 @@
--- Which form an opcode behind a prefix is, by its fields x = bits 7-6, y = bits 5-3 and z = bits 2-0. (UM0080, "Z80
+-- Which form an opcode after a prefix is, by its fields x = bits 7-6, y = bits 5-3 and z = bits 2-0. (UM0080, "Z80
 -- Instruction Description"; for SLL and the halves of IX and IY "The Undocumented Z80 Documented".)
 use Rattle.std.specs.Prelude.{ℕ, ◌^◌, ◌/◌, ◌%◌, ◌==◌, nat_lt, nat_le, Bool, true, false, not, ◌&&◌, ◌||◌, Option, None, Some, if◌then◌else◌}
 use Rattle.z80_decode.specs.declared.forms.Pair.TheVariants as pair
@@ -34,7 +34,7 @@ shift_of y =
     else (if y == 6 then LeftLogical
     else RightLogical))))))
 
--- the form of an opcode behind CBh
+-- the form of an opcode after CBh
 unfoldable pub bit_form_of : ℕ → BitForm
 bit_form_of opcode =
     let x = opcode / 64 in
@@ -44,11 +44,11 @@ bit_form_of opcode =
     else (if x == 2 then Change (Reset (2 ^ y))
     else (Change (Set (2 ^ y)))))
 
--- the form of an opcode behind DDh CBh or FDh CBh: of those that name (HL) all but SLL
+-- the form of an opcode after DDh CBh or FDh CBh: of those that name (HL) all but SLL
 unfoldable pub indexed_bit_form_of : ℕ → Option BitForm
 indexed_bit_form_of opcode = if opcode % 8 == 6 && not (opcode == 0x36) then Some (bit_form_of opcode) else None
 
--- behind EDh, x = 1: columns z = 5, 6 and 7
+-- after EDh, x = 1: columns z = 5, 6 and 7
 abbrev pub interrupt_returns : ℕ → Option ExtendedForm
 interrupt_returns y =
     if y == 0 then Some extended.ReturnNonmaskable else (if y == 1 then Some extended.ReturnInterrupt else None)
@@ -68,7 +68,7 @@ loads_and_digits y =
     else (if y == 4 then Some extended.RotateRight
     else (if y == 5 then Some extended.RotateLeft else None)))))
 
--- behind EDh, x = 1; there is no IN (HL),(C) and no OUT (C),(HL)
+-- after EDh, x = 1; there is no IN (HL),(C) and no OUT (C),(HL)
 unfoldable pub second_quarter : ℕ → ℕ → Option ExtendedForm
 second_quarter y z =
     if z == 0 then (if y == 6 then None else (Some (extended.Input (operand_of y))))
@@ -90,14 +90,14 @@ transfer_of z =
     else (if z == 2 then transfer.Input
     else transfer.Output))
 
--- behind EDh, x = 2: y = 4, 5, 6, 7 are a step up, a step down, a repeat up, a repeat down
+-- after EDh, x = 2: y = 4, 5, 6, 7 are a step up, a step down, a repeat up, a repeat down
 unfoldable pub third_quarter : ℕ → ℕ → Option ExtendedForm
 third_quarter y z =
     if nat_lt y 4 then None
     else (if nat_lt 3 z then None
     else (Some (extended.Block (transfer_of z) (if y % 2 == 0 then Up else Down) (nat_le 6 y))))
 
--- the form of an opcode behind EDh
+-- the form of an opcode after EDh
 unfoldable pub extended_form_of : ℕ → Option ExtendedForm
 extended_form_of opcode =
     let x = opcode / 64 in
@@ -139,6 +139,6 @@ abbrev pub indexed_where : Option Form → Option IndexForm
 indexed_where None = None
 indexed_where (Some form) = indexed form
 
--- the form of an opcode behind DDh or FDh
+-- the form of an opcode after DDh or FDh
 unfoldable pub index_form_of : ℕ → Option IndexForm
 index_form_of opcode = indexed_where (form_of opcode)

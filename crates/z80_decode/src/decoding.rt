@@ -13,7 +13,7 @@ use crate::page_forms::{ExtendedForm, IndexForm};
 use crate::page_opcodes::{extended_form, index_form, indexed_bit_form};
 use z80_regs::Bus;
 
-/// What stands behind the opcode in a form.
+/// What follows the opcode in a form.
 #[inline(always)]
 fn tail(form: Form) -> Tail
     ensures { result ≡ tail_of form }
@@ -27,7 +27,7 @@ fn tail(form: Form) -> Tail
     }
 }
 
-/// What stands behind the opcode in a form behind EDh.
+/// What follows the opcode in a form after EDh.
 #[inline]
 pub fn extended_tail(form: ExtendedForm) -> Tail
     ensures { result ≡ extended_tail_of form }
@@ -38,7 +38,7 @@ pub fn extended_tail(form: ExtendedForm) -> Tail
     }
 }
 
-/// What stands behind the opcode in a form behind DDh and FDh.
+/// What follows the opcode in a form after DDh and FDh.
 #[inline]
 fn index_tail(form: IndexForm) -> Tail
     ensures { result ≡ index_tail_of form }
@@ -55,7 +55,7 @@ fn index_tail(form: IndexForm) -> Tail
     }
 }
 
-/// The instruction of a page whose opcode is its byte of a number, from 1, and of the two bytes behind the opcode.
+/// The instruction of a page whose opcode is its byte of a number, from 1, and of the two bytes after the opcode.
 #[inline(always)]
 fn assemble(tail: Tail, page: Page, place: u8, opcode: u8, first: u8, second: u8) -> Instr
     requires { place < 254 }
@@ -77,7 +77,7 @@ fn assemble(tail: Tail, page: Page, place: u8, opcode: u8, first: u8, second: u8
     }
 }
 
-/// How many bytes an instruction without prefix has: its opcode, and what stands behind it.
+/// How many bytes an instruction without prefix has: its opcode, and what follows it.
 #[inline(always)]
 pub fn main_length(form: Form) -> u8
     ensures { (opcode first second : ℕ) → result ≡ (instr_with (tail_of form) Page.Main 1 opcode first second).length }
@@ -89,7 +89,7 @@ pub fn main_length(form: Form) -> u8
     }
 }
 
-/// How many bytes an instruction of a form behind DDh or FDh has, by itself: whatever its page and its bytes are.
+/// How many bytes an instruction of a form after DDh or FDh has, by itself: whatever its page and its bytes are.
 #[inline(always)]
 pub fn index_length(form: IndexForm) -> u8
     ensures { (page : Page) (opcode first second : ℕ) → result ≡ (instr_with (index_tail_of form) page 2 opcode first second).length }
@@ -101,7 +101,7 @@ pub fn index_length(form: IndexForm) -> u8
     }
 }
 
-/// The instruction of a page at an address, whose opcode is its byte of a number, from 1, and is read: of the bytes behind
+/// The instruction of a page at an address, whose opcode is its byte of a number, from 1, and is read: of the bytes after
 /// it only those that belong to the instruction are.
 #[inline(always)]
 pub fn read_instr<B: Bus>(
@@ -130,14 +130,14 @@ pub fn read_instr<B: Bus>(
     }
 }
 
-/// The instruction behind CBh.
+/// The instruction after CBh.
 fn decode_bits(opcode: u8) -> Instr
     ensures { result ≡ bit_instr_of opcode }
 {
     assemble(Tail::Nothing, Page::Cb, 2, opcode, 0, 0)
 }
 
-/// The instruction behind EDh.
+/// The instruction after EDh.
 fn decode_extended(opcode: u8, first: u8, second: u8) -> Option<Instr>
     ensures { result ≡ extended_instr_by (extended_form_of opcode) opcode first second }
 {
@@ -147,7 +147,7 @@ fn decode_extended(opcode: u8, first: u8, second: u8) -> Option<Instr>
     }
 }
 
-/// The instruction behind DDh CBh or FDh CBh: the displacement, then the opcode.
+/// The instruction after DDh CBh or FDh CBh: the displacement, then the opcode.
 fn decode_index_bits(page: Page, displacement: u8, opcode: u8) -> Option<Instr>
     ensures { result ≡ index_bit_instr_by (indexed_bit_form_of opcode) page displacement opcode }
 {
@@ -163,7 +163,7 @@ fn decode_index_bits(page: Page, displacement: u8, opcode: u8) -> Option<Instr>
     }
 }
 
-/// The instruction behind DDh or FDh, by its page and the page that a CBh opens.
+/// The instruction after DDh or FDh, by its page and the page that a CBh opens.
 #[tactic(auto, unfolding(crate::specs::Decoding::index_instr_of))]
 fn decode_index(page: Page, bits: Page, second: u8, third: u8, fourth: u8) -> Option<Instr>
     ensures { result ≡ index_instr_of page bits second third fourth }
@@ -177,7 +177,7 @@ fn decode_index(page: Page, bits: Page, second: u8, third: u8, fourth: u8) -> Op
     }
 }
 
-/// The instruction behind the prefixes CBh, EDh, DDh and FDh, or None where it isn't listed. The first byte is a prefix.
+/// The instruction after the prefixes CBh, EDh, DDh and FDh, or None where it isn't listed. The first byte is a prefix.
 #[tactic(auto, unfolding(crate::specs::Decoding::prefixed_instr_of))]
 fn decode_prefixed(first: u8, second: u8, third: u8, fourth: u8) -> Option<Instr>
     ensures { result ≡ prefixed_instr_of (first ∷ second ∷ third ∷ fourth ∷ []) }
@@ -200,7 +200,7 @@ fn decode_main(opcode: u8, first: u8, second: u8) -> Option<Instr>
     }
 }
 
-/// The instruction that some bytes begin with: those at PC and the three behind it. None where they begin with no
+/// The instruction that some bytes begin with: those at PC and the three after it. None where they begin with no
 /// listed instruction.
 #[tactic(auto, using(crate::proofs::Listed::decoded), unfolding(crate::specs::Decoding::instr_of, crate::specs::Decoding::main_instr_of))]
 pub fn decode(bytes: [u8; 4]) -> Option<Instr>

@@ -160,7 +160,7 @@ pub enum Form {
     Restart(u8),
 }
 
-/// What stands behind the opcode of an instruction.
+/// What follows the opcode of an instruction.
 #[derive(Clone, Copy)]
 pub enum Tail {
     Nothing,

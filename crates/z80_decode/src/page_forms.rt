@@ -25,7 +25,7 @@ pub enum BitChange {
     Set(u8),
 }
 
-/// The forms of the instructions behind CBh, DDh CBh and FDh CBh (UM0080, "Rotate and Shift Group", "Bit Set, Reset,
+/// The forms of the instructions after CBh, DDh CBh and FDh CBh (UM0080, "Rotate and Shift Group", "Bit Set, Reset,
 /// and Test Group").
 #[derive(Clone, Copy)]
 pub enum BitForm {
@@ -50,7 +50,7 @@ pub enum Direction {
     Down,
 }
 
-/// The forms of the instructions behind EDh (UM0080, "Z80 Instruction Description").
+/// The forms of the instructions after EDh (UM0080, "Z80 Instruction Description").
 #[derive(Clone, Copy)]
 pub enum ExtendedForm {
     /// IN r,(C).
@@ -89,7 +89,7 @@ pub enum ExtendedForm {
     Block(Transfer, Direction, bool),
 }
 
-/// The forms of the instructions behind DDh and FDh, in which IX or IY stands for HL (UM0080, "Z80 Instruction
+/// The forms of the instructions after DDh and FDh, in which IX or IY stands for HL (UM0080, "Z80 Instruction
 /// Description"). An operand H or L is the high or low half of that register, IXH or IXL, which is undocumented, and
 /// (HL) is (IX+d).
 #[derive(Clone, Copy)]

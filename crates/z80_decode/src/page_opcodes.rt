@@ -41,7 +41,7 @@ fn weight_at(y: u8) -> u8
     1 << y
 }
 
-/// The form of an opcode behind CBh: each has one.
+/// The form of an opcode after CBh: each has one.
 #[inline(always)]
 #[tactic(auto, unfolding(crate::specs::PageOpcodes::bit_form_of))]
 pub fn bit_form(opcode: u8) -> BitForm
@@ -56,7 +56,7 @@ pub fn bit_form(opcode: u8) -> BitForm
     }
 }
 
-/// The form of an opcode behind DDh CBh or FDh CBh, or None where it doesn't name (HL), and at 36h: SLL (IX+d) isn't
+/// The form of an opcode after DDh CBh or FDh CBh, or None where it doesn't name (HL), and at 36h: SLL (IX+d) isn't
 /// listed.
 #[inline(always)]
 #[tactic(auto, unfolding(crate::specs::PageOpcodes::indexed_bit_form_of))]
@@ -70,7 +70,7 @@ pub fn indexed_bit_form(opcode: u8) -> Option<BitForm>
     }
 }
 
-/// The form of an opcode behind EDh, or None where it isn't listed: a row for each, so that the `match` becomes one jump or
+/// The form of an opcode after EDh, or None where it isn't listed: a row for each, so that the `match` becomes one jump or
 /// a table.
 #[inline(always)]
 #[tactic(auto, unfolding(crate::specs::PageOpcodes::extended_form_of, crate::specs::PageOpcodes::second_quarter, crate::specs::PageOpcodes::third_quarter, crate::specs::PageOpcodes::transfer_of, crate::specs::Fields::pair_of, crate::specs::Fields::operand_of))]
@@ -183,7 +183,7 @@ fn index_form_from(form: Form) -> Option<IndexForm>
     }
 }
 
-/// The form of an opcode behind DDh or FDh, or None where it isn't listed.
+/// The form of an opcode after DDh or FDh, or None where it isn't listed.
 #[inline(always)]
 #[tactic(auto, unfolding(crate::specs::PageOpcodes::index_form_of))]
 pub fn index_form(opcode: u8) -> Option<IndexForm>

@@ -51,7 +51,7 @@ word_fits address word small other = search (rules, common_steps)
 pub top_fits : (word : ℕ) (regs : Regs) → RegistersFit regs → word < 65536 → All ActionFits (top_replaced word regs)
 top_fits word regs fit small = search (rules, common_steps)
 
--- the registers once PC is behind the instruction
+-- the registers once PC is past the instruction
 pub behind_fits : (length : ℕ) (regs : Regs) → RegistersFit regs → RegistersFit (behind length regs)
 behind_fits length regs fit = search (arith, rules)
 

@@ -1,4 +1,4 @@
--- Jumps, calls and returns; PC is behind the instruction. (UM0080, "Jump Group", "Call and Return Group".)
+-- Jumps, calls and returns; PC stands after the instruction. (UM0080, "Jump Group", "Call and Return Group".)
 use Rattle.std.specs.Prelude.{ℕ, ◌+◌, ◌-◌, ◌%◌, ◌==◌, Bool, true, false, not, nat_lt, if◌then◌else◌}
 use Rattle.z80_regs.specs.Words.{onward, back, word_from}
 use Rattle.z80_regs.specs.Outcome.{Outcome}

@@ -1,4 +1,4 @@
--- What the instructions without prefix do, PC being behind them: every byte is read from memory and ports as they stand
+-- What the instructions without prefix do, with PC after them: every byte is read from memory and ports as they stand
 -- before. (UM0080, "Z80 Instruction Description".)
 use Rattle.std.specs.Prelude.{ℕ, Bool, Option, None, Some, true, false}
 use Rattle.z80_regs.specs.Words.{onward, back, low, word_from}
@@ -84,7 +84,7 @@ performed (ReturnIf condition) instr regs memory ports =
 performed Input instr regs memory ports = a_input (number instr) regs ports
 performed Output instr regs memory ports = quiet regs
 
--- an instruction by its form: PC goes behind it first; where there is no form nothing changes
+-- an instruction by its form: PC goes past it first; where there is no form nothing changes
 abbrev pub outcome_by : Option Form → Instr → Regs → (ℕ → ℕ) → (ℕ → ℕ) → Outcome
 outcome_by None instr regs memory ports = quiet regs
 outcome_by (Some form) instr regs memory ports = performed form instr (behind instr.length regs) memory ports
@@ -93,7 +93,7 @@ outcome_by (Some form) instr regs memory ports = performed form instr (behind in
 unfoldable pub main_outcome : Instr → Regs → (ℕ → ℕ) → (ℕ → ℕ) → Outcome
 main_outcome instr regs memory ports = outcome_by (form_of instr.opcode) instr regs memory ports
 
--- the same of a form, by the opcode and the two bytes behind it
+-- the same of a form, by the opcode and the two bytes after it
 abbrev pub next_with : Form → ℕ → ℕ → ℕ → Regs → (ℕ → ℕ) → (ℕ → ℕ) → Outcome
 next_with form opcode first second regs memory ports =
     let instr = instr_with (tail_of form) Main 1 opcode first second in

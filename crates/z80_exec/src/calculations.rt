@@ -37,7 +37,8 @@ pub fn calculate(math: Math, byte: u8, regs: &mut Regs)
     regs.f = flags;
 }
 
-/// The same with an operand. Each row reads it by itself, so that it is known where a step has jumped by its opcode.
+/// ADD, ADC, SUB, SBC, AND, XOR, OR and CP of A and an operand. Each row reads it by itself, so that it is known where a step has jumped by
+/// its opcode.
 #[inline(always)]
 pub fn calculate_operand<B: Bus>(math: Math, from: Operand, regs: &mut Regs, bus: &B)
     ensures { regs.new ≡ calculated math (operand_byte from regs.old (B.byte bus.now)) regs.old }

@@ -17,7 +17,7 @@ use crate::source::{Fetched, Source};
 use z80_decode::{Form, Instr, Page, Pair, main_form, main_length};
 use z80_regs::{Bus, Regs};
 
-/// Acts as a form's instruction, which PC is behind.
+/// Acts as a form's instruction, which PC is past.
 #[inline(always)]
 #[tactic(auto, unfolding(crate::specs::Performing::performed, z80_regs::specs::Outcome::Leaves))]
 fn perform<S: Source, B: Bus>(form: Form, source: &S, regs: &mut Regs, bus: &mut B)
@@ -79,7 +79,7 @@ fn perform<S: Source, B: Bus>(form: Form, source: &S, regs: &mut Regs, bus: &mut
     }
 }
 
-/// Acts as an instruction without prefix: PC goes behind it, and what it does is done. Where its opcode is a prefix
+/// Acts as an instruction without prefix: PC goes past it, and what it does is done. Where its opcode is a prefix
 /// nothing changes. (UM0080, "Z80 Instruction Description".)
 #[inline(always)]
 #[tactic(auto, unfolding(crate::specs::Performing::main_outcome, z80_regs::specs::Outcome::Leaves))]
@@ -109,7 +109,7 @@ fn is_plain_form(form: Form) -> bool
     }
 }
 
-/// Acts as the instruction of a form whose opcode and the two bytes behind it were fetched at PC, where it is plain. Where it is
+/// Acts as the instruction of a form whose opcode and the two bytes after it were fetched at PC, where it is plain. Where it is
 /// HALT or EI the answer is false, and nothing changes. (UM0080, "Z80 Instruction Description".)
 #[inline(always)]
 #[tactic(auto, unfolding(z80_regs::specs::Outcome::Leaves))]

@@ -4,7 +4,7 @@ ghost use Rattle.z80_exec.specs.Performing.{number};
 
 use z80_decode::{Form, Instr, Tail};
 
-/// Where what stands behind an opcode without prefix comes from: the instruction as it was decoded, or the bytes as they were
+/// Where what follows an opcode without prefix comes from: the instruction as it was decoded, or the bytes as they were
 /// fetched.
 pub trait Source {
     ghost use Rattle.z80_decode.specs.declared.forms.Form.{Form};
@@ -48,7 +48,7 @@ impl Source for Instr {
     }
 }
 
-/// An opcode, and the two bytes behind it, whichever of them belong to its instruction. They are fetched together, so that one
+/// An opcode, and the two bytes after it, whichever of them belong to its instruction. They are fetched together, so that one
 /// look tells where all of them lie.
 #[derive(Clone, Copy)]
 pub struct Fetched {

@@ -44,7 +44,7 @@ pub unbegun_runs : (regs : Regs) (memory ports : ℕ → ℕ) → is_plain_at re
     → (unbegun regs memory ports).registers.halted ≡ regs.halted
 unbegun_runs regs memory ports plain = ap (λ (o : Outcome). o.registers.halted) (stays regs memory ports plain)
 
--- other beginnings before it are other beginnings behind it
+-- other beginnings before it are other beginnings after it
 begins_behind : (n : ℕ) (regs : Regs) (memory ports : ℕ → ℕ) → is_plain_at regs memory ≡ true
     → unbegun_of (instr_of (four_from memory regs.pc)) (begun_times n regs) memory ports
     ≡ record (unbegun regs memory ports) { registers = begun_times n (unbegun regs memory ports).registers }
@@ -61,7 +61,7 @@ begins : (instr : Option Instr) (regs : Regs) (memory ports : ℕ → ℕ) → i
 begins None regs memory ports plain = absurd (cc)
 begins (Some instr) regs memory ports plain = refl
 
--- a plain instruction behind n others, of all of which the beginnings are put off
+-- a plain instruction after n others, of all of which the beginnings are put off
 pub unbegun_is : (n : ℕ) (regs : Regs) (memory ports : ℕ → ℕ) → regs.halted ≡ false → is_plain_at regs memory ≡ true
     → instruction (begun_times n regs) memory ports
     ≡ Some (record (unbegun regs memory ports) { registers = begun_times (n + 1) (unbegun regs memory ports).registers })

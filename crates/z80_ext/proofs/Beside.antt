@@ -1,4 +1,4 @@
--- A plain instruction behind a prefix looks at neither R, the shadow of an EI nor a HALT, and leaves them as they are, as a
+-- A plain instruction after a prefix looks at neither R, the shadow of an EI nor a HALT, and leaves them as they are, as a
 -- plain one without prefix does.
 use Rattle.std.proofs.Common.{◌≡◌, ◌∙◌, ◌%◌, ℕ, Bool, true, Option, None, Some, refl, ap}
 use Rattle.z80_regs.specs.Words.{word_from}
@@ -108,7 +108,7 @@ address_beside : (index : IndexRegister) (instr : Instr) (x : ℕ) (s h : Bool) 
 address_beside Ix instr x s h regs = refl
 address_beside Iy instr x s h regs = refl
 
--- the instructions behind DDh and FDh, form by form
+-- the instructions after DDh and FDh, form by form
 performed_beside : (form : IndexForm) (index : IndexRegister) (instr : Instr) (x : ℕ) (s h : Bool) (regs : Regs) (memory : ℕ → ℕ)
     → index_performed form index instr (beside x s h regs) memory ≡ outcome_beside x s h (index_performed form index instr regs memory)
 unfolding index_performed
@@ -185,7 +185,7 @@ index_bits_beside : (index : IndexRegister) (instr : Instr) (x : ℕ) (s h : Boo
 unfolding index_bits_outcome
 index_bits_beside index instr x s h regs memory = index_bits_by_beside (indexed_bit_form_of instr.opcode) index instr x s h regs memory
 
--- the instructions of a pair behind EDh
+-- the instructions of a pair after EDh
 
 carried_beside : (p : Pair) (x : ℕ) (s h : Bool) (regs : Regs) → quiet (pair_added_with_carry p (beside x s h regs)) ≡ outcome_beside x s h (quiet (pair_added_with_carry p regs))
 carried_beside pair.BC x s h regs = refl

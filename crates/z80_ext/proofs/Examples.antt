@@ -86,7 +86,7 @@ pub bit_tested_indexed : (regs : Regs) (memory ports : ℕ → ℕ) → regs.hal
 unfolding instruction instr_of main_instr_of form_of high_quarter prefixed_instr_of index_instr_of bit_form_of indexed_bit_form_of index_bits_outcome
 bit_tested_indexed regs memory ports runs at iy prefix bits displacement opcode byte = search (rules, common_steps)
 
--- LDIR at 0100h with 0001h in BC is the last step: PC goes behind it
+-- LDIR at 0100h with 0001h in BC is the last step: PC goes past it
 pub load_ended : (regs : Regs) (memory ports : ℕ → ℕ) → regs.halted ≡ false → regs.pc ≡ 256 →
     regs.b ≡ 0 → regs.c ≡ 1 → regs.d ≡ 2 → regs.e ≡ 0 → regs.h ≡ 3 → regs.l ≡ 255 →
     memory 256 ≡ 237 → memory 257 ≡ 176 → memory 1023 ≡ 17 →
@@ -107,7 +107,7 @@ pub interrupts_enabled : (regs : Regs) (memory ports : ℕ → ℕ) → regs.hal
 unfolding instruction instr_of main_instr_of form_of high_quarter main_outcome performed
 interrupts_enabled regs memory ports runs opcode = search (rules, common_steps)
 
--- HALT ends the shadow, and stands behind itself
+-- HALT ends the shadow, and PC stands after it
 pub halt_begins : (regs : Regs) (memory ports : ℕ → ℕ) → regs.halted ≡ false → memory regs.pc ≡ 118 →
     instruction regs memory ports ≡ Some (record {
       registers = record (begun regs) { pc = onward regs.pc 1; halted = true };

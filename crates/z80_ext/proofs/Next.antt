@@ -44,7 +44,7 @@ pub bits_page_plain : (index : IndexRegister) (opcode : ℕ) → is_plain_on (bi
 bits_page_plain Ix opcode = refl
 bits_page_plain Iy opcode = refl
 
--- an instruction behind DDh CBh or FDh CBh, by its form
+-- an instruction after DDh CBh or FDh CBh, by its form
 pub bits_plain : (index : IndexRegister) (displacement byte : ℕ) (form : Option BitForm) → indexed_bit_form_of byte ≡ form
     → is_some form ≡ is_plain_instr (index_bit_instr_by (indexed_bit_form_of byte) (bits_page_of index) displacement byte)
 bits_plain index displacement byte None is = sym (ap (λ f. is_plain_instr (index_bit_instr_by f (bits_page_of index) displacement byte)) is)
@@ -68,7 +68,7 @@ bits_done index form displacement byte address regs memory ports is at =
     ∙ index_bits_page index instr regs memory ports
     ∙ ap (λ f. index_bits_by f index instr regs memory) is)
 
--- whether an instruction is plain, whatever stands behind its opcode
+-- whether an instruction is plain, whatever follows its opcode
 pub tail_plain : (tail : Tail) (page : Page) (place opcode first second : ℕ) →
     is_plain_instr (Some (instr_with tail page place opcode first second)) ≡ is_plain_on page opcode
 tail_plain Nothing page place opcode first second = refl
@@ -77,7 +77,7 @@ tail_plain Word page place opcode first second = refl
 tail_plain Displacement page place opcode first second = refl
 tail_plain DisplacementByte page place opcode first second = refl
 
--- an instruction without prefix, by what stands behind its opcode
+-- an instruction without prefix, by what follows its opcode
 by_tail : (tail : Tail) (form : Form) (opcode first second : ℕ) (regs : Regs) (memory ports : ℕ → ℕ) →
     form_of opcode ≡ Some form →
     let instr = instr_with tail Main 1 opcode first second in

@@ -1,4 +1,4 @@
--- What the instructions behind the prefixes do to a bus has its width, where the registers, the operand and what is read
+-- What the instructions after the prefixes do to a bus has its width, where the registers, the operand and what is read
 -- have theirs.
 use Rattle.std.proofs.Common.{ℕ, ◌<◌, ◌-◌, ◌/◌, ◌%◌, ◌==◌, Option, None, Some, Bool, true, false, rules, arith}
 use Rattle.std.specs.Prelude.{All, if◌then◌else◌, nat_lt, not, ◌&&◌}
@@ -101,7 +101,7 @@ memory_bits_fit (Change change) address byte regs near weighs small =
     stored_fits address (changed_byte change byte regs.f) (bits_changed change byte regs) near
     (changed_fits change byte regs.f weighs small)
 
--- behind CBh
+-- after CBh
 pub bits_fit : (instr : Instr) (regs : Regs) (memory : ℕ → ℕ) → RegistersFit regs → ReadsBytes 65536 memory →
     All ActionFits (bits_outcome instr regs memory).actions
 unfolding bits_outcome
@@ -128,7 +128,7 @@ block_fits transfer.Input direction repeats regs memory ports fit reads takes =
     (stored_fits (hl_of regs) (ports regs.c) regs (hl_fits regs fit) (takes regs.c fit.c))
 block_fits transfer.Output direction repeats regs memory ports fit reads takes = All-nil ActionFits
 
--- behind EDh
+-- after EDh
 extended_performed_fits : (form : ExtendedForm) (instr : Instr) (regs : Regs) (memory ports : ℕ → ℕ) →
     RegistersFit regs → instr.operand < 65536 → ReadsBytes 65536 memory → ReadsBytes 256 ports →
     All ActionFits (extended_performed form instr regs memory ports).actions
@@ -207,7 +207,7 @@ index_set_fits register operand.L address byte regs near small = All-nil ActionF
 index_set_fits register operand.Memory address byte regs near small = stored_fits address byte regs near small
 index_set_fits register operand.A address byte regs near small = All-nil ActionFits
 
--- behind DDh and FDh
+-- after DDh and FDh
 index_performed_fits : (form : IndexForm) (register : IndexRegister) (instr : Instr) (regs : Regs) (memory : ℕ → ℕ) →
     RegistersFit regs → instr.operand < 65536 → ReadsBytes 65536 memory →
     All ActionFits (index_performed form register instr regs memory).actions
@@ -259,7 +259,7 @@ unfolding index_outcome
 index_fits register instr regs memory fit small reads =
     index_by_fits (index_form_of instr.opcode) register instr regs memory fit small reads
 
--- behind DDh CBh and FDh CBh
+-- after DDh CBh and FDh CBh
 abbrev IndexedBitFormFits : Option BitForm → Type 0
 IndexedBitFormFits None = Unit
 IndexedBitFormFits (Some form) = BitFormFits form

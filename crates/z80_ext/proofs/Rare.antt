@@ -1,4 +1,4 @@
--- Steps of what isn't plain: in a HALT, of HALT and EI, behind EDh, and where nothing is listed; and what stands behind a prefix.
+-- Steps of what isn't plain: in a HALT, of HALT and EI, after EDh, and where nothing is listed; and what follows a prefix.
 use Rattle.std.proofs.Common.{◌≡◌, ◌∙◌, ℕ, ◌<◌, Bool, true, false, ◌||◌, ◌&&◌, ◌==◌, List, [], ◌∷◌, Option, None, Some, is_some, get_or, map, if◌then◌else◌, refl, ap, sym, subst, arith}
 use Rattle.std.specs.Prelude.{IsNone}
 use Rattle.std.specs.List.{range_with_len}
@@ -70,7 +70,7 @@ unfolding instruction
 rests_at regs memory ports halted =
     ap (λ halted. if halted then Some (quiet (risen regs)) else (outcome_of (instr_of (four_from memory regs.pc)) regs memory ports)) halted
 
--- the instruction behind a prefix at PC
+-- the instruction after a prefix at PC
 
 pub bits_is : (regs : Regs) (memory : ℕ → ℕ) → memory regs.pc ≡ 203 → instr_of (four_from memory regs.pc) ≡ Some (bit_instr_of (memory (onward regs.pc 1)))
 unfolding instr_of main_instr_of form_of high_quarter prefixed_instr_of
@@ -149,7 +149,7 @@ prefix_rare regs memory small none index bits extended =
       by_form None false false true d none no_bits no_index no_extended any = cc no_index
       by_form None false false false true none no_bits no_index no_extended any = cc no_extended
 
--- what stands behind DDh or FDh and isn't plain isn't listed
+-- what follows DDh or FDh and isn't plain isn't listed
 
 bits_unlisted : (form : Option BitForm) (bits : Page) (third fourth : ℕ) → is_plain_on bits fourth ≡ true
     → is_plain_instr (index_bit_instr_by form bits third fourth) ≡ false → index_bit_instr_by form bits third fourth ≡ None

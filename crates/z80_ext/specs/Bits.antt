@@ -64,7 +64,7 @@ memory_bits (Test weight) address byte regs = quiet (bit_tested weight byte regs
 memory_bits (Change change) address byte regs =
     stored address (changed_byte change byte regs.f) (bits_changed change byte regs)
 
--- an instruction behind CBh
+-- an instruction after CBh
 unfoldable pub bits_outcome : Instr → Regs → (ℕ → ℕ) → Outcome
 bits_outcome instr regs memory =
     let operand = operand_of (instr.opcode % 8) in

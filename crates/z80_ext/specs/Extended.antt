@@ -1,4 +1,4 @@
--- What the instructions behind EDh do. (UM0080, "8-Bit Load Group", "16-Bit Load Group", "16-Bit Arithmetic Group",
+-- What the instructions after EDh do. (UM0080, "8-Bit Load Group", "16-Bit Load Group", "16-Bit Arithmetic Group",
 -- "Rotate and Shift Group", "Call and Return Group", "Input and Output Group".)
 use Rattle.std.specs.Prelude.{ℕ, ◌+◌, ◌*◌, ◌/◌, ◌%◌, false, Option, None, Some}
 use Rattle.z80_regs.specs.Outcome.{Outcome}
@@ -94,6 +94,6 @@ extended_by None instr regs memory ports = quiet regs
 extended_by (Some form) instr regs memory ports =
     extended_performed form instr (behind instr.length regs) memory ports
 
--- an instruction behind EDh
+-- an instruction after EDh
 unfoldable pub extended_outcome : Instr → Regs → (ℕ → ℕ) → (ℕ → ℕ) → Outcome
 extended_outcome instr regs memory ports = extended_by (extended_form_of instr.opcode) instr regs memory ports

@@ -1,4 +1,4 @@
--- What the instructions behind DDh and FDh do: IX or IY stands for HL, its halves for H and L, and (IX+d) or (IY+d) for
+-- What the instructions after DDh and FDh do: IX or IY stands for HL, its halves for H and L, and (IX+d) or (IY+d) for
 -- (HL). (UM0080, "Z80 Instruction Description", "Indexed Addressing"; for the halves "The Undocumented Z80 Documented".)
 use Rattle.std.specs.Prelude.{ℕ, ◌==◌, if◌then◌else◌, false, Option, None, Some}
 use Rattle.z80_regs.specs.Words.{onward, back, word_of, low, high, word_from}
@@ -27,16 +27,16 @@ use Rattle.z80_ext.specs.declared.index.IndexRegister.{IndexRegister}
 use Rattle.z80_ext.specs.declared.index.IndexRegister.TheVariants.{Ix, Iy}
 use Rattle.z80_ext.specs.Bits.{memory_bits}
 
--- the register that stands for HL behind DDh or FDh
+-- the register that stands for HL after DDh or FDh
 abbrev pub index_behind : ℕ → IndexRegister
 index_behind prefix = if prefix == 253 then Iy else Ix
 
--- the page behind its prefix, DDh or FDh
+-- the page after its prefix, DDh or FDh
 abbrev pub page_of : IndexRegister → Page
 page_of Ix = page.Ix
 page_of Iy = page.Iy
 
--- the page behind DDh CBh or FDh CBh
+-- the page after DDh CBh or FDh CBh
 abbrev pub bits_page_of : IndexRegister → Page
 bits_page_of Ix = page.IxCb
 bits_page_of Iy = page.IyCb
@@ -149,17 +149,17 @@ abbrev pub index_by : Option IndexForm → IndexRegister → Instr → Regs → 
 index_by None index instr regs memory = quiet regs
 index_by (Some form) index instr regs memory = index_performed form index instr (behind instr.length regs) memory
 
--- an instruction behind DDh or FDh
+-- an instruction after DDh or FDh
 unfoldable pub index_outcome : IndexRegister → Instr → Regs → (ℕ → ℕ) → Outcome
 index_outcome index instr regs memory = index_by (index_form_of instr.opcode) index instr regs memory
 
--- an instruction behind DDh CBh or FDh CBh by its form
+-- an instruction after DDh CBh or FDh CBh by its form
 abbrev pub index_bits_by : Option BitForm → IndexRegister → Instr → Regs → (ℕ → ℕ) → Outcome
 index_bits_by None index instr regs memory = quiet regs
 index_bits_by (Some form) index instr regs memory =
     let address = indexed_address index instr regs in
     memory_bits form address (memory address) (behind instr.length regs)
 
--- an instruction behind DDh CBh or FDh CBh
+-- an instruction after DDh CBh or FDh CBh
 unfoldable pub index_bits_outcome : IndexRegister → Instr → Regs → (ℕ → ℕ) → Outcome
 index_bits_outcome index instr regs memory = index_bits_by (indexed_bit_form_of instr.opcode) index instr regs memory

@@ -71,7 +71,7 @@ unbegun_of (Some instr) regs memory ports = page_outcome instr.page instr regs m
 abbrev pub unbegun : Regs → (ℕ → ℕ) → (ℕ → ℕ) → Outcome
 unbegun regs memory ports = unbegun_of (instr_of (four_from memory regs.pc)) regs memory ports
 
--- behind EDh, ADC HL,ss, SBC HL,ss, LD (nn),dd and LD dd,(nn)
+-- after EDh, ADC HL,ss, SBC HL,ss, LD (nn),dd and LD dd,(nn)
 abbrev pub is_of_pair : Option ExtendedForm → Bool
 is_of_pair (Some (AddPair pair)) = true
 is_of_pair (Some (SubtractPair pair)) = true
@@ -79,7 +79,7 @@ is_of_pair (Some (StorePair pair)) = true
 is_of_pair (Some (LoadPair pair)) = true
 is_of_pair other = false
 
--- an opcode of a page is plain: neither HALT nor EI, and of a pair behind EDh
+-- an opcode of a page is plain: neither HALT nor EI, and of a pair after EDh
 abbrev pub is_plain_on : Page → ℕ → Bool
 is_plain_on Main opcode = is_plain (form_of opcode)
 is_plain_on Ed opcode = is_of_pair (extended_form_of opcode)

@@ -124,7 +124,7 @@ fn rotate_operand<B: Bus>(shift: Shift, at: Operand, regs: &mut Regs, bus: &mut 
     }
 }
 
-/// The same of the byte at an address.
+/// A rotation or a shift of the byte at an address.
 #[inline(always)]
 #[tactic(auto, unfolding(z80_regs::specs::Outcome::Leaves))]
 fn rotate_memory<B: Bus>(shift: Shift, address: u16, regs: &mut Regs, bus: &mut B)
@@ -218,7 +218,7 @@ pub fn act_on_memory<B: Bus>(form: BitForm, address: u16, regs: &mut Regs, bus: 
     }
 }
 
-/// What an instruction behind CBh does, but for how it begins. (UM0080, "Rotate and Shift Group", "Bit Set, Reset, and Test
+/// What an instruction after CBh does, but for how it begins. (UM0080, "Rotate and Shift Group", "Bit Set, Reset, and Test
 /// Group".)
 #[inline(always)]
 #[tactic(auto, unfolding(crate::specs::Bits::bits_outcome, z80_regs::specs::Outcome::Leaves))]

@@ -123,7 +123,7 @@ fn step_port(direction: Direction, regs: &mut Regs)
     regs.f = z80_alu::block_port_flags(regs.b == 0, regs.f);
 }
 
-/// The same, repeated while B isn't 0.
+/// The registers after a step of IN or OUT that is repeated while B isn't 0, or isn't repeated.
 fn repeat_port(direction: Direction, repeats: bool, regs: &mut Regs)
     ensures { regs.new ≡ port_repeated direction repeats regs.old }
 {
@@ -143,7 +143,7 @@ fn input_block<B: Bus>(direction: Direction, repeats: bool, regs: &mut Regs, bus
     repeat_port(direction, repeats, regs);
 }
 
-/// One step of a block instruction, which PC is behind.
+/// One step of a block instruction, which PC is past.
 #[tactic(auto, unfolding(z80_regs::specs::Outcome::Leaves))]
 pub fn transfer<B: Bus>(
     kind: Transfer,

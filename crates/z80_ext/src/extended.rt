@@ -116,8 +116,8 @@ fn output_operand<B: Bus>(from: Operand, regs: &Regs, bus: &mut B)
     bus.output(regs.c, value);
 }
 
-/// What ADC HL,ss, SBC HL,ss, LD (nn),dd and LD dd,(nn) do, but for how they begin. The byte behind the opcode is known, the
-/// last is read where it belongs to the instruction. False comes of all else behind EDh, and then nothing changes. (UM0080,
+/// What ADC HL,ss, SBC HL,ss, LD (nn),dd and LD dd,(nn) do, but for how they begin. The byte after the opcode is known, the
+/// last is read where it belongs to the instruction. False comes of all else after EDh, and then nothing changes. (UM0080,
 /// "16-Bit Arithmetic Group", "16-Bit Load Group".)
 #[inline]
 #[tactic(auto, unfolding(crate::specs::Extended::extended_performed, crate::specs::Extended::extended_outcome, z80_regs::specs::Outcome::Leaves))]
@@ -155,7 +155,7 @@ pub fn step_pair<B: Bus>(opcode: u8, third: u8, regs: &mut Regs, bus: &mut B) ->
     }
 }
 
-/// Acts as a form's instruction, which PC is behind.
+/// Acts as a form's instruction, which PC is past.
 #[tactic(auto, unfolding(crate::specs::Extended::extended_performed, z80_regs::specs::Outcome::Leaves))]
 fn perform<B: Bus>(form: &ExtendedForm, instr: &Instr, regs: &mut Regs, bus: &mut B)
     ensures registers { regs.new ≡

@@ -38,13 +38,13 @@ use z80_regs::{Bus, Regs};
 /// The register that stands for HL.
 #[derive(Clone, Copy)]
 pub enum IndexRegister {
-    /// Behind DDh.
+    /// After DDh.
     Ix,
-    /// Behind FDh.
+    /// After FDh.
     Iy,
 }
 
-/// Whether an opcode is a prefix behind which an index register stands for HL.
+/// Whether an opcode is a prefix after which an index register stands for HL.
 #[inline(always)]
 pub fn is_index_prefix(opcode: u8) -> bool
     ensures { result ≡ ((opcode == 221) || (opcode == 253)) }
@@ -52,7 +52,7 @@ pub fn is_index_prefix(opcode: u8) -> bool
     opcode == 0xDD || opcode == 0xFD
 }
 
-/// The register that stands for HL behind DDh or FDh.
+/// The register that stands for HL after DDh or FDh.
 #[inline(always)]
 pub fn index_behind(prefix: u8) -> IndexRegister
     ensures { result ≡ index_behind prefix }
@@ -254,7 +254,7 @@ fn calculate_from<B: Bus>(math: Math, address: u16, regs: &mut Regs, bus: &B)
     }
 }
 
-/// Acts as a form's instruction, which PC is behind. Its third byte is known, the fourth is read where it belongs to it.
+/// Acts as a form's instruction, which PC is past. Its third byte is known, the fourth is read where it belongs to it.
 #[inline(always)]
 #[tactic(auto, unfolding(crate::specs::Index::index_performed, z80_regs::specs::Outcome::Leaves))]
 fn perform<B: Bus>(
@@ -350,7 +350,7 @@ fn perform<B: Bus>(
     }
 }
 
-/// What an instruction behind DDh CBh or FDh CBh does, but for how it begins. Its displacement is known. False comes where it
+/// What an instruction after DDh CBh or FDh CBh does, but for how it begins. Its displacement is known. False comes where it
 /// isn't listed, and then nothing changes. (UM0080, "Rotate and Shift Group", "Bit Set, Reset, and Test Group".)
 #[inline(always)]
 #[tactic(auto, using(crate::proofs::Next::index_bits_page, crate::proofs::Next::bits_page_plain), unfolding(crate::specs::Index::index_bits_outcome, z80_regs::specs::Outcome::Leaves))]
@@ -376,7 +376,7 @@ fn step_index_bits<B: Bus>(
     }
 }
 
-/// What an instruction behind DDh or FDh does, but for how it begins. Its opcode and the byte behind that are known. False
+/// What an instruction after DDh or FDh does, but for how it begins. Its opcode and the byte after that are known. False
 /// comes where it isn't listed, and then nothing changes. (UM0080, "Z80 Instruction Description".)
 #[inline(always)]
 #[tactic(auto, using(crate::proofs::Next::index_page, crate::proofs::Next::page_plain), unfolding(z80_decode::specs::Decoding::index_instr_of, crate::specs::Index::index_outcome, z80_regs::specs::Outcome::Leaves))]

@@ -27,7 +27,7 @@ pub use z80_exec::Fetched;
 use z80_exec::plain_next;
 use z80_regs::{Bus, Regs};
 
-/// Acts as the instruction at PC does, which stands behind a prefix and whose first three bytes are fetched, but for how it
+/// Acts as the instruction at PC does, which follows a prefix and whose first three bytes are fetched, but for how it
 /// begins. False comes where it isn't plain, and then nothing changes.
 #[inline(always)]
 #[tactic(auto, using(crate::proofs::Rare::bits_is, crate::proofs::Rare::index_is, crate::proofs::Rare::extended_is, crate::proofs::Rare::prefix_rare), unfolding(z80_regs::specs::Outcome::Leaves))]
@@ -76,9 +76,9 @@ fn act<B: Bus>(fetched: Fetched, regs: &mut Regs, bus: &mut B) -> bool
     }
 }
 
-/// Acts as the instruction at PC does, whose opcode and the two bytes behind it are fetched, but for how it begins: R and the
-/// shadow of an EI before it stay as they are, so that `begin_all` may change them once for many instructions. Where it isn't
-/// plain its opcode is answered, and nothing has changed: HALT, EI, most of what stands behind EDh, and what isn't listed.
+/// Acts as the instruction at PC does, whose opcode and the two bytes after it are fetched, but for how it begins. R and the shadow of an
+/// EI before it stay as they are, so that `begin_all` may change them once for many instructions. Where it isn't plain its opcode is
+/// answered, and nothing has changed: HALT, EI, most of what follows EDh, and what isn't listed.
 #[inline(always)]
 pub fn step_unbegun<B: Bus>(fetched: Fetched, regs: &mut Regs, bus: &mut B) -> Option<u8>
     requires opcode { fetched.opcode ≡ B.byte bus.old regs.old.pc }
@@ -150,7 +150,7 @@ pub fn step_load_up<B: Bus>(regs: &mut Regs, bus: &mut B)
     load_block(Direction::Up, true, regs, bus);
 }
 
-/// One step, whose opcode and the two bytes behind it are fetched.
+/// One step, whose opcode and the two bytes after it are fetched.
 #[inline(always)]
 #[tactic(auto, using(crate::proofs::Begun::unbegun_once))]
 fn step_fetched<B: Bus>(fetched: Fetched, regs: &mut Regs, bus: &mut B) -> Stepped

@@ -31,7 +31,7 @@ pub fn begin(regs: &mut Regs)
     regs.shadow = false;
 }
 
-/// An instruction of that many bytes begins, and PC goes behind it.
+/// An instruction of that many bytes begins, and PC goes past it.
 #[inline(always)]
 pub fn begin_behind(length: u8, regs: &mut Regs)
     ensures { regs.new ≡ behind length (begun regs.old) }

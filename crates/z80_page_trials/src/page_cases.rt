@@ -1,5 +1,5 @@
-//! One instruction a line, in hexadecimal: its four bytes, AF and BC before; AF, BC, DE, HL, SP, PC, IX, IY, IR, and the
-//! interrupt mode with IFF1 as bit 4 after it; the address and the byte of its last two writes.
+//! One instruction a line, in hexadecimal: its four bytes, AF and BC before. Then come AF, BC, DE, HL, SP, PC, IX, IY, IR, and the
+//! interrupt mode with IFF1 as bit 4 after it; and the address and the byte of its last two writes.
 
 /// CBh 00h to 3Fh.
 pub static SHIFTS: [&str; 64] = [

@@ -1,4 +1,4 @@
-//! What one step leaves of registers and memory behind the prefixes, one case a line; the bytes that are no instruction there; and some
+//! What one step leaves of registers and memory after the prefixes, one case a line; the bytes that are no instruction there; and some
 //! programs of a few steps.
 use crate::page_cases::{
     BITS_IX, BITS_IY, EXTENDED, HIGH_RESETS, HIGH_SETS, HIGH_TESTS, INDEX_IX, INDEX_IY, LOW_RESETS,
@@ -9,7 +9,7 @@ use z80_cases::{Memory, all_of_page_come_out, behind, fixture};
 use z80_ext::{Stepped, step};
 use z80_regs::{Bus, Regs};
 
-/// Whether an opcode behind EDh, with IFF2 alone on, leaves A, F, SP, PC and IFF1 so.
+/// Whether an opcode after EDh, with IFF2 alone on, leaves A, F, SP, PC and IFF1 so.
 fn shows_second(memory: &mut Memory, row: (u8, u8, u8, u16, u16, bool)) -> bool {
     let (opcode, a, f, sp, pc, iff1) = row;
     memory.place(0x0100, &[0xed, opcode]);
@@ -74,7 +74,7 @@ fn zeros(pc: u16) -> Regs {
     }
 }
 
-/// LDIR of three bytes at 0300h to 0200h: two transfers behind three loads, and then the last.
+/// LDIR of three bytes at 0300h to 0200h: two transfers after three loads, and then the last.
 fn copies_a_byte_a_step(memory: &mut Memory) -> bool {
     memory.place(0x0300, &[0x11, 0x22, 0x33]);
     memory.place(
@@ -201,7 +201,7 @@ fn is_refused(code: &[u8; 4], memory: &mut Memory) -> bool {
     step(&mut regs, memory) == Stepped::Illegal && regs == fixture() && memory.writes == [0; 4]
 }
 
-/// Whether the instructions behind prefixes that begin with a byte are refused exactly where they aren't listed.
+/// Whether the instructions after prefixes that begin with a byte are refused exactly where they aren't listed.
 fn are_refused_as_listed(byte: u8, memory: &mut Memory) -> bool {
     for prefix in [0xcb, 0xdd, 0xed, 0xfd] {
         if is_refused(&[prefix, byte, 0x00, 0x00], memory) == is_listed(prefix, byte) {
@@ -213,7 +213,7 @@ fn are_refused_as_listed(byte: u8, memory: &mut Memory) -> bool {
         && is_refused(&[0xfd, 0xcb, 0x05, byte], memory) != bit_is_listed
 }
 
-/// Behind the prefixes all bytes that aren't listed are refused, and no others.
+/// After the prefixes all bytes that aren't listed are refused, and no others.
 #[test]
 fn unlisted_bytes(rt: HostRuntime) -> Result<(), Fail> {
     let mut memory = Memory::new(rt.alloc(), 65536)?;

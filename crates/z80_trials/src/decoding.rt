@@ -82,7 +82,7 @@ fn unlisted(rt: HostRuntime) -> Result<(), Fail> {
     Ok(())
 }
 
-/// The opcodes behind EDh, from the names of their instructions: a row for each first digit, a bit for each second one.
+/// The opcodes after EDh, from the names of their instructions: a row for each first digit, a bit for each second one.
 const BEHIND_ED: [u16; 16] = [
     0b0000_0000_0000_0000,
     0b0000_0000_0000_0000,
@@ -102,7 +102,7 @@ const BEHIND_ED: [u16; 16] = [
     0b0000_0000_0000_0000,
 ];
 
-/// The opcodes behind DDh and FDh, from the names of their instructions.
+/// The opcodes after DDh and FDh, from the names of their instructions.
 const BEHIND_DD: [u16; 16] = [
     0b0000_0000_0100_0000,
     0b0000_0000_0100_0000,

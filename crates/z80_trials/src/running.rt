@@ -110,7 +110,7 @@ fn switches(rt: HostRuntime) -> Result<(), Fail> {
     Ok(())
 }
 
-/// Whether a call goes to 0005h, with its return address below SP, and a return comes back behind it.
+/// Whether a call goes to 0005h, with its return address below SP, and a return comes back after it.
 fn calls_and_comes_back(memory: &mut Memory) -> bool {
     memory.place(0x0005, &[0xc9]);
     let mut regs = after(memory, &[0xcd, 0x05, 0x00], 1);

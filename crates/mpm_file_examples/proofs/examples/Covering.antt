@@ -59,7 +59,7 @@ pub free_behind_record_130 : (m : Extents) (x : Xfcbs)
 unfolding file_calls
 free_behind_record_130 m x e = simp (e) refl
 
--- the file ends behind record 130
+-- the file ends after record 130
 pub size_of_131 : (m : Extents) (x : Xfcbs)
     → HasFile m name_a with_record_130
     → file_call (call (closed m x) FileSize block_a []) ≡ tells 0 (closed m x) (Some (at_random 131 block_a)) []
@@ -111,7 +111,7 @@ pub opened_at_no_extent : (m : Extents) (x : Xfcbs)
 unfolding file_calls
 opened_at_no_extent m x e = simp (get-entries, e) refl
 
--- but a search for extent 1 finds the entry that covers it, which is told with its last extent, 0
+-- but a search for extent 1 finds the entry that covers it, which is answered with its last extent, 0
 abbrev sought : LastSearch
 sought = record { drive = 0; user = 0; pattern = name_a; extent = 1; found = (file_of name_a, 0) }
 

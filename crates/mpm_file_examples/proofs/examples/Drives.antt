@@ -37,7 +37,7 @@ pub drive_of_block_unmounted : (m : Extents) (x : Xfcbs)
 unfolding file_calls
 drive_of_block_unmounted m x = refl
 
--- nor is there a drive behind P: byte 0 is 17
+-- nor is there a drive after P: byte 0 is 17
 pub no_such_drive : (m : Extents) (x : Xfcbs)
     → map (λ function. file_call (call_wrong m x 17 function)) by_block ≡ map (λ function. fails_on (call_wrong m x 17 function) 16 4 0x04FF) by_block
 unfolding file_calls
@@ -165,7 +165,7 @@ pub login_vector : (m : Extents) (x : Xfcbs)
 unfolding direct_calls
 login_vector m x = refl
 
--- 29: of the drives that are protected the mounted ones are told
+-- 29: of the drives that are protected the mounted ones are answered
 pub read_only_vector : (m : Extents) (x : Xfcbs)
     → direct (with_protected (replicate 16 true) (filing_of (floppy m x None) nothing_open)) 0 (taken 0 block_a) ReadOnlyVector
     ≡ record { caller = Stays; answer = answering 1; extended = None }

@@ -30,7 +30,7 @@ open_a_in mode = one_open (item_of 1 name_a mode 1)
 abbrev opening : ℕ → ControlBlock → Extents → Xfcbs → Situation
 opening byte b m x = call (filing_of (labelled byte m x) nothing_open) OpenFile b (replicate 8 0)
 
--- without the password a file of mode 40h is opened in read-only mode, also where unlocked mode is asked for: no number is told
+-- without the password a file of mode 40h is opened in read-only mode, also where unlocked mode is asked for: no number is answered
 pub write_password_is_missing : (m : Extents) (x : Xfcbs)
     → HasFile m name_a records_of_10
     → HasXfcb x (of_mode 0x40)

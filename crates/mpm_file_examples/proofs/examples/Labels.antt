@@ -89,7 +89,7 @@ pub label_data : (m : Extents) (x : Xfcbs)
 unfolding file_calls
 label_data m x = refl
 
--- 102: an XFCB without its file isn't told
+-- 102: an XFCB without its file isn't answered
 pub xfcb_without_file : (m : Extents) (x : Xfcbs)
     → entries m ≡ []
     → entries x ≡ (file_of name_a, guarded) ∷ []

@@ -124,7 +124,7 @@ pub no_item_to_free : (m : Extents) (x : Xfcbs)
 unfolding file_calls
 no_item_to_free m x = refl
 
--- the second of two records is behind the last that a file can have
+-- the second of two records is past the last that a file can have
 abbrev at_last : ControlBlock
 at_last = record block_a { random = 255 ∷ 255 ∷ 3 ∷ [] }
 

@@ -26,7 +26,7 @@ pub another_byte_in_the_handle : (m : Extents) (x : Xfcbs)
 unfolding file_calls
 another_byte_in_the_handle m x = refl
 
--- the 129th record is read: it stands in extent 1, which has a record, and the position is behind it
+-- the 129th record is read: it stands in extent 1, which has a record, and the position is after it
 pub last_record_read : (m : Extents) (x : Xfcbs) (bytes : List ℕ)
     → HasRecords129 m bytes
     → file_call (call (filing m x) ReadSequential (record open_a { cr = 128 }) [])
@@ -72,7 +72,7 @@ pub record_beyond : (m : Extents) (x : Xfcbs)
 unfolding file_calls
 record_beyond m x = refl
 
--- the last record that a file can have, and the one behind it
+-- the last record that a file can have, and the one after it
 pub second_record_beyond : (m : Extents) (x : Xfcbs)
     → file_call (call_for 2 (filing m x) ReadRandom (record open_a { random = 255 ∷ 255 ∷ 3 ∷ [] }) [])
     ≡ fails (call_for 2 (filing m x) ReadRandom (record open_a { random = 255 ∷ 255 ∷ 3 ∷ [] }) []) 6

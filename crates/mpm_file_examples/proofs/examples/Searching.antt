@@ -35,7 +35,7 @@ pub extent_not_found : (m : Extents) (x : Xfcbs)
 unfolding file_calls
 extent_not_found m x e = simp (e) refl
 
--- extent 0 is found, told, and kept for the next search
+-- extent 0 is found, answered, and kept for the next search
 pub first_found : (m : Extents) (x : Xfcbs)
     → HasFile m name_a records_of_10
     → file_call (call (filing_of (floppy m x None) nothing_open) SearchFirst block_a [])
@@ -50,7 +50,7 @@ pub next_without_search : (m : Extents) (x : Xfcbs)
 unfolding file_calls
 next_without_search m x = refl
 
--- behind A stands B, whatever the control block names
+-- after A stands B, whatever the control block names
 pub next_found : (m : Extents) (x : Xfcbs)
     → HasTwo m name_a records_of_10 name_b no_records
     → file_call (call (searched (Some (found any_name name_a)) (filing_of (floppy m x None) nothing_open)) SearchNext block_a [])
@@ -58,7 +58,7 @@ pub next_found : (m : Extents) (x : Xfcbs)
 unfolding file_calls
 next_found m x e = simp (get-entries, e) refl
 
--- and behind B nothing; the search stays as it was
+-- and after B nothing; the search stays as it was
 pub nothing_behind_last : (m : Extents) (x : Xfcbs)
     → HasTwo m name_a records_of_10 name_b no_records
     → file_call (call (searched (Some (found any_name name_b)) (filing_of (floppy m x None) nothing_open)) SearchNext block_a [])

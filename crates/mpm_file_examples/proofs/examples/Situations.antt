@@ -72,7 +72,7 @@ with_handle number b = record b { map = number ∷ replicate 15 0 }
 abbrev pub open_a : ControlBlock
 open_a = with_handle 1 block_a
 
--- that of a renaming: the new name stands behind byte 16
+-- that of a renaming: the new name follows byte 16
 abbrev pub renaming : List ℕ → List ℕ → ControlBlock
 renaming old new = record (block_of_name old) { map = 0 ∷ (new ++ replicate 4 0) }
 

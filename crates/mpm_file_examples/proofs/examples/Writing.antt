@@ -20,7 +20,7 @@ written_by_1 = one_open (wrote_of 1 name_a Locked 1)
 abbrev filing : Extents → Xfcbs → Filing
 filing m x = filing_of (floppy m x None) open_by_1
 
--- 21: the position is behind the last record that a file can have
+-- 21: the position is past the last record that a file can have
 abbrev at_end : ControlBlock
 at_end = record open_a { ex = 31; s2 = 63; cr = 128 }
 
@@ -85,7 +85,7 @@ pub disk_is_full : (m : Extents) (x : Xfcbs) (extent : PhysicalExtent)
 unfolding file_calls
 disk_is_full m x extent e = simp (get-insert {X = PhysicalExtent} entry_total, entries-insert {X = PhysicalExtent} entry_total, get-entries, e) refl
 
--- record 0 of an empty file is written: it takes a block, whose other records are zeros, and the position is behind it
+-- record 0 of an empty file is written: it takes a block, whose other records are zeros, and the position is after it
 pub first_record_written : (m : Extents) (x : Xfcbs)
     → HasFile m name_a no_records
     → file_call (call (filing m x) WriteSequential open_a ones_128)

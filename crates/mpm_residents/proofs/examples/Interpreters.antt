@@ -72,7 +72,7 @@ pub drive_is_named : took (opening 2) (with_bytes 0 (0x30 ∷ 1 ∷ codes "b:sta
 unfolding interpreting
 drive_is_named = refl
 
--- one that is no name is told of, and one of a console that isn't there is dropped
+-- one that is no name is reported, and one of a console that isn't there is dropped
 pub no_command_comes : took (opening 2) (with_bytes 0 (0x30 ∷ 1 ∷ codes "a.b.c x")) ≡ record (opening 2) { row = Tell BadLoad; console = 1 }
 unfolding interpreting
 no_command_comes = refl
@@ -154,7 +154,7 @@ pub com_is_refused : took (at_row OpenAbsolute) (answering 0x05FF) ≡ at_row (T
 unfolding interpreting
 com_is_refused = refl
 
--- 7: a header asks for 200 bytes of code and 56 behind it, which take 4 pages; the four records have the bits too
+-- 7: a header asks for 200 bytes of code and 56 after it, which take 4 pages; the four records have the bits too
 abbrev program : List ℕ
 program = 0 ∷ 200 ∷ 0 ∷ 0 ∷ 56 ∷ 0 ∷ replicate 506 9
 
@@ -222,7 +222,7 @@ pub memory_is_refused : took (in_row (Reserve true 4) (loaded program)) (answeri
 unfolding interpreting
 memory_is_refused = refl
 
--- 10: the code is placed behind the base page, at 4100h
+-- 10: the code is placed after the base page, at 4100h
 pub places_code : next_act (in_row Place (loaded program)) ≡ PlaceBytes 4 0x4100 200
 unfolding interpreting
 places_code = refl
@@ -271,7 +271,7 @@ pub segment_is_freed : took (at_row (Free BadLoad)) (answering 0) ≡ at_row (Cl
 unfolding interpreting
 segment_is_freed = refl
 
--- 14: closed, the text is told, or, where there is none, the base page placed
+-- 14: closed, the text is written, or, where there is none, the base page placed
 pub closes_file : next_call (at_row Close) ≡ record { function = 16; word = 0; dma = 0; fcb = fcb; bytes = [] }
 unfolding interpreting
 closes_file = refl

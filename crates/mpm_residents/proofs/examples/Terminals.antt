@@ -36,7 +36,7 @@ pub form_of_leading_zero : form_of (codes "user 03") ≡ Command
 unfolding terminals
 form_of_leading_zero = refl
 
--- `USER` alone, and a number right behind it, are commands too, and so is a drive with a name
+-- `USER` alone, and a number right after it, are commands too, and so is a drive with a name
 pub form_of_user_alone : form_of (codes "user ") ≡ Command
 unfolding terminals
 form_of_user_alone = refl

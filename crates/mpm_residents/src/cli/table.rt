@@ -129,7 +129,7 @@ pub(crate) fn row_for_piece(load: &Load) -> Row
     row_behind_code(load)
 }
 
-/// Behind that, code is moved by what the piece has of the marks.
+/// After that, code is moved by what the piece has of the marks.
 #[tactic(auto, unfolding(crate::specs::Interpreters::row_behind_code))]
 pub(crate) fn row_behind_code(load: &Load) -> Row
     ensures row { result ≡ row_after_code load.now }
@@ -141,7 +141,7 @@ pub(crate) fn row_behind_code(load: &Load) -> Row
     row_behind_marks(load)
 }
 
-/// Behind that, the next piece is read, if one is left.
+/// After that, the next piece is read, if one is left.
 #[tactic(auto, unfolding(crate::specs::Interpreters::row_behind_marks))]
 pub(crate) fn row_behind_marks(load: &Load) -> Row
     ensures row { result ≡ row_after_marks load.now }

@@ -1,4 +1,3 @@
--- a listed instruction stands there
 use Rattle.std.proofs.Common.{◌≡◌, ◌∙◌, OnOk, sym, ap, subst}
 use Rattle.mpm_output.specs.Outside.{by_sink}
 use Rattle.mpm_system.specs.Whole.{Change}
@@ -7,6 +6,7 @@ use Rattle.mpm_machine.specs.Step.{illegal, executed, instruction_at}
 use Rattle.mpm_machine.proofs.ActingLaws.{executed_listed, executed_unlisted}
 use Rattle.mpm_machine.proofs.acting.execute.Goals as goal
 
+-- a listed instruction stands there
 pub returns-then-instruct-clause-system : goal.returns-then-instruct-clause-system
 returns-then-instruct-clause-system g c =
     ap (λ (change : Change). change.system)

@@ -4,7 +4,7 @@ use Rattle.z80_decode.specs.Decoding.{prefixed_instr_of, main_instr_of, instr_of
 use Rattle.z80_decode.proofs.Listed.{decoded}
 use Rattle.z80_decode.proofs.decoding.decode.Goals as goal
 
--- behind a prefix
+-- after a prefix
 pub returns-in-None-clause-listed : goal.returns-in-None-clause-listed
 unfolding instr_of main_instr_of prefixed_instr_of
 returns-in-None-clause-listed c =

@@ -1,4 +1,3 @@
--- the sink failed in the disk's step
 use Rattle.std.proofs.Common.{◌≡◌, ◌∙◌, true, is_some, ap, arith}
 use Rattle.mpm_kernel.specs.Kernel.{Kernel}
 use Rattle.mpm_output.specs.Outside.{Faults, seen}
@@ -9,6 +8,7 @@ use Rattle.mpm_machine.proofs.BehindLaws.{rest_images}
 use Rattle.mpm_machine.proofs.CarryingLaws.{keeps_paid, stopped_behind}
 use Rattle.mpm_machine.proofs.machine.Machine.end_step.Goals as goal
 
+-- the sink failed in the disk's step
 pub returns-in-Err-clause-err : goal.returns-in-Err-clause-err
 returns-in-Err-clause-err g c disks files stands = serving_stopped c.args.instruction files _ _ c.args.self.now.system (c.in-Err.ensures.err disks files stands)
 
@@ -16,7 +16,7 @@ pub returns-in-Err-clause-stands : goal.returns-in-Err-clause-stands
 returns-in-Err-clause-stands g c disks files stands =
     rest_images c.args.instruction c.args.self.now.system c.args.self.now.bdos c.serve_disk.new.self.bdos disks files c.serve_disk.ensures.kept stands
 
--- or behind it
+-- or after it
 
 pub returns-in-Err-end_all-clause-err : goal.returns-in-Err-end_all-clause-err
 returns-in-Err-end_all-clause-err g c disks files stands =

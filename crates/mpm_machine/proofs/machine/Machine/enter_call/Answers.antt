@@ -1,10 +1,10 @@
--- a call is in service
 use Rattle.std.proofs.Common.{◌∙◌, refl, sym, ap}
 use Rattle.mpm_service.specs.Disk.{served_process}
 use Rattle.mpm_machine.proofs.WorkLaws.{served_by_some, unserved_by_some, not_both}
 use Rattle.mpm_machine.proofs.EnterLaws.{starts_whole, starts_lives, starts_filed, begins_so, begun_is, enters_so, entered_made, enters_whole, owns_entered, nobody_starts, none_enters_so, nobody_entered, unserved_begun, unserved_own, nobody_made, still_made, goes_on}
 use Rattle.mpm_machine.proofs.machine.Machine.enter_call.Goals as goal
 
+-- a call is in service
 pub returns-then-is_some-clause-ok : goal.returns-then-is_some-clause-ok
 returns-then-is_some-clause-ok c disks files stands =
     let old = c.args.self.now.system in

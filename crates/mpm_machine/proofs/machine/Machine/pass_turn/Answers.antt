@@ -1,4 +1,3 @@
--- nobody is served
 use Rattle.std.proofs.Common.{◌≡◌, ◌∙◌, ◌<◌, OnOk, OnErr, refl, sym, ap, subst, arith}
 use Rattle.mpm_service.specs.Disk.{served_process}
 use Rattle.mpm_service.specs.declared.service.Served.{Served}
@@ -18,6 +17,7 @@ use Rattle.mpm_machine.proofs.ServeLaws.{IsOverFrom, over_made, passed_is, works
 use Rattle.mpm_machine.proofs.WorkLaws.{nobody_served, somebody_served}
 use Rattle.mpm_machine.proofs.machine.Machine.pass_turn.Goals as goal
 
+-- nobody is served
 pub returns-then-is_none-clause-ok : goal.returns-then-is_none-clause-ok
 returns-then-is_none-clause-ok g c disks files stands =
     let old = c.args.self.now.system in

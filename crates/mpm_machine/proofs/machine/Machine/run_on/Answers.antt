@@ -1,4 +1,3 @@
--- no process runs so ahead
 use Rattle.std.proofs.Common.{◌≡◌, ◌∙◌, ◌+◌, true, false, sym, arith}
 use Rattle.std.specs.Prelude.{⊤}
 use Rattle.std.proofs.lemmas.Option.{MatchOption-at_some}
@@ -10,6 +9,7 @@ use Rattle.mpm_machine.proofs.OwnCallStepLaws.{own_wrote, ahead_called}
 use Rattle.mpm_machine.proofs.QuietlyLaws.{went_nowhere, went_silent, went_alone, went_both}
 use Rattle.mpm_machine.proofs.machine.Machine.run_on.Goals as goal
 
+-- no process runs so ahead
 pub returns-in_default-clause-went : goal.returns-in_default-clause-went
 returns-in_default-clause-went g c =
     went_silent g.D.Drives.disks c.args.drives.now (seen g.S.Sink.written g.S.Sink.faults c.args.render.now c.args.sink.now) c.idle.result
@@ -23,7 +23,7 @@ loop-done-init g c = record {
   ahead = MatchOption-at_some ⊤ (λ (a : Ahead). RunsAhead a c.args.self.now.system) c.in-Some.here c.in-Some.is c.look_ahead-ahead.ensures.ahead;
 }
 
--- its instructions, behind which it makes no call that concerns it alone, or none is to be made any more
+-- its instructions, after which it makes no call that concerns it alone, or none is to be made any more
 
 pub returns-then-done-most-clause-went : goal.returns-then-done-most-clause-went
 returns-then-done-most-clause-went g c =

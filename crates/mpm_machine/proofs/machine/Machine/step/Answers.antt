@@ -1,4 +1,3 @@
--- it stopped
 use Rattle.mpm_machine.proofs.StandingLaws.{step_at, step_stands, step_stops, step_shows}
 use Rattle.mpm_machine.proofs.GoingSteps.{interprets_stepped}
 use Rattle.mpm_machine.proofs.NextLaws.{step_by}
@@ -6,6 +5,7 @@ use Rattle.mpm_machine.proofs.FailingLaws.{step_leaves}
 use Rattle.mpm_machine.proofs.MadeLaws.{made_whole, made_no_completions, made_nobody_due, made_steps}
 use Rattle.mpm_machine.proofs.machine.Machine.step.Goals as goal
 
+-- it stopped
 pub returns-in-Err : goal.returns-in-Err
 returns-in-Err g c =
     let failed = c.in-Err.ensures in

@@ -211,7 +211,7 @@ pub returns-in-Ok-end_step-clause-few : goal.returns-in-Ok-end_step-clause-few
 returns-in-Ok-end_step-clause-few g c some =
     let same = (c.begin_step.ensures.idle (not_at_once c.args.self.now.system some)).2 in omega (arith, same, c.work.ensures.few)
 
--- what is so of the drives behind what it begins with, and stays so
+-- what is so of the drives after what it begins with, and stays so
 
 pub returns-in-Err-begin_step-clause-names : goal.returns-in-Err-begin_step-clause-names
 returns-in-Err-begin_step-clause-names g c = c.begin_step.ensures.names ∙ c.work.ensures.names
