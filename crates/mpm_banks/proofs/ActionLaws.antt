@@ -5,12 +5,12 @@ use Rattle.std.specs.List.{list_any}
 use Rattle.std.specs.Prelude.{MatchOption}
 use Rattle.mpm_base.proofs.Choices.{either}
 use Rattle.mpm_base.specs.declared.devices.Devices.{Devices}
-use Rattle.z80_regs.specs.Outcome.{Action, Write, Input, Leaves}
+use Rattle.z80_regs.specs.Outcome.{Action, Write, Input, LeavesBus}
 use Rattle.mpm_banks.specs.Memory.{Memory, byte_at, with_byte, SameSegments}
 use Rattle.mpm_banks.specs.MemoryLaws.{byte_at_other_segment, byte_at_other_address, same_segments_with_byte, same_segments_both}
 use Rattle.mpm_banks.specs.Ports.{port_read}
 use Rattle.mpm_banks.specs.Actions.{memory_after, devices_after, writes_to}
-use Rattle.mpm_banks.specs.SliceBus.{reached, SameSides, Wrote, TookInput, Acted}
+use Rattle.mpm_banks.specs.SliceBus.{reached, SameSides, WroteSlice, TookInput, Acted}
 use Rattle.mpm_banks.specs.declared.slice_bus.SliceBus.{SliceBus}
 
 same_sides : (old middle new : SliceBus) → SameSides old middle → SameSides middle new → SameSides old new
@@ -22,8 +22,8 @@ same_sides old middle new first second = record {
 }
 
 -- what the two relations of the bus leave is what the changes make of memory and devices
-pub leaves_acted : (actions : List Action) (old new : SliceBus) → Leaves Wrote TookInput actions old new → Acted actions old new
-unfolding Leaves memory_after devices_after
+pub leaves_acted : (actions : List Action) (old new : SliceBus) → LeavesBus WroteSlice TookInput actions old new → Acted actions old new
+unfolding LeavesBus memory_after devices_after
 leaves_acted [] old new same = record {
   sides = record {
     spec = ap (λ (b : SliceBus). b.spec) same;
@@ -58,7 +58,7 @@ pub record ActedUnless (answer : Option ℕ) (actions : List Action) (old new : 
   pub devices : MatchOption answer (new.devices.now ≡ devices_after actions old.devices.now) (λ _. new.devices.now ≡ old.devices.now)
 
 pub leaves_acted_unless : (answer : Option ℕ) (actions : List Action) (old new : SliceBus)
-    → MatchOption answer (Leaves Wrote TookInput actions old new) (λ _. new ≡ old) → ActedUnless answer actions old new
+    → MatchOption answer (LeavesBus WroteSlice TookInput actions old new) (λ _. new ≡ old) → ActedUnless answer actions old new
 leaves_acted_unless None actions old new left =
     let acted = leaves_acted actions old new left in
     record { sides = acted.sides; memory = acted.memory; devices = acted.devices }

@@ -12,7 +12,7 @@ use Rattle.mpm_banks.specs.declared.segment.Allocation.{Allocation}
 use Rattle.mpm_banks.specs.declared.segment.Allocation.TheVariants.{Free, Reserved}
 use Rattle.mpm_banks.specs.declared.range.Space.{Space}
 use Rattle.mpm_banks.specs.declared.range.Space.TheVariants.{Common, InSegment}
-use Rattle.mpm_banks.specs.Memory.{Memory, no_segment, segment_of, HasSegment, IsSegment, IsMemory, first_of, limit_of, bytes_of, space_at, Place, At, Nowhere, place_from, place_of, byte_of, byte_at}
+use Rattle.mpm_banks.specs.Memory.{Memory, no_segment, segment_of, HasSegment, IsSegment, IsMemory, first_of, limit_of, bytes_of, space_at, NamedByte, At, Nowhere, place_from, place_of, byte_of, byte_at}
 use Rattle.mpm_banks.specs.MemoryLaws.{field_stays}
 use Rattle.mpm_banks.specs.Allocations.{FitsBelowCommon, new_segment, allocated, fits, lowest_free, reserved, released, is_reserved, all_released, freed, is_owners, spec_of}
 
@@ -141,7 +141,7 @@ places_alike old new same seg at =
     ap (λ first. place_from space first (min (first + length (bytes_of new space)) (limit_of space)) at) alike.0
     ∙ ap (λ (bytes : List ℕ). place_from space (first_of old space) (min (first_of old space + length bytes) (limit_of space)) at) alike.1
 
-byte_alike : (old new : Memory) → SameBytes old new → (place : Place) → byte_of new place ≡ byte_of old place
+byte_alike : (old new : Memory) → SameBytes old new → (place : NamedByte) → byte_of new place ≡ byte_of old place
 byte_alike old new same (At space index) = ap (λ bytes. get_or bytes index 0) (spaces_alike old new same space).1
 byte_alike old new same Nowhere = refl
 

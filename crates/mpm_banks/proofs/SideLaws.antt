@@ -9,7 +9,7 @@ use Rattle.z80_regs.specs.Outcome.{Action, Write, Input}
 use Rattle.mpm_banks.specs.declared.segment.Segment.{Segment}
 use Rattle.mpm_banks.specs.declared.range.Space.{Space}
 use Rattle.mpm_banks.specs.declared.range.Space.TheVariants.{Common, InSegment}
-use Rattle.mpm_banks.specs.Memory.{Memory, no_segment, segment_of, HasSegment, IsSegment, IsMemory, bytes_of, Place, At, Nowhere, place_within, place_of, byte_of, put_to, byte_at, with_byte}
+use Rattle.mpm_banks.specs.Memory.{Memory, no_segment, segment_of, HasSegment, IsSegment, IsMemory, bytes_of, NamedByte, At, Nowhere, place_within, place_of, byte_of, put_to, byte_at, with_byte}
 use Rattle.mpm_banks.specs.MemoryLaws.{length_stays}
 use Rattle.mpm_banks.specs.Stretches.{with_range}
 use Rattle.mpm_banks.specs.Sides.{alone, with_sides, reach_of}
@@ -197,7 +197,7 @@ whole_of memory seg spec whole new there alike is =
     let common = ap (λ (m : Memory). m.common) alike.own_is in
     is ∙ ap (λ b. with_sides memory seg b new.common) bytes ∙ ap (with_sides memory seg alike.bytes) common ∙ sym alike.whole_is
 
-length_put_to : (spec : SegmentSpec) (bytes common : List ℕ) (place : Place) (value : ℕ) (space : Space)
+length_put_to : (spec : SegmentSpec) (bytes common : List ℕ) (place : NamedByte) (value : ℕ) (space : Space)
     → length (bytes_of (put_to (alone spec bytes common) place value) space) ≡ length (bytes_of (alone spec bytes common) space)
 length_put_to spec bytes common (At at index) value space =
     length_stays (alone spec bytes common) at space (slice_set (bytes_of (alone spec bytes common) at) index value) (length-set (bytes_of (alone spec bytes common) at) index value)

@@ -3,7 +3,7 @@ use Rattle.std.proofs.Common.{◌≡◌, ◌≢◌, ℕ, ◌+◌, ◌%◌, min, 
 use Rattle.std.proofs.lemmas.List.{length-set}
 use Rattle.mpm_banks.specs.declared.segment.Allocation.{Allocation}
 use Rattle.mpm_banks.specs.declared.range.Range.{Range}
-use Rattle.mpm_banks.specs.Memory.{Memory, bytes_of, with_bytes_of, first_of, limit_of, end_of, space_at, Place, At, Nowhere, place_of, put_to, IsPlace, IsWritable, byte_at, with_byte, with_bytes, SameSegments}
+use Rattle.mpm_banks.specs.Memory.{Memory, bytes_of, with_bytes_of, first_of, limit_of, end_of, space_at, NamedByte, At, Nowhere, place_of, put_to, IsPlace, IsWritable, byte_at, with_byte, with_bytes, SameSegments}
 use Rattle.mpm_banks.specs.MemoryLaws.{first_stays, end_stays, same_segments_put}
 use Rattle.mpm_banks.specs.Stretches.{with_range}
 use Rattle.mpm_banks.specs.Ranges.{range_from, range_of, put_range}
@@ -83,7 +83,7 @@ range_of_put memory range bytes seg address size =
     (first_stays memory range.space (space_at seg address) put)
     (end_stays memory range.space (space_at seg address) put (length_with_range (bytes_of memory range.space) range.from bytes))
 
-range_of_put_to : (memory : Memory) (place : Place) (value seg address size : ℕ) → range_of (put_to memory place value) seg address size ≡ range_of memory seg address size
+range_of_put_to : (memory : Memory) (place : NamedByte) (value seg address size : ℕ) → range_of (put_to memory place value) seg address size ≡ range_of memory seg address size
 range_of_put_to memory (At space index) value seg address size =
     let put = set (bytes_of memory space) index value in
     range_stays memory (with_bytes_of memory space put) seg address size (first_stays memory space (space_at seg address) put)

@@ -5,7 +5,7 @@ use Rattle.z80_regs.specs.Words.{onward}
 use Rattle.std.proofs.Math.Nat.{min-le_right}
 use Rattle.mpm_banks.specs.declared.range.Space.{Space}
 use Rattle.mpm_banks.specs.declared.range.Space.TheVariants.{Common, InSegment}
-use Rattle.mpm_banks.specs.Memory.{Memory, end_of, Place, At, Nowhere, put_to, byte_at, with_byte, with_bytes, place_of, IsWritable, SameSegments}
+use Rattle.mpm_banks.specs.Memory.{Memory, end_of, NamedByte, At, Nowhere, put_to, byte_at, with_byte, with_bytes, place_of, IsWritable, SameSegments}
 use Rattle.mpm_banks.specs.MemoryLaws.{byte_at_with_byte, place_is_at, byte_at_other_address, byte_at_other_segment, writable_with_byte, place_of_with_byte, same_segments_with_byte, same_segments_both}
 
 -- a write of bytes moves no place
@@ -20,7 +20,7 @@ ends_within : (memory : Memory) (space : Space) → end_of memory space ≤ 6553
 ends_within memory Common = min-le_right _ 65536
 ends_within memory (InSegment seg) = le_trans (min-le_right _ 49152) (omega arith)
 
-nowhere_beyond : (memory : Memory) (seg address : ℕ) (place : Place) → place_of memory seg address ≡ place → 65536 ≤ address → place ≡ Nowhere
+nowhere_beyond : (memory : Memory) (seg address : ℕ) (place : NamedByte) → place_of memory seg address ≡ place → 65536 ≤ address → place ≡ Nowhere
 nowhere_beyond memory seg address Nowhere is beyond = refl
 nowhere_beyond memory seg address (At space index) is beyond =
     absurd (omega (arith, (place_is_at memory seg address space index is).before, ends_within memory space, beyond))

@@ -11,7 +11,7 @@ pub record SameSides (old new : BankBus) : Type 0 where
   pub seg : new.seg ≡ old.seg
 
 -- what a write leaves
-pub record Wrote (old : BankBus) (address value : ℕ) (new : BankBus) : Type 0 where
+pub record WroteBank (old : BankBus) (address value : ℕ) (new : BankBus) : Type 0 where
   pub sides : SameSides old new
   pub memory : new.banks.now ≡ with_byte old.banks.now old.seg address value
   pub devices : new.devices.now ≡ old.devices.now

@@ -3,7 +3,7 @@ use Rattle.std.proofs.Common.{◌≡◌, ◌≢◌, ℕ, ◌<◌, ◌^◌, ◌�
 use Rattle.mpm_banks.specs.Memory.{Memory, byte_at, IsWritable}
 use Rattle.mpm_banks.specs.MemoryLaws.{byte_at_with_byte, byte_at_other_address, writable_with_byte}
 use Rattle.mpm_banks.specs.Ports.{port_byte}
-use Rattle.mpm_banks.specs.Bus.{Wrote, TookInput}
+use Rattle.mpm_banks.specs.Bus.{WroteBank, TookInput}
 use Rattle.mpm_banks.specs.declared.bus.BankBus.{BankBus}
 
 -- two views of the same bytes
@@ -20,21 +20,21 @@ pub trans_iff : {A B C : Type 0} → A ↔ B → B ↔ C → A ↔ C
 trans_iff f g = (λ a. g.0 (f.0 a), λ c. f.1 (g.1 c))
 
 pub reads_back_law : (old new : BankBus) (address value : ℕ) → address < 2 ^ 16 → value < 2 ^ 8
-    → Wrote old address value new → IsWritable old.banks.now old.seg address → byte_at new.banks.now new.seg address ≡ value
+    → WroteBank old address value new → IsWritable old.banks.now old.seg address → byte_at new.banks.now new.seg address ≡ value
 reads_back_law old new address value a b wrote is =
     same_byte _ _ _ _ address wrote.memory wrote.sides.seg ∙ byte_at_with_byte old.banks.now old.seg address value is
 
 pub write_keeps_bytes_law : (old new : BankBus) (address value other : ℕ) → address < 2 ^ 16 → value < 2 ^ 8
-    → Wrote old address value new → other ≢ address → byte_at new.banks.now new.seg other ≡ byte_at old.banks.now old.seg other
+    → WroteBank old address value new → other ≢ address → byte_at new.banks.now new.seg other ≡ byte_at old.banks.now old.seg other
 write_keeps_bytes_law old new address value other a b wrote is =
     same_byte _ _ _ _ other wrote.memory wrote.sides.seg ∙ byte_at_other_address old.banks.now old.seg address value other is
 
 pub write_keeps_ports_law : (old new : BankBus) (address value port : ℕ) → address < 2 ^ 16 → value < 2 ^ 8
-    → Wrote old address value new → port_byte new.devices.now port ≡ port_byte old.devices.now port
+    → WroteBank old address value new → port_byte new.devices.now port ≡ port_byte old.devices.now port
 write_keeps_ports_law old new address value port a b wrote = ap (λ d. port_byte d port) wrote.devices
 
 pub write_keeps_writable_law : (old new : BankBus) (address value other : ℕ) → address < 2 ^ 16 → value < 2 ^ 8
-    → Wrote old address value new → IsWritable new.banks.now new.seg other ↔ IsWritable old.banks.now old.seg other
+    → WroteBank old address value new → IsWritable new.banks.now new.seg other ↔ IsWritable old.banks.now old.seg other
 write_keeps_writable_law old new address value other a b wrote =
     trans_iff (same_writable _ _ _ _ other wrote.memory wrote.sides.seg) (writable_with_byte old.banks.now old.seg address value old.seg other)
 

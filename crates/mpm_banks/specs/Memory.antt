@@ -75,35 +75,35 @@ abbrev pub space_at : ℕ → ℕ → Space
 space_at seg address = if nat_lt address 49152 then InSegment seg else Common
 
 -- which byte an address names: one of common memory or of a segment, by its index, or none
-pub data Place : Type 0 where
-  At : Space → ℕ → Place
-  Nowhere : Place
+pub data NamedByte : Type 0 where
+  At : Space → ℕ → NamedByte
+  Nowhere : NamedByte
 
 -- the place of an address in a space that has the addresses from one to another
-abbrev pub place_from : Space → ℕ → ℕ → ℕ → Place
+abbrev pub place_from : Space → ℕ → ℕ → ℕ → NamedByte
 place_from space first end address =
     if nat_le first address && nat_lt address end then At space (address - first) else Nowhere
 
 -- the place that an address names in a space
-abbrev pub place_within : Memory → Space → ℕ → Place
+abbrev pub place_within : Memory → Space → ℕ → NamedByte
 place_within memory space address = place_from space (first_of memory space) (end_of memory space) address
 
 -- the place that an address names, for the process of a segment
-unfoldable pub place_of : Memory → ℕ → ℕ → Place
+unfoldable pub place_of : Memory → ℕ → ℕ → NamedByte
 place_of memory seg address = place_within memory (space_at seg address) address
 
 -- the byte at a place; where there is none, FFh
-abbrev pub byte_of : Memory → Place → ℕ
+abbrev pub byte_of : Memory → NamedByte → ℕ
 byte_of memory (At space index) = slice_index (bytes_of memory space) index
 byte_of memory Nowhere = 255
 
 -- memory with a byte at a place; where there is none, it is lost
-abbrev pub put_to : Memory → Place → ℕ → Memory
+abbrev pub put_to : Memory → NamedByte → ℕ → Memory
 put_to memory (At space index) value = with_bytes_of memory space (slice_set (bytes_of memory space) index value)
 put_to memory Nowhere value = memory
 
 -- a place is there
-abbrev pub IsPlace : Place → Type 0
+abbrev pub IsPlace : NamedByte → Type 0
 IsPlace (At space index) = Unit {0}
 IsPlace Nowhere = ⊥
 

@@ -6,7 +6,7 @@ use Rattle.std.proofs.lemmas.Bool.Decides.{nat_tests}
 use Rattle.mpm_banks.specs.declared.segment.Segment.{Segment}
 use Rattle.mpm_banks.specs.declared.range.Space.{Space}
 use Rattle.mpm_banks.specs.declared.range.Space.TheVariants.{Common, InSegment}
-use Rattle.mpm_banks.specs.Memory.{Memory, no_segment, segment_of, IsSpace, bytes_of, with_bytes_of, first_of, space_at, place_within, limit_of, end_of, place_from, Place, At, Nowhere, place_of, byte_of, put_to, byte_at, with_byte, IsPlace, IsWritable, SameSegments}
+use Rattle.mpm_banks.specs.Memory.{Memory, no_segment, segment_of, IsSpace, bytes_of, with_bytes_of, first_of, space_at, place_within, limit_of, end_of, place_from, NamedByte, At, Nowhere, place_of, byte_of, put_to, byte_at, with_byte, IsPlace, IsWritable, SameSegments}
 
 -- a field of a segment that the new one shares stays, whichever segment is asked for
 pub field_stays : {A : Type 0} (field : Segment → A) (segments : List Segment) (seg other : ℕ) (new : Segment)
@@ -58,7 +58,7 @@ place_of_put memory space bytes seg address same =
     ∙ ap (λ end. place_from here (first_of memory here) end address) (end_stays memory space here bytes same)
 
 -- what is known of an address that names a byte
-pub record IsAt (memory : Memory) (seg address : ℕ) (space : Space) (index : ℕ) : Type 0 where
+pub record IsByteAt (memory : Memory) (seg address : ℕ) (space : Space) (index : ℕ) : Type 0 where
   pub reaches : space_at seg address ≡ space
   pub address_is : address ≡ first_of memory space + index
   pub below : index < length (bytes_of memory space)
@@ -68,7 +68,7 @@ from_place : (here space : Space) (first end address index : ℕ) → place_from
     → (here ≡ space) × (address ≡ first + index) × (address < end)
 from_place here space first end address index is = grind (arith, nat_tests)
 
-pub place_is_at : (memory : Memory) (seg address : ℕ) (space : Space) (index : ℕ) → place_of memory seg address ≡ At space index → IsAt memory seg address space index
+pub place_is_at : (memory : Memory) (seg address : ℕ) (space : Space) (index : ℕ) → place_of memory seg address ≡ At space index → IsByteAt memory seg address space index
 unfolding place_of
 place_is_at memory seg address space index is =
     let found = from_place (space_at seg address) space _ _ address index is in
@@ -110,7 +110,7 @@ byte_of_other memory (InSegment seg) (InSegment other) index at value is = elim 
   | inr apart ↦ ap (λ (s : Segment). get_or s.bytes at 0) (get_or-set_other memory.segments seg other _ no_segment apart)
 ]
 
-put_moves_nothing : (memory : Memory) (place : Place) (value other at : ℕ) → place_of (put_to memory place value) other at ≡ place_of memory other at
+put_moves_nothing : (memory : Memory) (place : NamedByte) (value other at : ℕ) → place_of (put_to memory place value) other at ≡ place_of memory other at
 put_moves_nothing memory (At space index) value other at = place_of_put memory space _ other at (length-set (bytes_of memory space) index value)
 put_moves_nothing memory Nowhere value other at = refl
 
@@ -121,12 +121,12 @@ unfolding with_byte
 place_of_with_byte memory seg address value other at = put_moves_nothing memory (place_of memory seg address) value other at
 
 -- what an address reads after a put
-read_put : (memory : Memory) (place : Place) (value seg address : ℕ)
+read_put : (memory : Memory) (place : NamedByte) (value seg address : ℕ)
     → byte_at (put_to memory place value) seg address ≡ byte_of (put_to memory place value) (place_of memory seg address)
 unfolding byte_at
 read_put memory place value seg address = ap (byte_of (put_to memory place value)) (put_moves_nothing memory place value seg address)
 
-put_reads_back : (memory : Memory) (place : Place) (value seg address : ℕ) → place_of memory seg address ≡ place → IsPlace place
+put_reads_back : (memory : Memory) (place : NamedByte) (value seg address : ℕ) → place_of memory seg address ≡ place → IsPlace place
     → byte_of (put_to memory place value) place ≡ value
 put_reads_back memory (At space index) value seg address is there =
     byte_of_same memory space index value (place_is_at memory seg address space index is).below
@@ -138,7 +138,7 @@ unfolding with_byte IsWritable
 byte_at_with_byte memory seg address value is =
     read_put memory (place_of memory seg address) value seg address ∙ put_reads_back memory _ value seg address refl is
 
-put_leaves_address : (memory : Memory) (place there : Place) (seg address value other : ℕ) → place_of memory seg address ≡ place
+put_leaves_address : (memory : Memory) (place there : NamedByte) (seg address value other : ℕ) → place_of memory seg address ≡ place
     → place_of memory seg other ≡ there → other ≢ address → byte_of (put_to memory place value) there ≡ byte_of memory there
 put_leaves_address memory Nowhere there seg address value other is at apart = refl
 put_leaves_address memory (At space index) Nowhere seg address value other is at apart = refl
@@ -161,7 +161,7 @@ space_below seg address below = grind (arith, nat_tests)
 pub space_above : (seg address : ℕ) → 49152 ≤ address → space_at seg address ≡ Common
 space_above seg address above = grind (arith, nat_tests)
 
-put_leaves_space : (memory : Memory) (place there : Place) (seg address value other at : ℕ) → place_of memory seg address ≡ place
+put_leaves_space : (memory : Memory) (place there : NamedByte) (seg address value other at : ℕ) → place_of memory seg address ≡ place
     → place_of memory other at ≡ there → space_at other at ≢ space_at seg address → byte_of (put_to memory place value) there ≡ byte_of memory there
 put_leaves_space memory Nowhere there seg address value other at is was apart = refl
 put_leaves_space memory (At space index) Nowhere seg address value other at is was apart = refl
@@ -215,7 +215,7 @@ same_segments_put memory (InSegment seg) bytes = record {
   allocation = λ other. field_stays (λ s. s.allocation) memory.segments seg other _ refl;
 }
 
-put_same_segments : (memory : Memory) (place : Place) (value : ℕ) → SameSegments memory (put_to memory place value)
+put_same_segments : (memory : Memory) (place : NamedByte) (value : ℕ) → SameSegments memory (put_to memory place value)
 put_same_segments memory (At space index) value = same_segments_put memory space _
 put_same_segments memory Nowhere value = record { count = refl; base = λ seg. refl; pages = λ seg. refl; allocation = λ seg. refl }
 

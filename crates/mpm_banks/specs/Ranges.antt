@@ -22,13 +22,13 @@ unfoldable pub range_of : Memory → ℕ → ℕ → ℕ → Option Range
 range_of memory seg address size = range_within memory (space_at seg address) address size
 
 -- the range lies within a space that is there
-pub record LiesIn (memory : Memory) (space : Space) (from to : ℕ) : Type 0 where
+pub record LiesInSpace (memory : Memory) (space : Space) (from to : ℕ) : Type 0 where
   pub there : IsSpace memory space
   pub order : from ≤ to
   pub inside : to ≤ length (bytes_of memory space)
 
-unfoldable pub IsInside : Memory → Range → Type 0
-IsInside memory range = LiesIn memory range.space range.from range.to
+unfoldable pub IsInsideMemory : Memory → Range → Type 0
+IsInsideMemory memory range = LiesInSpace memory range.space range.from range.to
 
 -- how many bytes it has
 unfoldable pub range_size : Range → ℕ

@@ -19,7 +19,7 @@ pub record SameSides (old new : SliceBus) : Type 0 where
   pub devices : new.devices.ghost_name ≡ old.devices.ghost_name
 
 -- what a write leaves
-pub record Wrote (old : SliceBus) (address value : ℕ) (new : SliceBus) : Type 0 where
+pub record WroteSlice (old : SliceBus) (address value : ℕ) (new : SliceBus) : Type 0 where
   pub sides : SameSides old new
   pub memory : reached new ≡ with_byte (reached old) 0 address value
   pub devices : new.devices.now ≡ old.devices.now

@@ -2,7 +2,7 @@
 use Rattle.std.specs.Prelude.{◌≡◌, ℕ, List, Option, Some}
 use Rattle.std.specs.Borrow.{Lends, RestsIfNone, follows, MutBor, Fml, GName, Array, u8}
 use Rattle.mpm_banks.specs.Memory.{Memory}
-use Rattle.mpm_banks.specs.Ranges.{range_of, range_size, IsInside, put_range}
+use Rattle.mpm_banks.specs.Ranges.{range_of, range_size, IsInsideMemory, put_range}
 use Rattle.mpm_banks.specs.declared.range.Range.{Range}
 use Rattle.mpm_banks.specs.declared.window.Window.{Window}
 use Rattle.mpm_banks.specs.contracts.banks.Banks.{the_row}
@@ -30,4 +30,4 @@ pub record IsWindow (owner : MutBor Memory) (seg address size : ℕ) (window : W
   pub memory : window.banks.now ≡ owner.now
   pub range_is : range_of owner.now seg address size ≡ Some window.range
   pub size_is : range_size window.range ≡ size
-  pub inside : IsInside owner.now window.range
+  pub inside : IsInsideMemory owner.now window.range

@@ -40,7 +40,7 @@ impl Banks {
     ghost use Rattle.mpm_banks.specs.Stretches.{byte_among};
     ghost use Rattle.mpm_banks.specs.Memory.{IsMemory, HasSegment, segment_of, byte_at, with_byte};
     ghost use Rattle.mpm_banks.specs.Allocations.{FitsBelowCommon, new_memory, spec_of, lowest_free, allocated, reserved, is_reserved, released, all_released, occupied, vacated};
-    ghost use Rattle.mpm_banks.specs.Ranges.{range_of, range_size, range_bytes, IsInside};
+    ghost use Rattle.mpm_banks.specs.Ranges.{range_of, range_size, range_bytes, IsInsideMemory};
     ghost use Rattle.mpm_banks.specs.Windows.{LendsMemory, LendsWindow, IsWindow};
     ghost use Rattle.mpm_banks.specs.Sides.{with_sides, reach_of};
 
@@ -268,11 +268,11 @@ impl Banks {
     }
 
     /// The range that `size` addresses from one on name for the process of a segment.
-    #[tactic(auto, unfolding(crate::specs::Ranges::range_of, crate::specs::Ranges::IsInside, crate::specs::Ranges::range_size))]
+    #[tactic(auto, unfolding(crate::specs::Ranges::range_of, crate::specs::Ranges::IsInsideMemory, crate::specs::Ranges::range_size))]
     fn range(&self, seg: Seg, address: u16, size: u16) -> Option<Range>
         requires { 0 < size }
         ensures value { result ≡ range_of self.now seg address size }
-        ensures inside { IfSome result (λ range. IsInside self.now range) }
+        ensures inside { IfSome result (λ range. IsInsideMemory self.now range) }
         ensures size { IfSome result (λ range. range_size range ≡ size) }
     {
         if address >= COMMON_BASE {
@@ -285,9 +285,9 @@ impl Banks {
     }
 
     /// The bytes of a range.
-    #[tactic(auto, unfolding(crate::specs::Ranges::IsInside, crate::specs::Ranges::range_bytes))]
+    #[tactic(auto, unfolding(crate::specs::Ranges::IsInsideMemory, crate::specs::Ranges::range_bytes))]
     fn range_at(&self, range: Range) -> &[u8]
-        requires { IsInside self.now range }
+        requires { IsInsideMemory self.now range }
         ensures { result.now ≡ range_bytes self.now range }
     {
         match range.space {
@@ -299,9 +299,9 @@ impl Banks {
     }
 
     /// Lends the bytes of a range.
-    #[tactic(auto, unfolding(crate::specs::Ranges::IsInside, crate::specs::Ranges::put_range, crate::specs::Ranges::range_bytes, crate::specs::Ranges::range_size))]
+    #[tactic(auto, unfolding(crate::specs::Ranges::IsInsideMemory, crate::specs::Ranges::put_range, crate::specs::Ranges::range_bytes, crate::specs::Ranges::range_size))]
     pub(crate) fn range_mut(&mut self, range: Range) -> &mut [u8]
-        requires { IsInside self.old range }
+        requires { IsInsideMemory self.old range }
         ensures* lends { sem 𝓛 (LendsMemory self.entry range result) }
         ensures value { result.now ≡ range_bytes self.old range }
         ensures size { length result.now ≡ range_size range }

@@ -17,7 +17,7 @@ pub struct BankBus<'a, 'b> {
 impl Bus for BankBus<'_, '_> {
     ghost use Rattle.mpm_banks.specs.Memory.{byte_at, IsWritable};
     ghost use Rattle.mpm_banks.specs.Ports.{port_byte};
-    ghost use Rattle.mpm_banks.specs.Bus.{Wrote, TookInput};
+    ghost use Rattle.mpm_banks.specs.Bus.{WroteBank, TookInput};
     ghost use Rattle.mpm_banks.specs.BusLaws.{reads_back_law, write_keeps_bytes_law, write_keeps_ports_law, write_keeps_writable_law, input_keeps_bytes_law, input_keeps_writable_law};
 
     ghost byte = { λ bus. byte_at bus.banks.now bus.seg };
@@ -26,7 +26,7 @@ impl Bus for BankBus<'_, '_> {
 
     ghost writable = { λ bus. IsWritable bus.banks.now bus.seg };
 
-    ghost wrote = { Wrote };
+    ghost wrote = { WroteBank };
 
     ghost took = { TookInput };
 

@@ -21,7 +21,7 @@ pub struct SliceBus<'a, 'b, 'c> {
 impl Bus for SliceBus<'_, '_, '_> {
     ghost use Rattle.mpm_banks.specs.Memory.{byte_at, IsWritable};
     ghost use Rattle.mpm_banks.specs.Ports.{port_byte};
-    ghost use Rattle.mpm_banks.specs.SliceBus.{reached, Wrote, TookInput};
+    ghost use Rattle.mpm_banks.specs.SliceBus.{reached, WroteSlice, TookInput};
     ghost use Rattle.mpm_banks.specs.SliceLaws.{reads_back_law, write_keeps_bytes_law, write_keeps_ports_law, write_keeps_writable_law, input_keeps_bytes_law, input_keeps_writable_law};
 
     ghost byte = { λ bus. byte_at (reached bus) 0 };
@@ -30,7 +30,7 @@ impl Bus for SliceBus<'_, '_, '_> {
 
     ghost writable = { λ bus. IsWritable (reached bus) 0 };
 
-    ghost wrote = { Wrote };
+    ghost wrote = { WroteSlice };
 
     ghost took = { TookInput };
 

@@ -12,12 +12,12 @@ pub struct Window<'a> {
 }
 
 impl<'a> Window<'a> {
-    ghost use Rattle.mpm_banks.specs.Ranges.{IsInside, range_bytes, range_size};
+    ghost use Rattle.mpm_banks.specs.Ranges.{IsInsideMemory, range_bytes, range_size};
     ghost use Rattle.mpm_banks.specs.Windows.{LendsBytes};
 
     /// The bytes themselves.
     pub fn into_bytes(self) -> &'a mut [u8]
-        requires { IsInside self.banks.now self.range }
+        requires { IsInsideMemory self.banks.now self.range }
         ensures* lends { sem 𝓛 (LendsBytes self.entry result) }
         ensures value { result.now ≡ range_bytes self.entry.banks.now self.entry.range }
         ensures size { length result.now ≡ range_size self.entry.range }

@@ -9,7 +9,7 @@ use Rattle.mpm_mount.specs.Attributes.{first_attributes}
 use Rattle.mpm_mount.specs.Files.{is_same_file, entries_named, is_entry_of, has_file}
 use Rattle.mpm_mount.proofs.Names.{one_file, same_back}
 use Rattle.mpm_mount.specs.Looking.{file_attributes}
-use Rattle.mpm_requests.specs.Subjects.{is_there}
+use Rattle.mpm_refusals.specs.Subjects.{is_there}
 
 no_first : {K : Type 0} (found : List (K × PhysicalExtent)) → is_some (first_attributes found) ≡ false → found ≡ []
 no_first [] e = refl

@@ -14,19 +14,19 @@ use Rattle.mpm_opens.specs.Opens.{OpenFiles, item_of, AreOpen, added, given_back
 use Rattle.mpm_files.specs.declared.work.Work.{Work}
 use Rattle.mpm_fcb.specs.Names.{has_f5}
 use Rattle.mpm_fcb.specs.Positions.{random_record}
-use Rattle.mpm_functions.specs.declared.functions.FileFunction.{FileFunction}
-use Rattle.mpm_functions.specs.declared.functions.FileFunction.TheVariants.{ResetDisks, OpenFile, CloseFile, SearchFirst, SearchNext, DeleteFile, ReadSequential, WriteSequential, MakeFile, RenameFile, ProtectDisk, SetAttributes, ReadRandom, WriteRandom, FileSize, ResetDrives, AccessDrives, FreeDrives, TestAndWrite, LockRecord, UnlockRecord, FreeSpace, FlushBuffers, SetLabel, LabelData, ReadXfcb, WriteXfcb}
-use Rattle.mpm_requests.specs.Filing.{Situation, block}
-use Rattle.mpm_requests.specs.Subjects.{drive_number, drive_at, own_file, key_of, file_of, item_number, key_named, open_key, open_mode, open_file, opened_in, subject_by, subject, subject_key, first_by, first_record, given_password, mode_in, mode_by}
-use Rattle.mpm_functions.specs.Refusals.{refusals_of}
-use Rattle.mpm_requests.specs.Refusals.{applies, refusal_of}
+use Rattle.mpm_file_functions.specs.declared.functions.FileFunction.{FileFunction}
+use Rattle.mpm_file_functions.specs.declared.functions.FileFunction.TheVariants.{ResetDisks, OpenFile, CloseFile, SearchFirst, SearchNext, DeleteFile, ReadSequential, WriteSequential, MakeFile, RenameFile, ProtectDisk, SetAttributes, ReadRandom, WriteRandom, FileSize, ResetDrives, AccessDrives, FreeDrives, TestAndWrite, LockRecord, UnlockRecord, FreeSpace, FlushBuffers, SetLabel, LabelData, ReadXfcb, WriteXfcb}
+use Rattle.mpm_refusals.specs.Filing.{Situation, block}
+use Rattle.mpm_refusals.specs.Subjects.{drive_number, drive_at, own_file, key_of, file_of, item_number, key_named, open_key, open_mode, open_file, opened_in, subject_by, subject, subject_key, first_by, first_record, given_password, mode_in, mode_by}
+use Rattle.mpm_file_functions.specs.Refusals.{refusals_of}
+use Rattle.mpm_refusals.specs.Refusals.{applies, refusal_of}
 use Rattle.mpm_bdos.specs.Records.{Locking, locking}
 use Rattle.mpm_locks.specs.Locks.{unlocking}
 use Rattle.mpm_bdos.specs.Jobs.{job_by, call_turns, turned}
 use Rattle.mpm_bdos.specs.Changes.{is_among, is_deleted, deleted_by, locking_of, opens_by}
 use Rattle.mpm_bdos.specs.Replies.{end_after, opened_as, granted_of}
 use Rattle.mpm_bdos.specs.Replies as replies
-use Rattle.mpm_requests.specs.Asking.{opened_as as item_as, open_item, asked_of, key_asked, mode_needed}
+use Rattle.mpm_refusals.specs.Asking.{opened_as as item_as, open_item, asked_of, key_asked, mode_needed}
 use Rattle.mpm_bdos.specs.Ending.{ended}
 use Rattle.mpm_bdos.specs.Replying.{is_on_drives}
 use Rattle.mpm_bdos.specs.Leaving.{nothing_locked, locked_by, ended_of, locked_where, unlocked_where, left_by, locked_for, ended_for, opened_by, opened_for, granted_by}

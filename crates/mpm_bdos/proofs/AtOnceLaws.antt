@@ -10,20 +10,20 @@ use Rattle.mpm_jobs.specs.declared.jobs.Job.{Job}
 use Rattle.mpm_files.specs.declared.work.Work.{Work}
 use Rattle.mpm_bdos.proofs.Fitting.{there_label, stays_same, stays_again, told_same, told_again, unsynced_same}
 use Rattle.mpm_base.specs.Calls.{Taken}
-use Rattle.mpm_requests.specs.declared.caller.Caller.{Caller}
-use Rattle.mpm_functions.specs.declared.functions.FileFunction.{FileFunction}
-use Rattle.mpm_requests.specs.Filing.{Situation}
-use Rattle.mpm_functions.specs.Functions.{function_of}
+use Rattle.mpm_refusals.specs.declared.caller.Caller.{Caller}
+use Rattle.mpm_file_functions.specs.declared.functions.FileFunction.{FileFunction}
+use Rattle.mpm_refusals.specs.Filing.{Situation}
+use Rattle.mpm_file_functions.specs.Functions.{function_of}
 use Rattle.mpm_bdos.specs.Starting.{entering}
-use Rattle.mpm_requests.specs.Subjects.{drive_number, drive_at}
-use Rattle.mpm_functions.specs.declared.functions.FileFunction.TheVariants.{ResetDisks, OpenFile, CloseFile, SearchFirst, SearchNext, DeleteFile, ReadSequential, WriteSequential, MakeFile, RenameFile, ProtectDisk, SetAttributes, ReadRandom, WriteRandom, FileSize, ResetDrives, AccessDrives, FreeDrives, TestAndWrite, LockRecord, UnlockRecord, FreeSpace, FlushBuffers, SetLabel, LabelData, ReadXfcb, WriteXfcb}
-use Rattle.mpm_functions.specs.declared.refusals.Refusal.{Refusal}
-use Rattle.mpm_requests.specs.Refusals.{refusal_of}
+use Rattle.mpm_refusals.specs.Subjects.{drive_number, drive_at}
+use Rattle.mpm_file_functions.specs.declared.functions.FileFunction.TheVariants.{ResetDisks, OpenFile, CloseFile, SearchFirst, SearchNext, DeleteFile, ReadSequential, WriteSequential, MakeFile, RenameFile, ProtectDisk, SetAttributes, ReadRandom, WriteRandom, FileSize, ResetDrives, AccessDrives, FreeDrives, TestAndWrite, LockRecord, UnlockRecord, FreeSpace, FlushBuffers, SetLabel, LabelData, ReadXfcb, WriteXfcb}
+use Rattle.mpm_file_functions.specs.declared.refusals.Refusal.{Refusal}
+use Rattle.mpm_refusals.specs.Refusals.{refusal_of}
 use Rattle.mpm_bdos.specs.Jobs.{job_by, unless_refused, job_of}
 use Rattle.mpm_bdos.specs.Serving.{InService, Kept, Serves, WorksOn, StandEach}
 use Rattle.mpm_directories.specs.Places.{directory_at}
-use Rattle.mpm_requests.specs.Asking.{StandsWhere}
-use Rattle.mpm_bdos.specs.Turns.{FitsDrives, IsIdle, KeepsImages, KeepsUnsynced, TurnKeeps, drive_served, has_work, labelled, without_work}
+use Rattle.mpm_refusals.specs.Asking.{StandsWhere}
+use Rattle.mpm_bdos.specs.Turns.{FitsDrives, IsDiskIdle, KeepsImages, KeepsUnsynced, TurnKeeps, drive_served, has_work, labelled, without_work}
 use Rattle.mpm_bdos.specs.AtOnce.{TurnsLeave, ChangesAlone, IsAtRest, has_job}
 
 -- a turn leaves the drive in service
@@ -93,7 +93,7 @@ one_more_turn disks told failed unsynced old mid new drives later now first next
 
 -- where the call in service has no work, nothing is done in some turns, and in one more
 pub rests_again : {D : Type 0} (old mid new : Kept) (drives later now : D) (steps between behind : ℕ) → IsAtRest old mid drives later steps between → TurnKeeps mid new
-    → IsIdle mid.service new.service mid.mounted new.mounted mid.cached new.cached later now between behind → IsAtRest old new drives now steps behind
+    → IsDiskIdle mid.service new.service mid.mounted new.mounted mid.cached new.cached later now between behind → IsAtRest old new drives now steps behind
 rests_again old mid new drives later now steps between behind first kept idle = record {
   kept = kept.rest ∙ (λ i. record mid { mounted = idle.directories i; cached = idle.cache i; service = idle.call i }) ∙ first.kept;
   device = idle.drives ∙ first.device;

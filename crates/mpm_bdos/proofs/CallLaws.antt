@@ -1,8 +1,8 @@
 -- What is so of each file call: how it is refused, and what that leaves.
 use Rattle.std.proofs.Common.{◌≡◌, Some, ap}
-use Rattle.mpm_functions.specs.declared.refusals.Refusal.{Refusal}
-use Rattle.mpm_requests.specs.Filing.{Situation}
-use Rattle.mpm_requests.specs.Refusals.{refusal_of}
+use Rattle.mpm_file_functions.specs.declared.refusals.Refusal.{Refusal}
+use Rattle.mpm_refusals.specs.Filing.{Situation}
+use Rattle.mpm_refusals.specs.Refusals.{refusal_of}
 use Rattle.mpm_bdos.specs.Jobs.{turned, call_turns}
 use Rattle.mpm_bdos.specs.Outcomes.{file_call, outcome_by}
 

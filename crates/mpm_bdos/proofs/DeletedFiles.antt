@@ -29,10 +29,10 @@ use Rattle.mpm_mount.specs.Files.{is_same_file, entries_named, is_entry_of, has_
 use Rattle.mpm_mount.proofs.Names.{one_file}
 use Rattle.mpm_mount.proofs.Lowest.{found_same}
 use Rattle.mpm_bdos.specs.declared.releasing.Deletion.{Deletion}
-use Rattle.mpm_requests.specs.Subjects.{file_of, is_next, next_in, fits}
-use Rattle.mpm_requests.specs.Looking.{entry_found}
+use Rattle.mpm_refusals.specs.Subjects.{file_of, is_next, next_in, fits}
+use Rattle.mpm_refusals.specs.Looking.{entry_found}
 use Rattle.mpm_bdos.specs.Changes.{is_deleted_in, is_at, is_among}
-use Rattle.mpm_requests.proofs.Searched.{next_step}
+use Rattle.mpm_refusals.proofs.Searched.{next_step}
 use Rattle.mpm_marks.proofs.Freed.{given_alike, no_file, all_kept}
 
 -- a file of this very name is there, by a search for its name

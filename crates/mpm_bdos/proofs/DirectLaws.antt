@@ -6,12 +6,12 @@ use Rattle.mpm_base.specs.Calls.{Taken}
 use Rattle.mpm_mount.specs.Drives.{Drive}
 use Rattle.mpm_mount.specs.Directories.{Directory}
 use Rattle.mpm_mount.specs.Images.{drive_of}
-use Rattle.mpm_functions.specs.declared.functions.DirectFunction.{DirectFunction}
+use Rattle.mpm_file_functions.specs.declared.functions.DirectFunction.{DirectFunction}
 use Rattle.mpm_directories.specs.Direct.{Directly, is_protected, direct_by}
 use Rattle.mpm_bdos.specs.Direct.{direct}
 use Rattle.mpm_bdos.specs.Serving.{Kept, StandEach, filing_of}
 use Rattle.mpm_directories.specs.Places.{kind_at}
-use Rattle.mpm_requests.specs.Asking.{StandsWhere}
+use Rattle.mpm_refusals.specs.Asking.{StandsWhere}
 
 -- a directory and the drive that it stands for are of one kind
 same_kind : (number : ℕ) (image : List ℕ) (directory : Option Directory) (drive : Option Drive) → StandsWhere number image directory drive

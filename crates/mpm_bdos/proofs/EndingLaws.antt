@@ -6,27 +6,27 @@ use Rattle.std.proofs.lemmas.Bool.Decides.{nat_tests}
 use Rattle.std.proofs.lemmas.Option.{same_Some}
 use Rattle.mpm_mount.specs.Drives.{Drive}
 use Rattle.mpm_mount.specs.Directories.{Directory}
-use Rattle.mpm_functions.specs.declared.errors.RecordError.{RecordError}
+use Rattle.mpm_file_functions.specs.declared.errors.RecordError.{RecordError}
 use Rattle.mpm_jobs.specs.declared.jobs.Job.{Job}
 use Rattle.mpm_files.specs.declared.work.Work.{Work}
 use Rattle.mpm_jobs.specs.declared.jobs.JobKind.TheVariants as kinds
 use Rattle.mpm_files.specs.Plans.{file_of_job, turns_of}
-use Rattle.mpm_files.specs.Serving.{IsServing}
+use Rattle.mpm_files.specs.Serving.{IsServingJob}
 use Rattle.mpm_files.proofs.Missed.{error_told}
-use Rattle.mpm_functions.specs.declared.functions.FileFunction.{FileFunction}
-use Rattle.mpm_functions.specs.declared.functions.FileFunction.TheVariants.{ResetDisks, OpenFile, CloseFile, SearchFirst, SearchNext, DeleteFile, ReadSequential, WriteSequential, MakeFile, RenameFile, ProtectDisk, SetAttributes, ReadRandom, WriteRandom, FileSize, ResetDrives, AccessDrives, FreeDrives, TestAndWrite, LockRecord, UnlockRecord, FreeSpace, FlushBuffers, SetLabel, LabelData, ReadXfcb, WriteXfcb}
-use Rattle.mpm_requests.specs.Filing.{Situation, block}
+use Rattle.mpm_file_functions.specs.declared.functions.FileFunction.{FileFunction}
+use Rattle.mpm_file_functions.specs.declared.functions.FileFunction.TheVariants.{ResetDisks, OpenFile, CloseFile, SearchFirst, SearchNext, DeleteFile, ReadSequential, WriteSequential, MakeFile, RenameFile, ProtectDisk, SetAttributes, ReadRandom, WriteRandom, FileSize, ResetDrives, AccessDrives, FreeDrives, TestAndWrite, LockRecord, UnlockRecord, FreeSpace, FlushBuffers, SetLabel, LabelData, ReadXfcb, WriteXfcb}
+use Rattle.mpm_refusals.specs.Filing.{Situation, block}
 use Rattle.mpm_mount.specs.Looking.{data_byte}
-use Rattle.mpm_requests.specs.Subjects.{drive_at, first_record}
-use Rattle.mpm_requests.specs.Refusals.{makes_xfcb, refusal_of}
-use Rattle.mpm_functions.specs.Ends.{end_by}
+use Rattle.mpm_refusals.specs.Subjects.{drive_at, first_record}
+use Rattle.mpm_refusals.specs.Refusals.{makes_xfcb, refusal_of}
+use Rattle.mpm_file_functions.specs.Ends.{end_by}
 use Rattle.mpm_bdos.specs.Jobs.{is_cut_at, free_count, reading_job, writing_job, testing_job, job_on, made_xfcb, making_job, job_by, unless_refused, job_of, turns_by, call_turns, Turned, turned_by, turned}
 use Rattle.mpm_locks.specs.Locks.{count_until}
-use Rattle.mpm_entries.specs.Protections.{with_protection}
+use Rattle.mpm_file_entries.specs.Protections.{with_protection}
 use Rattle.mpm_jobs.specs.Jobs.{with_one, where_some}
 use Rattle.mpm_bdos.specs.Replies.{is_cut_by, end_after}
-use Rattle.mpm_bdos.specs.Ending.{IsSound, is_cut_short, count_of, moved_by, error_of, ended}
-use Rattle.mpm_entries.specs.Granting.{FewDone}
+use Rattle.mpm_bdos.specs.Ending.{IsSoundDrive, is_cut_short, count_of, moved_by, error_of, ended}
+use Rattle.mpm_file_entries.specs.Granting.{FewDone}
 use Rattle.mpm_bdos.specs.Serving.{WorksOn}
 use Rattle.mpm_bdos.proofs.MovedLaws.{is_on_records, fewer_moved, most_moved, fails_on_records}
 
@@ -41,13 +41,13 @@ record Says (drive : Drive) (job : Option Job) (turns : ℕ) (work : Option Work
   error : error_of work ≡ (turned_by drive turns job).error
   count : count_of work ≡ count_in job
 
-says_by : (drive : Drive) (image : List ℕ) (directory : Option Directory) (job : Option Job) (turns : ℕ) (work : Option Work) → IsSound drive → turns ≡ turns_by drive job
+says_by : (drive : Drive) (image : List ℕ) (directory : Option Directory) (job : Option Job) (turns : ℕ) (work : Option Work) → IsSoundDrive drive → turns ≡ turns_by drive job
     → WorksOn image directory drive job turns work → Says drive job turns work
 unfolding count_in
 says_by drive image directory None turns None sound last works = record { moved = refl; error = refl; count = refl }
 says_by drive image None (Some job) turns (Some work) sound last works = absurd works
 says_by drive image (Some d) (Some job) turns (Some work) sound last works =
-    let serving : IsServing drive job (turns_of drive job) work = subst (λ j. IsServing drive job j work) last works.serving in
+    let serving : IsServingJob drive job (turns_of drive job) work = subst (λ j. IsServingJob drive job j work) last works.serving in
     record {
       moved = works.serving.moved;
       error = error_told drive job work (λ k entry is. (sound.each (file_of_job job) k entry is).blocks) serving
@@ -108,11 +108,11 @@ last_turn : (s : Situation) → call_turns s ≡ turns_by (drive_at s) (job_of s
 unfolding call_turns
 last_turn s = refl
 
-says : (s : Situation) (image : List ℕ) (directory : Option Directory) (work : Option Work) → IsSound (drive_at s) → WorksOn image directory (drive_at s) (job_of s) (call_turns s) work
+says : (s : Situation) (image : List ℕ) (directory : Option Directory) (work : Option Work) → IsSoundDrive (drive_at s) → WorksOn image directory (drive_at s) (job_of s) (call_turns s) work
     → Says (drive_at s) (job_of s) (call_turns s) work
 says s image directory work sound works = says_by (drive_at s) image directory (job_of s) (call_turns s) work sound (last_turn s) works
 
-pub ended_is : (s : Situation) (image : List ℕ) (directory : Option Directory) (work : Option Work) → refusal_of s ≡ None → IsSound (drive_at s)
+pub ended_is : (s : Situation) (image : List ℕ) (directory : Option Directory) (work : Option Work) → refusal_of s ≡ None → IsSoundDrive (drive_at s)
     → WorksOn image directory (drive_at s) (job_of s) (call_turns s) work
     → ended s.function s.caller.multi work ≡ record { moved = (turned s (call_turns s)).moved; end = end_after s (turned s (call_turns s)) }
 unfolding ended turned end_after
@@ -243,7 +243,7 @@ few_by s (Some job) work is so some =
     omega (arith, so.moved, fewer_moved (drive_at s) job fails, count_within s s.function job (fails_on_records (drive_at s) job fails) is))
     (λ h. let cut = cut_on_records s s.function job (count_of work) h is in omega (arith, so.moved, most_moved (drive_at s) job cut.0, cut.1, so.count))
 
-pub ended_few : (s : Situation) (image : List ℕ) (directory : Option Directory) (work : Option Work) → refusal_of s ≡ None → IsSound (drive_at s)
+pub ended_few : (s : Situation) (image : List ℕ) (directory : Option Directory) (work : Option Work) → refusal_of s ≡ None → IsSoundDrive (drive_at s)
     → WorksOn image directory (drive_at s) (job_of s) (call_turns s) work → 1 ≤ s.caller.multi → FewDone s.caller.multi (ended s.function s.caller.multi work)
 unfolding ended
 ended_few s image directory work none sound works some =

@@ -5,7 +5,7 @@ use Rattle.std.proofs.lemmas.Bool.{true≢false}
 use Rattle.std.proofs.lemmas.Option.{same_Some}
 use Rattle.std.proofs.lemmas.Slice.Eq.{bytes_eq-Decides}
 use Rattle.mpm_base.specs.Calls.{Taken, Answer, answering}
-use Rattle.mpm_cache.specs.declared.cache.Place.{Place}
+use Rattle.mpm_cache.specs.declared.cache.SectorPlace.{SectorPlace}
 use Rattle.mpm_mount.specs.Drives.{Drive}
 use Rattle.mpm_mount.specs.Directories.{Directory, Stands}
 use Rattle.mpm_opens.specs.Opens.{OpenFiles}
@@ -15,29 +15,29 @@ use Rattle.mpm_fcb.proofs.Back.{bytes_back}
 use Rattle.mpm_jobs.specs.declared.jobs.Job.{Job}
 use Rattle.mpm_files.specs.declared.work.Work.{Work}
 use Rattle.mpm_files.specs.Serving.{units_done}
-use Rattle.mpm_requests.specs.declared.caller.Caller.{Caller}
-use Rattle.mpm_entries.specs.declared.granting.Granted.{Granted}
-use Rattle.mpm_functions.specs.declared.refusals.Refusal.{Refusal}
-use Rattle.mpm_functions.specs.declared.refusals.Extended.{Extended}
-use Rattle.mpm_requests.specs.Filing.{LastSearch, Filing, Situation, block, HaveUsers}
-use Rattle.mpm_requests.specs.Subjects.{last_search, drive_number, mounted, is_mounted, drive_at, found}
-use Rattle.mpm_functions.specs.Refusals.{answered, refused_value, refused_extended}
-use Rattle.mpm_requests.specs.Refusals.{refusal_of}
+use Rattle.mpm_refusals.specs.declared.caller.Caller.{Caller}
+use Rattle.mpm_file_entries.specs.declared.granting.Granted.{Granted}
+use Rattle.mpm_file_functions.specs.declared.refusals.Refusal.{Refusal}
+use Rattle.mpm_file_functions.specs.declared.refusals.Extended.{Extended}
+use Rattle.mpm_refusals.specs.Filing.{LastSearch, Filing, Situation, block, HaveUsers}
+use Rattle.mpm_refusals.specs.Subjects.{last_search, drive_number, mounted, is_mounted, drive_at, found}
+use Rattle.mpm_file_functions.specs.Refusals.{answered, refused_value, refused_extended}
+use Rattle.mpm_refusals.specs.Refusals.{refusal_of}
 use Rattle.mpm_bdos.specs.Jobs.{job_of, call_turns, Turned, turned_by, turned}
 use Rattle.mpm_marks.specs.Driving.{protected_by, marks_by, freed_by}
 use Rattle.mpm_bdos.specs.Changes.{protected_then, search_of_call, filing_after}
-use Rattle.mpm_requests.specs.Searches.{searches_by}
+use Rattle.mpm_refusals.specs.Searches.{searches_by}
 use Rattle.mpm_bdos.specs.Replies.{granted_of, bytes_by, answer_after}
 use Rattle.mpm_directories.specs.Direct.{where_changed}
-use Rattle.mpm_entries.specs.Granting.{value_by, block_by}
-use Rattle.mpm_bdos.specs.Outcomes.{Outcome, refused_outcome, granted_outcome, outcome_by, file_call}
-use Rattle.mpm_requests.specs.Asking.{called, StandsFor, StandsWhere}
+use Rattle.mpm_file_entries.specs.Granting.{value_by, block_by}
+use Rattle.mpm_bdos.specs.Outcomes.{FileOutcome, refused_outcome, granted_outcome, outcome_by, file_call}
+use Rattle.mpm_refusals.specs.Asking.{called, StandsForDirectory, StandsWhere}
 use Rattle.mpm_bdos.specs.Serving.{IsCaller, InService, Kept, StandEach, WorksOn, IsCallOf, Serves, filing_of}
 use Rattle.mpm_directories.specs.Places.{directory_at}
 use Rattle.mpm_bdos.specs.Replying.{is_on_drives, IsAnswering, IsReplied}
 use Rattle.mpm_bdos.specs.Finishing.{serving, IsFinished, ComesTo}
 use Rattle.mpm_bdos.proofs.EndingLaws.{own_job}
-use Rattle.mpm_requests.proofs.UnmountedLaws.{is_there, is_not_there}
+use Rattle.mpm_refusals.proofs.UnmountedLaws.{is_there, is_not_there}
 use Rattle.mpm_bdos.proofs.OnDrives.{stays_on, keeps_drives, unmounted_on_drives}
 use Rattle.mpm_bdos.proofs.NextTurns.{idle_drives}
 use Rattle.mpm_bdos.proofs.ServingLaws.{stand_at_last}
@@ -137,7 +137,7 @@ nowhere images kept s serves none there = by_job (job_of s) refl
     by_job : (job : Option Job) → job_of s ≡ job → is_on_drives s.function ≡ true
     by_job None is =
         unmounted_on_drives s (is_not_there s (images (drive_number s))
-        (subst (λ directory. StandsFor (images (drive_number s)) directory s) there
+        (subst (λ directory. StandsForDirectory (images (drive_number s)) directory s) there
         (subst (λ drives. StandsWhere (drive_number s) (images (drive_number s)) (directory_at kept.mounted (drive_number s)) (slice_index_or drives (drive_number s) None)) (idle_drives s (call_turns s) is)
         (serves.stand.each (drive_number s))))) none
     by_job (Some job) is =
@@ -166,7 +166,7 @@ stands_at_last images kept s d serves there = by_job (job_of s) refl
     by_job None is =
         subst (λ j. Stands (images (drive_number s)) d (turned_by (drive_at s) (call_turns s) j).drive) (sym is)
         (is_there s (images (drive_number s)) d
-        (subst (λ directory. StandsFor (images (drive_number s)) directory s) there
+        (subst (λ directory. StandsForDirectory (images (drive_number s)) directory s) there
         (subst (λ drives. StandsWhere (drive_number s) (images (drive_number s)) (directory_at kept.mounted (drive_number s)) (slice_index_or drives (drive_number s) None)) (idle_drives s (call_turns s) is)
         (serves.stand.each (drive_number s))))).stands
     by_job (Some job) is =
@@ -252,8 +252,8 @@ unfolding file_call filing_after
 granted_comes images kept new s answer serves none finished mounted_is =
     let same : file_call s ≡ granted_outcome s (turned s (call_turns s)) = ap (outcome_by s (turned s (call_turns s))) none in
     record {
-      answer_is = finished.answer_is ∙ sym (ap (λ (o : Outcome). o.answer) same);
-      extended_is = sym (ap (λ (o : Outcome). o.extended) same);
+      answer_is = finished.answer_is ∙ sym (ap (λ (o : FileOutcome). o.answer) same);
+      extended_is = sym (ap (λ (o : FileOutcome). o.extended) same);
       filing_is = (λ i. record {
         drives = (file_call s).filing.drives;
         protected = finished.protected_are i;
@@ -261,7 +261,7 @@ granted_comes images kept new s answer serves none finished mounted_is =
         marks = finished.marks_are i;
         searches = finished.searches_are i;
       })
-          ∙ ap (λ (o : Outcome). record (filing_after s (turned s (call_turns s))) { drives = o.filing.drives }) same ∙ sym (ap (λ (o : Outcome). o.filing) same);
+          ∙ ap (λ (o : FileOutcome). record (filing_after s (turned s (call_turns s))) { drives = o.filing.drives }) same ∙ sym (ap (λ (o : FileOutcome). o.filing) same);
       stand = subst (λ directories. StandEach images directories (file_call s).filing.drives) (sym mounted_is) (stand_at_last images kept s serves);
     }
 
@@ -274,9 +274,9 @@ refused_comes images kept service s refusal answer extended of_it serves refuses
     let is = call_kept images kept service s (call_turns s) of_it serves in
     let same : file_call s ≡ refused_outcome s refusal = ap (outcome_by s (turned s (call_turns s))) (sym is.refusal ∙ refuses) in
     record {
-      answer_is = a ∙ sym (ap (λ (o : Outcome). o.answer) same);
-      extended_is = e ∙ ap (λ drive. refused_extended drive (answered refusal)) is.drive ∙ sym (ap (λ (o : Outcome). o.extended) same);
-      filing_is = ap (λ (o : Outcome). filing_of kept o.filing.drives) same ∙ serves.same ∙ sym (ap (λ (o : Outcome). o.filing) same);
+      answer_is = a ∙ sym (ap (λ (o : FileOutcome). o.answer) same);
+      extended_is = e ∙ ap (λ drive. refused_extended drive (answered refusal)) is.drive ∙ sym (ap (λ (o : FileOutcome). o.extended) same);
+      filing_is = ap (λ (o : FileOutcome). filing_of kept o.filing.drives) same ∙ serves.same ∙ sym (ap (λ (o : FileOutcome). o.filing) same);
       stand = stand_at_last images kept s serves;
     }
 
@@ -284,7 +284,7 @@ pub none_refuses : (images : ℕ → List ℕ) (kept : Kept) (service : InServic
     → refusal_of s ≡ None
 none_refuses images kept service s t of_it serves none = sym (call_kept images kept service s t of_it serves).refusal ∙ none
 
-pub comes_still : (images : ℕ → List ℕ) (mounted : List (Option Directory)) (cached : List (Place × List ℕ)) (protected : List Bool) (opens : OpenFiles) (marks : List ℕ) (searches : List (Option LastSearch))
+pub comes_still : (images : ℕ → List ℕ) (mounted : List (Option Directory)) (cached : List (SectorPlace × List ℕ)) (protected : List Bool) (opens : OpenFiles) (marks : List ℕ) (searches : List (Option LastSearch))
     (service : InService) (other : Option InService) (s : Situation) (answer : Answer) (extended : Option Extended)
     → ComesTo images s (serving mounted protected opens marks searches service) answer extended
     → ComesTo images s (record { mounted = mounted; cached = cached; protected = protected; opens = opens; marks = marks; searches = searches; service = other }) answer extended

@@ -6,13 +6,13 @@ use Rattle.std.proofs.lemmas.List.{length-set}
 use Rattle.mpm_base.specs.declared.kind.Kind.{Kind}
 use Rattle.mpm_port.specs.Disks.{Disks, ToldImage, size_of}
 use Rattle.mpm_blocks.specs.Geometries.{geometry_of}
-use Rattle.mpm_cache.specs.declared.cache.Place.{Place}
+use Rattle.mpm_cache.specs.declared.cache.SectorPlace.{SectorPlace}
 use Rattle.mpm_cache.specs.Coherent.{AreApart}
 use Rattle.mpm_cache.proofs.AliasLaws.{apart_after}
 use Rattle.mpm_mount.specs.Directories.{Directory, IsDirectory}
 use Rattle.mpm_directories.specs.Places.{directory_at, AreInPlace}
 use Rattle.mpm_bdos.specs.Syncing.{AreAttached}
-use Rattle.mpm_bdos.specs.Turns.{FitsDrives, KeepsImages, KeepsToldOf, KeepsUnsynced, StaysBeside, HasLeft, has_directory, labelled}
+use Rattle.mpm_bdos.specs.Turns.{FitsDrives, KeepsImages, KeepsToldOf, KeepsUnsynced, StaysBeside, HasLeftDisk, has_directory, labelled}
 
 -- a directory that comes into another's place, of the same drive and kind, leaves each place's drive and kind
 pub labels_stay : (mounted : List (Option Directory)) (number other : ℕ) (new : Option Directory) → option_map labelled new ≡ option_map labelled (directory_at mounted number)
@@ -70,7 +70,7 @@ sizes_after mounted number new disks now same stay sizes other =
     (subst (λ size. IfSome (directory_at mounted other) (λ d. size ≡ Some (geometry_of d.kind).bytes)) (sym (stay other)) (sizes other))
 
 -- drives stay apart by which of them are mounted
-apart_among : (among mounted : ℕ → Bool) (cached : List (Place × List ℕ)) (disks : Disks) → ((number : ℕ) → mounted number ≡ among number) → AreApart among cached disks → AreApart mounted cached disks
+apart_among : (among mounted : ℕ → Bool) (cached : List (SectorPlace × List ℕ)) (disks : Disks) → ((number : ℕ) → mounted number ≡ among number) → AreApart among cached disks → AreApart mounted cached disks
 apart_among among mounted cached disks same apart = record {
   own = λ drive other a b. apart.own drive other (sym (same drive) ∙ a) (sym (same other) ∙ b);
   alone = λ drive a. apart.alone drive (sym (same drive) ∙ a);
@@ -84,8 +84,8 @@ is_there : (mounted : List (Option Directory)) (number : ℕ) (d : Directory) �
 is_there mounted number d placed is = ap (has_directory mounted) (its_number mounted number d placed is) ∙ ap is_some is
 
 pub fits_after : {D : Type 0} (disks : D → Disks) (told : D → List ℕ → ToldImage) (failed : D → List (List ℕ)) (unsynced : D → ℕ → Bool) (mounted : List (Option Directory)) (number : ℕ) (d new : Option Directory)
-    (cached later : List (Place × List ℕ)) (old now : D) → AreInPlace mounted → directory_at mounted number ≡ d → option_map labelled new ≡ option_map labelled d
-    → HasLeft disks told failed unsynced d cached later old now → FitsDrives disks mounted cached old → FitsDrives disks (slice_set mounted number new) later now
+    (cached later : List (SectorPlace × List ℕ)) (old now : D) → AreInPlace mounted → directory_at mounted number ≡ d → option_map labelled new ≡ option_map labelled d
+    → HasLeftDisk disks told failed unsynced d cached later old now → FitsDrives disks mounted cached old → FitsDrives disks (slice_set mounted number new) later now
 fits_after disks told failed unsynced mounted number None new cached later old now placed is same left fits =
     let all : option_map labelled new ≡ option_map labelled (directory_at mounted number) = same ∙ sym (ap (option_map labelled) is) in
     let kept : FitsDrives disks mounted later now = subst (λ c. FitsDrives disks mounted c now) (sym left.cache) (subst (FitsDrives disks mounted cached) (sym left.drives) fits) in
@@ -105,7 +105,7 @@ fits_after disks told failed unsynced mounted number (Some d) new cached later o
 
 -- the image of another drive is as it was
 pub images_after : {D : Type 0} (disks : D → Disks) (told : D → List ℕ → ToldImage) (failed : D → List (List ℕ)) (unsynced : D → ℕ → Bool) (mounted : List (Option Directory)) (number : ℕ) (d : Option Directory)
-    (cached later : List (Place × List ℕ)) (old now : D) → AreInPlace mounted → directory_at mounted number ≡ d → HasLeft disks told failed unsynced d cached later old now → FitsDrives disks mounted cached old
+    (cached later : List (SectorPlace × List ℕ)) (old now : D) → AreInPlace mounted → directory_at mounted number ≡ d → HasLeftDisk disks told failed unsynced d cached later old now → FitsDrives disks mounted cached old
     → KeepsImages (Some number) mounted (disks old) (disks now)
 images_after disks told failed unsynced mounted number None cached later old now placed is left fits = λ other apart there. ap (λ (device : _). (disks device).image other) left.drives
 images_after disks told failed unsynced mounted number (Some d) cached later old now placed is left fits = λ other apart there.
@@ -117,7 +117,7 @@ pub stays_same : (mounted : List (Option Directory)) (disks : Disks) → StaysBe
 stays_same mounted disks = record { names = λ number. refl; others = λ number none. refl; sizes = λ number. refl }
 
 pub stays_after : {D : Type 0} (disks : D → Disks) (told : D → List ℕ → ToldImage) (failed : D → List (List ℕ)) (unsynced : D → ℕ → Bool) (mounted : List (Option Directory)) (number : ℕ) (d : Option Directory)
-    (cached later : List (Place × List ℕ)) (old now : D) → AreInPlace mounted → directory_at mounted number ≡ d → HasLeft disks told failed unsynced d cached later old now
+    (cached later : List (SectorPlace × List ℕ)) (old now : D) → AreInPlace mounted → directory_at mounted number ≡ d → HasLeftDisk disks told failed unsynced d cached later old now
     → StaysBeside mounted (disks old) (disks now)
 stays_after disks told failed unsynced mounted number None cached later old now placed is left =
     subst (λ (device : _). StaysBeside mounted (disks old) (disks device)) (sym left.drives) (stays_same mounted (disks old))
@@ -132,7 +132,7 @@ pub told_same : (mounted : List (Option Directory)) (disks : Disks) (told : List
 told_same mounted disks told = record { others = λ name none. refl; still = λ name untold. untold }
 
 pub told_after : {D : Type 0} (disks : D → Disks) (told : D → List ℕ → ToldImage) (failed : D → List (List ℕ)) (unsynced : D → ℕ → Bool) (mounted : List (Option Directory)) (number : ℕ) (d : Option Directory)
-    (cached later : List (Place × List ℕ)) (old now : D) → AreInPlace mounted → directory_at mounted number ≡ d → HasLeft disks told failed unsynced d cached later old now
+    (cached later : List (SectorPlace × List ℕ)) (old now : D) → AreInPlace mounted → directory_at mounted number ≡ d → HasLeftDisk disks told failed unsynced d cached later old now
     → KeepsToldOf mounted (disks old) (told old) (told now)
 told_after disks told failed unsynced mounted number None cached later old now placed is left =
     subst (λ (device : _). KeepsToldOf mounted (disks old) (told old) (told device)) (sym left.drives) (told_same mounted (disks old) (told old))
@@ -146,7 +146,7 @@ pub unsynced_same : (drive : Option ℕ) (now : ℕ → Bool) → KeepsUnsynced 
 unsynced_same drive now = record { beside = λ other apart. refl; owed = λ number was. was }
 
 pub unsynced_after : {D : Type 0} (disks : D → Disks) (told : D → List ℕ → ToldImage) (failed : D → List (List ℕ)) (unsynced : D → ℕ → Bool) (mounted : List (Option Directory)) (number : ℕ) (d : Option Directory)
-    (cached later : List (Place × List ℕ)) (old now : D) → AreInPlace mounted → directory_at mounted number ≡ d → HasLeft disks told failed unsynced d cached later old now
+    (cached later : List (SectorPlace × List ℕ)) (old now : D) → AreInPlace mounted → directory_at mounted number ≡ d → HasLeftDisk disks told failed unsynced d cached later old now
     → KeepsUnsynced (Some number) (unsynced old) (unsynced now)
 unsynced_after disks told failed unsynced mounted number None cached later old now placed is left =
     let same : (other : ℕ) → unsynced now other ≡ unsynced old other = λ other. ap (λ (device : _). unsynced device other) left.drives in
@@ -181,6 +181,6 @@ if_attached : (d : Option Directory) (size : Option ℕ) → IfSome d (λ direct
 if_attached None size is = tt
 if_attached (Some d) size is = ap is_some is
 
-pub fit_attached : {D : Type 0} (disks : D → Disks) (mounted : List (Option Directory)) (cached : List (Place × List ℕ)) (drives : D)
+pub fit_attached : {D : Type 0} (disks : D → Disks) (mounted : List (Option Directory)) (cached : List (SectorPlace × List ℕ)) (drives : D)
     → FitsDrives disks mounted cached drives → AreAttached (disks drives) mounted
 fit_attached disks mounted cached drives fits = λ number. if_attached (directory_at mounted number) (size_of (disks drives) number) (fits.sizes number)

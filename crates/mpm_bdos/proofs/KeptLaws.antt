@@ -4,7 +4,7 @@ use Rattle.std.specs.Prelude.{replicate, slice_index_or, if◌then◌else◌}
 use Rattle.mpm_opens.specs.declared.kinds.FileKey.{FileKey}
 use Rattle.mpm_opens.specs.Items.{no_items, place_at}
 use Rattle.mpm_opens.specs.Opens.{OpenFiles, HasLeft, none_open}
-use Rattle.mpm_requests.specs.Filing.{HaveUsers}
+use Rattle.mpm_refusals.specs.Filing.{HaveUsers}
 
 -- in no place is one that could fail a test
 abbrev nothing_there : (X : Type 0) → ℕ → ℕ → Option X

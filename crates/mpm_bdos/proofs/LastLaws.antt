@@ -7,17 +7,17 @@ use Rattle.mpm_mount.specs.Directories.{Directory, Stands}
 use Rattle.mpm_opens.specs.declared.kinds.FileKey.{FileKey}
 use Rattle.mpm_opens.specs.Opens.{OpenFiles, AreOpen}
 use Rattle.mpm_files.specs.declared.work.Work.{Work}
-use Rattle.mpm_functions.specs.declared.ends.Ended.{Ended}
-use Rattle.mpm_entries.specs.declared.granting.Granted.{Granted}
-use Rattle.mpm_requests.specs.declared.finding.FoundEntry.{FoundEntry}
-use Rattle.mpm_requests.specs.Filing.{Situation}
-use Rattle.mpm_requests.specs.Subjects.{found}
+use Rattle.mpm_file_functions.specs.declared.ends.Ended.{Ended}
+use Rattle.mpm_file_entries.specs.declared.granting.Granted.{Granted}
+use Rattle.mpm_refusals.specs.declared.finding.FoundEntry.{FoundEntry}
+use Rattle.mpm_refusals.specs.Filing.{Situation}
+use Rattle.mpm_refusals.specs.Subjects.{found}
 use Rattle.mpm_bdos.specs.Jobs.{call_turns, turned}
 use Rattle.mpm_bdos.specs.Changes.{opens_by}
-use Rattle.mpm_functions.specs.Ends.{done_by}
-use Rattle.mpm_entries.specs.Granting.{value_by, FewDone, IsPlaced}
+use Rattle.mpm_file_functions.specs.Ends.{done_by}
+use Rattle.mpm_file_entries.specs.Granting.{value_by, FewDone, IsPlaced}
 use Rattle.mpm_bdos.specs.Replies.{answer_by, granted_of, answer_after}
-use Rattle.mpm_requests.specs.Asking.{asked_of, found_as}
+use Rattle.mpm_refusals.specs.Asking.{asked_of, found_as}
 use Rattle.mpm_bdos.specs.Ending.{moved_by, ended, HasRead}
 use Rattle.mpm_bdos.specs.Leaving.{left_first, granted_by, opens_left, IsGranted, IsInFile}
 use Rattle.mpm_bdos.specs.Replying.{IsAnswering}

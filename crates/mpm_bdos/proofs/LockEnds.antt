@@ -8,15 +8,15 @@ use Rattle.mpm_opens.specs.declared.kinds.LockDone.{LockDone}
 use Rattle.mpm_opens.specs.declared.kinds.LockDone.TheVariants.{Locked, Other, ProcessLimit, NoRoom}
 use Rattle.mpm_opens.specs.Locks.{owner_of, where_owned, lock_answer}
 use Rattle.mpm_opens.specs.Opens.{OpenFiles}
-use Rattle.mpm_functions.specs.declared.errors.RecordError.TheVariants.{UnwrittenExtent, UnwrittenData}
+use Rattle.mpm_file_functions.specs.declared.errors.RecordError.TheVariants.{UnwrittenExtent, UnwrittenData}
 use Rattle.mpm_mount.specs.Records.{read_error}
-use Rattle.mpm_functions.specs.declared.ends.RecordEnd.{RecordEnd}
-use Rattle.mpm_functions.specs.declared.ends.RecordEnd.TheVariants.{Failing, LockedOff, TooManyLocks, NoLockRoom}
-use Rattle.mpm_functions.specs.declared.functions.FileFunction.TheVariants.{LockRecord}
-use Rattle.mpm_requests.specs.Subjects.{file_of}
+use Rattle.mpm_file_functions.specs.declared.ends.RecordEnd.{RecordEnd}
+use Rattle.mpm_file_functions.specs.declared.ends.RecordEnd.TheVariants.{Failing, LockedOff, TooManyLocks, NoLockRoom}
+use Rattle.mpm_file_functions.specs.declared.functions.FileFunction.TheVariants.{LockRecord}
+use Rattle.mpm_refusals.specs.Subjects.{file_of}
 use Rattle.mpm_locks.specs.Locks.{is_another, is_locked_off, refused_lock, lock_end}
 use Rattle.mpm_bdos.specs.Records.{is_too_many, has_no_room, ends, end_of}
-use Rattle.mpm_functions.specs.Ends.{ends_of}
+use Rattle.mpm_file_functions.specs.Ends.{ends_of}
 
 -- the last three rows of the table, by who has the lock
 abbrev lock_rows : Bool → Bool → Bool → Option RecordEnd

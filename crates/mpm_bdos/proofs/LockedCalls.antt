@@ -5,22 +5,22 @@ use Rattle.mpm_opens.specs.declared.kinds.FileKey.{FileKey}
 use Rattle.mpm_opens.specs.declared.kinds.Mode.TheVariants.{Unlocked}
 use Rattle.mpm_opens.specs.Kinds.{is_same_mode}
 use Rattle.mpm_opens.specs.Opens.{OpenFiles, locked}
-use Rattle.mpm_functions.specs.declared.errors.RecordError.TheVariants.{UnwrittenExtent, UnwrittenData, Mismatch, NoDirectorySpace, NoDataBlock}
+use Rattle.mpm_file_functions.specs.declared.errors.RecordError.TheVariants.{UnwrittenExtent, UnwrittenData, Mismatch, NoDirectorySpace, NoDataBlock}
 use Rattle.mpm_mount.specs.Records.{read_error}
-use Rattle.mpm_functions.specs.declared.ends.Ended.{Ended}
-use Rattle.mpm_functions.specs.declared.ends.RecordEnd.{RecordEnd}
-use Rattle.mpm_functions.specs.declared.ends.RecordEnd.TheVariants.{Failing, LockedOff, TooManyLocks, NoLockRoom}
-use Rattle.mpm_functions.specs.declared.functions.FileFunction.TheVariants.{LockRecord}
-use Rattle.mpm_requests.specs.Filing.{Situation}
-use Rattle.mpm_requests.specs.Subjects.{drive_at, file_of, subject_key, first_record, open_mode}
-use Rattle.mpm_requests.specs.Refusals.{refusal_of}
+use Rattle.mpm_file_functions.specs.declared.ends.Ended.{Ended}
+use Rattle.mpm_file_functions.specs.declared.ends.RecordEnd.{RecordEnd}
+use Rattle.mpm_file_functions.specs.declared.ends.RecordEnd.TheVariants.{Failing, LockedOff, TooManyLocks, NoLockRoom}
+use Rattle.mpm_file_functions.specs.declared.functions.FileFunction.TheVariants.{LockRecord}
+use Rattle.mpm_refusals.specs.Filing.{Situation}
+use Rattle.mpm_refusals.specs.Subjects.{drive_at, file_of, subject_key, first_record, open_mode}
+use Rattle.mpm_refusals.specs.Refusals.{refusal_of}
 use Rattle.mpm_bdos.specs.Records.{Locking, end_of, unless_ended, locking}
 use Rattle.mpm_locks.specs.Locks.{is_locked_off}
-use Rattle.mpm_functions.specs.Ends.{coded}
+use Rattle.mpm_file_functions.specs.Ends.{coded}
 use Rattle.mpm_bdos.specs.Jobs.{call_turns, turned}
 use Rattle.mpm_bdos.specs.Changes.{locking_of}
 use Rattle.mpm_bdos.specs.Replies.{ended_for, granted_of, answer_after}
-use Rattle.mpm_entries.specs.Granting.{value_by}
+use Rattle.mpm_file_entries.specs.Granting.{value_by}
 use Rattle.mpm_bdos.specs.Outcomes.{outcome_by, file_call}
 use Rattle.mpm_bdos.specs.Leaving.{nothing_locked}
 use Rattle.mpm_bdos.proofs.LockedOff.{asking, locked_off_only, locked_off_where, locking_met}

@@ -9,18 +9,18 @@ use Rattle.mpm_opens.specs.declared.kinds.RecordLock.{RecordLock}
 use Rattle.mpm_opens.specs.declared.kinds.LockDone.TheVariants.{Locked, Other, ProcessLimit, NoRoom}
 use Rattle.mpm_opens.specs.Locks.{owner_of, where_owned, lock_answer}
 use Rattle.mpm_opens.specs.Opens.{OpenFiles, locked}
-use Rattle.mpm_functions.specs.declared.errors.RecordError.{RecordError}
+use Rattle.mpm_file_functions.specs.declared.errors.RecordError.{RecordError}
 use Rattle.mpm_mount.specs.Records.{read_error}
-use Rattle.mpm_functions.specs.declared.ends.RecordEnd.{RecordEnd}
-use Rattle.mpm_functions.specs.declared.ends.RecordEnd.TheVariants.{LockedOff}
-use Rattle.mpm_functions.specs.declared.functions.FileFunction.TheVariants.{LockRecord}
-use Rattle.mpm_requests.specs.Subjects.{file_of}
-use Rattle.mpm_bdos.specs.Records.{Asked, Locking, end_of, unless_ended, locking}
+use Rattle.mpm_file_functions.specs.declared.ends.RecordEnd.{RecordEnd}
+use Rattle.mpm_file_functions.specs.declared.ends.RecordEnd.TheVariants.{LockedOff}
+use Rattle.mpm_file_functions.specs.declared.functions.FileFunction.TheVariants.{LockRecord}
+use Rattle.mpm_refusals.specs.Subjects.{file_of}
+use Rattle.mpm_bdos.specs.Records.{RecordAsked, Locking, end_of, unless_ended, locking}
 use Rattle.mpm_locks.specs.Locks.{is_another, is_locked_off, refused_lock, lock_end}
 use Rattle.mpm_bdos.proofs.LockEnds.{lock_ends}
 
 -- who asks for the lock of a record
-abbrev pub asking : Drive → OpenFiles → ℕ → FileKey → Asked
+abbrev pub asking : Drive → OpenFiles → ℕ → FileKey → RecordAsked
 asking drive opens p file = record { drive = drive; opens = opens; process = p; file = file; expected = [] }
 
 -- a lock is refused for another's exactly where another process has it

@@ -7,12 +7,12 @@ use Rattle.mpm_opens.specs.declared.kinds.FileKey.{FileKey}
 use Rattle.mpm_opens.specs.Locks.{lock_answer}
 use Rattle.mpm_opens.specs.Opens.{OpenFiles, IsLive, process_of, locked}
 use Rattle.mpm_opens.specs.Opens as open_files
-use Rattle.mpm_functions.specs.declared.errors.RecordError.{RecordError}
+use Rattle.mpm_file_functions.specs.declared.errors.RecordError.{RecordError}
 use Rattle.mpm_mount.specs.Records.{read_error}
 use Rattle.mpm_base.proofs.CountLaws.{less_by}
-use Rattle.mpm_functions.specs.declared.ends.RecordEnd.{RecordEnd}
-use Rattle.mpm_functions.specs.declared.functions.FileFunction.TheVariants.{LockRecord}
-use Rattle.mpm_requests.specs.Subjects.{file_of}
+use Rattle.mpm_file_functions.specs.declared.ends.RecordEnd.{RecordEnd}
+use Rattle.mpm_file_functions.specs.declared.functions.FileFunction.TheVariants.{LockRecord}
+use Rattle.mpm_refusals.specs.Subjects.{file_of}
 use Rattle.mpm_bdos.specs.Records.{Locking, end_of, one_locked, unless_ended, locking}
 use Rattle.mpm_locks.specs.Locks.{lock_end}
 use Rattle.mpm_bdos.proofs.LockEnds.{lock_ends}

@@ -5,22 +5,22 @@ use Rattle.std.proofs.lemmas.Bool.{true≢false, false≢true, le-ltb}
 use Rattle.std.proofs.lemmas.List.Sums.{sum_by-append, sum_by-cons}
 use Rattle.std.proofs.lemmas.List.FromFn.{length-map-range_with_len}
 use Rattle.mpm_mount.specs.Drives.{FileName, Drive}
-use Rattle.mpm_functions.specs.declared.errors.RecordError.{RecordError}
-use Rattle.mpm_functions.specs.declared.errors.RecordError.TheVariants.{Mismatch}
+use Rattle.mpm_file_functions.specs.declared.errors.RecordError.{RecordError}
+use Rattle.mpm_file_functions.specs.declared.errors.RecordError.TheVariants.{Mismatch}
 use Rattle.mpm_jobs.specs.declared.jobs.JobKind.{JobKind}
 use Rattle.mpm_jobs.specs.declared.jobs.JobKind.TheVariants.{Read, Write, TestWrite, Make, Delete, Rename, Attributes, Label, Xfcb, Nothing}
 use Rattle.mpm_jobs.specs.declared.jobs.Job.{Job}
 use Rattle.mpm_files.specs.Units.{FileUnit, ReadsRecord, PassesRecord, AddsEntry, ClearsBlock, WritesRecord, applied, all_applied}
-use Rattle.mpm_files.specs.Plans.{Plan, Test, behind, failing, unless_failing, file_of_job, reading, needs_entry, needs_block, clears_blocks, write_error, write_units, writing, has_record, passing, testing, record_at, records_of_job, test_at, tests_of_job, plan_by, plan_of, turns_of}
+use Rattle.mpm_files.specs.Plans.{CallPlan, TestedRecord, behind, failing, unless_failing, file_of_job, reading, needs_entry, needs_block, clears_blocks, write_error, write_units, writing, has_record, passing, testing, record_at, records_of_job, test_at, tests_of_job, plan_by, plan_of, turns_of}
 use Rattle.mpm_mount.specs.Records.{read_error}
 use Rattle.mpm_files.specs.Serving.{records_moved, moved_after, error_after}
 use Rattle.mpm_bdos.proofs.RecordLaws.{one_written}
 
-pub record FewMoved (plan : Plan) (count : ℕ) : Type 0 where
+pub record FewMoved (plan : CallPlan) (count : ℕ) : Type 0 where
   pub most : sum_by records_moved plan.units ≤ count
   pub less : is_some plan.error ≡ true → sum_by records_moved plan.units < count
 
-few_after : (error : Option RecordError) (units : List FileUnit) (plan : Plan) (count : ℕ) → sum_by records_moved units ≡ 1 → FewMoved plan count
+few_after : (error : Option RecordError) (units : List FileUnit) (plan : CallPlan) (count : ℕ) → sum_by records_moved units ≡ 1 → FewMoved plan count
     → FewMoved (unless_failing error (behind units plan)) (suc count)
 few_after (Some error) units plan count is few = record { most = omega arith; less = λ h. omega arith }
 few_after None units plan count is few = record {
@@ -46,23 +46,23 @@ writing_few (bytes ∷ records) drive file n stamp =
     (one_written (needs_entry drive file n) (clears_blocks drive.kind && (needs_block drive file n && true)) (AddsEntry file (n / 128)) (ClearsBlock file n) (WritesRecord file n bytes stamp) refl refl refl)
     (writing_few records (all_applied drive units) file (n + 1) None)
 
-passes_none : (error : Bool) (file : FileName) (n : ℕ) (plan : Plan) → sum_by records_moved plan.units ≡ 0
+passes_none : (error : Bool) (file : FileName) (n : ℕ) (plan : CallPlan) → sum_by records_moved plan.units ≡ 0
     → sum_by records_moved (if error then failing Mismatch else (behind (PassesRecord file n ∷ []) plan)).units ≡ 0
 passes_none true file n plan is = refl
 passes_none false file n plan is = is
 
-passing_none : (tests : List Test) (drive : Drive) (file : FileName) (n : ℕ) → sum_by records_moved (passing drive file n tests).units ≡ 0
+passing_none : (tests : List TestedRecord) (drive : Drive) (file : FileName) (n : ℕ) → sum_by records_moved (passing drive file n tests).units ≡ 0
 unfolding passing
 passing_none [] drive file n = refl
 passing_none (test ∷ tests) drive file n = passes_none (is_some (read_error drive file n)) file n (passing drive file (n + 1) tests) (passing_none tests drive file (n + 1))
 
-tested_few : (error : Option RecordError) (same : Bool) (units : List FileUnit) (rest other : Plan) (count : ℕ) → sum_by records_moved units ≡ 1 → sum_by records_moved other.units ≡ 0 → FewMoved rest count
+tested_few : (error : Option RecordError) (same : Bool) (units : List FileUnit) (rest other : CallPlan) (count : ℕ) → sum_by records_moved units ≡ 1 → sum_by records_moved other.units ≡ 0 → FewMoved rest count
     → FewMoved (unless_failing error (if same then behind units rest else other)) (suc count)
 tested_few error true units rest other count is none few = few_after error units rest count is few
 tested_few (Some error) false units rest other count is none few = record { most = omega arith; less = λ h. omega arith }
 tested_few None false units rest other count is none few = record { most = omega (arith, none); less = λ h. omega (arith, none) }
 
-testing_few : (tests : List Test) (drive : Drive) (file : FileName) (n : ℕ) (stamp : Option (List ℕ)) → FewMoved (testing drive file n tests stamp) (length tests)
+testing_few : (tests : List TestedRecord) (drive : Drive) (file : FileName) (n : ℕ) (stamp : Option (List ℕ)) → FewMoved (testing drive file n tests stamp) (length tests)
 unfolding testing
 testing_few [] drive file n stamp = record { most = omega arith; less = none_fails zero }
 testing_few (test ∷ tests) drive file n stamp =
@@ -141,7 +141,7 @@ fails_on_records drive job fails = by_kind (is_on_records job.kind) refl
     by_kind false is = absurd (true≢false (sym (ap is_some (sym (told_at_last drive job)) ∙ fails) ∙ never_fails drive job job.kind is))
 
 -- records that are read are all moved where none fails
-all_after : (error : Option RecordError) (unit : FileUnit) (plan : Plan) (count : ℕ) → records_moved unit ≡ 1 → (plan.error ≡ None → sum_by records_moved plan.units ≡ count)
+all_after : (error : Option RecordError) (unit : FileUnit) (plan : CallPlan) (count : ℕ) → records_moved unit ≡ 1 → (plan.error ≡ None → sum_by records_moved plan.units ≡ count)
     → (unless_failing error (behind (unit ∷ []) plan)).error ≡ None → sum_by records_moved (unless_failing error (behind (unit ∷ []) plan)).units ≡ suc count
 all_after (Some error) unit plan count is all none = absurd (cc)
 all_after None unit plan count is all none = omega (arith, sum_by-cons records_moved unit plan.units, is, all none)

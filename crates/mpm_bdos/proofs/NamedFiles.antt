@@ -8,11 +8,11 @@ use Rattle.mpm_mount.specs.Drives.{FileName, Drive}
 use Rattle.mpm_opens.specs.declared.kinds.FileKey.{FileKey}
 use Rattle.mpm_opens.specs.Items.{place_at, is_named, file_where, file_named}
 use Rattle.mpm_opens.specs.Opens.{OpenFiles}
-use Rattle.mpm_functions.specs.declared.functions.FileFunction.{FileFunction}
-use Rattle.mpm_functions.specs.declared.functions.FileFunction.TheVariants.{ResetDisks, OpenFile, CloseFile, SearchFirst, SearchNext, DeleteFile, ReadSequential, WriteSequential, MakeFile, RenameFile, ProtectDisk, SetAttributes, ReadRandom, WriteRandom, FileSize, ResetDrives, AccessDrives, FreeDrives, TestAndWrite, LockRecord, UnlockRecord, FreeSpace, FlushBuffers, SetLabel, LabelData, ReadXfcb, WriteXfcb}
-use Rattle.mpm_requests.specs.Filing.{Situation, block, HaveUsers}
-use Rattle.mpm_requests.specs.Subjects.{drive_number, drive_at, own_file, shared_file, is_shared, opened_in, item_number, key_named, open_key, open_file, subject_by, subject}
-use Rattle.mpm_requests.proofs.AskedLaws.{file_is}
+use Rattle.mpm_file_functions.specs.declared.functions.FileFunction.{FileFunction}
+use Rattle.mpm_file_functions.specs.declared.functions.FileFunction.TheVariants.{ResetDisks, OpenFile, CloseFile, SearchFirst, SearchNext, DeleteFile, ReadSequential, WriteSequential, MakeFile, RenameFile, ProtectDisk, SetAttributes, ReadRandom, WriteRandom, FileSize, ResetDrives, AccessDrives, FreeDrives, TestAndWrite, LockRecord, UnlockRecord, FreeSpace, FlushBuffers, SetLabel, LabelData, ReadXfcb, WriteXfcb}
+use Rattle.mpm_refusals.specs.Filing.{Situation, block, HaveUsers}
+use Rattle.mpm_refusals.specs.Subjects.{drive_number, drive_at, own_file, shared_file, is_shared, opened_in, item_number, key_named, open_key, open_file, subject_by, subject}
+use Rattle.mpm_refusals.proofs.AskedLaws.{file_is}
 
 -- an item that a call names has a user as each item has
 chosen_user : (b : Bool) (file key : FileKey) → file.user < 16 → cond b (Some file) None ≡ Some key → key.user < 16

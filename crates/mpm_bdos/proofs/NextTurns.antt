@@ -20,15 +20,15 @@ use Rattle.mpm_files.specs.Plans.{turns_of}
 use Rattle.mpm_files.specs.Serving.{units_done, IsInService}
 use Rattle.mpm_files.specs.Turning.{Suits, Contained}
 use Rattle.mpm_bdos.proofs.Fitting.{by_label}
-use Rattle.mpm_requests.specs.Filing.{Situation}
-use Rattle.mpm_requests.specs.Subjects.{drive_number, drive_at}
+use Rattle.mpm_refusals.specs.Filing.{Situation}
+use Rattle.mpm_refusals.specs.Subjects.{drive_number, drive_at}
 use Rattle.mpm_bdos.specs.Jobs.{job_of, turns_by, call_turns, turned_by, turned}
 use Rattle.mpm_bdos.specs.Changes.{drives_by}
 use Rattle.mpm_bdos.specs.Outcomes.{drives_after}
 use Rattle.mpm_bdos.specs.Serving.{InService, Kept, StandEach, WorksOn, IsCallOf, Serves, filing_of}
 use Rattle.mpm_directories.specs.Places.{directory_at}
-use Rattle.mpm_requests.specs.Asking.{StandsWhere}
-use Rattle.mpm_bdos.specs.Turns.{IsWorkingOn, IsServing, IsContainedAt, IsServiceContained, TurnKeeps, KeepsImages, StopsWithin, IsIdle, images_of, progress_after, drive_served, has_work, has_directory, without_work}
+use Rattle.mpm_refusals.specs.Asking.{StandsWhere}
+use Rattle.mpm_bdos.specs.Turns.{IsWorkingOn, IsServing, IsContainedAt, IsServiceContained, TurnKeeps, KeepsImages, StopsWithin, IsDiskIdle, images_of, progress_after, drive_served, has_work, has_directory, without_work}
 
 -- a drive upon whose image a directory stands has that image
 some_bytes : (kind : Kind) → 0 < (geometry_of kind).bytes
@@ -294,7 +294,7 @@ idle_work images kept s j is serves =
 pub next_served : {D E : Type 0} (disks : D → Disks) (old new : Kept) (drives now : D) (s : Situation) (j steps later : ℕ) (result : Result Progress E)
     → ((before : Drive) (job : Job) (k : ℕ) → Suits before job → IsServing (disks drives) old.mounted before job k old.service → k < turns_of before job
     → OnOk result (IsServing (disks now) new.mounted before job (suc k) new.service))
-    → (has_work old.service ≡ false → IsIdle old.service new.service old.mounted new.mounted old.cached new.cached drives now steps later)
+    → (has_work old.service ≡ false → IsDiskIdle old.service new.service old.mounted new.mounted old.cached new.cached drives now steps later)
     → TurnKeeps old new → KeepsImages (drive_served old.service) old.mounted (disks drives) (disks now)
     → Serves (images_of (disks drives)) old s j → j < call_turns s → OnOk result (Serves (images_of (disks now)) new s (suc j))
 next_served {D} {E} disks old new drives now s j steps later result ok idle kept images serves turn = by_job (job_of s) refl

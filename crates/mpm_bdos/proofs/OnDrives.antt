@@ -4,22 +4,22 @@ use Rattle.std.specs.Prelude.{replicate}
 use Rattle.std.proofs.lemmas.Bool.{true≢false, false≢true}
 use Rattle.mpm_mount.specs.Drives.{FileName, Drive}
 use Rattle.mpm_fcb.specs.declared.block.ControlBlock.{ControlBlock}
-use Rattle.mpm_functions.specs.declared.functions.FileFunction.{FileFunction}
-use Rattle.mpm_functions.specs.declared.functions.FileFunction.TheVariants.{ResetDisks, OpenFile, CloseFile, SearchFirst, SearchNext, DeleteFile, ReadSequential, WriteSequential, MakeFile, RenameFile, ProtectDisk, SetAttributes, ReadRandom, WriteRandom, FileSize, ResetDrives, AccessDrives, FreeDrives, TestAndWrite, LockRecord, UnlockRecord, FreeSpace, FlushBuffers, SetLabel, LabelData, ReadXfcb, WriteXfcb}
-use Rattle.mpm_entries.specs.declared.granting.Granted.{Granted}
-use Rattle.mpm_functions.specs.declared.refusals.Refusal.{Refusal}
-use Rattle.mpm_requests.specs.Filing.{LastSearch, Situation, block}
-use Rattle.mpm_requests.specs.Subjects.{last_search, drive_by, drive_named, drive_number, mounted, found_by}
+use Rattle.mpm_file_functions.specs.declared.functions.FileFunction.{FileFunction}
+use Rattle.mpm_file_functions.specs.declared.functions.FileFunction.TheVariants.{ResetDisks, OpenFile, CloseFile, SearchFirst, SearchNext, DeleteFile, ReadSequential, WriteSequential, MakeFile, RenameFile, ProtectDisk, SetAttributes, ReadRandom, WriteRandom, FileSize, ResetDrives, AccessDrives, FreeDrives, TestAndWrite, LockRecord, UnlockRecord, FreeSpace, FlushBuffers, SetLabel, LabelData, ReadXfcb, WriteXfcb}
+use Rattle.mpm_file_entries.specs.declared.granting.Granted.{Granted}
+use Rattle.mpm_file_functions.specs.declared.refusals.Refusal.{Refusal}
+use Rattle.mpm_refusals.specs.Filing.{LastSearch, Situation, block}
+use Rattle.mpm_refusals.specs.Subjects.{last_search, drive_by, drive_named, drive_number, mounted, found_by}
 use Rattle.mpm_marks.specs.Busy.{names, are_busy}
-use Rattle.mpm_requests.specs.Refusals.{refusal_of}
+use Rattle.mpm_refusals.specs.Refusals.{refusal_of}
 use Rattle.mpm_bdos.specs.Jobs.{Turned, job_by, turned}
 use Rattle.mpm_bdos.specs.Changes.{deleted_by, opens_by}
 use Rattle.mpm_marks.specs.Driving.{marks_by, protected_by, freed_by}
-use Rattle.mpm_entries.specs.Granting.{value_by, block_by}
+use Rattle.mpm_file_entries.specs.Granting.{value_by, block_by}
 use Rattle.mpm_bdos.specs.Replies.{bytes_by}
-use Rattle.mpm_requests.specs.Asking.{unnamed_refusal, unmounted_refusal}
+use Rattle.mpm_refusals.specs.Asking.{unnamed_refusal, unmounted_refusal}
 use Rattle.mpm_bdos.specs.Replying.{is_on_drives}
-use Rattle.mpm_requests.proofs.UnmountedLaws.{unmounted_so}
+use Rattle.mpm_refusals.proofs.UnmountedLaws.{unmounted_so}
 
 -- what one comes to
 pub record StaysOn (s : Situation) (t : Turned) (f : FileFunction) : Type 0 where

@@ -20,7 +20,7 @@ use Rattle.mpm_files.proofs.TurnLaws.{all_turns}
 use Rattle.mpm_fcb.specs.declared.block.ControlBlock.{ControlBlock}
 use Rattle.mpm_fcb.specs.Opening as fcb
 use Rattle.mpm_mount.specs.Looking.{file_attributes, data_byte}
-use Rattle.mpm_requests.specs.Subjects.{shared_file, shared_by, is_shared, opened_in, xfcb_admits, file_admits, mode_asked}
+use Rattle.mpm_refusals.specs.Subjects.{shared_file, shared_by, is_shared, opened_in, xfcb_admits, file_admits, mode_asked}
 
 -- two drives differ in the stamps of a file's XFCB alone
 pub record Alike (file : FileName) (one other : Drive) : Type 0 where

@@ -12,18 +12,18 @@ use Rattle.mpm_fcb.specs.declared.block.ControlBlock.{ControlBlock}
 use Rattle.mpm_fcb.specs.Names.{new_name_of, has_f6}
 use Rattle.mpm_jobs.specs.declared.jobs.JobKind.TheVariants as kinds
 use Rattle.mpm_jobs.specs.declared.jobs.Job.{Job}
-use Rattle.mpm_functions.specs.declared.functions.FileFunction.{FileFunction}
-use Rattle.mpm_functions.specs.declared.functions.FileFunction.TheVariants.{ResetDisks, OpenFile, CloseFile, SearchFirst, SearchNext, DeleteFile, ReadSequential, WriteSequential, MakeFile, RenameFile, ProtectDisk, SetAttributes, ReadRandom, WriteRandom, FileSize, ResetDrives, AccessDrives, FreeDrives, TestAndWrite, LockRecord, UnlockRecord, FreeSpace, FlushBuffers, SetLabel, LabelData, ReadXfcb, WriteXfcb}
+use Rattle.mpm_file_functions.specs.declared.functions.FileFunction.{FileFunction}
+use Rattle.mpm_file_functions.specs.declared.functions.FileFunction.TheVariants.{ResetDisks, OpenFile, CloseFile, SearchFirst, SearchNext, DeleteFile, ReadSequential, WriteSequential, MakeFile, RenameFile, ProtectDisk, SetAttributes, ReadRandom, WriteRandom, FileSize, ResetDrives, AccessDrives, FreeDrives, TestAndWrite, LockRecord, UnlockRecord, FreeSpace, FlushBuffers, SetLabel, LabelData, ReadXfcb, WriteXfcb}
 use Rattle.mpm_bdos.specs.declared.planning.About.{About}
-use Rattle.mpm_requests.specs.Filing.{Situation, block}
+use Rattle.mpm_refusals.specs.Filing.{Situation, block}
 use Rattle.mpm_mount.specs.Looking.{data_byte}
-use Rattle.mpm_requests.specs.Subjects.{drive_at, subject, subject_key, first_record, has_written}
-use Rattle.mpm_requests.specs.Refusals.{makes_xfcb}
+use Rattle.mpm_refusals.specs.Subjects.{drive_at, subject, subject_key, first_record, has_written}
+use Rattle.mpm_refusals.specs.Refusals.{makes_xfcb}
 use Rattle.mpm_locks.specs.Locks.{is_locked_off, count_until}
 use Rattle.mpm_jobs.specs.Jobs.{job_for, stamp_where, with_records, with_stamp, with_bytes, with_one, with_new_name, testing_bytes, where_some}
-use Rattle.mpm_entries.specs.Protections.{with_protection, no_protection, kept_by_label, given_xfcb, with_first_stamp, label_put, xfcb_put}
+use Rattle.mpm_file_entries.specs.Protections.{with_protection, no_protection, kept_by_label, given_xfcb, with_first_stamp, label_put, xfcb_put}
 use Rattle.mpm_bdos.specs.Jobs.{is_tested_off, is_cut_at, free_count, reading_job, writing_job, testing_job, labelling_job, guarding_job, job_by}
-use Rattle.mpm_entries.specs.Granting.{is_moving}
+use Rattle.mpm_file_entries.specs.Granting.{is_moving}
 use Rattle.mpm_bdos.specs.Planning.{IsAbout, stamp_on, written, tested}
 use Rattle.mpm_bdos.proofs.NamedFiles.{subject_name}
 

@@ -7,20 +7,20 @@ use Rattle.std.proofs.lemmas.List.Sums.{sum_by-append}
 use Rattle.mpm_mount.specs.Drives.{Drive, extent_at, visible_of, free_records, free_entries}
 use Rattle.mpm_opens.specs.declared.kinds.FileKey.{FileKey}
 use Rattle.mpm_opens.specs.Opens.{OpenFiles}
-use Rattle.mpm_functions.specs.declared.errors.RecordError.TheVariants.{UnwrittenExtent, UnwrittenData, NoDirectorySpace, NoDataBlock}
+use Rattle.mpm_file_functions.specs.declared.errors.RecordError.TheVariants.{UnwrittenExtent, UnwrittenData, NoDirectorySpace, NoDataBlock}
 use Rattle.mpm_files.specs.Units.{FileUnit, ReadsRecord, AddsEntry, ClearsBlock, WritesRecord, all_applied}
-use Rattle.mpm_files.specs.Plans.{Plan, behind, unless_failing, when, clears_blocks, needs_entry, needs_block, write_units, reading, writing}
+use Rattle.mpm_files.specs.Plans.{CallPlan, behind, unless_failing, when, clears_blocks, needs_entry, needs_block, write_units, reading, writing}
 use Rattle.mpm_files.specs.Serving.{records_moved}
-use Rattle.mpm_functions.specs.declared.ends.Ended.{Ended}
-use Rattle.mpm_functions.specs.declared.ends.RecordEnd.TheVariants.{Failing, LockedOff}
-use Rattle.mpm_functions.specs.declared.functions.FileFunction.TheVariants.{ReadSequential, WriteSequential, ReadRandom, WriteRandom}
-use Rattle.mpm_requests.specs.Subjects.{file_of}
+use Rattle.mpm_file_functions.specs.declared.ends.Ended.{Ended}
+use Rattle.mpm_file_functions.specs.declared.ends.RecordEnd.TheVariants.{Failing, LockedOff}
+use Rattle.mpm_file_functions.specs.declared.functions.FileFunction.TheVariants.{ReadSequential, WriteSequential, ReadRandom, WriteRandom}
+use Rattle.mpm_refusals.specs.Subjects.{file_of}
 use Rattle.mpm_locks.specs.Locks.{is_locked_off, count_until}
 use Rattle.mpm_bdos.specs.Records.{ends, end_of, one_done, ended_by, writing_ended, reading_ended}
-use Rattle.mpm_functions.specs.Ends.{ends_of, end_by}
+use Rattle.mpm_file_functions.specs.Ends.{ends_of, end_by}
 
 -- what a plan comes to whose records were cut, or not
-abbrev pub planned : Plan → Bool → Ended
+abbrev pub planned : CallPlan → Bool → Ended
 planned plan cut = record { moved = sum_by records_moved plan.units; end = end_by plan.error cut }
 
 -- one record is one that is moved
@@ -34,7 +34,7 @@ one_written false false a b c is_a is_b is_c = omega (arith, is_c)
 plus_one : (units rest : ℕ) → units ≡ 1 → units + rest ≡ rest + 1
 plus_one units rest is = omega arith
 
-pub one_more : (units : List FileUnit) (plan : Plan) (k count : ℕ) → sum_by records_moved units ≡ 1
+pub one_more : (units : List FileUnit) (plan : CallPlan) (k count : ℕ) → sum_by records_moved units ≡ 1
     → planned (behind units plan) (nat_lt (suc k) (suc count)) ≡ one_done (planned plan (nat_lt k count))
 one_more units plan k count one =
     ap (λ moved. record { moved = moved; end = end_by plan.error (nat_lt (suc k) (suc count)) })
@@ -42,7 +42,7 @@ one_more units plan k count one =
     ∙ ap (λ cut. record { moved = sum_by records_moved plan.units + 1; end = end_by plan.error cut }) (grind (arith, nat_tests))
 
 -- a record by what keeps it from being written, and all others
-unless_done : (no_entry no_block : Bool) (units : List FileUnit) (plan : Plan) (k count : ℕ) (rest : Ended) → sum_by records_moved units ≡ 1
+unless_done : (no_entry no_block : Bool) (units : List FileUnit) (plan : CallPlan) (k count : ℕ) (rest : Ended) → sum_by records_moved units ≡ 1
     → planned plan (nat_lt k count) ≡ rest
     → planned (unless_failing (cond no_entry (Some NoDirectorySpace) (cond no_block (Some NoDataBlock) None)) (behind units plan)) (nat_lt (suc k) (suc count))
     ≡ ended_by (cond no_entry (Some (Failing NoDirectorySpace)) (cond no_block (Some (Failing NoDataBlock)) None)) rest
@@ -94,7 +94,7 @@ random_writing_ends opens p file drive n (bytes ∷ records) stamp =
     (random_writing_ends opens p file (all_applied drive (write_units drive false (file_of file) n bytes stamp)) (n + 1) records None)
 
 -- functions 20 and 33
-unless_read : (no_extent no_data : Bool) (unit : FileUnit) (plan : Plan) (rest : Ended) → records_moved unit ≡ 1 → planned plan false ≡ rest
+unless_read : (no_extent no_data : Bool) (unit : FileUnit) (plan : CallPlan) (rest : Ended) → records_moved unit ≡ 1 → planned plan false ≡ rest
     → planned (unless_failing (cond no_extent (Some UnwrittenExtent) (cond no_data (Some UnwrittenData) None)) (behind (unit ∷ []) plan)) false
     ≡ ended_by (cond no_extent (Some (Failing UnwrittenExtent)) (cond no_data (Some (Failing UnwrittenData)) None)) rest
 unless_read true no_data unit plan rest one so = refl

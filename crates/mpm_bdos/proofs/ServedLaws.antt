@@ -11,20 +11,20 @@ use Rattle.mpm_mount.specs.Drives.{Drive}
 use Rattle.mpm_jobs.specs.declared.jobs.Job.{Job}
 use Rattle.mpm_files.specs.Serving.{units_done}
 use Rattle.mpm_files.proofs.Contained.{turns_keep}
-use Rattle.mpm_requests.specs.declared.caller.Caller.{Caller}
-use Rattle.mpm_functions.specs.declared.functions.DirectFunction.{DirectFunction}
-use Rattle.mpm_functions.specs.declared.functions.FileFunction.{FileFunction}
-use Rattle.mpm_functions.specs.declared.refusals.Refusal.{Refusal}
+use Rattle.mpm_refusals.specs.declared.caller.Caller.{Caller}
+use Rattle.mpm_file_functions.specs.declared.functions.DirectFunction.{DirectFunction}
+use Rattle.mpm_file_functions.specs.declared.functions.FileFunction.{FileFunction}
+use Rattle.mpm_file_functions.specs.declared.refusals.Refusal.{Refusal}
 use Rattle.mpm_directories.specs.Direct.{Directly, direct_by, is_protected}
 use Rattle.mpm_bdos.specs.Direct.{direct, kind_of}
-use Rattle.mpm_requests.specs.Filing.{Filing, Situation}
+use Rattle.mpm_refusals.specs.Filing.{Filing, Situation}
 use Rattle.mpm_bdos.specs.Jobs.{job_by, unless_refused, job_of}
 use Rattle.mpm_bdos.specs.Outcomes.{drives_after}
-use Rattle.mpm_requests.specs.Refusals.{refusal_of}
+use Rattle.mpm_refusals.specs.Refusals.{refusal_of}
 use Rattle.mpm_bdos.specs.Serving.{Kept, StandEach, Serves, WorksOn, filing_of}
 use Rattle.mpm_directories.specs.Places.{directory_at}
 use Rattle.mpm_bdos.specs.Starting.{entering}
-use Rattle.mpm_requests.specs.Subjects.{mounted, blank_drive, drive_number, drive_at}
+use Rattle.mpm_refusals.specs.Subjects.{mounted, blank_drive, drive_number, drive_at}
 use Rattle.mpm_bdos.specs.Turns.{TurnKeeps, WorksOnDrives, has_work, labelled}
 use Rattle.mpm_bdos.proofs.NextTurns.{idle_drives, job_drives}
 use Rattle.mpm_bdos.proofs.Started.{unmounted_begins}

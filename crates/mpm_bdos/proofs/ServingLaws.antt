@@ -1,10 +1,10 @@
 -- What is so of a call in service.
 use Rattle.std.proofs.Common.{◌≡◌, ℕ, List, Option, Some, None, sym, refl, ap, subst}
 use Rattle.mpm_mount.specs.Drives.{Drive}
-use Rattle.mpm_functions.specs.declared.refusals.Refusal.{Refusal}
-use Rattle.mpm_requests.specs.Filing.{Situation}
-use Rattle.mpm_requests.specs.Subjects.{drive_at}
-use Rattle.mpm_requests.specs.Refusals.{refusal_of}
+use Rattle.mpm_file_functions.specs.declared.refusals.Refusal.{Refusal}
+use Rattle.mpm_refusals.specs.Filing.{Situation}
+use Rattle.mpm_refusals.specs.Subjects.{drive_at}
+use Rattle.mpm_refusals.specs.Refusals.{refusal_of}
 use Rattle.mpm_bdos.specs.Serving.{Kept, StandEach, Serves}
 use Rattle.mpm_bdos.specs.Jobs.{job_by, unless_refused, job_of, turns_by, call_turns, turned}
 use Rattle.mpm_bdos.specs.Changes.{drives_by, filing_after}

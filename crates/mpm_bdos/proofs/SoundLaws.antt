@@ -13,13 +13,13 @@ use Rattle.mpm_opens.proofs.OpeningLaws.{number_is_live}
 use Rattle.mpm_opens.proofs.SoundLaws.{sound_given_back, sound_closed, sound_written, sound_locked, sound_unlocked}
 use Rattle.mpm_opens.proofs.FindingLaws.{is_named_item}
 use Rattle.mpm_fcb.specs.Names.{has_f5}
-use Rattle.mpm_functions.specs.declared.ends.RecordEnd.{RecordEnd}
-use Rattle.mpm_functions.specs.declared.functions.FileFunction.{FileFunction}
-use Rattle.mpm_functions.specs.declared.functions.FileFunction.TheVariants.{ResetDisks, OpenFile, CloseFile, SearchFirst, SearchNext, DeleteFile, ReadSequential, WriteSequential, MakeFile, RenameFile, ProtectDisk, SetAttributes, ReadRandom, WriteRandom, FileSize, ResetDrives, AccessDrives, FreeDrives, TestAndWrite, LockRecord, UnlockRecord, FreeSpace, FlushBuffers, SetLabel, LabelData, ReadXfcb, WriteXfcb}
-use Rattle.mpm_functions.specs.declared.refusals.Refusal.{Refusal}
-use Rattle.mpm_requests.specs.Filing.{Filing, Situation, block}
-use Rattle.mpm_requests.specs.Subjects.{drive_number, drive_at, open_mode, subject_key, first_record, mode_by, names_drive}
-use Rattle.mpm_requests.specs.Refusals.{refusal_of}
+use Rattle.mpm_file_functions.specs.declared.ends.RecordEnd.{RecordEnd}
+use Rattle.mpm_file_functions.specs.declared.functions.FileFunction.{FileFunction}
+use Rattle.mpm_file_functions.specs.declared.functions.FileFunction.TheVariants.{ResetDisks, OpenFile, CloseFile, SearchFirst, SearchNext, DeleteFile, ReadSequential, WriteSequential, MakeFile, RenameFile, ProtectDisk, SetAttributes, ReadRandom, WriteRandom, FileSize, ResetDrives, AccessDrives, FreeDrives, TestAndWrite, LockRecord, UnlockRecord, FreeSpace, FlushBuffers, SetLabel, LabelData, ReadXfcb, WriteXfcb}
+use Rattle.mpm_file_functions.specs.declared.refusals.Refusal.{Refusal}
+use Rattle.mpm_refusals.specs.Filing.{Filing, Situation, block}
+use Rattle.mpm_refusals.specs.Subjects.{drive_number, drive_at, open_mode, subject_key, first_record, mode_by, names_drive}
+use Rattle.mpm_refusals.specs.Refusals.{refusal_of}
 use Rattle.mpm_bdos.specs.Records.{Locking, end_of, unless_ended, locking}
 use Rattle.mpm_locks.specs.Locks.{unlocking}
 use Rattle.mpm_bdos.specs.Jobs.{Turned, call_turns, turned}

@@ -19,26 +19,26 @@ use Rattle.mpm_files.specs.declared.work.Work.{Work}
 use Rattle.mpm_files.specs.Units.{all_applied}
 use Rattle.mpm_files.specs.Plans.{plan_of}
 use Rattle.mpm_files.specs.Turning.{Suits}
-use Rattle.mpm_requests.specs.declared.caller.Caller.{Caller}
-use Rattle.mpm_functions.specs.declared.functions.FileFunction.{FileFunction}
-use Rattle.mpm_functions.specs.declared.functions.FileFunction.TheVariants.{ResetDisks, OpenFile, CloseFile, SearchFirst, SearchNext, DeleteFile, ReadSequential, WriteSequential, MakeFile, RenameFile, ProtectDisk, SetAttributes, ReadRandom, WriteRandom, FileSize, ResetDrives, AccessDrives, FreeDrives, TestAndWrite, LockRecord, UnlockRecord, FreeSpace, FlushBuffers, SetLabel, LabelData, ReadXfcb, WriteXfcb}
+use Rattle.mpm_refusals.specs.declared.caller.Caller.{Caller}
+use Rattle.mpm_file_functions.specs.declared.functions.FileFunction.{FileFunction}
+use Rattle.mpm_file_functions.specs.declared.functions.FileFunction.TheVariants.{ResetDisks, OpenFile, CloseFile, SearchFirst, SearchNext, DeleteFile, ReadSequential, WriteSequential, MakeFile, RenameFile, ProtectDisk, SetAttributes, ReadRandom, WriteRandom, FileSize, ResetDrives, AccessDrives, FreeDrives, TestAndWrite, LockRecord, UnlockRecord, FreeSpace, FlushBuffers, SetLabel, LabelData, ReadXfcb, WriteXfcb}
 use Rattle.mpm_bdos.specs.declared.planning.About.{About}
-use Rattle.mpm_functions.specs.declared.refusals.Refusal.{Refusal}
-use Rattle.mpm_requests.specs.Filing.{Situation, block, HaveUsers}
-use Rattle.mpm_requests.specs.Subjects.{last_search, drive_by, drive_named, drive_number, mounted, blank_drive, drive_at, item_number, open_key, subject, first_record}
-use Rattle.mpm_requests.specs.Refusals.{refusal_of}
+use Rattle.mpm_file_functions.specs.declared.refusals.Refusal.{Refusal}
+use Rattle.mpm_refusals.specs.Filing.{Situation, block, HaveUsers}
+use Rattle.mpm_refusals.specs.Subjects.{last_search, drive_by, drive_named, drive_number, mounted, blank_drive, drive_at, item_number, open_key, subject, first_record}
+use Rattle.mpm_refusals.specs.Refusals.{refusal_of}
 use Rattle.mpm_bdos.specs.Jobs.{job_by, unless_refused, job_of, turns_by, call_turns, turned_by, turned}
 use Rattle.mpm_bdos.specs.Changes.{drives_by}
 use Rattle.mpm_bdos.specs.Outcomes.{drives_after}
-use Rattle.mpm_bdos.specs.Ending.{IsSound}
+use Rattle.mpm_bdos.specs.Ending.{IsSoundDrive}
 use Rattle.mpm_bdos.specs.Planning.{IsAbout}
-use Rattle.mpm_requests.specs.Asking.{StandsFor, unnamed_refusal, StandsWhere}
+use Rattle.mpm_refusals.specs.Asking.{StandsForDirectory, unnamed_refusal, StandsWhere}
 use Rattle.mpm_bdos.specs.Serving.{IsCaller, InService, Kept, StandEach, WorksOn, Serves}
 use Rattle.mpm_directories.specs.Places.{directory_at}
-use Rattle.mpm_bdos.specs.Starting.{entering, about_in, Begins, Enters, EntersAmong, turns_where}
+use Rattle.mpm_bdos.specs.Starting.{entering, about_in, BeginsJob, Enters, EntersAmong, turns_where}
 use Rattle.mpm_bdos.proofs.NamedFiles.{subject_name}
 use Rattle.mpm_bdos.proofs.Suited.{IsCall, each_suits, low_first}
-use Rattle.mpm_requests.proofs.UnmountedLaws.{unmounted_so}
+use Rattle.mpm_refusals.proofs.UnmountedLaws.{unmounted_so}
 use Rattle.mpm_bdos.proofs.OnDrives.{no_drive}
 use Rattle.mpm_bdos.proofs.EndingLaws.{own_job}
 
@@ -80,7 +80,7 @@ nothing_refuses s refusal e none = sym e ∙ is_none refusal none
 
 -- of a call that isn't refused the job is that of its function
 pub begins : (image : List ℕ) (d : Directory) (s : Situation) (job : Option Job) (work : Option Work) → IsCall s → refusal_of s ≡ None → job ≡ job_by s s.function
-    → (IfSome job (Suits (drive_at s)) → WorksOn image (Some d) (drive_at s) job 0 work) → Begins image (Some d) s work
+    → (IfSome job (Suits (drive_at s)) → WorksOn image (Some d) (drive_at s) job 0 work) → BeginsJob image (Some d) s work
 begins image d s job work call none is works =
     let same : job ≡ job_of s = is ∙ sym (own_job s none) in
     let suits : IfSome (job_of s) (Suits (drive_at s)) = each_suits s (job_of s) call refl in
@@ -90,7 +90,7 @@ begins image d s job work call none is works =
     }
 
 -- one that is refused, or whose drive isn't mounted, has none
-begins_none : (image : List ℕ) (directory : Option Directory) (s : Situation) → job_of s ≡ None → Begins image directory s None
+begins_none : (image : List ℕ) (directory : Option Directory) (s : Situation) → job_of s ≡ None → BeginsJob image directory s None
 begins_none image directory s none = record {
   suits = subst (λ j. IfSome j (Suits (drive_at s))) (sym none) tt;
   works = subst (λ j. WorksOn image directory (drive_at s) j 0 None) (sym none) tt;
@@ -100,7 +100,7 @@ refused_job : (s : Situation) (refusal : Option Refusal) → is_some refusal ≡
 refused_job s None is = absurd (cc)
 refused_job s (Some refusal) is = refl
 
-pub refused_begins : (image : List ℕ) (directory : Option Directory) (s : Situation) (refusal : Option Refusal) → refusal ≡ refusal_of s → is_some refusal ≡ true → Begins image directory s None
+pub refused_begins : (image : List ℕ) (directory : Option Directory) (s : Situation) (refusal : Option Refusal) → refusal ≡ refusal_of s → is_some refusal ≡ true → BeginsJob image directory s None
 unfolding job_of
 refused_begins image directory s refusal e is = begins_none image directory s (ap (λ r. unless_refused r (job_by s s.function)) (sym e) ∙ refused_job s refusal is)
 
@@ -134,7 +134,7 @@ without_drive s FlushBuffers none = refl
 without_drive s LabelData none = refl
 without_drive s ReadXfcb none = refl
 
-pub unmounted_begins : (image : List ℕ) (s : Situation) → refusal_of s ≡ None → mounted s.filing (drive_number s) ≡ None → Begins image None s None
+pub unmounted_begins : (image : List ℕ) (s : Situation) → refusal_of s ≡ None → mounted s.filing (drive_number s) ≡ None → BeginsJob image None s None
 unmounted_begins image s none not_mounted =
     let named : drive_named s ≡ None = no_drive s (drive_named s) (unnamed_refusal _ s.function) (sym (unmounted_so s not_mounted) ∙ none) in
     begins_none image None s (own_job s none ∙ without_drive s s.function named)
@@ -173,29 +173,29 @@ by_job image None s (Some job) (Some work) m at stands works = absurd works
 by_job image (Some d) s (Some job) (Some work) None at stands works = absurd stands
 by_job image (Some d) s (Some job) (Some work) (Some drive) at stands works = put_back s.filing.drives (drive_number s) (drive_at s) (drive_there s drive at)
 
-drives_at_first : (image : List ℕ) (directory : Option Directory) (s : Situation) (work : Option Work) → StandsFor image directory s → WorksOn image directory (drive_at s) (job_of s) 0 work
+drives_at_first : (image : List ℕ) (directory : Option Directory) (s : Situation) (work : Option Work) → StandsForDirectory image directory s → WorksOn image directory (drive_at s) (job_of s) 0 work
     → drives_after s 0 ≡ s.filing.drives
 unfolding drives_after turned
 drives_at_first image directory s work stands works = by_job image directory s (job_of s) work (mounted s.filing (drive_number s)) refl stands works
 
 -- its drive is that of an image, or there is none
-sound_there : (image : List ℕ) (d : Directory) (drive : Drive) → Stands image d drive → IsSound drive
+sound_there : (image : List ℕ) (d : Directory) (drive : Drive) → Stands image d drive → IsSoundDrive drive
 sound_there image d drive stands = record {
   each = λ file number extent is. subst (λ kind. IsOfImage kind (record { user = file.user; name = file.name; number = number }) extent) (sym (kind_of image d drive stands))
       (extent_of_image image d drive (record { user = file.user; name = file.name; number = number }) extent stands is);
 }
 
-sound_nowhere : IsSound blank_drive
+sound_nowhere : IsSoundDrive blank_drive
 sound_nowhere = record {
   each = λ file number extent is.
       absurd (none-some extent (sym (get-empty entry_cmp (record { user = file.user; name = file.name; number = number })) ∙ is));
 }
 
-sound_drive : (image : List ℕ) (directory : Option Directory) (s : Situation) (m : Option Drive) → mounted s.filing (drive_number s) ≡ m → StandsWhere (drive_number s) image directory m → IsSound (drive_at s)
+sound_drive : (image : List ℕ) (directory : Option Directory) (s : Situation) (m : Option Drive) → mounted s.filing (drive_number s) ≡ m → StandsWhere (drive_number s) image directory m → IsSoundDrive (drive_at s)
 unfolding drive_at
-sound_drive image directory s None at stands = subst (λ (m : Option Drive). IsSound (unwrap_or m blank_drive)) (sym at) sound_nowhere
+sound_drive image directory s None at stands = subst (λ (m : Option Drive). IsSoundDrive (unwrap_or m blank_drive)) (sym at) sound_nowhere
 sound_drive image None s (Some drive) at stands = absurd stands
-sound_drive image (Some d) s (Some drive) at stands = subst (λ (m : Option Drive). IsSound (unwrap_or m blank_drive)) (sym at) (sound_there image d drive stands.stands)
+sound_drive image (Some d) s (Some drive) at stands = subst (λ (m : Option Drive). IsSoundDrive (unwrap_or m blank_drive)) (sym at) (sound_there image d drive stands.stands)
 
 -- it is in service
 pub in_service : (images : ℕ → List ℕ) (kept : Kept) (drives : List (Option Drive)) (caller : Caller) (function : FileFunction) (call : Taken) (moment : List ℕ) (service : InService)

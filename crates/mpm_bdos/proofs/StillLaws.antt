@@ -10,15 +10,15 @@ use Rattle.mpm_files.specs.Plans.{file_of_job, turns_of}
 use Rattle.mpm_files.specs.Serving.{units_done}
 use Rattle.mpm_guard.specs.Passwords.{has_bit}
 use Rattle.mpm_fcb.specs.declared.block.ControlBlock.{ControlBlock}
-use Rattle.mpm_functions.specs.declared.functions.FileFunction.{FileFunction}
-use Rattle.mpm_functions.specs.declared.functions.FileFunction.TheVariants.{ResetDisks, OpenFile, CloseFile, SearchFirst, SearchNext, DeleteFile, ReadSequential, WriteSequential, MakeFile, RenameFile, ProtectDisk, SetAttributes, ReadRandom, WriteRandom, FileSize, ResetDrives, AccessDrives, FreeDrives, TestAndWrite, LockRecord, UnlockRecord, FreeSpace, FlushBuffers, SetLabel, LabelData, ReadXfcb, WriteXfcb}
-use Rattle.mpm_requests.specs.Filing.{LastSearch, Situation, block}
+use Rattle.mpm_file_functions.specs.declared.functions.FileFunction.{FileFunction}
+use Rattle.mpm_file_functions.specs.declared.functions.FileFunction.TheVariants.{ResetDisks, OpenFile, CloseFile, SearchFirst, SearchNext, DeleteFile, ReadSequential, WriteSequential, MakeFile, RenameFile, ProtectDisk, SetAttributes, ReadRandom, WriteRandom, FileSize, ResetDrives, AccessDrives, FreeDrives, TestAndWrite, LockRecord, UnlockRecord, FreeSpace, FlushBuffers, SetLabel, LabelData, ReadXfcb, WriteXfcb}
+use Rattle.mpm_refusals.specs.Filing.{LastSearch, Situation, block}
 use Rattle.mpm_mount.specs.Looking.{data_byte}
-use Rattle.mpm_requests.specs.Subjects.{drive_number, blank_drive, drive_at, own_file, last_search, open_key, opened_in, subject_by, subject, found_by, found}
-use Rattle.mpm_requests.specs.Refusals.{refusal_of}
+use Rattle.mpm_refusals.specs.Subjects.{drive_number, blank_drive, drive_at, own_file, last_search, open_key, opened_in, subject_by, subject, found_by, found}
+use Rattle.mpm_refusals.specs.Refusals.{refusal_of}
 use Rattle.mpm_jobs.specs.Jobs.{stamp_where, with_stamp}
 use Rattle.mpm_bdos.specs.Jobs.{job_on, job_by, job_of, turns_by, call_turns, turned_by, turned}
-use Rattle.mpm_requests.specs.Asking.{asked_of}
+use Rattle.mpm_refusals.specs.Asking.{asked_of}
 use Rattle.mpm_bdos.proofs.EndingLaws.{own_job}
 use Rattle.mpm_bdos.proofs.NamedFiles.{subject_name}
 use Rattle.mpm_bdos.proofs.OpenedLaws.{Alike, opened_alike, still_opened}

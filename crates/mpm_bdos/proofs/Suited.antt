@@ -19,21 +19,21 @@ use Rattle.mpm_fcb.specs.Positions.{sequential_record, are_beyond}
 use Rattle.mpm_jobs.specs.declared.jobs.JobKind.TheVariants as kinds
 use Rattle.mpm_jobs.specs.declared.jobs.Job.{Job}
 use Rattle.mpm_files.specs.Turning.{SuitsKind, Suits}
-use Rattle.mpm_functions.specs.declared.functions.FileFunction.{FileFunction}
-use Rattle.mpm_functions.specs.declared.functions.FileFunction.TheVariants.{ResetDisks, OpenFile, CloseFile, SearchFirst, SearchNext, DeleteFile, ReadSequential, WriteSequential, MakeFile, RenameFile, ProtectDisk, SetAttributes, ReadRandom, WriteRandom, FileSize, ResetDrives, AccessDrives, FreeDrives, TestAndWrite, LockRecord, UnlockRecord, FreeSpace, FlushBuffers, SetLabel, LabelData, ReadXfcb, WriteXfcb}
-use Rattle.mpm_functions.specs.declared.refusals.Refusal.{Refusal}
-use Rattle.mpm_functions.specs.declared.refusals.Refusal.TheVariants.{Ambiguous, BeyondFile, NotFound, FileExists, DirectoryFull}
-use Rattle.mpm_requests.specs.Filing.{Situation, block, HaveUsers}
+use Rattle.mpm_file_functions.specs.declared.functions.FileFunction.{FileFunction}
+use Rattle.mpm_file_functions.specs.declared.functions.FileFunction.TheVariants.{ResetDisks, OpenFile, CloseFile, SearchFirst, SearchNext, DeleteFile, ReadSequential, WriteSequential, MakeFile, RenameFile, ProtectDisk, SetAttributes, ReadRandom, WriteRandom, FileSize, ResetDrives, AccessDrives, FreeDrives, TestAndWrite, LockRecord, UnlockRecord, FreeSpace, FlushBuffers, SetLabel, LabelData, ReadXfcb, WriteXfcb}
+use Rattle.mpm_file_functions.specs.declared.refusals.Refusal.{Refusal}
+use Rattle.mpm_file_functions.specs.declared.refusals.Refusal.TheVariants.{Ambiguous, BeyondFile, NotFound, FileExists, DirectoryFull}
+use Rattle.mpm_refusals.specs.Filing.{Situation, block, HaveUsers}
 use Rattle.mpm_mount.specs.Looking.{data_byte}
-use Rattle.mpm_requests.specs.Subjects.{drive_at, open_key, own_file, new_file, is_there, subject_by, subject, first_by, first_record}
-use Rattle.mpm_functions.specs.Refusals.{refusals_of}
-use Rattle.mpm_requests.specs.Refusals.{has_question, is_missing, makes_xfcb, lacks_xfcb, lacks_label, needed_by, existing_file, is_directory_full, applies, refusal_of}
+use Rattle.mpm_refusals.specs.Subjects.{drive_at, open_key, own_file, new_file, is_there, subject_by, subject, first_by, first_record}
+use Rattle.mpm_file_functions.specs.Refusals.{refusals_of}
+use Rattle.mpm_refusals.specs.Refusals.{has_question, is_missing, makes_xfcb, lacks_xfcb, lacks_label, needed_by, existing_file, is_directory_full, applies, refusal_of}
 use Rattle.mpm_jobs.specs.Jobs.{filled, with_stamp, with_one, with_new_name}
-use Rattle.mpm_entries.specs.Protections.{with_protection}
+use Rattle.mpm_file_entries.specs.Protections.{with_protection}
 use Rattle.mpm_bdos.specs.Jobs.{made_xfcb, job_on, free_count, reading_job, writing_job, testing_job, making_job, labelling_job, guarding_job, job_by, unless_refused, job_of}
-use Rattle.mpm_entries.specs.Granting.{is_moving}
+use Rattle.mpm_file_entries.specs.Granting.{is_moving}
 use Rattle.mpm_bdos.specs.Serving.{IsCaller}
-use Rattle.mpm_requests.proofs.AskedLaws.{file_is}
+use Rattle.mpm_refusals.proofs.AskedLaws.{file_is}
 use Rattle.mpm_jobs.proofs.Filling.{filled_room}
 use Rattle.mpm_bdos.proofs.Granted.{none_applies}
 use Rattle.mpm_bdos.proofs.Absent.{absent, is_other}

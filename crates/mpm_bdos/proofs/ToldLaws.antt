@@ -14,32 +14,32 @@ use Rattle.mpm_opens.specs.declared.kinds.Mode.TheVariants.{Unlocked}
 use Rattle.mpm_opens.specs.Kinds.{is_same_mode}
 use Rattle.mpm_opens.specs.Opens.{OpenFiles, locked}
 use Rattle.mpm_mount.specs.Files.{where_there}
-use Rattle.mpm_functions.specs.declared.errors.RecordError.{RecordError}
-use Rattle.mpm_functions.specs.declared.errors.RecordError.TheVariants.{UnwrittenExtent, UnwrittenData, NoDirectorySpace, NoDataBlock, Mismatch}
+use Rattle.mpm_file_functions.specs.declared.errors.RecordError.{RecordError}
+use Rattle.mpm_file_functions.specs.declared.errors.RecordError.TheVariants.{UnwrittenExtent, UnwrittenData, NoDirectorySpace, NoDataBlock, Mismatch}
 use Rattle.mpm_jobs.specs.declared.jobs.JobKind.TheVariants as kinds
 use Rattle.mpm_jobs.specs.declared.jobs.Job.{Job}
 use Rattle.mpm_files.specs.declared.work.Work.{Work}
 use Rattle.mpm_files.specs.Units.{ReadsRecord, stages, last_of, applied}
-use Rattle.mpm_files.specs.Plans.{Plan, file_of_job, behind, unless_failing, reading, plan_by, plan_of, turns_of}
-use Rattle.mpm_files.specs.Serving.{records_moved, moved_after, all_read, records_after, IsServing}
+use Rattle.mpm_files.specs.Plans.{CallPlan, file_of_job, behind, unless_failing, reading, plan_by, plan_of, turns_of}
+use Rattle.mpm_files.specs.Serving.{records_moved, moved_after, all_read, records_after, IsServingJob}
 use Rattle.mpm_files.specs.Turning.{Suits}
-use Rattle.mpm_functions.specs.declared.ends.RecordEnd.{RecordEnd}
-use Rattle.mpm_functions.specs.declared.ends.RecordEnd.TheVariants.{Failing}
-use Rattle.mpm_functions.specs.declared.functions.FileFunction.{FileFunction}
-use Rattle.mpm_functions.specs.declared.functions.FileFunction.TheVariants.{ResetDisks, OpenFile, CloseFile, SearchFirst, SearchNext, DeleteFile, ReadSequential, WriteSequential, MakeFile, RenameFile, ProtectDisk, SetAttributes, ReadRandom, WriteRandom, FileSize, ResetDrives, AccessDrives, FreeDrives, TestAndWrite, LockRecord, UnlockRecord, FreeSpace, FlushBuffers, SetLabel, LabelData, ReadXfcb, WriteXfcb}
-use Rattle.mpm_requests.specs.Filing.{Situation, block}
+use Rattle.mpm_file_functions.specs.declared.ends.RecordEnd.{RecordEnd}
+use Rattle.mpm_file_functions.specs.declared.ends.RecordEnd.TheVariants.{Failing}
+use Rattle.mpm_file_functions.specs.declared.functions.FileFunction.{FileFunction}
+use Rattle.mpm_file_functions.specs.declared.functions.FileFunction.TheVariants.{ResetDisks, OpenFile, CloseFile, SearchFirst, SearchNext, DeleteFile, ReadSequential, WriteSequential, MakeFile, RenameFile, ProtectDisk, SetAttributes, ReadRandom, WriteRandom, FileSize, ResetDrives, AccessDrives, FreeDrives, TestAndWrite, LockRecord, UnlockRecord, FreeSpace, FlushBuffers, SetLabel, LabelData, ReadXfcb, WriteXfcb}
+use Rattle.mpm_refusals.specs.Filing.{Situation, block}
 use Rattle.mpm_fcb.specs.Positions.{random_record}
-use Rattle.mpm_requests.specs.Subjects.{drive_at, subject_key, first_by, first_record, open_mode}
-use Rattle.mpm_functions.specs.Refusals.{refusals_of}
-use Rattle.mpm_requests.specs.Refusals.{applies, refusal_of}
+use Rattle.mpm_refusals.specs.Subjects.{drive_at, subject_key, first_by, first_record, open_mode}
+use Rattle.mpm_file_functions.specs.Refusals.{refusals_of}
+use Rattle.mpm_refusals.specs.Refusals.{applies, refusal_of}
 use Rattle.mpm_bdos.specs.Records.{Locking, unless_ended, end_of, locking}
-use Rattle.mpm_functions.specs.Ends.{error_code_of, end_by, coded, done_by}
+use Rattle.mpm_file_functions.specs.Ends.{error_code_of, end_by, coded, done_by}
 use Rattle.mpm_bdos.specs.Jobs.{free_count, reading_job, writing_job, testing_job, job_by, job_of, turns_by, call_turns, Turned, turned_by, turned}
 use Rattle.mpm_bdos.specs.Changes.{locking_of}
 use Rattle.mpm_bdos.specs.Replies.{is_cut_by, end_after, granted_of}
-use Rattle.mpm_entries.specs.Granting.{position_by, value_by, FewDone, is_moving, IsPlaced}
+use Rattle.mpm_file_entries.specs.Granting.{position_by, value_by, FewDone, is_moving, IsPlaced}
 use Rattle.mpm_bdos.specs.Replies as replies
-use Rattle.mpm_bdos.specs.Ending.{IsSound, ended, is_reading, HasRead}
+use Rattle.mpm_bdos.specs.Ending.{IsSoundDrive, ended, is_reading, HasRead}
 use Rattle.mpm_bdos.specs.Leaving.{nothing_locked}
 use Rattle.mpm_bdos.specs.Serving.{WorksOn}
 use Rattle.mpm_bdos.specs.Replying.{IsServed}
@@ -175,18 +175,18 @@ extent_low extent (Some e) low there = by_test (nat_le extent e.last) refl there
     by_test true is there = low_extent extent e.last (grind (arith, nat_tests)) (low e refl)
     by_test false is there = absurd (false≢true there)
 
-low_record : (drive : Drive) (file : FileName) (n : ℕ) → IsSound drive → is_some (extent_at drive file (n / 128)) ≡ true → n ≤ 262143
+low_record : (drive : Drive) (file : FileName) (n : ℕ) → IsSoundDrive drive → is_some (extent_at drive file (n / 128)) ≡ true → n ≤ 262143
 unfolding extent_at
 low_record drive file n sound there =
     let low : n / 128 ≤ 2047 = extent_low (n / 128) (get drive.extents (entry_name drive.kind file (n / 128))) (λ e is. (sound.each file (entry_number drive.kind (n / 128)) e is).last) there in
     omega (arith, low)
 
-read_low_by : (e seen : Bool) (rest : Plan) (file : FileName) (n : ℕ) → (e ≡ true → n ≤ 262143)
+read_low_by : (e seen : Bool) (rest : CallPlan) (file : FileName) (n : ℕ) → (e ≡ true → n ≤ 262143)
     → 0 < sum_by records_moved (unless_failing (cond (not e) (Some UnwrittenExtent) (cond (not seen) (Some UnwrittenData) None)) (behind (ReadsRecord file n ∷ []) rest)).units → n ≤ 262143
 read_low_by true seen rest file n low h = low refl
 read_low_by false seen rest file n low h = absurd (omega (arith, h))
 
-read_low : (count : ℕ) (drive : Drive) (file : FileName) (n : ℕ) → IsSound drive → 0 < sum_by records_moved (reading drive file n count).units → n ≤ 262143
+read_low : (count : ℕ) (drive : Drive) (file : FileName) (n : ℕ) → IsSoundDrive drive → 0 < sum_by records_moved (reading drive file n count).units → n ≤ 262143
 unfolding reading
 read_low zero drive file n sound h = absurd (omega (arith, h))
 read_low (suc count) drive file n sound h =
@@ -253,7 +253,7 @@ in_file s image directory work served f =
     omega (arith, within_file (first_by (block s) s.function) s.caller.multi none.1.1.0, ap (first_by (block s)) f, served.caller.some)
 
 -- records that were read
-read_each_by : (there : Bool) (seen : Option (List ℕ)) (drive : Drive) (file : FileName) (n : ℕ) (rest : Plan) → visible_of drive file n ≡ seen
+read_each_by : (there : Bool) (seen : Option (List ℕ)) (drive : Drive) (file : FileName) (n : ℕ) (rest : CallPlan) → visible_of drive file n ≡ seen
     → length (all_read drive rest.units) ≡ sum_by records_moved rest.units
     → length (all_read drive (unless_failing (cond (not there) (Some UnwrittenExtent) (cond (not (is_some seen)) (Some UnwrittenData) None)) (behind (ReadsRecord file n ∷ []) rest)).units)
     ≡ sum_by records_moved (unless_failing (cond (not there) (Some UnwrittenExtent) (cond (not (is_some seen)) (Some UnwrittenData) None)) (behind (ReadsRecord file n ∷ []) rest)).units
@@ -283,7 +283,7 @@ reads_by : (drive : Drive) (image : List ℕ) (directory : Option Directory) (jo
 reads_by drive image directory job None is suits works = absurd works
 reads_by drive image None job (Some work) is suits works = absurd works
 reads_by drive image (Some d) job (Some work) is suits works =
-    let serving : IsServing drive job (turns_of drive job) work = works.serving in
+    let serving : IsServingJob drive job (turns_of drive job) work = works.serving in
     record {
       before = job;
       job_is = serving.job_is;

@@ -2,19 +2,19 @@
 use Rattle.std.proofs.Common.{◌≡◌, ℕ, suc, ◌+◌, Bool, List, Option, Some, None, Result, IfSome, refl, sym, ap, subst, ◌∙◌, arith}
 use Rattle.std.specs.Prelude.{IfOk}
 use Rattle.mpm_port.specs.Disks.{Disks, ToldImage}
-use Rattle.mpm_cache.specs.declared.cache.Place.{Place}
+use Rattle.mpm_cache.specs.declared.cache.SectorPlace.{SectorPlace}
 use Rattle.mpm_mount.specs.Drives.{Drive}
 use Rattle.mpm_mount.specs.Directories.{Directory}
 use Rattle.mpm_jobs.specs.declared.jobs.Job.{Job}
 use Rattle.mpm_files.specs.declared.turning.Progress.{Progress}
 use Rattle.mpm_files.specs.declared.work.Work.{Work}
 use Rattle.mpm_files.specs.Plans.{turns_of}
-use Rattle.mpm_files.specs.Serving.{turns_in, IsServing}
-use Rattle.mpm_bdos.specs.Turns.{HasLeft, labelled, progress_after}
+use Rattle.mpm_files.specs.Serving.{turns_in, IsServingJob}
+use Rattle.mpm_bdos.specs.Turns.{HasLeftDisk, labelled, progress_after}
 
 -- whether turns are left is known by the job that a work serves
 
-pub told_by_job : {E : Type 0} (before : Drive) (job : Job) (j : ℕ) (work : Work) (result : Result Progress E) → IsServing before job j work
+pub told_by_job : {E : Type 0} (before : Drive) (job : Job) (j : ℕ) (work : Work) (result : Result Progress E) → IsServingJob before job j work
     → IfOk result (λ told. told ≡ progress_after (work.ended + 1) (turns_in work)) → IfOk result (λ told. told ≡ progress_after (suc j) (turns_of before job))
 told_by_job before job j work result serving told =
     let ended : work.ended + 1 ≡ suc j = omega (arith, serving.ended) in
@@ -30,14 +30,14 @@ labels_as old new drive kind = ap (λ n. (n, new.kind)) drive ∙ ap (λ k. (old
 pub nothing_there : {X : Type 0} (P : X → Type 0) (place : Option X) → place ≡ None → IfSome place P
 nothing_there P place none = subst (λ p. IfSome p P) (sym none) tt
 
-pub left_alone : {D : Type 0} (disks : D → Disks) (told : D → List ℕ → ToldImage) (failed : D → List (List ℕ)) (unsynced : D → ℕ → Bool) (place : Option Directory) (cached : List (Place × List ℕ)) (d : D)
-    → place ≡ None → HasLeft disks told failed unsynced place cached cached d d
+pub left_alone : {D : Type 0} (disks : D → Disks) (told : D → List ℕ → ToldImage) (failed : D → List (List ℕ)) (unsynced : D → ℕ → Bool) (place : Option Directory) (cached : List (SectorPlace × List ℕ)) (d : D)
+    → place ≡ None → HasLeftDisk disks told failed unsynced place cached cached d d
 left_alone disks told failed unsynced place cached d none =
-    subst (λ p. HasLeft disks told failed unsynced p cached cached d d) (sym none) (record { cache = refl; drives = refl })
+    subst (λ p. HasLeftDisk disks told failed unsynced p cached cached d d) (sym none) (record { cache = refl; drives = refl })
 
 -- the names on which drives failed are as they were
 
-pub left_names : {D : Type 0} (disks : D → Disks) (told : D → List ℕ → ToldImage) (failed : D → List (List ℕ)) (unsynced : D → ℕ → Bool) (place : Option Directory) (cached later : List (Place × List ℕ))
-    (old now : D) → HasLeft disks told failed unsynced place cached later old now → failed now ≡ failed old
+pub left_names : {D : Type 0} (disks : D → Disks) (told : D → List ℕ → ToldImage) (failed : D → List (List ℕ)) (unsynced : D → ℕ → Bool) (place : Option Directory) (cached later : List (SectorPlace × List ℕ))
+    (old now : D) → HasLeftDisk disks told failed unsynced place cached later old now → failed now ≡ failed old
 left_names disks told failed unsynced None cached later old now left = ap failed left.drives
 left_names disks told failed unsynced (Some d) cached later old now left = left.names

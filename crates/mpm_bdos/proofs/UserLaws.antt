@@ -9,16 +9,16 @@ use Rattle.mpm_opens.specs.Kinds.{is_file}
 use Rattle.mpm_opens.specs.Items.{place_at, with_changed, opened_again, closed_once, that_wrote, new_item, first_free, number_of, refusal_of, opened_at, opened, where_granted, items_added, items_without}
 use Rattle.mpm_opens.specs.Opens.{OpenFiles, item_of, process_of, file_of, added, given_back, with_its_item, closed_at, closed, written_at, written, unlocked}
 use Rattle.mpm_opens.proofs.ItemLaws.{place_left, so_of_left}
-use Rattle.mpm_functions.specs.declared.functions.FileFunction.{FileFunction}
-use Rattle.mpm_functions.specs.declared.functions.FileFunction.TheVariants.{ResetDisks, OpenFile, CloseFile, SearchFirst, SearchNext, DeleteFile, ReadSequential, WriteSequential, MakeFile, RenameFile, ProtectDisk, SetAttributes, ReadRandom, WriteRandom, FileSize, ResetDrives, AccessDrives, FreeDrives, TestAndWrite, LockRecord, UnlockRecord, FreeSpace, FlushBuffers, SetLabel, LabelData, ReadXfcb, WriteXfcb}
+use Rattle.mpm_file_functions.specs.declared.functions.FileFunction.{FileFunction}
+use Rattle.mpm_file_functions.specs.declared.functions.FileFunction.TheVariants.{ResetDisks, OpenFile, CloseFile, SearchFirst, SearchNext, DeleteFile, ReadSequential, WriteSequential, MakeFile, RenameFile, ProtectDisk, SetAttributes, ReadRandom, WriteRandom, FileSize, ResetDrives, AccessDrives, FreeDrives, TestAndWrite, LockRecord, UnlockRecord, FreeSpace, FlushBuffers, SetLabel, LabelData, ReadXfcb, WriteXfcb}
 use Rattle.mpm_fcb.specs.Names.{has_f5}
 use Rattle.mpm_marks.specs.Marks.{is_bit}
 use Rattle.mpm_marks.specs.Driving.{freed_by}
-use Rattle.mpm_requests.specs.declared.asking.Asked.{Asked}
-use Rattle.mpm_requests.specs.declared.subjects.OpenItem.{OpenItem}
-use Rattle.mpm_requests.specs.Subjects.{first_by}
-use Rattle.mpm_requests.specs.Filing.{HaveUsers}
-use Rattle.mpm_requests.proofs.OwnItems.{HasUser, user_at}
+use Rattle.mpm_refusals.specs.declared.asking.Asked.{Asked}
+use Rattle.mpm_refusals.specs.declared.subjects.OpenItem.{OpenItem}
+use Rattle.mpm_refusals.specs.Subjects.{first_by}
+use Rattle.mpm_refusals.specs.Filing.{HaveUsers}
+use Rattle.mpm_refusals.proofs.OwnItems.{HasUser, user_at}
 use Rattle.mpm_locks.specs.Locks.{unlocking}
 use Rattle.mpm_bdos.specs.Changes.{is_among}
 use Rattle.mpm_bdos.specs.Leaving.{unlocked_where, left_by}

@@ -6,20 +6,20 @@ use Rattle.mpm_opens.specs.declared.kinds.Mode.TheVariants.{Unlocked}
 use Rattle.mpm_opens.specs.Kinds.{is_same_mode, is_file}
 use Rattle.mpm_opens.specs.Items.{file_where, is_given_back}
 use Rattle.mpm_opens.specs.Opens.{OpenFiles, added, given_back, closed, written}
-use Rattle.mpm_functions.specs.declared.functions.FileFunction.{FileFunction}
-use Rattle.mpm_functions.specs.declared.functions.FileFunction.TheVariants.{OpenFile, CloseFile, DeleteFile, WriteSequential, MakeFile, RenameFile, WriteRandom, FreeDrives, TestAndWrite, LockRecord, UnlockRecord}
+use Rattle.mpm_file_functions.specs.declared.functions.FileFunction.{FileFunction}
+use Rattle.mpm_file_functions.specs.declared.functions.FileFunction.TheVariants.{OpenFile, CloseFile, DeleteFile, WriteSequential, MakeFile, RenameFile, WriteRandom, FreeDrives, TestAndWrite, LockRecord, UnlockRecord}
 use Rattle.mpm_mount.specs.Drives.{FileName, Drive}
 use Rattle.mpm_mount.specs.Files.{is_same_file}
 use Rattle.mpm_fcb.specs.Names.{has_f5}
 use Rattle.mpm_marks.specs.Driving.{marks_by, protected_by}
 use Rattle.mpm_jobs.specs.declared.jobs.Job.{Job}
-use Rattle.mpm_requests.specs.Filing.{LastSearch, Filing, Situation, block}
-use Rattle.mpm_requests.specs.Subjects.{last_search, drive_number, drive_at, is_mounted, open_mode, subject_key, file_of, first_record, mode_by, found, deleted_in, names_drive}
+use Rattle.mpm_refusals.specs.Filing.{LastSearch, Filing, Situation, block}
+use Rattle.mpm_refusals.specs.Subjects.{last_search, drive_number, drive_at, is_mounted, open_mode, subject_key, file_of, first_record, mode_by, found, deleted_in, names_drive}
 use Rattle.mpm_bdos.specs.declared.releasing.Deletion.{Deletion}
 use Rattle.mpm_bdos.specs.Records.{Locking, locking}
 use Rattle.mpm_locks.specs.Locks.{unlocking}
 use Rattle.mpm_bdos.specs.Jobs.{Turned, job_of}
-use Rattle.mpm_requests.specs.Searches.{search_by, searches_by}
+use Rattle.mpm_refusals.specs.Searches.{search_by, searches_by}
 
 -- records are locked by way of a file that is open in unlocked mode; in others nothing is done
 unfoldable pub locking_of : Situation → Locking

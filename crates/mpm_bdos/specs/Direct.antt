@@ -3,9 +3,9 @@
 use Rattle.std.specs.Prelude.{ℕ, Option, option_map}
 use Rattle.mpm_base.specs.declared.kind.Kind.{Kind}
 use Rattle.mpm_base.specs.Calls.{Taken}
-use Rattle.mpm_functions.specs.declared.functions.DirectFunction.{DirectFunction}
-use Rattle.mpm_requests.specs.Filing.{Filing}
-use Rattle.mpm_requests.specs.Subjects.{mounted}
+use Rattle.mpm_file_functions.specs.declared.functions.DirectFunction.{DirectFunction}
+use Rattle.mpm_refusals.specs.Filing.{Filing}
+use Rattle.mpm_refusals.specs.Subjects.{mounted}
 use Rattle.mpm_directories.specs.Direct.{Directly, direct_by, is_protected}
 
 abbrev pub kind_of : Filing → ℕ → Option Kind

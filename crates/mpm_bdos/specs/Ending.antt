@@ -2,14 +2,14 @@
 use Rattle.std.specs.Prelude.{◌≡◌, ℕ, Bool, true, false, List, Option, Some, None, length, nat_lt}
 use Rattle.std.specs.FinMap.{get}
 use Rattle.mpm_mount.specs.Drives.{FileName, PhysicalExtent, Drive, IsOfImage}
-use Rattle.mpm_functions.specs.declared.errors.RecordError.{RecordError}
+use Rattle.mpm_file_functions.specs.declared.errors.RecordError.{RecordError}
 use Rattle.mpm_jobs.specs.declared.jobs.Job.{Job}
 use Rattle.mpm_files.specs.declared.work.Work.{Work}
 use Rattle.mpm_files.specs.Serving.{with_records, told_error}
-use Rattle.mpm_functions.specs.declared.ends.Ended.{Ended}
-use Rattle.mpm_functions.specs.declared.functions.FileFunction.{FileFunction}
-use Rattle.mpm_functions.specs.declared.functions.FileFunction.TheVariants.{ReadSequential, WriteSequential, ReadRandom, WriteRandom, TestAndWrite}
-use Rattle.mpm_functions.specs.Ends.{end_by}
+use Rattle.mpm_file_functions.specs.declared.ends.Ended.{Ended}
+use Rattle.mpm_file_functions.specs.declared.functions.FileFunction.{FileFunction}
+use Rattle.mpm_file_functions.specs.declared.functions.FileFunction.TheVariants.{ReadSequential, WriteSequential, ReadRandom, WriteRandom, TestAndWrite}
+use Rattle.mpm_file_functions.specs.Ends.{end_by}
 
 -- it was cut where its job has fewer records than it names
 abbrev pub is_cut_short : FileFunction → ℕ → ℕ → Bool
@@ -50,6 +50,6 @@ HasRead done None records = ⊥
 HasRead done (Some work) records = IsRead done work records
 
 -- each directory entry of a file is such as the drive of an image has
-pub record IsSound (drive : Drive) : Type 0 where
+pub record IsSoundDrive (drive : Drive) : Type 0 where
   pub each : (file : FileName) (number : ℕ) (extent : PhysicalExtent) → get drive.extents (record { user = file.user; name = file.name; number = number }) ≡ Some extent
       → IsOfImage drive.kind (record { user = file.user; name = file.name; number = number }) extent

@@ -3,12 +3,12 @@ use Rattle.std.specs.Prelude.{◌≡◌, ℕ, Bool, List, [], Option, Some}
 use Rattle.mpm_base.specs.Calls.{Answer}
 use Rattle.mpm_mount.specs.Directories.{Directory}
 use Rattle.mpm_opens.specs.Opens.{OpenFiles}
-use Rattle.mpm_functions.specs.declared.refusals.Extended.{Extended}
-use Rattle.mpm_requests.specs.Filing.{LastSearch, Situation}
-use Rattle.mpm_requests.specs.Subjects.{found}
+use Rattle.mpm_file_functions.specs.declared.refusals.Extended.{Extended}
+use Rattle.mpm_refusals.specs.Filing.{LastSearch, Situation}
+use Rattle.mpm_refusals.specs.Subjects.{found}
 use Rattle.mpm_bdos.specs.Jobs.{call_turns, turned}
 use Rattle.mpm_bdos.specs.Changes.{protected_then, opens_by, search_of_call}
-use Rattle.mpm_requests.specs.Searches.{searches_by}
+use Rattle.mpm_refusals.specs.Searches.{searches_by}
 use Rattle.mpm_marks.specs.Driving.{marks_by}
 use Rattle.mpm_bdos.specs.Replies.{answer_after}
 use Rattle.mpm_bdos.specs.Outcomes.{file_call}

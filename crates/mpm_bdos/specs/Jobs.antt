@@ -4,24 +4,24 @@ use Rattle.std.specs.FinMap.{get}
 use Rattle.mpm_base.specs.Calls.{byte_in, eight_at}
 use Rattle.mpm_opens.specs.declared.kinds.FileKey.{FileKey}
 use Rattle.mpm_opens.specs.Opens.{OpenFiles}
-use Rattle.mpm_functions.specs.declared.functions.FileFunction.{FileFunction}
-use Rattle.mpm_functions.specs.declared.functions.FileFunction.TheVariants.{OpenFile, DeleteFile, ReadSequential, WriteSequential, MakeFile, RenameFile, SetAttributes, ReadRandom, WriteRandom, TestAndWrite, SetLabel, WriteXfcb}
-use Rattle.mpm_functions.specs.declared.refusals.Refusal.{Refusal}
+use Rattle.mpm_file_functions.specs.declared.functions.FileFunction.{FileFunction}
+use Rattle.mpm_file_functions.specs.declared.functions.FileFunction.TheVariants.{OpenFile, DeleteFile, ReadSequential, WriteSequential, MakeFile, RenameFile, SetAttributes, ReadRandom, WriteRandom, TestAndWrite, SetLabel, WriteXfcb}
+use Rattle.mpm_file_functions.specs.declared.refusals.Refusal.{Refusal}
 use Rattle.mpm_mount.specs.Drives.{Protection, Drive}
 use Rattle.mpm_guard.specs.Passwords.{has_bit}
 use Rattle.mpm_fcb.specs.Names.{new_name_of, has_f6}
-use Rattle.mpm_functions.specs.declared.errors.RecordError.{RecordError}
+use Rattle.mpm_file_functions.specs.declared.errors.RecordError.{RecordError}
 use Rattle.mpm_jobs.specs.declared.jobs.JobKind.{JobKind}
 use Rattle.mpm_jobs.specs.declared.jobs.JobKind.TheVariants as kinds
 use Rattle.mpm_jobs.specs.declared.jobs.Job.{Job}
 use Rattle.mpm_mount.specs.Records.{read_error}
 use Rattle.mpm_files.specs.Plans.{turns_of}
 use Rattle.mpm_files.specs.Serving.{units_done, moved_after, error_after, records_after}
-use Rattle.mpm_requests.specs.Filing.{Situation, block}
+use Rattle.mpm_refusals.specs.Filing.{Situation, block}
 use Rattle.mpm_mount.specs.Looking.{data_byte}
-use Rattle.mpm_requests.specs.Subjects.{file_of, drive_at, subject, subject_key, first_record, has_written}
-use Rattle.mpm_requests.specs.Refusals.{makes_xfcb, refusal_of}
-use Rattle.mpm_entries.specs.Protections.{no_protection, given_xfcb, with_first_stamp, label_put, xfcb_put, with_protection}
+use Rattle.mpm_refusals.specs.Subjects.{file_of, drive_at, subject, subject_key, first_record, has_written}
+use Rattle.mpm_refusals.specs.Refusals.{makes_xfcb, refusal_of}
+use Rattle.mpm_file_entries.specs.Protections.{no_protection, given_xfcb, with_first_stamp, label_put, xfcb_put, with_protection}
 use Rattle.mpm_locks.specs.Locks.{is_locked_off, count_until}
 use Rattle.mpm_jobs.specs.Jobs.{job_for, stamp_where, with_records, with_stamp, with_bytes, testing_bytes, where_some, with_one, with_new_name}
 

@@ -6,25 +6,25 @@ use Rattle.mpm_opens.specs.declared.kinds.Mode.TheVariants.{Locked, Unlocked, Re
 use Rattle.mpm_opens.specs.Kinds.{is_file}
 use Rattle.mpm_opens.specs.Opens.{OpenFiles, added, given_back, closed, written}
 use Rattle.mpm_opens.specs.Items.{add_answer}
-use Rattle.mpm_functions.specs.declared.functions.FileFunction.{FileFunction}
-use Rattle.mpm_functions.specs.declared.functions.FileFunction.TheVariants.{OpenFile, CloseFile, MakeFile, LockRecord, DeleteFile, WriteSequential, RenameFile, WriteRandom, TestAndWrite, UnlockRecord}
+use Rattle.mpm_file_functions.specs.declared.functions.FileFunction.{FileFunction}
+use Rattle.mpm_file_functions.specs.declared.functions.FileFunction.TheVariants.{OpenFile, CloseFile, MakeFile, LockRecord, DeleteFile, WriteSequential, RenameFile, WriteRandom, TestAndWrite, UnlockRecord}
 use Rattle.mpm_mount.specs.Drives.{Drive}
 use Rattle.mpm_fcb.specs.Names.{has_f5}
 use Rattle.mpm_fcb.specs.Positions.{random_record}
 use Rattle.mpm_files.specs.declared.work.Work.{Work}
-use Rattle.mpm_requests.specs.declared.asking.Asked.{Asked}
-use Rattle.mpm_requests.specs.declared.subjects.OpenItem.{OpenItem}
-use Rattle.mpm_requests.specs.Subjects.{first_by}
-use Rattle.mpm_requests.specs.Asking.{key_asked, mode_needed}
-use Rattle.mpm_functions.specs.declared.ends.Ended.{Ended}
-use Rattle.mpm_entries.specs.declared.granting.OpenedAs.{OpenedAs}
-use Rattle.mpm_entries.specs.declared.granting.Granted.{Granted}
+use Rattle.mpm_refusals.specs.declared.asking.Asked.{Asked}
+use Rattle.mpm_refusals.specs.declared.subjects.OpenItem.{OpenItem}
+use Rattle.mpm_refusals.specs.Subjects.{first_by}
+use Rattle.mpm_refusals.specs.Asking.{key_asked, mode_needed}
+use Rattle.mpm_file_functions.specs.declared.ends.Ended.{Ended}
+use Rattle.mpm_file_entries.specs.declared.granting.OpenedAs.{OpenedAs}
+use Rattle.mpm_file_entries.specs.declared.granting.Granted.{Granted}
 use Rattle.mpm_bdos.specs.Records.{Locking, locking}
 use Rattle.mpm_locks.specs.Locks.{unlocking}
-use Rattle.mpm_functions.specs.Ends.{done_by}
+use Rattle.mpm_file_functions.specs.Ends.{done_by}
 use Rattle.mpm_bdos.specs.Changes.{is_among}
 use Rattle.mpm_bdos.specs.Replies.{opened_as}
-use Rattle.mpm_entries.specs.Granting.{value_by, is_moving, FewDone, IsPlaced}
+use Rattle.mpm_file_entries.specs.Granting.{value_by, is_moving, FewDone, IsPlaced}
 use Rattle.mpm_bdos.specs.Ending.{moved_by, ended, is_reading, HasRead}
 
 -- records are locked by way of a file that is open in unlocked mode; in others nothing is done

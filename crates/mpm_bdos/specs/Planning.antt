@@ -6,11 +6,11 @@ use Rattle.mpm_guard.specs.Passwords.{has_bit}
 use Rattle.mpm_jobs.specs.declared.jobs.Job.{Job}
 use Rattle.mpm_jobs.specs.declared.jobs.JobKind.TheVariants as kinds
 use Rattle.mpm_bdos.specs.declared.planning.About.{About}
-use Rattle.mpm_requests.specs.Filing.{Situation}
+use Rattle.mpm_refusals.specs.Filing.{Situation}
 use Rattle.mpm_mount.specs.Looking.{data_byte}
-use Rattle.mpm_requests.specs.Subjects.{drive_at, subject_key, first_record, has_written}
+use Rattle.mpm_refusals.specs.Subjects.{drive_at, subject_key, first_record, has_written}
 use Rattle.mpm_jobs.specs.Jobs.{job_for, stamp_where, with_records, with_stamp, with_bytes, testing_bytes, where_some}
-use Rattle.mpm_entries.specs.Granting.{is_moving}
+use Rattle.mpm_file_entries.specs.Granting.{is_moving}
 
 -- the job that writes so many records, or tests and writes them, on a drive
 abbrev pub stamp_on : Drive → List ℕ → About → Option (List ℕ)

@@ -7,21 +7,21 @@ use Rattle.mpm_opens.specs.declared.kinds.LockDone.{LockDone}
 use Rattle.mpm_opens.specs.declared.kinds.LockDone.TheVariants as lock
 use Rattle.mpm_opens.specs.Locks.{lock_answer}
 use Rattle.mpm_opens.specs.Opens.{OpenFiles, locked}
-use Rattle.mpm_functions.specs.declared.errors.RecordError.{RecordError}
-use Rattle.mpm_functions.specs.declared.errors.RecordError.TheVariants.{UnwrittenExtent, UnwrittenData, Mismatch, NoDirectorySpace, NoDataBlock}
+use Rattle.mpm_file_functions.specs.declared.errors.RecordError.{RecordError}
+use Rattle.mpm_file_functions.specs.declared.errors.RecordError.TheVariants.{UnwrittenExtent, UnwrittenData, Mismatch, NoDirectorySpace, NoDataBlock}
 use Rattle.mpm_files.specs.Units.{WritesRecord, applied, all_applied}
-use Rattle.mpm_files.specs.Plans.{Test, needs_entry, needs_block, has_record, write_units}
-use Rattle.mpm_functions.specs.declared.ends.RecordEnd.{RecordEnd}
-use Rattle.mpm_functions.specs.declared.ends.Ended.{Ended}
-use Rattle.mpm_functions.specs.declared.ends.RecordEnd.TheVariants.{Failing, LockedOff, TooManyLocks, NoLockRoom}
-use Rattle.mpm_functions.specs.declared.functions.FileFunction.{FileFunction}
-use Rattle.mpm_functions.specs.declared.functions.FileFunction.TheVariants.{TestAndWrite, LockRecord}
-use Rattle.mpm_requests.specs.Subjects.{file_of}
-use Rattle.mpm_functions.specs.Ends.{ends_of}
+use Rattle.mpm_files.specs.Plans.{TestedRecord, needs_entry, needs_block, has_record, write_units}
+use Rattle.mpm_file_functions.specs.declared.ends.RecordEnd.{RecordEnd}
+use Rattle.mpm_file_functions.specs.declared.ends.Ended.{Ended}
+use Rattle.mpm_file_functions.specs.declared.ends.RecordEnd.TheVariants.{Failing, LockedOff, TooManyLocks, NoLockRoom}
+use Rattle.mpm_file_functions.specs.declared.functions.FileFunction.{FileFunction}
+use Rattle.mpm_file_functions.specs.declared.functions.FileFunction.TheVariants.{TestAndWrite, LockRecord}
+use Rattle.mpm_refusals.specs.Subjects.{file_of}
+use Rattle.mpm_file_functions.specs.Ends.{ends_of}
 use Rattle.mpm_locks.specs.Locks.{is_locked_off}
 
 -- whoever asks for a record of a file, upon which drive and with which open files and locks; and the bytes that it must have
-pub record Asked : Type 0 where
+pub record RecordAsked : Type 0 where
   pub drive : Drive
   pub opens : OpenFiles
   pub process : ℕ
@@ -41,21 +41,21 @@ has_no_room lock.Locked = false
 has_no_room (lock.Other owner) = false
 has_no_room lock.ProcessLimit = false
 
-abbrev pub fails : Asked → ℕ → RecordError → Bool
+abbrev pub fails : RecordAsked → ℕ → RecordError → Bool
 fails a n UnwrittenExtent = not (is_some (extent_at a.drive (file_of a.file) (n / 128)))
 fails a n UnwrittenData = not (is_some (visible_of a.drive (file_of a.file) n))
 fails a n NoDirectorySpace = needs_entry a.drive (file_of a.file) n && (free_entries a.drive == 0)
 fails a n NoDataBlock = needs_block a.drive (file_of a.file) n && (free_records a.drive == 0)
 fails a n Mismatch = not (has_record a.drive (file_of a.file) n a.expected)
 
-unfoldable pub ends : Asked → ℕ → RecordEnd → Bool
+unfoldable pub ends : RecordAsked → ℕ → RecordEnd → Bool
 ends a n (Failing error) = fails a n error
 ends a n LockedOff = is_locked_off a.opens a.process a.file n
 ends a n TooManyLocks = is_too_many (lock_answer a.opens.locks a.process a.file n)
 ends a n NoLockRoom = has_no_room (lock_answer a.opens.locks a.process a.file n)
 
 -- the first that comes to a record
-unfoldable pub end_of : FileFunction → Asked → ℕ → Option RecordEnd
+unfoldable pub end_of : FileFunction → RecordAsked → ℕ → Option RecordEnd
 end_of function a n = find (ends a n) (ends_of function)
 
 -- so many records are done in order, and then what ended them
@@ -74,7 +74,7 @@ writing_ended function opens p file drive n (bytes ∷ records) stamp =
     (writing_ended function opens p file (all_applied drive (write_units drive false (file_of file) n bytes stamp)) (n + 1) records None)
 
 -- records that are tested and written, likewise
-unfoldable pub testing_ended : OpenFiles → ℕ → FileKey → Drive → ℕ → List Test → Option (List ℕ) → Ended
+unfoldable pub testing_ended : OpenFiles → ℕ → FileKey → Drive → ℕ → List TestedRecord → Option (List ℕ) → Ended
 testing_ended opens p file drive n [] stamp = record { moved = 0; end = None }
 testing_ended opens p file drive n (test ∷ tests) stamp =
     ended_by (end_of TestAndWrite (record { drive = drive; opens = opens; process = p; file = file; expected = test.expected }) n)

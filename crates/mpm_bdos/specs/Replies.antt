@@ -5,22 +5,22 @@ use Rattle.mpm_base.specs.Calls.{Answer}
 use Rattle.mpm_opens.specs.declared.kinds.Mode.{Mode}
 use Rattle.mpm_opens.specs.declared.kinds.OpenRefused.{OpenRefused}
 use Rattle.mpm_opens.specs.Items.{add_answer}
-use Rattle.mpm_functions.specs.declared.functions.FileFunction.{FileFunction}
-use Rattle.mpm_functions.specs.declared.functions.FileFunction.TheVariants.{OpenFile, SearchFirst, SearchNext, ReadSequential, WriteSequential, MakeFile, ReadRandom, WriteRandom, TestAndWrite, LockRecord, FreeSpace}
+use Rattle.mpm_file_functions.specs.declared.functions.FileFunction.{FileFunction}
+use Rattle.mpm_file_functions.specs.declared.functions.FileFunction.TheVariants.{OpenFile, SearchFirst, SearchNext, ReadSequential, WriteSequential, MakeFile, ReadRandom, WriteRandom, TestAndWrite, LockRecord, FreeSpace}
 use Rattle.mpm_mount.specs.Drives.{FileName, Drive, free_records}
 use Rattle.mpm_fcb.specs.Blocks.{bytes_of}
 use Rattle.mpm_fcb.specs.Positions.{three_bytes}
-use Rattle.mpm_requests.specs.Filing.{Situation, block}
-use Rattle.mpm_requests.specs.Subjects.{subject, subject_key, first_record, mode_by, found}
-use Rattle.mpm_entries.specs.Telling.{found_bytes}
-use Rattle.mpm_functions.specs.declared.ends.RecordEnd.{RecordEnd}
-use Rattle.mpm_functions.specs.declared.ends.Ended.{Ended}
-use Rattle.mpm_entries.specs.declared.granting.OpenedAs.{OpenedAs}
-use Rattle.mpm_entries.specs.declared.granting.Granted.{Granted}
-use Rattle.mpm_functions.specs.Ends.{end_by}
+use Rattle.mpm_refusals.specs.Filing.{Situation, block}
+use Rattle.mpm_refusals.specs.Subjects.{subject, subject_key, first_record, mode_by, found}
+use Rattle.mpm_file_entries.specs.Telling.{found_bytes}
+use Rattle.mpm_file_functions.specs.declared.ends.RecordEnd.{RecordEnd}
+use Rattle.mpm_file_functions.specs.declared.ends.Ended.{Ended}
+use Rattle.mpm_file_entries.specs.declared.granting.OpenedAs.{OpenedAs}
+use Rattle.mpm_file_entries.specs.declared.granting.Granted.{Granted}
+use Rattle.mpm_file_functions.specs.Ends.{end_by}
 use Rattle.mpm_bdos.specs.Jobs.{Turned, free_count}
 use Rattle.mpm_bdos.specs.Changes.{locking_of}
-use Rattle.mpm_entries.specs.Granting.{value_by, block_by}
+use Rattle.mpm_file_entries.specs.Granting.{value_by, block_by}
 use Rattle.mpm_directories.specs.Direct.{where_changed}
 
 -- whether a call's job was cut before a record that another process has locked

@@ -7,17 +7,17 @@ use Rattle.mpm_opens.specs.Opens.{OpenFiles}
 use Rattle.mpm_fcb.specs.Positions.{sequential_record}
 use Rattle.mpm_files.specs.declared.work.Work.{Work}
 use Rattle.mpm_files.specs.Turning.{Suits}
-use Rattle.mpm_functions.specs.declared.functions.FileFunction.{FileFunction}
-use Rattle.mpm_functions.specs.declared.functions.FileFunction.TheVariants.{ResetDisks, ProtectDisk, ResetDrives, AccessDrives, FreeDrives, FlushBuffers}
-use Rattle.mpm_requests.specs.Filing.{LastSearch, Situation, block, HaveUsers}
-use Rattle.mpm_requests.specs.Subjects.{drive_at, found}
-use Rattle.mpm_requests.specs.Refusals.{refusal_of}
+use Rattle.mpm_file_functions.specs.declared.functions.FileFunction.{FileFunction}
+use Rattle.mpm_file_functions.specs.declared.functions.FileFunction.TheVariants.{ResetDisks, ProtectDisk, ResetDrives, AccessDrives, FreeDrives, FlushBuffers}
+use Rattle.mpm_refusals.specs.Filing.{LastSearch, Situation, block, HaveUsers}
+use Rattle.mpm_refusals.specs.Subjects.{drive_at, found}
+use Rattle.mpm_refusals.specs.Refusals.{refusal_of}
 use Rattle.mpm_bdos.specs.Jobs.{job_of, call_turns, turned}
 use Rattle.mpm_bdos.specs.Changes.{deleted_by, opens_by, search_of_call}
-use Rattle.mpm_requests.specs.Searches.{searches_by}
+use Rattle.mpm_refusals.specs.Searches.{searches_by}
 use Rattle.mpm_bdos.specs.Replies.{answer_after}
 use Rattle.mpm_bdos.specs.Serving.{IsCaller, WorksOn}
-use Rattle.mpm_bdos.specs.Ending.{IsSound}
+use Rattle.mpm_bdos.specs.Ending.{IsSoundDrive}
 
 -- calls on drives, which name none
 abbrev pub is_on_drives : FileFunction → Bool
@@ -36,7 +36,7 @@ pub record IsServed (s : Situation) (image : List ℕ) (directory : Option Direc
   pub users : HaveUsers s.filing.opens
   pub size : length s.call.fcb ≡ 36
   pub low : sequential_record (block s) ≤ 262271
-  pub sound : IsSound (drive_at s)
+  pub sound : IsSoundDrive (drive_at s)
   pub suits : IfSome (job_of s) (Suits (drive_at s))
   pub works : WorksOn image directory (drive_at s) (job_of s) (call_turns s) work
 

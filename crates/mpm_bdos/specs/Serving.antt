@@ -3,9 +3,9 @@ use Rattle.std.specs.Prelude.{◌≡◌, ℕ, ◌<◌, ◌≤◌, Bool, List, []
 use Rattle.mpm_base.specs.Calls.{Taken}
 use Rattle.mpm_opens.specs.declared.kinds.FileKey.{FileKey}
 use Rattle.mpm_opens.specs.Opens.{OpenFiles, none_open}
-use Rattle.mpm_cache.specs.declared.cache.Place.{Place}
-use Rattle.mpm_functions.specs.declared.functions.FileFunction.{FileFunction}
-use Rattle.mpm_functions.specs.declared.refusals.Refusal.{Refusal}
+use Rattle.mpm_cache.specs.declared.cache.SectorPlace.{SectorPlace}
+use Rattle.mpm_file_functions.specs.declared.functions.FileFunction.{FileFunction}
+use Rattle.mpm_file_functions.specs.declared.refusals.Refusal.{Refusal}
 use Rattle.mpm_mount.specs.Drives.{Drive}
 use Rattle.mpm_mount.specs.Directories.{Directory}
 use Rattle.mpm_marks.specs.Marks.{no_marks}
@@ -14,15 +14,15 @@ use Rattle.mpm_jobs.specs.declared.jobs.Job.{Job}
 use Rattle.mpm_files.specs.declared.work.Work.{Work}
 use Rattle.mpm_files.specs.Serving.{IsInService}
 use Rattle.mpm_files.specs.Turning.{Suits}
-use Rattle.mpm_requests.specs.declared.caller.Caller.{Caller}
-use Rattle.mpm_requests.specs.Filing.{LastSearch, Filing, Situation}
-use Rattle.mpm_requests.specs.Searches.{no_searches}
-use Rattle.mpm_requests.specs.Subjects.{drive_number, drive_at}
-use Rattle.mpm_requests.specs.Refusals.{refusal_of}
-use Rattle.mpm_requests.specs.Asking.{StandsWhere}
+use Rattle.mpm_refusals.specs.declared.caller.Caller.{Caller}
+use Rattle.mpm_refusals.specs.Filing.{LastSearch, Filing, Situation}
+use Rattle.mpm_refusals.specs.Searches.{no_searches}
+use Rattle.mpm_refusals.specs.Subjects.{drive_number, drive_at}
+use Rattle.mpm_refusals.specs.Refusals.{refusal_of}
+use Rattle.mpm_refusals.specs.Asking.{StandsWhere}
 use Rattle.mpm_bdos.specs.Jobs.{job_of}
 use Rattle.mpm_bdos.specs.Changes.{deleted_by}
-use Rattle.mpm_bdos.specs.Ending.{IsSound}
+use Rattle.mpm_bdos.specs.Ending.{IsSoundDrive}
 use Rattle.mpm_bdos.specs.Outcomes.{drives_after}
 use Rattle.mpm_directories.specs.Places.{directory_at}
 
@@ -46,7 +46,7 @@ pub record InService : Type 0 where
 -- all that file calls keep, as contracts see it: the files of drives stand in the images
 pub record Kept : Type 0 where
   pub mounted : List (Option Directory)
-  pub cached : List (Place × List ℕ)
+  pub cached : List (SectorPlace × List ℕ)
   pub protected : List Bool
   pub opens : OpenFiles
   pub marks : List ℕ
@@ -98,7 +98,7 @@ pub record Serves (images : ℕ → List ℕ) (kept : Kept) (s : Situation) (tur
   pub service : InService
   pub there : kept.service ≡ Some service
   pub is : IsCallOf service s
-  pub sound : IsSound (drive_at s)
+  pub sound : IsSoundDrive (drive_at s)
   pub suits : IfSome (job_of s) (Suits (drive_at s))
   pub works : WorksOn (images (drive_number s)) (directory_at kept.mounted (drive_number s)) (drive_at s) (job_of s) turns service.work
   pub same : filing_of kept s.filing.drives ≡ s.filing

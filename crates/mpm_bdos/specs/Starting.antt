@@ -11,14 +11,14 @@ use Rattle.mpm_fcb.specs.declared.block.ControlBlock.{ControlBlock}
 use Rattle.mpm_files.specs.declared.work.Work.{Work}
 use Rattle.mpm_files.specs.Serving.{turns_in}
 use Rattle.mpm_files.specs.Turning.{Suits}
-use Rattle.mpm_requests.specs.declared.caller.Caller.{Caller}
-use Rattle.mpm_functions.specs.declared.functions.FileFunction.{FileFunction}
+use Rattle.mpm_refusals.specs.declared.caller.Caller.{Caller}
+use Rattle.mpm_file_functions.specs.declared.functions.FileFunction.{FileFunction}
 use Rattle.mpm_bdos.specs.declared.planning.About.{About}
 use Rattle.mpm_bdos.specs.declared.starting.TheConstants.{LAST_POSITION}
-use Rattle.mpm_requests.specs.Filing.{Situation}
-use Rattle.mpm_requests.specs.Subjects.{drive_number, drive_at, first_by}
+use Rattle.mpm_refusals.specs.Filing.{Situation}
+use Rattle.mpm_refusals.specs.Subjects.{drive_number, drive_at, first_by}
 use Rattle.mpm_bdos.specs.Jobs.{job_of}
-use Rattle.mpm_requests.specs.Asking.{called}
+use Rattle.mpm_refusals.specs.Asking.{called}
 use Rattle.mpm_bdos.specs.Serving.{InService, Kept, WorksOn, IsCallOf}
 use Rattle.mpm_directories.specs.Places.{directory_at}
 
@@ -40,14 +40,14 @@ about_in opens p b function drive owner number = record {
 }
 
 -- its job begins, if it has one, and suits its drive
-pub record Begins (image : List ℕ) (directory : Option Directory) (s : Situation) (work : Option Work) : Type 0 where
+pub record BeginsJob (image : List ℕ) (directory : Option Directory) (s : Situation) (work : Option Work) : Type 0 where
   pub suits : IfSome (job_of s) (Suits (drive_at s))
   pub works : WorksOn image directory (drive_at s) (job_of s) 0 work
 
 -- what is kept of it, as it enters
 pub record Enters (image : List ℕ) (directory : Option Directory) (s : Situation) (service : InService) : Type 0 where
   pub is : IsCallOf service s
-  pub begins : Begins image directory s service.work
+  pub begins : BeginsJob image directory s service.work
 
 -- likewise over the directories of all drives
 pub record EntersAmong (images : ℕ → List ℕ) (mounted : List (Option Directory)) (s : Situation) (service : InService) : Type 0 where
@@ -64,6 +64,6 @@ pub record IsEntered (caller : Caller) (function : FileFunction) (call : Taken) 
   pub function_is : service.function ≡ function
   pub call_is : service.call ≡ call
 
-abbrev pub HasEntered : Caller → FileFunction → Taken → Option InService → Type 0
-HasEntered caller function call None = ⊥
-HasEntered caller function call (Some service) = IsEntered caller function call service
+abbrev pub HasBegunService : Caller → FileFunction → Taken → Option InService → Type 0
+HasBegunService caller function call None = ⊥
+HasBegunService caller function call (Some service) = IsEntered caller function call service

@@ -9,8 +9,8 @@ abbrev pub AreAttached : Disks → List (Option Directory) → Type 0
 AreAttached disks mounted = (number : ℕ) → IfSome (directory_at mounted number) (λ directory. IsSome (size_of disks number))
 
 -- each of them is synced: no write to it was asked for since
-abbrev pub AreSynced : (ℕ → Bool) → List (Option Directory) → Type 0
-AreSynced unsynced mounted = (number : ℕ) → IfSome (directory_at mounted number) (λ directory. unsynced number ≡ false)
+abbrev pub AreMountedSynced : (ℕ → Bool) → List (Option Directory) → Type 0
+AreMountedSynced unsynced mounted = (number : ℕ) → IfSome (directory_at mounted number) (λ directory. unsynced number ≡ false)
 
 -- how many there are
 abbrev pub mounted_count : List (Option Directory) → ℕ

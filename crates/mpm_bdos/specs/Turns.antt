@@ -3,9 +3,9 @@ use Rattle.std.specs.Prelude.{◌≡◌, ◌≢◌, ℕ, Bool, true, false, List
 use Rattle.mpm_port.specs.Disks.{Disks, ToldImage, Untold, size_of}
 use Rattle.mpm_base.specs.declared.kind.Kind.{Kind}
 use Rattle.mpm_blocks.specs.Geometries.{geometry_of}
-use Rattle.mpm_cache.specs.declared.cache.Place.{Place}
+use Rattle.mpm_cache.specs.declared.cache.SectorPlace.{SectorPlace}
 use Rattle.mpm_cache.specs.Coherent.{IsCoherent, AreApart}
-use Rattle.mpm_sectors.specs.Disks.{Leaves}
+use Rattle.mpm_sectors.specs.Disks.{LeavesDisks}
 use Rattle.mpm_mount.specs.Drives.{Drive}
 use Rattle.mpm_mount.specs.Directories.{Directory}
 use Rattle.mpm_jobs.specs.declared.jobs.Job.{Job}
@@ -13,9 +13,9 @@ use Rattle.mpm_jobs.specs.declared.jobs.JobKind.TheVariants as kinds
 use Rattle.mpm_files.specs.declared.turning.Progress.{Progress}
 use Rattle.mpm_files.specs.declared.turning.Progress.TheVariants.{Again, Done}
 use Rattle.mpm_files.specs.declared.work.Work.{Work}
-use Rattle.mpm_files.specs.Turning.{InService as IsInServiceOn, Contained, IsNextCached}
-use Rattle.mpm_requests.specs.Filing.{Situation}
-use Rattle.mpm_requests.specs.Subjects.{drive_number, drive_at}
+use Rattle.mpm_files.specs.Turning.{JobInService as IsInServiceOn, Contained, IsNextCached}
+use Rattle.mpm_refusals.specs.Filing.{Situation}
+use Rattle.mpm_refusals.specs.Subjects.{drive_number, drive_at}
 use Rattle.mpm_bdos.specs.Jobs.{job_of}
 use Rattle.mpm_bdos.specs.Serving.{InService, Kept}
 use Rattle.mpm_directories.specs.Places.{directory_at}
@@ -24,7 +24,7 @@ use Rattle.mpm_directories.specs.Places.{directory_at}
 abbrev pub has_directory : List (Option Directory) → ℕ → Bool
 has_directory mounted number = is_some (directory_at mounted number)
 
-pub record FitsDrives {D : Type 0} (disks : D → Disks) (mounted : List (Option Directory)) (cached : List (Place × List ℕ)) (drives : D) : Type 0 where
+pub record FitsDrives {D : Type 0} (disks : D → Disks) (mounted : List (Option Directory)) (cached : List (SectorPlace × List ℕ)) (drives : D) : Type 0 where
   pub sizes : (number : ℕ) → IfSome (directory_at mounted number) (λ directory. size_of (disks drives) number ≡ Some (geometry_of directory.kind).bytes)
   pub coherent : IsCoherent cached (disks drives)
   pub apart : AreApart (has_directory mounted) cached (disks drives)
@@ -64,13 +64,13 @@ abbrev pub labelled : Directory → ℕ × Kind
 labelled directory = (directory.drive, directory.kind)
 
 -- what a turn leaves of the drives and the cache: on a drive that isn't mounted nothing is done
-pub record AreUntouched {D : Type 0} (cached new : List (Place × List ℕ)) (old now : D) : Type 0 where
+pub record AreUntouched {D : Type 0} (cached new : List (SectorPlace × List ℕ)) (old now : D) : Type 0 where
   pub cache : new ≡ cached
   pub drives : now ≡ old
 
-abbrev pub HasLeft : {D : Type 0} → (D → Disks) → (D → List ℕ → ToldImage) → (D → List (List ℕ)) → (D → ℕ → Bool) → Option Directory → List (Place × List ℕ) → List (Place × List ℕ) → D → D → Type 0
-HasLeft disks told failed unsynced None cached new old now = AreUntouched cached new old now
-HasLeft disks told failed unsynced (Some directory) cached new old now = Leaves disks told failed unsynced directory.drive cached new old now
+abbrev pub HasLeftDisk : {D : Type 0} → (D → Disks) → (D → List ℕ → ToldImage) → (D → List (List ℕ)) → (D → ℕ → Bool) → Option Directory → List (SectorPlace × List ℕ) → List (SectorPlace × List ℕ) → D → D → Type 0
+HasLeftDisk disks told failed unsynced None cached new old now = AreUntouched cached new old now
+HasLeftDisk disks told failed unsynced (Some directory) cached new old now = LeavesDisks disks told failed unsynced directory.drive cached new old now
 
 -- a turn syncs no drive, and each other drive than that of its call is synced or not as before
 pub record KeepsUnsynced (drive : Option ℕ) (before now : ℕ → Bool) : Type 0 where
@@ -82,24 +82,24 @@ abbrev pub drive_served : Option InService → Option ℕ
 drive_served service = option_map (λ call. call.drive) service
 
 -- the next unit reads a record, and that one's sector is cached
-abbrev pub IsReading : Option Work → Type 0
-IsReading None = ⊥
-IsReading (Some work) = work.job.kind ≡ kinds.Read
+abbrev pub IsReadingRecord : Option Work → Type 0
+IsReadingRecord None = ⊥
+IsReadingRecord (Some work) = work.job.kind ≡ kinds.Read
 
-abbrev pub IsReadingCached : List (Place × List ℕ) → Option Directory → Option Work → Type 0
+abbrev pub IsReadingCached : List (SectorPlace × List ℕ) → Option Directory → Option Work → Type 0
 IsReadingCached cached directory None = ⊥
 IsReadingCached cached directory (Some work) = (work.job.kind ≡ kinds.Read) × IfSome directory (λ d. IsNextCached cached d work)
 
 abbrev pub ServesReading : Option InService → Type 0
 ServesReading None = ⊥
-ServesReading (Some service) = IsReading service.work
+ServesReading (Some service) = IsReadingRecord service.work
 
-abbrev pub ServesCached : List (Place × List ℕ) → List (Option Directory) → Option InService → Type 0
+abbrev pub ServesCached : List (SectorPlace × List ℕ) → List (Option Directory) → Option InService → Type 0
 ServesCached cached mounted None = ⊥
 ServesCached cached mounted (Some service) = IsReadingCached cached (directory_at mounted service.drive) service.work
 
 -- no call is in service, or it has no work: then nothing is done
-pub record IsIdle {S M D : Type 0} (service service' : S) (mounted mounted' : M) (cached new : List (Place × List ℕ)) (old now : D) (steps steps' : ℕ) : Type 0 where
+pub record IsDiskIdle {S M D : Type 0} (service service' : S) (mounted mounted' : M) (cached new : List (SectorPlace × List ℕ)) (old now : D) (steps steps' : ℕ) : Type 0 where
   pub call : service' ≡ service
   pub directories : mounted' ≡ mounted
   pub cache : new ≡ cached

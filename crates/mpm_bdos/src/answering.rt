@@ -5,19 +5,19 @@ ghost use Rattle.mpm_mount.specs.Directories.{Stands};
 ghost use Rattle.mpm_mount.specs.Files.{where_there};
 ghost use Rattle.mpm_fcb.specs.Blocks.{bytes_of};
 ghost use Rattle.mpm_fcb.specs.Positions.{three_bytes};
-ghost use Rattle.mpm_entries.specs.Telling.{found_bytes};
+ghost use Rattle.mpm_file_entries.specs.Telling.{found_bytes};
 ghost use Rattle.mpm_bdos.specs.Ending as ending;
-ghost use Rattle.mpm_entries.specs.Granting as granting;
-ghost use Rattle.mpm_functions.specs.Ends.{done_by};
+ghost use Rattle.mpm_file_entries.specs.Granting as granting;
+ghost use Rattle.mpm_file_functions.specs.Ends.{done_by};
 ghost use Rattle.mpm_bdos.specs.Replies as spec;
 ghost use Rattle.mpm_directories.specs.Direct as directly;
 
 use crate::replies::read_bytes;
 use mpm_base::Reply;
-use mpm_entries::{Granted, free_bytes, reply_block, reply_value};
 use mpm_fcb::ControlBlock;
+use mpm_file_entries::{Granted, free_bytes, reply_block, reply_value};
+use mpm_file_functions::{FileFunction, done_by as records_done};
 use mpm_files::Work;
-use mpm_functions::{FileFunction, done_by as records_done};
 use mpm_mount::Mounted;
 
 /// Answers a value, and as many records as it says are done of those that a job has read.

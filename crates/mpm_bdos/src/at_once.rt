@@ -1,10 +1,10 @@
 ghost use Rattle.std.specs.Prelude.{◌≡◌, is_some};
-ghost use Rattle.mpm_functions.specs.Functions.{function_of};
+ghost use Rattle.mpm_file_functions.specs.Functions.{function_of};
 
 use crate::bdos::Bdos;
 use mpm_base::{Call, Pid, Reply, Steps};
 use mpm_clock::Moment;
-use mpm_functions::{Extended, FileFunction};
+use mpm_file_functions::{Extended, FileFunction};
 use mpm_port::{Drives, Failed};
 use mpm_procs::Process;
 use std::sync::ledger::Ledger;
@@ -22,10 +22,10 @@ impl Bdos {
     ghost use Rattle.mpm_clock.specs.Times.{IsTime};
     ghost use Rattle.mpm_clock.specs.PackedDecimal.{stamp as stamp_of};
     ghost use Rattle.mpm_mount.specs.Drives.{Drive};
-    ghost use Rattle.mpm_functions.specs.declared.functions.FileFunction as functions;
-    ghost use Rattle.mpm_requests.specs.Filing.{Situation};
-    ghost use Rattle.mpm_functions.specs.Functions.{function_of};
-    ghost use Rattle.mpm_requests.specs.Subjects.{drive_number};
+    ghost use Rattle.mpm_file_functions.specs.declared.functions.FileFunction as functions;
+    ghost use Rattle.mpm_refusals.specs.Filing.{Situation};
+    ghost use Rattle.mpm_file_functions.specs.Functions.{function_of};
+    ghost use Rattle.mpm_refusals.specs.Subjects.{drive_number};
     ghost use Rattle.mpm_bdos.specs.Jobs.{call_turns, job_of};
     ghost use Rattle.mpm_bdos.specs.Serving.{IsCaller, StandEach, Serves};
     ghost use Rattle.mpm_directories.specs.Places.{directory_at};

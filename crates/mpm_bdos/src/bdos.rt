@@ -5,11 +5,11 @@ ghost use Rattle.mpm_cache.specs.Coherent.{IsCoherent, HasNoAlias};
 ghost use Rattle.mpm_files.specs.declared.turning.Progress.TheVariants as progress;
 ghost use Rattle.mpm_mount.specs.Drives.{Drive};
 ghost use Rattle.mpm_bdos.specs.Direct.{direct};
-ghost use Rattle.mpm_functions.specs.Functions.{direct_of};
-ghost use Rattle.mpm_requests.specs.Filing.{Situation};
+ghost use Rattle.mpm_file_functions.specs.Functions.{direct_of};
+ghost use Rattle.mpm_refusals.specs.Filing.{Situation};
 ghost use Rattle.mpm_bdos.specs.Outcomes.{left_by, without_search};
 ghost use Rattle.mpm_bdos.specs.Jobs.{call_turns};
-ghost use Rattle.mpm_bdos.specs.Turns.{FitsDrives, KeepsImages, KeepsToldOf, KeepsUnsynced, StaysBeside, TurnKeeps, StopsWithin, ServesReading, ServesCached, IsIdle, images_of, progress_after, drive_served, has_work};
+ghost use Rattle.mpm_bdos.specs.Turns.{FitsDrives, KeepsImages, KeepsToldOf, KeepsUnsynced, StaysBeside, TurnKeeps, StopsWithin, ServesReading, ServesCached, IsDiskIdle, images_of, progress_after, drive_served, has_work};
 
 use crate::directories::Directories;
 use crate::service::Service;
@@ -17,14 +17,14 @@ use crate::turning::turn_service;
 use mpm_base::{Call, Pid, Reply, Steps};
 use mpm_cache::{Cache, OutOfMemory};
 use mpm_directories::do_directly;
+use mpm_file_functions::{DirectFunction, Extended};
 use mpm_files::Progress;
-use mpm_functions::{DirectFunction, Extended};
 use mpm_marks::{Marks, Protected};
 use mpm_mount::Mounted;
 use mpm_opens::Opens;
 use mpm_port::{Drives, Failed};
 use mpm_procs::Process;
-use mpm_requests::Searches;
+use mpm_refusals::Searches;
 use std::alloc::Global;
 use std::marker::Model;
 use std::sync::ledger::Ledger;
@@ -44,7 +44,7 @@ pub struct Bdos {
 
 impl Model for Bdos {
     ghost use Rattle.mpm_bdos.specs.Serving.{Kept};
-    ghost use Rattle.mpm_requests.specs.Filing.{HaveUsers};
+    ghost use Rattle.mpm_refusals.specs.Filing.{HaveUsers};
 
     ghost Value = { Kept };
 
@@ -162,7 +162,7 @@ impl Bdos {
             → OnErr result (StopsWithin (D.disks drives.new) s j) }
         ensures progress { (s : Situation) (j : ℕ) → Serves (images_of (D.disks drives.old)) self.old s j
             → IfOk result (λ told. told ≡ progress_after (suc j) (call_turns s)) }
-        ensures idle { has_work self.old.service ≡ false → IsIdle self.old.service self.new.service self.old.mounted self.new.mounted self.old.cached self.new.cached drives.old drives.new steps.old steps.new }
+        ensures idle { has_work self.old.service ≡ false → IsDiskIdle self.old.service self.new.service self.old.mounted self.new.mounted self.old.cached self.new.cached drives.old drives.new steps.old steps.new }
         ensures done { has_work self.old.service ≡ false → result ≡ Ok progress.Done }
         ensures still { has_work self.new.service ≡ has_work self.old.service }
         ensures kept { TurnKeeps self.old self.new }

@@ -1,8 +1,8 @@
 ghost use Rattle.std.specs.Prelude.{◌≡◌};
 ghost use Rattle.mpm_bdos.specs.Ending as spec;
 
+use mpm_file_functions::{Ended, FileFunction, RecordEnd, RecordError};
 use mpm_files::Work;
-use mpm_functions::{Ended, FileFunction, RecordEnd, RecordError};
 
 /// Whether a call on so many records was cut before one that another process has locked: its job does fewer.
 fn is_cut_short(function: FileFunction, count: u8, multi: u8) -> bool

@@ -5,14 +5,14 @@ ghost use Rattle.mpm_mount.specs.Directories.{Directory};
 ghost use Rattle.mpm_mount.specs.Drives.{Drive};
 ghost use Rattle.mpm_fcb.specs.Blocks.{block_of};
 ghost use Rattle.mpm_fcb.specs.Positions.{sequential_record};
-ghost use Rattle.mpm_functions.specs.declared.refusals.Refusal.{Refusal as Refused};
-ghost use Rattle.mpm_requests.specs.Asking.{called};
+ghost use Rattle.mpm_file_functions.specs.declared.refusals.Refusal.{Refusal as Refused};
+ghost use Rattle.mpm_refusals.specs.Asking.{called};
 ghost use Rattle.mpm_marks.specs.Driving.{marks_by, protected_by, freed_by};
-ghost use Rattle.mpm_requests.specs.Filing.{Situation, HaveUsers};
+ghost use Rattle.mpm_refusals.specs.Filing.{Situation, HaveUsers};
 ghost use Rattle.mpm_bdos.specs.Finishing as spec;
 ghost use Rattle.mpm_bdos.specs.Jobs.{call_turns};
-ghost use Rattle.mpm_functions.specs.Refusals as outcomes;
-ghost use Rattle.mpm_requests.specs.Refusals as refusals;
+ghost use Rattle.mpm_file_functions.specs.Refusals as outcomes;
+ghost use Rattle.mpm_refusals.specs.Refusals as refusals;
 ghost use Rattle.mpm_bdos.specs.Replying as replying;
 ghost use Rattle.mpm_bdos.specs.Serving.{IsCaller, Serves};
 
@@ -22,12 +22,12 @@ use crate::replying::reply_mounted;
 use crate::service::Service;
 use crate::starting::first_position;
 use mpm_base::{Call, Reply};
+use mpm_file_functions::{Extended, FileFunction, Refusal};
 use mpm_files::Work;
-use mpm_functions::{Extended, FileFunction, Refusal};
 use mpm_marks::{Marks, Protected, leave_drives, mark_drives, protect_drives};
 use mpm_mount::Mounted;
 use mpm_opens::{FileKey, Opens};
-use mpm_requests::{Caller, Searches, block_of_call, word_of_call};
+use mpm_refusals::{Caller, Searches, block_of_call, word_of_call};
 
 /// Whether a call is one on drives, which names none.
 fn is_on_drives(function: FileFunction) -> bool
@@ -216,7 +216,7 @@ fn reply_service(
 
 impl Bdos {
     ghost use Rattle.std.specs.Prelude.{◌≡◌, ℕ, List, Some, None};
-    ghost use Rattle.mpm_requests.specs.Filing.{Situation};
+    ghost use Rattle.mpm_refusals.specs.Filing.{Situation};
     ghost use Rattle.mpm_bdos.specs.Finishing.{ComesTo};
     ghost use Rattle.mpm_bdos.specs.Jobs.{call_turns};
     ghost use Rattle.mpm_bdos.specs.Serving.{Serves};

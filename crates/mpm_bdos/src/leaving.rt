@@ -6,24 +6,24 @@ ghost use Rattle.mpm_opens.specs.Items as items;
 ghost use Rattle.mpm_opens.specs.Opens.{added, closed, process_of, file_of, IsLive};
 ghost use Rattle.mpm_fcb.specs.Names.{has_f5};
 ghost use Rattle.mpm_fcb.specs.Positions.{random_record};
-ghost use Rattle.mpm_functions.specs.declared.functions.FileFunction.TheVariants as functions;
+ghost use Rattle.mpm_file_functions.specs.declared.functions.FileFunction.TheVariants as functions;
 ghost use Rattle.mpm_bdos.specs.Replies.{opened_as};
-ghost use Rattle.mpm_requests.specs.Filing.{HaveUsers};
+ghost use Rattle.mpm_refusals.specs.Filing.{HaveUsers};
 ghost use Rattle.mpm_bdos.specs.Leaving as spec;
-ghost use Rattle.mpm_requests.specs.Asking as asking;
+ghost use Rattle.mpm_refusals.specs.Asking as asking;
 
 use crate::ending::ended;
 use crate::records::lock_records;
 use crate::releasing::give_back_deleted;
 use mpm_base::Pid;
-use mpm_entries::{Granted, OpenedAs};
 use mpm_fcb::ControlBlock;
+use mpm_file_entries::{Granted, OpenedAs};
+use mpm_file_functions::{Ended, FileFunction};
 use mpm_files::Work;
-use mpm_functions::{Ended, FileFunction};
 use mpm_locks::{close_file, note_written, unlock_records};
 use mpm_mount::Mounted;
 use mpm_opens::{FileKey, Mode, Opens};
-use mpm_requests::{Asked, OpenItem, first_record, mode_needed, subject_key};
+use mpm_refusals::{Asked, OpenItem, first_record, mode_needed, subject_key};
 
 /// Opens a file for a process.
 fn open_file(opens: &mut Opens, p: Pid, file: FileKey, mode: Mode) -> Option<OpenedAs>
@@ -86,7 +86,7 @@ fn lock(
     first: u32,
     count: u8,
 ) -> Ended
-    requires item { IfSome item (λ item. asking.IsOwn opens.old p item) }
+    requires item { IfSome item (λ item. asking.IsOwnItem opens.old p item) }
     requires first { first ≤ 262143 }
     requires count { count ≤ 16 }
     ensures opens { (image : List ℕ) (drive : Drive) → Stands image mounted.now drive
@@ -104,7 +104,7 @@ fn lock(
 /// Frees the records of a call by way of the open file that it names, if its caller has that. (MP/M II Programmer's Guide,
 /// "Function 43: Unlock Record".)
 fn unlock(opens: &mut Opens, p: Pid, item: Option<OpenItem>, first: u32, count: u8)
-    requires item { IfSome item (λ item. asking.IsOwn opens.old p item) }
+    requires item { IfSome item (λ item. asking.IsOwnItem opens.old p item) }
     requires first { first ≤ 16777216 }
     ensures { opens.new ≡ spec.unlocked_where opens.old p first count item }
 {
@@ -124,7 +124,7 @@ pub(crate) fn leave(
     moved: u8,
     deleted: &[Option<FileKey>; 64],
 )
-    requires item { asked.now.function ≡ functions.UnlockRecord → IfSome asked.now.item (λ item. asking.IsOwn opens.old asked.now.caller.process item) }
+    requires item { asked.now.function ≡ functions.UnlockRecord → IfSome asked.now.item (λ item. asking.IsOwnItem opens.old asked.now.caller.process item) }
     ensures { opens.new ≡ spec.left_by opens.old asked.now file moved deleted.now asked.now.function }
 {
     let p = asked.caller.process;
@@ -174,7 +174,7 @@ fn first_locked(block: &ControlBlock) -> u32
 /// What the records of a call on a mounted drive come to: those that it locks are locked.
 #[tactic(auto, unfolding(crate::specs::Leaving::locked_for, crate::specs::Leaving::ended_for))]
 fn end_records(opens: &mut Opens, mounted: &Mounted, asked: &Asked, work: &Option<Work>) -> Ended
-    requires item { asked.now.function ≡ functions.LockRecord → IfSome asked.now.item (λ item. asking.IsOwn opens.old asked.now.caller.process item) }
+    requires item { asked.now.function ≡ functions.LockRecord → IfSome asked.now.item (λ item. asking.IsOwnItem opens.old asked.now.caller.process item) }
     requires few { asked.now.caller.multi ≤ 16 }
     ensures opens { (image : List ℕ) (drive : Drive) → Stands image mounted.now drive → spec.IsInFile asked.now
         → opens.new ≡ spec.locked_for drive opens.old asked.now asked.now.function }
@@ -202,7 +202,7 @@ pub(crate) fn grant(
     asked: &Asked,
     work: &Option<Work>,
 ) -> Granted
-    requires item { asked.now.function ≡ functions.LockRecord → IfSome asked.now.item (λ item. asking.IsOwn opens.old asked.now.caller.process item) }
+    requires item { asked.now.function ≡ functions.LockRecord → IfSome asked.now.item (λ item. asking.IsOwnItem opens.old asked.now.caller.process item) }
     requires few { asked.now.caller.multi ≤ 16 }
     ensures opens { (image : List ℕ) (drive : Drive) → Stands image mounted.now drive → spec.IsInFile asked.now
         → opens.new ≡ spec.opened_by drive (spec.locked_for drive opens.old asked.now asked.now.function) asked.now asked.now.function }

@@ -21,7 +21,7 @@ mod turning;
 
 pub use bdos::Bdos;
 pub use mpm_directories::in_places;
-pub use mpm_functions::{
+pub use mpm_file_functions::{
     Answered, DirectFunction, Extended, FileFunction, RecordEnd, Refusal, refusals_of,
 };
-pub use mpm_requests::Caller;
+pub use mpm_refusals::Caller;

@@ -8,26 +8,26 @@ ghost use Rattle.mpm_fcb.specs.Names.{has_f6};
 ghost use Rattle.mpm_jobs.specs.declared.jobs.JobKind.TheVariants as kinds;
 ghost use Rattle.mpm_fcb.specs.Blocks.{block_of};
 ghost use Rattle.mpm_mount.specs.Looking.{data_byte};
-ghost use Rattle.mpm_requests.specs.Asking.{called};
-ghost use Rattle.mpm_requests.specs.Filing.{LastSearch};
+ghost use Rattle.mpm_refusals.specs.Asking.{called};
+ghost use Rattle.mpm_refusals.specs.Filing.{LastSearch};
 ghost use Rattle.mpm_bdos.specs.Planning.{IsAbout};
 ghost use Rattle.mpm_bdos.specs.Planning as planning;
-ghost use Rattle.mpm_requests.specs.Refusals as refusals;
+ghost use Rattle.mpm_refusals.specs.Refusals as refusals;
 ghost use Rattle.mpm_bdos.specs.Jobs as spec;
 ghost use Rattle.mpm_locks.specs.Locks as locks;
 ghost use Rattle.mpm_jobs.specs.Jobs as jobs;
-ghost use Rattle.mpm_entries.specs.Protections as protections;
+ghost use Rattle.mpm_file_entries.specs.Protections as protections;
 
 use crate::records::count_tested;
 use mpm_base::Call;
-use mpm_entries::{guarding, labelling, made_xfcb, making_job, opening, writing_stamp};
 use mpm_fcb::ControlBlock;
-use mpm_functions::FileFunction;
+use mpm_file_entries::{guarding, labelling, made_xfcb, making_job, opening, writing_stamp};
+use mpm_file_functions::FileFunction;
 use mpm_jobs::{Job, JobKind, job_on, reading_job, renaming_job, testing, writing};
 use mpm_locks::count_free;
 use mpm_mount::{Mounted, label_byte};
 use mpm_opens::{FileKey, Opens};
-use mpm_requests::{Caller, makes_xfcb};
+use mpm_refusals::{Caller, makes_xfcb};
 
 /// What was looked up of a call, of which its job is made.
 #[derive(Clone, Copy)]

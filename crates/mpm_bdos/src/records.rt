@@ -8,7 +8,7 @@ ghost use Rattle.mpm_bdos.specs.Jobs as jobs;
 ghost use Rattle.mpm_bdos.specs.Records as spec;
 
 use mpm_base::Pid;
-use mpm_functions::Ended;
+use mpm_file_functions::Ended;
 use mpm_locks::{is_locked_off, lock_record};
 use mpm_mount::{Mounted, read_error};
 use mpm_opens::{FileKey, Opens};

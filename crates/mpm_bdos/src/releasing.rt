@@ -4,7 +4,7 @@ ghost use Rattle.mpm_mount.specs.Directories.{Stands};
 ghost use Rattle.mpm_opens.specs.Items.{place_at, file_where, is_given_back};
 ghost use Rattle.mpm_opens.specs.Opens.{given_back};
 ghost use Rattle.mpm_mount.specs.Files.{is_fitting, has_file};
-ghost use Rattle.mpm_requests.specs.Subjects.{file_of};
+ghost use Rattle.mpm_refusals.specs.Subjects.{file_of};
 ghost use Rattle.mpm_bdos.specs.Changes as spec;
 
 use mpm_base::Pid;

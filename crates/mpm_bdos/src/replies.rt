@@ -3,14 +3,14 @@ ghost use Rattle.std.specs.List.{flat_map};
 ghost use Rattle.mpm_mount.specs.Drives.{Drive};
 ghost use Rattle.mpm_mount.specs.Directories.{Stands};
 ghost use Rattle.mpm_mount.specs.Files.{where_there};
-ghost use Rattle.mpm_entries.specs.Telling as telling;
-ghost use Rattle.mpm_requests.specs.Asking.{found_as};
+ghost use Rattle.mpm_file_entries.specs.Telling as telling;
+ghost use Rattle.mpm_refusals.specs.Asking.{found_as};
 ghost use Rattle.mpm_bdos.specs.Ending.{IsRead};
 
-use mpm_entries::found_bytes;
+use mpm_file_entries::found_bytes;
 use mpm_files::Work;
 use mpm_mount::Mounted;
-use mpm_requests::FoundEntry;
+use mpm_refusals::FoundEntry;
 
 /// The entry that a search found, as it tells it.
 pub(crate) fn told_found(mounted: &Mounted, found: &Option<FoundEntry>) -> Option<[u8; 128]>

@@ -2,11 +2,11 @@ ghost use Rattle.std.specs.Prelude.{◌≡◌, ◌≤◌, ◌<◌, ℕ, List, Op
 ghost use Rattle.mpm_mount.specs.Drives.{Drive, FileName};
 ghost use Rattle.mpm_mount.specs.Directories.{Stands};
 ghost use Rattle.mpm_opens.specs.Opens.{AreOpen};
-ghost use Rattle.mpm_requests.specs.Asking.{called, found_as};
+ghost use Rattle.mpm_refusals.specs.Asking.{called, found_as};
 ghost use Rattle.mpm_bdos.specs.Leaving as spec;
-ghost use Rattle.mpm_requests.specs.Asking as asking;
+ghost use Rattle.mpm_refusals.specs.Asking as asking;
 ghost use Rattle.mpm_bdos.specs.Replies as replies;
-ghost use Rattle.mpm_requests.specs.Filing.{HaveUsers};
+ghost use Rattle.mpm_refusals.specs.Filing.{HaveUsers};
 ghost use Rattle.mpm_bdos.specs.Replying.{IsAnswering, IsReplied};
 
 use crate::answering::answer;
@@ -14,12 +14,12 @@ use crate::ending::moved_by;
 use crate::leaving::{grant, leave};
 use crate::replies::told_found;
 use mpm_base::{Call, Reply};
+use mpm_file_functions::FileFunction;
 use mpm_files::Work;
-use mpm_functions::FileFunction;
 use mpm_marks::Protected;
 use mpm_mount::Mounted;
 use mpm_opens::{FileKey, Opens};
-use mpm_requests::{Asked, Caller, FoundEntry, Searches, ask, found, keep_found, subject_key};
+use mpm_refusals::{Asked, Caller, FoundEntry, Searches, ask, found, keep_found, subject_key};
 
 /// Answers a call on a mounted drive, which isn't refused, and does what it leaves of open files and of locks.
 pub(crate) fn answer_mounted(
@@ -33,7 +33,7 @@ pub(crate) fn answer_mounted(
     fcb: &[u8; 36],
     dma: u16,
 )
-    requires own { IfSome asked.now.item (λ item. asking.IsOwn opens.old asked.now.caller.process item) }
+    requires own { IfSome asked.now.item (λ item. asking.IsOwnItem opens.old asked.now.caller.process item) }
     requires some { 1 ≤ asked.now.caller.multi }
     requires few { asked.now.caller.multi ≤ 16 }
     ensures sound { AreOpen opens.old }

@@ -1,8 +1,8 @@
 use mpm_base::Call;
+use mpm_file_functions::{FileFunction, Refusal};
 use mpm_files::Work;
-use mpm_functions::{FileFunction, Refusal};
 use mpm_opens::FileKey;
-use mpm_requests::Caller;
+use mpm_refusals::Caller;
 use std::marker::Model;
 
 /// A file call in service, as it was when it entered, and how far its job is.

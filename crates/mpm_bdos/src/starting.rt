@@ -7,12 +7,12 @@ ghost use Rattle.mpm_opens.specs.Items.{file_named};
 ghost use Rattle.mpm_opens.specs.Opens.{item_of};
 ghost use Rattle.mpm_fcb.specs.Positions.{sequential_record};
 ghost use Rattle.mpm_files.specs.Turning.{Suits};
-ghost use Rattle.mpm_requests.specs.Filing.{Situation, block as block_in, HaveUsers};
-ghost use Rattle.mpm_requests.specs.Subjects as subjects;
-ghost use Rattle.mpm_requests.specs.Refusals as refusals;
-ghost use Rattle.mpm_requests.specs.Asking.{called, StandsFor};
+ghost use Rattle.mpm_refusals.specs.Filing.{Situation, block as block_in, HaveUsers};
+ghost use Rattle.mpm_refusals.specs.Subjects as subjects;
+ghost use Rattle.mpm_refusals.specs.Refusals as refusals;
+ghost use Rattle.mpm_refusals.specs.Asking.{called, StandsForDirectory};
 ghost use Rattle.mpm_bdos.specs.Changes as changes;
-ghost use Rattle.mpm_functions.specs.Functions.{function_of};
+ghost use Rattle.mpm_file_functions.specs.Functions.{function_of};
 ghost use Rattle.mpm_bdos.specs.Serving.{IsCaller, StandEach, WorksOn};
 ghost use Rattle.mpm_bdos.specs.Starting as spec;
 
@@ -25,13 +25,13 @@ use mpm_base::{Call, Pid};
 use mpm_clock::{Moment, stamp};
 use mpm_dirent::plain_name;
 use mpm_fcb::ControlBlock;
+use mpm_file_functions::{FileFunction, Refusal};
 use mpm_files::{Job, Work, plan, turns};
-use mpm_functions::{FileFunction, Refusal};
 use mpm_marks::{Marks, Protected};
 use mpm_mount::Mounted;
 use mpm_opens::{FileKey, Opens};
 use mpm_procs::Process;
-use mpm_requests::{
+use mpm_refusals::{
     Caller, Searches, ask, block_of_call, drive_of_call, item_number, refusal_of, word_of_call,
 };
 
@@ -142,7 +142,7 @@ fn begun_call(
     ensures { (image : List ℕ) (drives : List (Option Drive)) (marks : List ℕ)
         → Stands image mounted.now (subjects.drive_at (called drives protected.now opens.now marks searches.now caller.now function call.now moment))
         → refusals.refusal_of (called drives protected.now opens.now marks searches.now caller.now function call.now moment) ≡ None
-        → spec.Begins image (Some mounted.now) (called drives protected.now opens.now marks searches.now caller.now function call.now moment) result }
+        → spec.BeginsJob image (Some mounted.now) (called drives protected.now opens.now marks searches.now caller.now function call.now moment) result }
 {
     let block = block_of_call(call);
     let number = item_number(call.word(0), &block, function);
@@ -177,9 +177,9 @@ fn begun_unless(
     requires caller { IsCaller caller.now }
     requires users { HaveUsers opens.now }
     ensures { (image : List ℕ) (drives : List (Option Drive)) (marks : List ℕ)
-        → StandsFor image (option_copied mounted.entry) (called drives protected.now opens.now marks searches.now caller.now function call.now moment)
+        → StandsForDirectory image (option_copied mounted.entry) (called drives protected.now opens.now marks searches.now caller.now function call.now moment)
         → refusal ≡ refusals.refusal_of (called drives protected.now opens.now marks searches.now caller.now function call.now moment)
-        → spec.Begins image (option_copied mounted.entry) (called drives protected.now opens.now marks searches.now caller.now function call.now moment) result }
+        → spec.BeginsJob image (option_copied mounted.entry) (called drives protected.now opens.now marks searches.now caller.now function call.now moment) result }
 {
     if refusal.is_some() {
         return None;
@@ -243,7 +243,7 @@ fn deleted_of(
     block: &ControlBlock,
     function: FileFunction,
 ) -> [Option<FileKey>; 64]
-    ensures { (image : List ℕ) (s : Situation) → StandsFor image (option_copied mounted.entry) s → refusals.refusal_of s ≡ None → opens.now ≡ s.filing.opens → caller.now ≡ s.caller
+    ensures { (image : List ℕ) (s : Situation) → StandsForDirectory image (option_copied mounted.entry) s → refusals.refusal_of s ≡ None → opens.now ≡ s.filing.opens → caller.now ≡ s.caller
         → drive ≡ subjects.drive_number s → block.now ≡ block_in s → function ≡ s.function → result ≡ changes.deleted_by s s.function }
 {
     let deletion = Deletion {
@@ -275,7 +275,7 @@ fn entered(
     ensures entered { spec.IsEntered caller.now function call.now result }
     ensures drive { result.drive ≡ drive }
     ensures all { (image : List ℕ) (drives : List (Option Drive))
-        → StandsFor image (option_copied mounted.entry) (called drives protected.now opens.now marks.now searches.now caller.now function call.now moment)
+        → StandsForDirectory image (option_copied mounted.entry) (called drives protected.now opens.now marks.now searches.now caller.now function call.now moment)
         → drive ≡ subjects.drive_number (called drives protected.now opens.now marks.now searches.now caller.now function call.now moment)
         → spec.Enters image (option_copied mounted.entry) (called drives protected.now opens.now marks.now searches.now caller.now function call.now moment) result }
 {
@@ -362,14 +362,14 @@ impl Bdos {
     ghost use Rattle.mpm_clock.specs.Times.{IsTime};
     ghost use Rattle.mpm_clock.specs.PackedDecimal.{stamp as stamp_of};
     ghost use Rattle.mpm_mount.specs.Drives.{Drive};
-    ghost use Rattle.mpm_functions.specs.declared.functions.FileFunction as functions;
-    ghost use Rattle.mpm_functions.specs.Functions.{function_of};
+    ghost use Rattle.mpm_file_functions.specs.declared.functions.FileFunction as functions;
+    ghost use Rattle.mpm_file_functions.specs.Functions.{function_of};
     ghost use Rattle.mpm_bdos.specs.Jobs.{call_turns};
     ghost use Rattle.mpm_bdos.specs.Serving.{IsCaller, StandEach, Serves};
     ghost use Rattle.mpm_directories.specs.Places.{directory_at};
-    ghost use Rattle.mpm_requests.specs.Subjects.{drive_number};
+    ghost use Rattle.mpm_refusals.specs.Subjects.{drive_number};
     ghost use Rattle.mpm_bdos.specs.Turns.{drive_served, has_work};
-    ghost use Rattle.mpm_bdos.specs.Starting.{HasEntered, caller_of, entering, turns_where};
+    ghost use Rattle.mpm_bdos.specs.Starting.{HasBegunService, caller_of, entering, turns_where};
 
     /// A process's call on files and drives enters service: how many turns it takes. A call of another function doesn't, and takes
     /// none. No device is asked. (MP/M II Programmer's Guide, "BDOS Function Calls".)
@@ -381,7 +381,7 @@ impl Bdos {
         ensures serves { (images : ℕ → List ℕ) (drives : List (Option Drive)) (function : functions.FileFunction) → function_of call.now.function ≡ Some function
             → StandEach images self.old.mounted drives → Serves images self.new (entering self.old drives (caller_of p process.now) function call.now (stamp_of now)) 0 }
         ensures entered { (function : functions.FileFunction) → function_of call.now.function ≡ Some function
-            → HasEntered (caller_of p process.now) function call.now self.new.service }
+            → HasBegunService (caller_of p process.now) function call.now self.new.service }
         ensures drive { (drives : List (Option Drive)) (function : functions.FileFunction) → function_of call.now.function ≡ Some function
             → drive_served self.new.service ≡ Some (drive_number (entering self.old drives (caller_of p process.now) function call.now (stamp_of now))) }
         ensures some { is_some (function_of call.now.function) ≡ true → 0 < result }

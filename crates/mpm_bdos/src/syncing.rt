@@ -3,7 +3,7 @@ ghost use Rattle.mpm_port.specs.Disks.{size_of};
 ghost use Rattle.mpm_port.specs.Causes.{HasCause};
 ghost use Rattle.mpm_mount.specs.Mounting.{SameDrives};
 ghost use Rattle.mpm_directories.specs.Places.{directory_at};
-ghost use Rattle.mpm_bdos.specs.Syncing.{AreAttached, AreSynced, StopsAtDrive, mounted_count};
+ghost use Rattle.mpm_bdos.specs.Syncing.{AreAttached, AreMountedSynced, StopsAtDrive, mounted_count};
 
 use crate::bdos::Bdos;
 use crate::directories::Directories;
@@ -48,7 +48,7 @@ impl Directories {
         ensures all { OnOk result (steps.new ≡ steps.old + mounted_count self.now) }
         ensures some { OnErr result (0 < mounted_count self.now) }
         ensures none { mounted_count self.now ≡ 0 → drives.new ≡ drives.old }
-        ensures synced { OnOk result (AreSynced (D.unsynced drives.new) self.now) }
+        ensures synced { OnOk result (AreMountedSynced (D.unsynced drives.new) self.now) }
         ensures stay { (number : ℕ) → D.unsynced drives.old number ≡ false → D.unsynced drives.new number ≡ false }
         ensures stops { OnErr result (StopsAtDrive self.now (D.unsynced drives.old) (D.unsynced drives.new) steps.old steps.new) }
         ensures beside { (number : ℕ) → directory_at self.now number ≡ None → D.unsynced drives.new number ≡ D.unsynced drives.old number }
@@ -67,7 +67,7 @@ impl Bdos {
     ghost use Rattle.mpm_port.specs.Causes.{HasCause};
     ghost use Rattle.mpm_mount.specs.Mounting.{SameDrives};
     ghost use Rattle.mpm_directories.specs.Places.{directory_at};
-    ghost use Rattle.mpm_bdos.specs.Syncing.{AreSynced, StopsAtDrive, mounted_count};
+    ghost use Rattle.mpm_bdos.specs.Syncing.{AreMountedSynced, StopsAtDrive, mounted_count};
     ghost use Rattle.mpm_bdos.specs.Turns.{FitsDrives};
 
     /// Brings what was written to the mounted drives to where it stays, one drive after another in order of their letters, up to
@@ -85,7 +85,7 @@ impl Bdos {
         ensures all { OnOk result (steps.new ≡ steps.old + mounted_count self.now.mounted) }
         ensures some { OnErr result (0 < mounted_count self.now.mounted) }
         ensures none { mounted_count self.now.mounted ≡ 0 → drives.new ≡ drives.old }
-        ensures synced { OnOk result (AreSynced (D.unsynced drives.new) self.now.mounted) }
+        ensures synced { OnOk result (AreMountedSynced (D.unsynced drives.new) self.now.mounted) }
         ensures stay { (number : ℕ) → D.unsynced drives.old number ≡ false → D.unsynced drives.new number ≡ false }
         ensures stops { OnErr result (StopsAtDrive self.now.mounted (D.unsynced drives.old) (D.unsynced drives.new) steps.old steps.new) }
         ensures beside { (number : ℕ) → directory_at self.now.mounted number ≡ None → D.unsynced drives.new number ≡ D.unsynced drives.old number }

@@ -11,7 +11,7 @@ ghost use Rattle.mpm_files.specs.declared.turning.Progress.TheVariants as progre
 ghost use Rattle.mpm_files.specs.Plans.{turns_of};
 ghost use Rattle.mpm_files.specs.Turning.{Suits, IsNextCached};
 ghost use Rattle.mpm_directories.specs.Places.{directory_at};
-ghost use Rattle.mpm_bdos.specs.Turns.{FitsDrives, KeepsImages, KeepsToldOf, KeepsUnsynced, StaysBeside, progress_after, labelled, HasLeft, IsWorking, IsWorkingOn, IsContainedAt, IsServing, IsServiceContained, IsReading, IsReadingCached, ServesReading, ServesCached, IsIdle, has_work, drive_served, without_work};
+ghost use Rattle.mpm_bdos.specs.Turns.{FitsDrives, KeepsImages, KeepsToldOf, KeepsUnsynced, StaysBeside, progress_after, labelled, HasLeftDisk, IsWorking, IsWorkingOn, IsContainedAt, IsServing, IsServiceContained, IsReadingRecord, IsReadingCached, ServesReading, ServesCached, IsDiskIdle, has_work, drive_served, without_work};
 
 use crate::directories::Directories;
 use crate::service::Service;
@@ -46,7 +46,7 @@ pub(crate) fn turn_at<D: Drives, L: Ledger>(
     ensures reads_only { work.old.job.kind ≡ kinds.Read → (other : ℕ) → D.unsynced drives.new other ≡ D.unsynced drives.old other }
     ensures cached { work.old.job.kind ≡ kinds.Read → IfSome place.old (λ d. IsNextCached cache.old d work.old) → steps.new ≡ steps.old }
     ensures directory { IfSome place.new (λ d. IsDirectory d.kind d.entries) }
-    ensures leaves { HasLeft D.disks D.told D.failed_names D.unsynced place.old cache.old cache.new drives.old drives.new }
+    ensures leaves { HasLeftDisk D.disks D.told D.failed_names D.unsynced place.old cache.old cache.new drives.old drives.new }
     ensures cause { HasCause (D.faults drives.old) (D.faults drives.new) result }
 {
     match place {
@@ -118,7 +118,7 @@ impl Service {
             → OnErr result (IsContainedAt (D.disks drives.new) (directory_at mounted.old self.old.drive) before job j) }
         ensures progress { (before : Drive) (job : Job) (j : ℕ) → IsWorkingOn (D.disks drives.old) (directory_at mounted.old self.old.drive) before job j self.old.work
             → IfOk result (λ told. told ≡ progress_after (suc j) (turns_of before job)) }
-        ensures idle { is_some self.old.work ≡ false → IsIdle self.old self.new mounted.old mounted.new cache.old cache.new drives.old drives.new steps.old steps.new }
+        ensures idle { is_some self.old.work ≡ false → IsDiskIdle self.old self.new mounted.old mounted.new cache.old cache.new drives.old drives.new steps.old steps.new }
         ensures done { is_some self.old.work ≡ false → result ≡ Ok progress.Done }
         ensures still { is_some self.new.work ≡ is_some self.old.work }
         ensures kept { without_work self.new ≡ without_work self.old }
@@ -131,8 +131,8 @@ impl Service {
         ensures names { D.failed_names drives.new ≡ D.failed_names drives.old }
         ensures unsynced { KeepsUnsynced (Some self.old.drive) (D.unsynced drives.old) (D.unsynced drives.new) }
         ensures calls { steps.new ≤ steps.old + 20 }
-        ensures reads { IsReading self.old.work → steps.new ≤ steps.old + 1 }
-        ensures reads_only { IsReading self.old.work → (other : ℕ) → D.unsynced drives.new other ≡ D.unsynced drives.old other }
+        ensures reads { IsReadingRecord self.old.work → steps.new ≤ steps.old + 1 }
+        ensures reads_only { IsReadingRecord self.old.work → (other : ℕ) → D.unsynced drives.new other ≡ D.unsynced drives.old other }
         ensures cached { IsReadingCached cache.old (directory_at mounted.old self.old.drive) self.old.work → steps.new ≡ steps.old }
         ensures cause { HasCause (D.faults drives.old) (D.faults drives.new) result }
     {
@@ -160,7 +160,7 @@ pub(crate) fn turn_service<D: Drives, L: Ledger>(
         → OnErr result (IsServiceContained (D.disks drives.new) mounted.old before job j service.old) }
     ensures progress { (before : Drive) (job : Job) (j : ℕ) → IsServing (D.disks drives.old) mounted.old before job j service.old
         → IfOk result (λ told. told ≡ progress_after (suc j) (turns_of before job)) }
-    ensures idle { has_work service.old ≡ false → IsIdle service.old service.new mounted.old mounted.new cache.old cache.new drives.old drives.new steps.old steps.new }
+    ensures idle { has_work service.old ≡ false → IsDiskIdle service.old service.new mounted.old mounted.new cache.old cache.new drives.old drives.new steps.old steps.new }
     ensures done { has_work service.old ≡ false → result ≡ Ok progress.Done }
     ensures still { has_work service.new ≡ has_work service.old }
     ensures kept { option_map without_work service.new ≡ option_map without_work service.old }

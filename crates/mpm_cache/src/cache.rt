@@ -1,6 +1,6 @@
 ghost use Rattle.std.specs.Prelude.{◌≡◌, ◌≢◌, ◌⊎◌, ℕ, true, ◌+◌, ◌≤◌, [], length, Option, IfOk, IfSome, IfNone, IsSome, IsOk, OnOk, OnErr, is_some, if◌then◌else◌};
 ghost use Rattle.mpm_port.specs.Causes.{HasCause};
-ghost use Rattle.mpm_port.specs.Disks.{Disks, IsInside, Writes, KeepsTold, size_of, sector_of};
+ghost use Rattle.mpm_port.specs.Disks.{Disks, IsInsideDrive, WritesSector, KeepsTold, size_of, sector_of};
 
 use crate::OutOfMemory;
 use lru::LruCache;
@@ -16,7 +16,7 @@ const ROOM: usize = 256;
 
 /// A sector of a drive.
 #[derive(Clone, Copy, PartialEq, Eq, Hash)]
-pub(crate) struct Place {
+pub(crate) struct SectorPlace {
     drive: u8,
     sector: u32,
 }
@@ -26,14 +26,14 @@ pub(crate) struct Place {
 /// Contracts see a list of pairs, each of a place and its bytes, the one that was used last first.
 #[derive(Drop)]
 pub struct Cache {
-    sectors: LruCache<Place, [u8; 128]>,
+    sectors: LruCache<SectorPlace, [u8; 128]>,
 }
 
 impl Model for Cache {
     ghost use Rattle.std.specs.Prelude.{◌≡◌, ℕ, List};
-    ghost use Rattle.mpm_cache.specs.declared.cache.Place.{Place};
+    ghost use Rattle.mpm_cache.specs.declared.cache.SectorPlace.{SectorPlace};
 
-    ghost Value = { List (Place × List ℕ) };
+    ghost Value = { List (SectorPlace × List ℕ) };
 
     ghost view = { λ c. c.sectors.entries };
 
@@ -41,7 +41,7 @@ impl Model for Cache {
 }
 
 impl Cache {
-    ghost use Rattle.mpm_cache.specs.Cached.{cached_at, used, IsPut, taken_out, SameCached, Keeps, Forgets};
+    ghost use Rattle.mpm_cache.specs.Cached.{cached_at, used, IsPut, taken_out, SameCached, CachesSector, Forgets};
     ghost use Rattle.mpm_cache.specs.Coherent.{IsCoherent, HasNoAlias, StayApart};
 
     /// No sector is cached. Room for 256 is taken here but for their bytes.
@@ -71,16 +71,16 @@ impl Cache {
         ensures same { SameCached self.old self.new }
         ensures nothing { IfNone result (self.new ≡ self.old) }
     {
-        self.sectors.get(&Place { drive, sector }).copied()
+        self.sectors.get(&SectorPlace { drive, sector }).copied()
     }
 
     /// Caches a sector, in place of what is cached of it. A new one takes memory, and isn't cached where there is none; the
     /// sector that wasn't used longest goes where there is no room.
     fn keep(&mut self, drive: u8, sector: u32, bytes: &[u8; 128])
         ensures put { IsPut drive sector bytes.now self.old self.new }
-        ensures kept { Keeps drive sector bytes.now self.old self.new }
+        ensures kept { CachesSector drive sector bytes.now self.old self.new }
     {
-        let _ = self.sectors.put(Place { drive, sector }, *bytes);
+        let _ = self.sectors.put(SectorPlace { drive, sector }, *bytes);
     }
 
     /// Caches a sector no more.
@@ -90,7 +90,7 @@ impl Cache {
     {
         // Its length tells that no sector stands twice.
         let _cached = self.sectors.len();
-        let _ = self.sectors.pop(&Place { drive, sector });
+        let _ = self.sectors.pop(&SectorPlace { drive, sector });
     }
 
     /// Reads a sector of a drive, which costs no call of the drives where it is cached, and one where it isn't. `steps` counts
@@ -105,7 +105,7 @@ impl Cache {
         out: &mut [u8; 128],
         steps: &mut Steps<L>,
     ) -> Result<(), Failed>
-        requires inside { IsInside (size_of (D.disks drives.old) drive) sector }
+        requires inside { IsInsideDrive (size_of (D.disks drives.old) drive) sector }
         requires coherent { IsCoherent self.old (D.disks drives.old) }
         ensures bytes { OnOk result (IfSome ((D.disks drives.old).image drive) (λ image. out.new ≡ sector_of image sector)) }
         ensures coherent { IsCoherent self.new (D.disks drives.new) }
@@ -121,7 +121,7 @@ impl Cache {
 
         // What is cached afterwards.
         ensures put { IfNone (cached_at self.old drive sector) (OnOk result (IsPut drive sector out.new self.old self.new)) }
-        ensures kept { OnOk result (Keeps drive sector out.new self.old self.new) }
+        ensures kept { OnOk result (CachesSector drive sector out.new self.old self.new) }
         ensures err { OnErr result (self.new ≡ self.old) }
 
         // What is so of the drives.
@@ -147,14 +147,14 @@ impl Cache {
         out: &mut [u8; 128],
         steps: &mut Steps<L>,
     ) -> Result<(), Failed>
-        requires inside { IsInside (size_of (D.disks drives.old) drive) sector }
+        requires inside { IsInsideDrive (size_of (D.disks drives.old) drive) sector }
         requires coherent { IsCoherent self.old (D.disks drives.old) }
         ensures bytes { OnOk result (IfSome ((D.disks drives.old).image drive) (λ image. out.new ≡ sector_of image sector)) }
         ensures coherent { IsCoherent self.new (D.disks drives.new) }
         ensures apart { StayApart drive self.old self.new (D.disks drives.old) (D.disks drives.new) }
         ensures calls { steps.new ≡ steps.old + 1 }
         ensures put { OnOk result (IsPut drive sector out.new self.old self.new) }
-        ensures kept { OnOk result (Keeps drive sector out.new self.old self.new) }
+        ensures kept { OnOk result (CachesSector drive sector out.new self.old self.new) }
         ensures err { OnErr result (self.new ≡ self.old) }
         ensures cause { HasCause (D.faults drives.old) (D.faults drives.new) result }
         ensures names { D.failed_names drives.new ≡ D.failed_names drives.old }
@@ -184,11 +184,11 @@ impl Cache {
         bytes: &[u8; 128],
         steps: &mut Steps<L>,
     ) -> Result<(), Failed>
-        requires inside { IsInside (size_of (D.disks drives.old) drive) sector }
+        requires inside { IsInsideDrive (size_of (D.disks drives.old) drive) sector }
         requires coherent { IsCoherent self.old (D.disks drives.old) }
         requires apart { HasNoAlias self.old (D.disks drives.old) drive }
-        ensures ok { OnOk result (Writes drive sector bytes.now (D.disks drives.old) (D.disks drives.new)) }
-        ensures err { OnErr result ((D.disks drives.new ≡ D.disks drives.old) ⊎ Writes drive sector bytes.now (D.disks drives.old) (D.disks drives.new)) }
+        ensures ok { OnOk result (WritesSector drive sector bytes.now (D.disks drives.old) (D.disks drives.new)) }
+        ensures err { OnErr result ((D.disks drives.new ≡ D.disks drives.old) ⊎ WritesSector drive sector bytes.now (D.disks drives.old) (D.disks drives.new)) }
         ensures coherent { IsCoherent self.new (D.disks drives.new) }
         ensures apart { StayApart drive self.old self.new (D.disks drives.old) (D.disks drives.new) }
         ensures calls { steps.new ≡ steps.old + 1 }
@@ -196,7 +196,7 @@ impl Cache {
         // What is cached afterwards.
         ensures put { OnOk result (IsPut drive sector bytes.now self.old self.new) }
         ensures out { OnErr result (self.new ≡ taken_out drive sector self.old) }
-        ensures kept { OnOk result (Keeps drive sector bytes.now self.old self.new) }
+        ensures kept { OnOk result (CachesSector drive sector bytes.now self.old self.new) }
         ensures forgotten { OnErr result (Forgets drive sector self.old self.new) }
 
         // What is so of the drives.

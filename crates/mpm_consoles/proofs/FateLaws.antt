@@ -3,8 +3,8 @@ use Rattle.std.proofs.Common.{◌≡◌, ◌⊎◌, inl, inr, ℕ, ◌+◌, ◌-
 use Rattle.std.proofs.lemmas.Bool.Decides.{nat_tests}
 use Rattle.std.proofs.lemmas.List.{get_or-set_same}
 use Rattle.mpm_base.proofs.Choices.{either}
-use Rattle.mpm_consoles.specs.Console.{Console, new_console, passed_to, with_output_stopped, is_for, awakened, resumed, has_room, with_key, typed, IsProper}
-use Rattle.mpm_consoles.specs.Consoles.{Consoles, console_at, HasConsole, with_console, first_waiter, IsSound}
+use Rattle.mpm_consoles.specs.Console.{Console, new_console, passed_to, with_output_stopped, is_for, awakened, resumed, has_room, with_key, typed, IsProperConsole}
+use Rattle.mpm_consoles.specs.Consoles.{Consoles, console_at, HasConsole, with_console, first_waiter, AreSoundConsoles}
 use Rattle.mpm_consoles.specs.Keys.{control_of}
 use Rattle.mpm_consoles.specs.Handling.{given, unlisted, pass_to, passed, passed_by_key, subject, key_by, keyed}
 use Rattle.mpm_consoles.specs.Fates.{Stays, Stores, Loses, Fate, FateOf}
@@ -32,11 +32,11 @@ unfolding awakened
 stays_wake what console = either (λ (c : Console). Stays console c) (is_for console.awaits what) _ _ (λ _. record { keys = refl; lost = refl }) (λ _. stays_itself console)
 
 -- a key like others
-fate_in : (b : Bool) (console : Console) (byte : ℕ) → IsProper console → has_room console ≡ b → (now : Console) → Stays (if b then record console { keys = console.keys ++ byte ∷ [] } else (record console { lost = min (console.lost + 1) (2 ^ 64 - 1) })) now → Stores console now byte ⊎ Loses console now
+fate_in : (b : Bool) (console : Console) (byte : ℕ) → IsProperConsole console → has_room console ≡ b → (now : Console) → Stays (if b then record console { keys = console.keys ++ byte ∷ [] } else (record console { lost = min (console.lost + 1) (2 ^ 64 - 1) })) now → Stores console now byte ⊎ Loses console now
 fate_in true console byte proper room now stays = inl (record { room = grind (arith, nat_tests, room); keys = stays.keys; lost = stays.lost })
 fate_in false console byte proper room now stays = inr (record { full = (let few = proper.keys in grind (arith, nat_tests, room)); keys = stays.keys; lost = stays.lost })
 
-fate_typed : (console : Console) (byte : ℕ) → IsProper console → Stores console (typed byte console) byte ⊎ Loses console (typed byte console)
+fate_typed : (console : Console) (byte : ℕ) → IsProperConsole console → Stores console (typed byte console) byte ⊎ Loses console (typed byte console)
 unfolding typed with_key
 fate_typed console byte proper = fate_in (has_room console) console byte proper refl _ (stays_wake Key (with_key byte console))
 
@@ -52,7 +52,7 @@ stays_passed t n None has = stays_itself (console_at t n)
 stays_passed t n (Some p) has = stays_pass t n (first_waiter t (ConsoleUnit n)) has
 
 -- each key
-fate_by : (o : Option Control) (t : Consoles) (n byte : ℕ) (resident : Bool) → IsSound t → HasConsole t n → Fate o (console_at t n) (console_at (key_by o t n byte resident) n) byte
+fate_by : (o : Option Control) (t : Consoles) (n byte : ℕ) (resident : Bool) → AreSoundConsoles t → HasConsole t n → Fate o (console_at t n) (console_at (key_by o t n byte resident) n) byte
 unfolding with_output_stopped resumed
 fate_by None t n byte resident sound has =
     subst (λ (c : Console). Stores (console_at t n) c byte ⊎ Loses (console_at t n) c) (sym (set_there t n _ has)) (fate_typed (console_at t n) byte (sound.proper n))
@@ -63,6 +63,6 @@ fate_by (Some Resume) t n byte resident sound has =
 fate_by (Some Abort) t n byte resident sound has = stays_itself (console_at t n)
 fate_by (Some Detach) t n byte resident sound has = stays_passed t n (subject resident (console_at t n).owner) has
 
-pub fate_key : (t : Consoles) (n byte : ℕ) (resident : Bool) → IsSound t → HasConsole t n → FateOf (console_at t n) (console_at (keyed t n byte resident) n) byte
+pub fate_key : (t : Consoles) (n byte : ℕ) (resident : Bool) → AreSoundConsoles t → HasConsole t n → FateOf (console_at t n) (console_at (keyed t n byte resident) n) byte
 unfolding keyed
 fate_key t n byte resident sound has = fate_by (control_of (console_at t n).raw byte) t n byte resident sound has

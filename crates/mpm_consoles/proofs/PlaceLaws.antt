@@ -10,13 +10,13 @@ use Rattle.mpm_ready.specs.Tables.{list_of, removed, dequeued}
 use Rattle.mpm_ready.proofs.TableLaws.{list_of_inserted, list_of_inserted_other, list_of_removed, list_of_removed_other}
 use Rattle.mpm_base.proofs.Choices.{either}
 use Rattle.mpm_consoles.specs.Console.{Console, new_console, is_owner, without_wait_of}
-use Rattle.mpm_consoles.specs.Consoles.{Consoles, console_at, HasConsole, HasUnit, place_of, waits, WaitsNowhere, is_gate_waiter, gate_waits, with_console, IsSound}
+use Rattle.mpm_consoles.specs.Consoles.{Consoles, console_at, HasConsole, HasUnit, place_of, waits, WaitsForNoUnit, is_gate_waiter, gate_waits, with_console, AreSoundConsoles}
 use Rattle.mpm_consoles.specs.Handling.{unlisted, listed, units_without_waiter}
 use Rattle.mpm_consoles.specs.declared.unit.Unit.{Unit}
 use Rattle.mpm_consoles.proofs.SoundLaws.{place_below}
 
 -- for how many units a process waits: at most for one
-pub waits_nowhere : (t : Consoles) (p : ℕ) → WaitsNowhere t p → waits t p ≡ 0
+pub waits_nowhere : (t : Consoles) (p : ℕ) → WaitsForNoUnit t p → waits t p ≡ 0
 unfolding waits
 waits_nowhere t p none = ap (λ (o : Option ℕ). option_map_or (λ _. 1) o 0) none
 
@@ -30,13 +30,13 @@ unfolding waits
 waits_same t new p same = ap (λ (ls : List (List Member)). option_map_or (λ _. 1) (list_of ls p) 0) same
 
 -- a process waits, and waits no more
-pub waits_listed : (t : Consoles) (p priority : ℕ) (unit : Unit) → IsSound t → HasUnit t unit → p < 32 → WaitsNowhere t p → waits (listed t p priority unit) p ≡ 1
+pub waits_listed : (t : Consoles) (p priority : ℕ) (unit : Unit) → AreSoundConsoles t → HasUnit t unit → p < 32 → WaitsForNoUnit t p → waits (listed t p priority unit) p ≡ 1
 unfolding listed
 waits_listed t p priority unit sound has small nowhere =
     waits_somewhere (listed t p priority unit) p (place_of unit)
     (list_of_inserted t.waiters (place_of unit) (record { slot = p; priority = priority }) sound.table (let low = place_below t unit sound has in omega arith) small nowhere)
 
-pub waits_listed_other : (t : Consoles) (p priority : ℕ) (unit : Unit) (r : ℕ) → IsSound t → HasUnit t unit → p < 32 → WaitsNowhere t p → r ≢ p → waits (listed t p priority unit) r ≡ waits t r
+pub waits_listed_other : (t : Consoles) (p priority : ℕ) (unit : Unit) (r : ℕ) → AreSoundConsoles t → HasUnit t unit → p < 32 → WaitsForNoUnit t p → r ≢ p → waits (listed t p priority unit) r ≡ waits t r
 unfolding listed waits
 waits_listed_other t p priority unit r sound has small nowhere apart =
     ap (λ (o : Option ℕ). option_map_or (λ _. 1) o 0)
@@ -48,7 +48,7 @@ waits_dequeued (Some q) t new p is gone =
     let same : q ≡ p = cc in
     waits_nowhere new p (ap (λ (ls : List (List Member)). list_of ls p) is ∙ subst (λ k. list_of (removed t.waiters q) k ≡ None) same (list_of_removed t.waiters q))
 
-pub waits_dequeued_other : (o : Option ℕ) (t new : Consoles) (r : ℕ) → IsSound t → new.waiters ≡ dequeued o t.waiters → o ≢ Some r → waits new r ≡ waits t r
+pub waits_dequeued_other : (o : Option ℕ) (t new : Consoles) (r : ℕ) → AreSoundConsoles t → new.waiters ≡ dequeued o t.waiters → o ≢ Some r → waits new r ≡ waits t r
 unfolding waits
 waits_dequeued_other None t new r sound is apart = waits_same t new r is
 waits_dequeued_other (Some q) t new r sound is apart =

@@ -9,7 +9,7 @@ use Rattle.mpm_consoles.specs.Consoles.{Consoles, console_at, HasConsole, with_c
 use Rattle.mpm_consoles.specs.Keys.{control_of}
 use Rattle.mpm_consoles.specs.Handling.{given, unlisted, listed, attach_from, unit_attached, pass_to, passed, unit_detached, console_assigned, subject, passed_by_key, key_by, keyed, first_taken, raw_set, gate_wait_begun, put_out, units_without_waiter}
 use Rattle.mpm_consoles.specs.Fates.{Stays}
-use Rattle.mpm_consoles.specs.Runs.{stored, missed, as_list, Change, Attaches, Detaches, Assigns, MakesRaw, Waits, Writes, Leaves, Operation, Types, Takes, Makes, change_made, operation_made, Passage, no_passage, type_in, take_out, passage, Conserves, operations_made, passages}
+use Rattle.mpm_consoles.specs.Runs.{stored, missed, as_list, KeyChange, Attaches, Detaches, Assigns, MakesRaw, Waits, Writes, Leaves, ConsoleOperation, Types, Takes, Makes, change_made, operation_made, Passage, no_passage, type_in, take_out, passage, ConservesKeys, operations_made, passages}
 use Rattle.mpm_consoles.specs.declared.console.Awaited.TheVariants.{Key, Output}
 use Rattle.mpm_consoles.specs.declared.keys.Control.{Control}
 use Rattle.mpm_consoles.specs.declared.keys.Control.TheVariants.{Stop, Resume, Abort, Detach}
@@ -50,7 +50,7 @@ unfolding without_wait_of
 stays_without_wait t n p =
     either (Stays (console_at t n)) (is_owner (console_at t n).owner p) _ _ (λ _. record { keys = refl; lost = refl }) (λ _. stays_itself (console_at t n))
 
-stays_change : (t : Consoles) (n : ℕ) (change : Change) → HasConsole t n → Stays (console_at t n) (console_at (change_made t change) n)
+stays_change : (t : Consoles) (n : ℕ) (change : KeyChange) → HasConsole t n → Stays (console_at t n) (console_at (change_made t change) n)
 unfolding unit_attached unit_detached passed console_assigned raw_set with_raw gate_wait_begun awaiting put_out written spoken units_without_waiter unlisted
 stays_change t n (Attaches p priority unit wait) has = stays_attached (owner_of t unit) t n p priority unit wait has
 stays_change t n (Detaches p unit) has = either (λ (new : Consoles). Stays (console_at t n) (console_at new n)) (owns t p unit) _ _ (λ _. stays_passed (first_waiter t unit) t n unit has) (λ _. stays_itself (console_at t n))
@@ -79,24 +79,24 @@ stays_control Detach t n m byte resident has = on_subject (subject resident (con
 abbrev pub IsCounted : Console → Type 0
 IsCounted console = console.lost ≤ 2 ^ 64 - 1
 
-conserves_stays : (before now : Console) → IsCounted before → Stays before now → Conserves before now no_passage
+conserves_stays : (before now : Console) → IsCounted before → Stays before now → ConservesKeys before now no_passage
 conserves_stays before now counted stays = record {
   keys = stays.keys ∙ sym (append-nil before.keys);
   lost = stays.lost ∙ omega arith;
 }
 
 -- a key like others
-conserves_in : (b : Bool) (console : Console) (byte : ℕ) → IsCounted console → (now : Console) → Stays (if b then record console { keys = console.keys ++ byte ∷ [] } else (record console { lost = min (console.lost + 1) (2 ^ 64 - 1) })) now → Conserves console now (record { out = []; into = stored None b byte; misses = missed None b })
+conserves_in : (b : Bool) (console : Console) (byte : ℕ) → IsCounted console → (now : Console) → Stays (if b then record console { keys = console.keys ++ byte ∷ [] } else (record console { lost = min (console.lost + 1) (2 ^ 64 - 1) })) now → ConservesKeys console now (record { out = []; into = stored None b byte; misses = missed None b })
 conserves_in true console byte counted now stays = record { keys = stays.keys; lost = stays.lost ∙ omega arith }
 conserves_in false console byte counted now stays = record { keys = stays.keys ∙ sym (append-nil console.keys); lost = stays.lost }
 
-conserves_typed : (console : Console) (byte : ℕ) → IsCounted console → Conserves console (typed byte console) (record { out = []; into = stored None (has_room console) byte; misses = missed None (has_room console) })
+conserves_typed : (console : Console) (byte : ℕ) → IsCounted console → ConservesKeys console (typed byte console) (record { out = []; into = stored None (has_room console) byte; misses = missed None (has_room console) })
 unfolding typed with_key
 conserves_typed console byte counted = conserves_in (has_room console) console byte counted _ (stays_wake Key (with_key byte console))
 
-conserves_by : (o : Option Control) (t : Consoles) (n byte : ℕ) (resident : Bool) → HasConsole t n → IsCounted (console_at t n) → Conserves (console_at t n) (console_at (key_by o t n byte resident) n) (record { out = []; into = stored o (has_room (console_at t n)) byte; misses = missed o (has_room (console_at t n)) })
+conserves_by : (o : Option Control) (t : Consoles) (n byte : ℕ) (resident : Bool) → HasConsole t n → IsCounted (console_at t n) → ConservesKeys (console_at t n) (console_at (key_by o t n byte resident) n) (record { out = []; into = stored o (has_room (console_at t n)) byte; misses = missed o (has_room (console_at t n)) })
 conserves_by None t n byte resident has counted =
-    subst (λ (c : Console). Conserves (console_at t n) c (record { out = []; into = stored None (has_room (console_at t n)) byte; misses = missed None (has_room (console_at t n)) })) (sym (set_there t n _ has)) (conserves_typed (console_at t n) byte counted)
+    subst (λ (c : Console). ConservesKeys (console_at t n) c (record { out = []; into = stored None (has_room (console_at t n)) byte; misses = missed None (has_room (console_at t n)) })) (sym (set_there t n _ has)) (conserves_typed (console_at t n) byte counted)
 conserves_by (Some control) t n byte resident has counted = conserves_stays _ _ counted (stays_control control t n n byte resident has)
 
 stays_elsewhere : (o : Option Control) (t : Consoles) (n m byte : ℕ) (resident : Bool) → HasConsole t n → n ≢ m → Stays (console_at t n) (console_at (key_by o t m byte resident) n)
@@ -112,7 +112,7 @@ pub in_order : (t : Consoles) (n : ℕ) → HasConsole t n → as_list (first_ke
 unfolding first_taken without_first
 in_order t n has = ap (λ (c : Console). as_list (first_key (console_at t n)) ++ c.keys) (set_there t n _ has) ∙ first_out (console_at t n).keys ∙ append-nil (console_at t n).keys
 
-conserves_take : (console : Console) → IsCounted console → Conserves console (without_first console) (take_out console)
+conserves_take : (console : Console) → IsCounted console → ConservesKeys console (without_first console) (take_out console)
 unfolding without_first
 conserves_take console counted = record { keys = first_out console.keys; lost = omega arith }
 
@@ -123,16 +123,16 @@ at_number P n m here same apart = elim (cases_eq n m) [
   | inr is ↦ subst (λ (b : Bool). P (if b then here else no_passage)) (sym (ne_eqb n m is)) (apart is)
 ]
 
-pub conserves_operation : (t : Consoles) (n : ℕ) (operation : Operation) → HasConsole t n → IsCounted (console_at t n) → Conserves (console_at t n) (console_at (operation_made t operation) n) (passage t n operation)
+pub conserves_operation : (t : Consoles) (n : ℕ) (operation : ConsoleOperation) → HasConsole t n → IsCounted (console_at t n) → ConservesKeys (console_at t n) (console_at (operation_made t operation) n) (passage t n operation)
 unfolding passage keyed first_taken
 conserves_operation t n (Types m byte resident) has counted =
-    at_number (Conserves (console_at t n) (console_at (keyed t m byte resident) n)) n m (type_in (console_at t n) byte)
-    (λ is. subst (λ k. Conserves (console_at t n) (console_at (keyed t k byte resident) n) (type_in (console_at t n) byte)) is (conserves_by (control_of (console_at t n).raw byte) t n byte resident has counted))
+    at_number (ConservesKeys (console_at t n) (console_at (keyed t m byte resident) n)) n m (type_in (console_at t n) byte)
+    (λ is. subst (λ k. ConservesKeys (console_at t n) (console_at (keyed t k byte resident) n) (type_in (console_at t n) byte)) is (conserves_by (control_of (console_at t n).raw byte) t n byte resident has counted))
     (λ is. conserves_stays _ _ counted (stays_elsewhere (control_of (console_at t m).raw byte) t n m byte resident has is))
 conserves_operation t n (Takes m) has counted =
-    at_number (Conserves (console_at t n) (console_at (first_taken t m) n)) n m (take_out (console_at t n))
-    (λ is. subst (λ k. Conserves (console_at t n) (console_at (first_taken t k) n) (take_out (console_at t n))) is
-    (subst (λ (c : Console). Conserves (console_at t n) c (take_out (console_at t n))) (sym (set_there t n _ has)) (conserves_take (console_at t n) counted)))
+    at_number (ConservesKeys (console_at t n) (console_at (first_taken t m) n)) n m (take_out (console_at t n))
+    (λ is. subst (λ k. ConservesKeys (console_at t n) (console_at (first_taken t k) n) (take_out (console_at t n))) is
+    (subst (λ (c : Console). ConservesKeys (console_at t n) c (take_out (console_at t n))) (sym (set_there t n _ has)) (conserves_take (console_at t n) counted)))
     (λ is. conserves_stays _ _ counted (subst (Stays (console_at t n)) (sym (get_or-set_other t.consoles m n _ new_console is)) (stays_itself (console_at t n))))
 conserves_operation t n (Makes change) has counted = conserves_stays _ _ counted (stays_change t n change has)
 
@@ -166,7 +166,7 @@ unfolding unlisted
 keeps_called true t p unit owner = keeps_given (unlisted t p) unit owner
 keeps_called false t p unit owner = keeps_given t unit owner
 
-pub keeps_change : (t : Consoles) (change : Change) → Keeps t (change_made t change)
+pub keeps_change : (t : Consoles) (change : KeyChange) → Keeps t (change_made t change)
 unfolding unit_attached unit_detached passed console_assigned raw_set gate_wait_begun put_out units_without_waiter unlisted
 keeps_change t (Attaches p priority unit wait) = keeps_attached (owner_of t unit) t p priority unit wait
 keeps_change t (Detaches p unit) = either (Keeps t) (owns t p unit) _ _ (λ _. keeps_passed (first_waiter t unit) t unit) (λ _. keeps_itself t)
@@ -189,7 +189,7 @@ keeps_key (Some Detach) t n byte resident = on_subject (subject resident (consol
     on_subject None = keeps_itself t
     on_subject (Some p) = keeps_passed (first_waiter t (ConsoleUnit n)) t (ConsoleUnit n)
 
-pub keeps_operation : (t : Consoles) (operation : Operation) → Keeps t (operation_made t operation)
+pub keeps_operation : (t : Consoles) (operation : ConsoleOperation) → Keeps t (operation_made t operation)
 unfolding keyed first_taken
 keeps_operation t (Types m byte resident) = keeps_key (control_of (console_at t m).raw byte) t m byte resident
 keeps_operation t (Takes m) = keeps_console t m _
@@ -200,7 +200,7 @@ keeps_operation t (Makes change) = keeps_change t change
 counted_on : (before misses most now rest last : ℕ) → now ≡ min (before + misses) most → last ≡ min (now + rest) most → last ≡ min (before + (misses + rest)) most
 counted_on before misses most now rest last one all = omega arith
 
-pub conserves_all : (t : Consoles) (n : ℕ) (operations : List Operation) → HasConsole t n → IsCounted (console_at t n) → Conserves (console_at t n) (console_at (operations_made t operations) n) (passages t n operations)
+pub conserves_all : (t : Consoles) (n : ℕ) (operations : List ConsoleOperation) → HasConsole t n → IsCounted (console_at t n) → ConservesKeys (console_at t n) (console_at (operations_made t operations) n) (passages t n operations)
 unfolding operations_made passages
 conserves_all t n [] has counted = conserves_stays _ _ counted (stays_itself (console_at t n))
 conserves_all t n (operation ∷ operations) has counted =

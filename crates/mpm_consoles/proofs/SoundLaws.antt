@@ -8,8 +8,8 @@ use Rattle.mpm_ready.specs.Order.{Member, in_list, without_slot, put_in}
 use Rattle.mpm_ready.specs.Tables.{list_at, no_lists, inserted, removed}
 use Rattle.mpm_ready.proofs.OrderLaws.{in_list_put_in, in_list_without_slot, without_slot_absent, first_none, without_slot_gone}
 use Rattle.mpm_ready.proofs.TableLaws.{list_at_inserted, list_at_inserted_other, list_at_removed, table_removed, table_inserted, table_none, list_at_none, none_in_none}
-use Rattle.mpm_consoles.specs.Console.{Console, new_console, is_owner, passed_to, with_raw, with_output_stopped, awaited_for, awaiting, without_wait_of, resumed, typed, without_first, spoken, written, IsProper}
-use Rattle.mpm_consoles.specs.Consoles.{Consoles, no_owners, console_at, HasConsole, HasUnit, owner_of, owns, place_of, waiters_of, first_waiter, waits_for, WaitsNowhere, with_console, MayWait, IsSound}
+use Rattle.mpm_consoles.specs.Console.{Console, new_console, is_owner, passed_to, with_raw, with_output_stopped, awaited_for, awaiting, without_wait_of, resumed, typed, without_first, spoken, written, IsProperConsole}
+use Rattle.mpm_consoles.specs.Consoles.{Consoles, no_owners, console_at, HasConsole, HasUnit, owner_of, owns, place_of, waiters_of, first_waiter, waits_for, WaitsForNoUnit, with_console, MayWait, AreSoundConsoles}
 use Rattle.mpm_consoles.specs.Handling.{given, unlisted, listed, first_taken, raw_set, gate_wait_begun, put_out, units_without_waiter}
 use Rattle.mpm_consoles.specs.declared.unit.Unit.{Unit}
 use Rattle.mpm_consoles.specs.declared.unit.Unit.TheVariants.{Console as ConsoleUnit, Printer as PrinterUnit}
@@ -23,14 +23,14 @@ at_set P xs n x other below here each k = elim (cases_eq k n) [
 ]
 
 -- one console changed
-pub sound_console : (t : Consoles) (n : ℕ) (console : Console) → IsSound t → HasConsole t n → MayWait console.owner (list_at t.waiters n) → IsProper console → IsSound (with_console t n console)
+pub sound_console : (t : Consoles) (n : ℕ) (console : Console) → AreSoundConsoles t → HasConsole t n → MayWait console.owner (list_at t.waiters n) → IsProperConsole console → AreSoundConsoles (with_console t n console)
 sound_console t n console sound has waited proper = record {
   some = omega (arith, length-set t.consoles n console, sound.some);
   consoles = omega (arith, length-set t.consoles n console, sound.consoles);
   printers = sound.printers;
   table = sound.table;
   waited = λ unit there. by_unit unit there;
-  proper = at_set (λ k c. IsProper c) t.consoles n console new_console has proper sound.proper;
+  proper = at_set (λ k c. IsProperConsole c) t.consoles n console new_console has proper sound.proper;
 }
   where
     by_unit : (unit : Unit) → HasUnit (with_console t n console) unit → MayWait (owner_of (with_console t n console) unit) (waiters_of (with_console t n console) unit)
@@ -41,46 +41,46 @@ sound_console t n console sound has waited proper = record {
     by_unit (PrinterUnit k) there = sound.waited (PrinterUnit k) there
 
 -- one console changed, which keeps its owner
-pub sound_kept : (t : Consoles) (n : ℕ) (console : Console) → IsSound t → HasConsole t n → console.owner ≡ (console_at t n).owner → IsProper console → IsSound (with_console t n console)
+pub sound_kept : (t : Consoles) (n : ℕ) (console : Console) → AreSoundConsoles t → HasConsole t n → console.owner ≡ (console_at t n).owner → IsProperConsole console → AreSoundConsoles (with_console t n console)
 sound_kept t n console sound has same proper =
     sound_console t n console sound has (subst (λ o. MayWait o (list_at t.waiters n)) (sym same) (sound.waited (ConsoleUnit n) has)) proper
 
 -- the same as it is done, through a number and a lent console
-pub sound_set : (t : Consoles) (n k : ℕ) (old new : Console) (f : Console → Console) → k ≡ n → old ≡ get_or t.consoles k old → new ≡ f old → HasConsole t n → IsSound (with_console t n (f (console_at t n))) → IsSound (record t { consoles = set t.consoles k new })
+pub sound_set : (t : Consoles) (n k : ℕ) (old new : Console) (f : Console → Console) → k ≡ n → old ≡ get_or t.consoles k old → new ≡ f old → HasConsole t n → AreSoundConsoles (with_console t n (f (console_at t n))) → AreSoundConsoles (record t { consoles = set t.consoles k new })
 sound_set t n k old new f same there is has sound =
     let value : old ≡ console_at t n = there ∙ ap (λ j. get_or t.consoles j old) same ∙ get_or_default t.consoles n old new_console has in
-    subst (λ j. IsSound (record t { consoles = set t.consoles j new })) (sym same)
-    (subst (λ (c : Console). IsSound (record t { consoles = set t.consoles n c })) (sym (is ∙ ap f value)) sound)
+    subst (λ j. AreSoundConsoles (record t { consoles = set t.consoles j new })) (sym same)
+    (subst (λ (c : Console). AreSoundConsoles (record t { consoles = set t.consoles n c })) (sym (is ∙ ap f value)) sound)
 
-pub sound_typed : (t : Consoles) (n byte : ℕ) → IsSound t → HasConsole t n → IsSound (with_console t n (typed byte (console_at t n)))
+pub sound_typed : (t : Consoles) (n byte : ℕ) → AreSoundConsoles t → HasConsole t n → AreSoundConsoles (with_console t n (typed byte (console_at t n)))
 sound_typed t n byte sound has = sound_kept t n _ sound has (owner_typed byte (console_at t n)) (proper_typed byte _ (sound.proper n))
 
-pub sound_stop : (t : Consoles) (n : ℕ) → IsSound t → HasConsole t n → (console_at t n).raw ≡ false → IsSound (with_console t n (with_output_stopped (console_at t n)))
+pub sound_stop : (t : Consoles) (n : ℕ) → AreSoundConsoles t → HasConsole t n → (console_at t n).raw ≡ false → AreSoundConsoles (with_console t n (with_output_stopped (console_at t n)))
 unfolding with_output_stopped
 sound_stop t n sound has cooked = sound_kept t n _ sound has refl (proper_stop _ (sound.proper n) cooked)
 
-pub sound_resumed : (t : Consoles) (n : ℕ) → IsSound t → HasConsole t n → IsSound (with_console t n (resumed (console_at t n)))
+pub sound_resumed : (t : Consoles) (n : ℕ) → AreSoundConsoles t → HasConsole t n → AreSoundConsoles (with_console t n (resumed (console_at t n)))
 sound_resumed t n sound has = sound_kept t n _ sound has (owner_resumed (console_at t n)) (proper_resumed _ (sound.proper n))
 
-pub sound_take : (t : Consoles) (n : ℕ) → IsSound t → HasConsole t n → IsSound (first_taken t n)
+pub sound_take : (t : Consoles) (n : ℕ) → AreSoundConsoles t → HasConsole t n → AreSoundConsoles (first_taken t n)
 unfolding first_taken without_first
 sound_take t n sound has = sound_kept t n _ sound has refl (proper_taken _ (sound.proper n))
 
-pub sound_raw : (t : Consoles) (n : ℕ) (raw : Bool) → IsSound t → HasConsole t n → IsSound (raw_set t n raw)
+pub sound_raw : (t : Consoles) (n : ℕ) (raw : Bool) → AreSoundConsoles t → HasConsole t n → AreSoundConsoles (raw_set t n raw)
 unfolding raw_set with_raw
 sound_raw t n raw sound has = sound_kept t n _ sound has refl (proper_raw raw _ (sound.proper n))
 
-pub sound_wait : (t : Consoles) (p n : ℕ) (key : Bool) → IsSound t → HasConsole t n → owns t p (ConsoleUnit n) ≡ true → IsSound (gate_wait_begun t n key)
+pub sound_wait : (t : Consoles) (p n : ℕ) (key : Bool) → AreSoundConsoles t → HasConsole t n → owns t p (ConsoleUnit n) ≡ true → AreSoundConsoles (gate_wait_begun t n key)
 unfolding gate_wait_begun awaiting
 sound_wait t p n key sound has is = sound_kept t n _ sound has refl (proper_wait (awaited_for key) _ p (sound.proper n) is)
 
-pub sound_output : (t : Consoles) (unit : Unit) (byte : ℕ) (tabs : Bool) → IsSound t → HasUnit t unit → IsSound (put_out t unit byte tabs)
+pub sound_output : (t : Consoles) (unit : Unit) (byte : ℕ) (tabs : Bool) → AreSoundConsoles t → HasUnit t unit → AreSoundConsoles (put_out t unit byte tabs)
 unfolding put_out written spoken
 sound_output t (ConsoleUnit n) byte tabs sound has = sound_kept t n _ sound has refl (proper_written byte tabs _ (sound.proper n))
 sound_output t (PrinterUnit n) byte tabs sound has = sound
 
 -- a unit comes to an owner
-sound_printer : (t : Consoles) (n : ℕ) (owner : Option ℕ) → IsSound t → n < length t.printers → MayWait owner (list_at t.waiters (8 + n)) → IsSound (record t { printers = set t.printers n owner })
+sound_printer : (t : Consoles) (n : ℕ) (owner : Option ℕ) → AreSoundConsoles t → n < length t.printers → MayWait owner (list_at t.waiters (8 + n)) → AreSoundConsoles (record t { printers = set t.printers n owner })
 sound_printer t n owner sound has waited = record {
   some = sound.some;
   consoles = sound.consoles;
@@ -100,7 +100,7 @@ sound_printer t n owner sound has waited = record {
       | inr apart ↦ subst (λ (o : Option ℕ). MayWait o (list_at t.waiters (8 + k))) (sym (get_or-set_other t.printers n k owner None apart)) (sound.waited (PrinterUnit k) (omega (arith, there, length-set t.printers n owner)))
     ]
 
-pub sound_given : (t : Consoles) (unit : Unit) (owner : Option ℕ) → IsSound t → HasUnit t unit → MayWait owner (waiters_of t unit) → IsSound (given t unit owner)
+pub sound_given : (t : Consoles) (unit : Unit) (owner : Option ℕ) → AreSoundConsoles t → HasUnit t unit → MayWait owner (waiters_of t unit) → AreSoundConsoles (given t unit owner)
 unfolding given passed_to
 sound_given t (ConsoleUnit n) owner sound has waited = sound_console t n _ sound has waited (proper_passed owner _ (sound.proper n))
 sound_given t (PrinterUnit n) owner sound has waited = sound_printer t n owner sound has waited
@@ -115,7 +115,7 @@ for_fewer owner ms p is = record {
     none_out : (p : ℕ) → without_slot p [] ≡ []
     none_out p = without_slot_absent [] p (none_in_none p)
 
-pub sound_unlisted : (t : Consoles) (p : ℕ) → IsSound t → IsSound (unlisted t p)
+pub sound_unlisted : (t : Consoles) (p : ℕ) → AreSoundConsoles t → AreSoundConsoles (unlisted t p)
 unfolding unlisted
 sound_unlisted t p sound = record {
   some = sound.some;
@@ -127,13 +127,13 @@ sound_unlisted t p sound = record {
 }
 
 -- a process waits for a unit that another owns
-units_apart : (t : Consoles) (a b : Unit) → IsSound t → HasUnit t a → HasUnit t b → place_of a ≡ place_of b → a ≡ b
+units_apart : (t : Consoles) (a b : Unit) → AreSoundConsoles t → HasUnit t a → HasUnit t b → place_of a ≡ place_of b → a ≡ b
 units_apart t (ConsoleUnit a) (ConsoleUnit b) sound here there same = ap (λ n. ConsoleUnit n) same
 units_apart t (ConsoleUnit a) (PrinterUnit b) sound here there same = absurd (let few = sound.consoles in omega arith)
 units_apart t (PrinterUnit a) (ConsoleUnit b) sound here there same = absurd (let few = sound.consoles in omega arith)
 units_apart t (PrinterUnit a) (PrinterUnit b) sound here there same = ap (λ n. PrinterUnit n) (let equal : a ≡ b = omega arith in equal)
 
-pub place_below : (t : Consoles) (unit : Unit) → IsSound t → HasUnit t unit → place_of unit < 12
+pub place_below : (t : Consoles) (unit : Unit) → AreSoundConsoles t → HasUnit t unit → place_of unit < 12
 place_below t (ConsoleUnit n) sound has = let few = sound.consoles in omega arith
 place_below t (PrinterUnit n) sound has = let few = sound.printers in omega arith
 
@@ -150,7 +150,7 @@ for_more owner ms member is some other = record {
   others = λ r owned. in_list_put_in r ms member ∙ or_from _ _ (not_owner owner member.slot r other owned) (is.others r owned);
 }
 
-pub sound_listed : (t : Consoles) (p priority : ℕ) (unit : Unit) → IsSound t → HasUnit t unit → p < 32 → WaitsNowhere t p → owner_of t unit ≢ None → owns t p unit ≡ false → IsSound (listed t p priority unit)
+pub sound_listed : (t : Consoles) (p priority : ℕ) (unit : Unit) → AreSoundConsoles t → HasUnit t unit → p < 32 → WaitsForNoUnit t p → owner_of t unit ≢ None → owns t p unit ≡ false → AreSoundConsoles (listed t p priority unit)
 unfolding listed
 sound_listed t p priority unit sound has small nowhere some other = record {
   some = sound.some;
@@ -185,7 +185,7 @@ for_unlisted t unit p = for_one p _ (ap (in_list p) (list_at_removed t.waiters p
 pub for_absent : (t : Consoles) (unit : Unit) (p : ℕ) → waits_for t p unit ≡ false → MayWait (Some p) (waiters_of t unit)
 for_absent t unit p absent = for_one p (waiters_of t unit) absent
 
-pub for_free : (t : Consoles) (unit : Unit) (p : ℕ) → IsSound t → HasUnit t unit → owner_of t unit ≡ None → MayWait (Some p) (waiters_of t unit)
+pub for_free : (t : Consoles) (unit : Unit) (p : ℕ) → AreSoundConsoles t → HasUnit t unit → owner_of t unit ≡ None → MayWait (Some p) (waiters_of t unit)
 for_free t unit p sound has none = for_one p (waiters_of t unit) (ap (in_list p) ((sound.waited unit has).free none) ∙ none_in_none p)
 
 -- a process waits at no gate
@@ -196,14 +196,14 @@ without_wait_new p = refl
 pub without_wait_at : (consoles : List Console) (p n : ℕ) → get_or (map (without_wait_of p) consoles) n new_console ≡ without_wait_of p (get_or consoles n new_console)
 without_wait_at consoles p n = ap (get_or (map (without_wait_of p) consoles) n) (sym (without_wait_new p)) ∙ get_or-map (without_wait_of p) consoles n new_console
 
-sound_at_rest : (t : Consoles) (p : ℕ) → IsSound t → IsSound (record t { consoles = map (without_wait_of p) t.consoles })
+sound_at_rest : (t : Consoles) (p : ℕ) → AreSoundConsoles t → AreSoundConsoles (record t { consoles = map (without_wait_of p) t.consoles })
 sound_at_rest t p sound = record {
   some = omega (arith, length-map t.consoles (without_wait_of p), sound.some);
   consoles = omega (arith, length-map t.consoles (without_wait_of p), sound.consoles);
   printers = sound.printers;
   table = sound.table;
   waited = λ unit there. by_unit unit there;
-  proper = λ n. subst IsProper (sym (without_wait_at t.consoles p n)) (proper_without_wait p _ (sound.proper n));
+  proper = λ n. subst IsProperConsole (sym (without_wait_at t.consoles p n)) (proper_without_wait p _ (sound.proper n));
 }
   where
     new : Consoles
@@ -215,22 +215,22 @@ sound_at_rest t p sound = record {
         (sound.waited (ConsoleUnit n) (omega (arith, there, length-map t.consoles (without_wait_of p))))
     by_unit (PrinterUnit n) there = sound.waited (PrinterUnit n) there
 
-pub sound_units_without : (t : Consoles) (p : ℕ) → IsSound t → IsSound (units_without_waiter t p)
+pub sound_units_without : (t : Consoles) (p : ℕ) → AreSoundConsoles t → AreSoundConsoles (units_without_waiter t p)
 unfolding units_without_waiter unlisted
 sound_units_without t p sound = sound_at_rest (unlisted t p) p (sound_unlisted t p sound)
 
 -- the same as it is done, with all consoles lent
-pub sound_leaving : (t : Consoles) (p : ℕ) (consoles : List Console) (waiters : List (List Member)) → IsSound t → consoles ≡ map (without_wait_of p) t.consoles → waiters ≡ removed t.waiters p → IsSound (record { consoles = consoles; printers = t.printers; waiters = waiters })
+pub sound_leaving : (t : Consoles) (p : ℕ) (consoles : List Console) (waiters : List (List Member)) → AreSoundConsoles t → consoles ≡ map (without_wait_of p) t.consoles → waiters ≡ removed t.waiters p → AreSoundConsoles (record { consoles = consoles; printers = t.printers; waiters = waiters })
 unfolding units_without_waiter unlisted
 sound_leaving t p consoles waiters sound each fewer =
-    subst (λ (xs : List Console). IsSound (record { consoles = xs; printers = t.printers; waiters = waiters })) (sym each)
-    (subst (λ (ws : List (List Member)). IsSound (record { consoles = map (without_wait_of p) t.consoles; printers = t.printers; waiters = ws })) (sym fewer) (sound_units_without t p sound))
+    subst (λ (xs : List Console). AreSoundConsoles (record { consoles = xs; printers = t.printers; waiters = waiters })) (sym each)
+    (subst (λ (ws : List (List Member)). AreSoundConsoles (record { consoles = map (without_wait_of p) t.consoles; printers = t.printers; waiters = ws })) (sym fewer) (sound_units_without t p sound))
 
 -- as it is at first
 nobody_for : (owner : Option ℕ) → MayWait owner []
 nobody_for owner = record { free = λ none. refl; others = λ p is. none_in_none p }
 
-pub sound_none : (consoles printers : ℕ) → 1 ≤ consoles → consoles ≤ 8 → printers ≤ 4 → IsSound (no_owners consoles printers)
+pub sound_none : (consoles printers : ℕ) → 1 ≤ consoles → consoles ≤ 8 → printers ≤ 4 → AreSoundConsoles (no_owners consoles printers)
 unfolding no_owners
 sound_none consoles printers some few more = record {
   some = omega (arith, length-replicate consoles new_console);
@@ -238,11 +238,11 @@ sound_none consoles printers some few more = record {
   printers = omega (arith, length-replicate {A = Option ℕ} printers None);
   table = table_none;
   waited = λ unit there. subst (MayWait (owner_of (no_owners consoles printers) unit)) (sym (list_at_none (place_of unit))) (nobody_for _);
-  proper = λ n. subst IsProper (sym (all_at consoles n new_console)) proper_new;
+  proper = λ n. subst IsProperConsole (sym (all_at consoles n new_console)) proper_new;
 }
 
-pub sound_new : (consoles : List Console) (printers : List (Option ℕ)) (waiters : List (List Member)) (n m : ℕ) → consoles ≡ replicate n new_console → printers ≡ replicate m None → waiters ≡ no_lists → 1 ≤ n → n ≤ 8 → m ≤ 4 → IsSound (record { consoles = consoles; printers = printers; waiters = waiters })
+pub sound_new : (consoles : List Console) (printers : List (Option ℕ)) (waiters : List (List Member)) (n m : ℕ) → consoles ≡ replicate n new_console → printers ≡ replicate m None → waiters ≡ no_lists → 1 ≤ n → n ≤ 8 → m ≤ 4 → AreSoundConsoles (record { consoles = consoles; printers = printers; waiters = waiters })
 unfolding no_owners
 sound_new consoles printers waiters n m a b c some few more =
     let same : record { consoles = consoles; printers = printers; waiters = waiters } ≡ no_owners n m = ap (λ (xs : List Console). record { consoles = xs; printers = printers; waiters = waiters }) a ∙ ap (λ (xs : List (Option ℕ)). record { consoles = replicate n new_console; printers = xs; waiters = waiters }) b ∙ ap (λ (xs : List (List Member)). record { consoles = replicate n new_console; printers = replicate m None; waiters = xs }) c in
-    subst IsSound (sym same) (sound_none n m some few more)
+    subst AreSoundConsoles (sym same) (sound_none n m some few more)

@@ -97,7 +97,7 @@ written byte tabs console = spoken (text_of console.column byte tabs) console
 
 -- what is so of a console at any time: at most so many keys are there, a raw console isn't stopped, and who waits at its gate is
 -- its owner
-pub record IsProper (console : Console) : Type 0 where
+pub record IsProperConsole (console : Console) : Type 0 where
   pub keys : length console.keys ≤ KEYS
   pub lost : console.lost ≤ 2 ^ 64 - 1
   pub column : console.column ≤ 65535

@@ -5,7 +5,7 @@ use Rattle.std.specs.Prelude.{count_by}
 use Rattle.std.specs.Option.{option_map_or}
 use Rattle.mpm_ready.specs.Order.{Member, first_of, in_list}
 use Rattle.mpm_ready.specs.Tables.{list_at, list_of, no_lists, IsTable}
-use Rattle.mpm_consoles.specs.Console.{Console, new_console, is_owner, IsProper}
+use Rattle.mpm_consoles.specs.Console.{Console, new_console, is_owner, IsProperConsole}
 use Rattle.mpm_consoles.specs.declared.unit.Unit.{Unit}
 use Rattle.mpm_consoles.specs.declared.unit.Unit.TheVariants.{Console as ConsoleUnit, Printer as PrinterUnit}
 
@@ -67,8 +67,8 @@ waits_for t p unit = in_list p (waiters_of t unit)
 unfoldable pub waits : Consoles → ℕ → ℕ
 waits t p = option_map_or (λ _. 1) (list_of t.waiters p) 0
 
-abbrev pub WaitsNowhere : Consoles → ℕ → Type 0
-WaitsNowhere t p = list_of t.waiters p ≡ None
+abbrev pub WaitsForNoUnit : Consoles → ℕ → Type 0
+WaitsForNoUnit t p = list_of t.waiters p ≡ None
 
 -- whether a process waits at its gate, as the owner of a console, and at how many gates it does
 abbrev pub is_gate_waiter : Console → ℕ → Bool
@@ -88,10 +88,10 @@ pub record MayWait (owner : Option ℕ) (ms : List Member) : Type 0 where
 
 -- what is so at any time: there are 1 to 8 consoles and at most 4 printers; a process waits at most for one unit, in the order
 -- of priorities, and only for one that another owns
-pub record IsSound (t : Consoles) : Type 0 where
+pub record AreSoundConsoles (t : Consoles) : Type 0 where
   pub some : 1 ≤ length t.consoles
   pub consoles : length t.consoles ≤ 8
   pub printers : length t.printers ≤ 4
   pub table : IsTable t.waiters
   pub waited : (unit : Unit) → HasUnit t unit → MayWait (owner_of t unit) (waiters_of t unit)
-  pub proper : (n : ℕ) → IsProper (console_at t n)
+  pub proper : (n : ℕ) → IsProperConsole (console_at t n)

@@ -25,21 +25,21 @@ as_list None = []
 as_list (Some key) = key ∷ []
 
 -- each call: a key comes to a console, one is taken, or what changes no keys
-pub data Change : Type 0 where
-  Attaches : ℕ → ℕ → Unit → Bool → Change
-  Detaches : ℕ → Unit → Change
-  Assigns : ℕ → ℕ → Change
-  MakesRaw : ℕ → Bool → Change
-  Waits : ℕ → Bool → Change
-  Writes : Unit → ℕ → Bool → Change
-  Leaves : ℕ → Change
+pub data KeyChange : Type 0 where
+  Attaches : ℕ → ℕ → Unit → Bool → KeyChange
+  Detaches : ℕ → Unit → KeyChange
+  Assigns : ℕ → ℕ → KeyChange
+  MakesRaw : ℕ → Bool → KeyChange
+  Waits : ℕ → Bool → KeyChange
+  Writes : Unit → ℕ → Bool → KeyChange
+  Leaves : ℕ → KeyChange
 
-pub data Operation : Type 0 where
-  Types : ℕ → ℕ → Bool → Operation
-  Takes : ℕ → Operation
-  Makes : Change → Operation
+pub data ConsoleOperation : Type 0 where
+  Types : ℕ → ℕ → Bool → ConsoleOperation
+  Takes : ℕ → ConsoleOperation
+  Makes : KeyChange → ConsoleOperation
 
-abbrev pub change_made : Consoles → Change → Consoles
+abbrev pub change_made : Consoles → KeyChange → Consoles
 change_made t (Attaches p priority unit wait) = unit_attached t p priority unit wait
 change_made t (Detaches p unit) = unit_detached t p unit
 change_made t (Assigns n to) = console_assigned t n to
@@ -48,7 +48,7 @@ change_made t (Waits n key) = gate_wait_begun t n key
 change_made t (Writes unit byte tabs) = put_out t unit byte tabs
 change_made t (Leaves p) = units_without_waiter t p
 
-abbrev pub operation_made : Consoles → Operation → Consoles
+abbrev pub operation_made : Consoles → ConsoleOperation → Consoles
 operation_made t (Types n byte resident) = keyed t n byte resident
 operation_made t (Takes n) = first_taken t n
 operation_made t (Makes change) = change_made t change
@@ -72,23 +72,23 @@ type_in console byte = record {
 abbrev pub take_out : Console → Passage
 take_out console = record { out = as_list (first_key console); into = []; misses = 0 }
 
-unfoldable pub passage : Consoles → ℕ → Operation → Passage
+unfoldable pub passage : Consoles → ℕ → ConsoleOperation → Passage
 passage t n (Types m byte resident) = if n == m then type_in (console_at t n) byte else no_passage
 passage t n (Takes m) = if n == m then take_out (console_at t n) else no_passage
 passage t n (Makes change) = no_passage
 
 -- the keys that came out, followed by those that are there now, are those that were there before, followed by those that were
 -- stored; and so many were lost, as far as the count goes
-pub record Conserves (before now : Console) (by : Passage) : Type 0 where
+pub record ConservesKeys (before now : Console) (by : Passage) : Type 0 where
   pub keys : by.out ++ now.keys ≡ before.keys ++ by.into
   pub lost : now.lost ≡ min (before.lost + by.misses) (2 ^ 64 - 1)
 
 -- the same for calls in order
-unfoldable pub operations_made : Consoles → List Operation → Consoles
+unfoldable pub operations_made : Consoles → List ConsoleOperation → Consoles
 operations_made t [] = t
 operations_made t (operation ∷ operations) = operations_made (operation_made t operation) operations
 
-unfoldable pub passages : Consoles → ℕ → List Operation → Passage
+unfoldable pub passages : Consoles → ℕ → List ConsoleOperation → Passage
 passages t n [] = no_passage
 passages t n (operation ∷ operations) =
     let first = passage t n operation in

@@ -19,13 +19,13 @@ pub struct Consoles {
 }
 
 impl Model for Consoles {
-    ghost use Rattle.mpm_consoles.specs.Consoles.{Consoles, IsSound};
+    ghost use Rattle.mpm_consoles.specs.Consoles.{Consoles, AreSoundConsoles};
 
     ghost Value = { Consoles };
 
     ghost view = { λ t. record { consoles = t.consoles.items; printers = t.printers.items; waiters = t.waiters } };
 
-    ghost invariant = { λ t. IsSound (record { consoles = t.consoles.items; printers = t.printers.items; waiters = t.waiters }) };
+    ghost invariant = { λ t. AreSoundConsoles (record { consoles = t.consoles.items; printers = t.printers.items; waiters = t.waiters }) };
 }
 
 impl Consoles {
@@ -33,7 +33,7 @@ impl Consoles {
     ghost use Rattle.std.specs.Bool.{OnTrue};
     ghost use Rattle.mpm_ready.specs.Tables.{list_of};
     ghost use Rattle.mpm_consoles.specs.Console.{first_key, typed, with_output_stopped, resumed, woken};
-    ghost use Rattle.mpm_consoles.specs.Consoles.{no_owners, console_at, with_console, HasConsole, HasUnit, has_unit, owner_of, owns, waits_for, waiters_of, first_waiter, WaitsNowhere, MayWait, IsSound};
+    ghost use Rattle.mpm_consoles.specs.Consoles.{no_owners, console_at, with_console, HasConsole, HasUnit, has_unit, owner_of, owns, waits_for, waiters_of, first_waiter, WaitsForNoUnit, MayWait, AreSoundConsoles};
     ghost use Rattle.mpm_consoles.specs.Handling.{given, unlisted, listed, called_off, may_attach, unit_attached, passed, unit_detached, heir_of, console_assigned, keyed, key_answer, first_taken, raw_set, gate_wait_begun, put_out, output_spaces, units_without_waiter, typed_answer, wake_answer, abort_answer, pass_answer, passed_by_key, subject as subject_of};
     ghost use Rattle.mpm_consoles.specs.declared.keys.KeyDone.TheVariants.{Nothing};
     ghost use Rattle.mpm_consoles.specs.declared.console.Awaited.TheVariants.{Output};
@@ -93,7 +93,7 @@ impl Consoles {
     #[tactic(auto, using(crate::proofs::SoundLaws::for_free), unfolding(crate::specs::Handling::unit_attached, crate::specs::Handling::may_attach))]
     pub fn attach(&mut self, p: Pid, priority: u8, unit: Unit, wait: bool) -> bool
         requires unit { HasUnit self.old unit }
-        requires nowhere { OnTrue wait (WaitsNowhere self.old p) }
+        requires nowhere { OnTrue wait (WaitsForNoUnit self.old p) }
         ensures answer { result ≡ may_attach self.old p unit }
         ensures consoles { self.new ≡ unit_attached self.old p priority unit wait }
     {
@@ -165,7 +165,7 @@ impl Consoles {
         requires { HasConsole self.old console }
         ensures consoles { self.new ≡ keyed self.old console byte resident }
         ensures answer { result ≡ key_answer self.old console byte resident }
-        ensures sound { IsSound self.old }
+        ensures sound { AreSoundConsoles self.old }
     {
         match control_of(self.raw(console), byte) {
             None => self.type_key(console, byte),
@@ -209,7 +209,7 @@ impl Consoles {
     pub fn owner(&self, unit: Unit) -> Option<Pid>
         requires { HasUnit self.now unit }
         ensures owner { result ≡ owner_of self.now unit }
-        ensures sound { IsSound self.now }
+        ensures sound { AreSoundConsoles self.now }
     {
         match unit {
             Unit::Console { n } => self.consoles[usize::from(n)].owner(),
@@ -231,7 +231,7 @@ impl Consoles {
     pub fn raw(&self, console: u8) -> bool
         requires { HasConsole self.now console }
         ensures raw { result ≡ (console_at self.now console).raw }
-        ensures sound { IsSound self.now }
+        ensures sound { AreSoundConsoles self.now }
     {
         self.consoles[usize::from(console)].raw()
     }
@@ -365,7 +365,7 @@ impl Consoles {
     #[tactic(auto, using(crate::proofs::SoundLaws::sound_listed), unfolding(crate::specs::Handling::listed))]
     fn enlist(&mut self, p: Pid, priority: u8, unit: Unit)
         requires unit { HasUnit self.old unit }
-        requires nowhere { WaitsNowhere self.old p }
+        requires nowhere { WaitsForNoUnit self.old p }
         requires owned { owner_of self.old unit ≢ None }
         requires other { owns self.old p unit ≡ false }
         ensures { self.new ≡ listed self.old p priority unit }

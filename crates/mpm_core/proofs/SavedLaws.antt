@@ -3,7 +3,7 @@ use Rattle.std.proofs.Common.{◌≡◌, ◌∙◌, ℕ, ◌+◌, ◌*◌, ◌�
 use Rattle.std.proofs.lemmas.List.{take-append-le}
 use Rattle.mpm_base.specs.Lists.{zeros}
 use Rattle.mpm_core_file.specs.declared.head.Head.{Head}
-use Rattle.mpm_core_file.specs.CoreFiles.{Core, IsHead, IsCore, head_bytes, core_bytes, size_of}
+use Rattle.mpm_core_file.specs.CoreFiles.{CoreContents, IsHead, IsCore, head_bytes, core_bytes, size_of}
 use Rattle.mpm_core.specs.Replaying.{no_core, kept}
 
 pub new_is : (head : Head) (segment common : List ℕ) → head ≡ no_core.head → common ≡ zeros 16384 → kept head segment common ≡ no_core
@@ -20,7 +20,7 @@ filled_is head buffer segment rest common now is size same =
     ap (λ bytes. record { head = head; segment = bytes; common = now }) front ∙ ap (λ bytes. record { head = head; segment = segment; common = bytes }) same
 
 -- a file is its head, its segment and common memory
-pub read_is : (text : List ℕ) (head : Head) (segment common : List ℕ) (core : Core) → text ≡ head_bytes head ++ drop 51 text
+pub read_is : (text : List ℕ) (head : Head) (segment common : List ℕ) (core : CoreContents) → text ≡ head_bytes head ++ drop 51 text
     → segment ≡ take (256 * head.spec.pages) (drop 51 text) → common ≡ drop (51 + 256 * head.spec.pages) text
     → core ≡ record { head = head; segment = segment; common = common } → text ≡ core_bytes core
 read_is text head segment common core begins first last is =

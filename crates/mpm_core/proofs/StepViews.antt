@@ -16,7 +16,7 @@ use Rattle.mpm_gate.specs.declared.gate.Gate.{Gate}
 use Rattle.mpm_processor.specs.Moving.{moved, CanMove}
 use Rattle.mpm_xdos.specs.Aborting.{waits_to_end}
 use Rattle.mpm_system.specs.declared.system.System.{System}
-use Rattle.mpm_system.specs.Whole.{Change, IsWhole, NoCompletions, silent}
+use Rattle.mpm_system.specs.Whole.{SystemChange, IsWhole, NoCompletions, silent}
 use Rattle.mpm_system.specs.Coming.{counted}
 use Rattle.mpm_system.specs.Procedures.{is_inside}
 use Rattle.mpm_machine.specs.Due.{NobodyDue}
@@ -53,7 +53,7 @@ step_is : (telling : Telling) (system : System) (p seg : ℕ) → NoCompletions 
     → (step_with telling system).system ≡ (rest_of (at_instruction (counted system)) telling (silent (done p seg system))).system
 unfolding instructed
 step_is telling system p seg none i =
-    ap (λ (change : Change). change.system)
+    ap (λ (change : SystemChange). change.system)
     (step_quiet telling system (done p seg system) (gateless system p seg i.runs i.home i.no_gate) i.quiet (acts system p seg i) none.answered)
 
 over_stays : (p seg : ℕ) (system : System) → process_over system ≡ None → process_over (done p seg system) ≡ None

@@ -15,7 +15,7 @@ use Rattle.mpm_system.specs.declared.system.System.{System}
 use Rattle.mpm_system.specs.Whole.{IsWhole}
 use Rattle.mpm_machine.specs.declared.housing.Home.{Home}
 use Rattle.mpm_machine.specs.Housing.{home_in, home_of}
-use Rattle.mpm_core_file.specs.CoreFiles.{Core, IsCore}
+use Rattle.mpm_core_file.specs.CoreFiles.{CoreContents, IsCore}
 use Rattle.mpm_core_file.specs.declared.head.Head.{Head}
 use Rattle.mpm_core.specs.Taking.{head_of, core_in, segment_at, core_at}
 
@@ -106,7 +106,7 @@ pub taken_is : (system : System) (p : ℕ) (home : Home) (head : Head) (segment 
     → head ≡ head_of system p home.base home.pages home.procedure → segment ≡ (segment_of system.memory home.seg).bytes → common ≡ system.memory.common
     → record { head = head; segment = segment; common = common } ≡ core_in p home.seg system
 taken_is system p home head segment common is same bytes rest =
-    let made : Head → List ℕ → List ℕ → Core = λ h s c. record { head = h; segment = s; common = c } in
+    let made : Head → List ℕ → List ℕ → CoreContents = λ h s c. record { head = h; segment = s; common = c } in
     let there = home_in system (process_in system.kernel.dispatcher.procs p) home.seg in
     ap (λ h. made h segment common) same
     ∙ ap (λ (h : Home). made (head_of system p h.base h.pages h.procedure) segment common) (found system p home is).is
@@ -130,7 +130,7 @@ core_found : (system : System) (p : ℕ) (home : Home) → home_of system p ≡ 
 unfolding segment_at
 core_found system p home is =
     let procs = system.kernel.dispatcher.procs in
-    let core : ℕ → Core = λ seg. core_in p seg system in
+    let core : ℕ → CoreContents = λ seg. core_in p seg system in
     ap (λ (b : Bool). option_map core (option_and_then (λ (q : Process). q.seg) (if b then Some (process_in procs p) else None))) (found system p home is).lives
     ∙ ap (λ (seg : Option ℕ). option_map core seg) (found system p home is).seg
 
@@ -148,11 +148,11 @@ pub nobody_taken : (system : System) (p : ℕ) → home_of system p ≡ None →
 unfolding home_of segment_at
 nobody_taken system p none =
     let procs = system.kernel.dispatcher.procs in
-    let core : ℕ → Core = λ seg. core_in p seg system in
+    let core : ℕ → CoreContents = λ seg. core_in p seg system in
     sym (ap (λ (seg : Option ℕ). is_some (option_map core seg)) (nowhere (lives procs p) system (process_in procs p) none))
 
 pub somebody_taken : (system : System) (p : ℕ) (home : Home) → home_of system p ≡ Some home → true ≡ is_some (core_at p system)
-somebody_taken system p home is = sym (ap (λ (core : Option Core). is_some core) (core_found system p home is))
+somebody_taken system p home is = sym (ap (λ (core : Option CoreContents). is_some core) (core_found system p home is))
 
-pub core_taken : (system : System) (p : ℕ) (home : Home) (core : Core) → home_of system p ≡ Some home → core ≡ core_in p home.seg system → core_at p system ≡ Some core
-core_taken system p home core is same = core_found system p home is ∙ ap (λ (c : Core). Some c) (sym same)
+pub core_taken : (system : System) (p : ℕ) (home : Home) (core : CoreContents) → home_of system p ≡ Some home → core ≡ core_in p home.seg system → core_at p system ≡ Some core
+core_taken system p home core is same = core_found system p home is ∙ ap (λ (c : CoreContents). Some c) (sym same)

@@ -3,7 +3,7 @@ use Rattle.std.specs.Prelude.{◌≡◌, ℕ, ◌*◌, List, [], take, false}
 use Rattle.z80_regs.specs.declared.regs.Regs.{Regs}
 use Rattle.mpm_base.specs.Lists.{zeros}
 use Rattle.mpm_banks.specs.Sides.{alone}
-use Rattle.mpm_core_file.specs.CoreFiles.{Core}
+use Rattle.mpm_core_file.specs.CoreFiles.{CoreContents}
 use Rattle.mpm_core_file.specs.declared.head.Head.{Head}
 use Rattle.mpm_replay.specs.Replays.{IsReplay, portless}
 use Rattle.mpm_replay.specs.declared.replaying.Replayed.{Replayed}
@@ -41,7 +41,7 @@ no_regs = record {
 }
 
 -- no process: a segment of no page
-abbrev pub no_core : Core
+abbrev pub no_core : CoreContents
 no_core = record {
   head = record { step = 0; process = 0; spec = record { base = 0; pages = 0 }; inside = false; regs = no_regs };
   segment = [];
@@ -49,12 +49,12 @@ no_core = record {
 }
 
 -- a core whose segment has the first bytes of a buffer
-abbrev pub kept : Head → List ℕ → List ℕ → Core
+abbrev pub kept : Head → List ℕ → List ℕ → CoreContents
 kept head buffer common = record { head = head; segment = take (256 * head.spec.pages) buffer; common = common }
 
 -- a core after a replay of at most so many instructions: registers, segment and common memory are those that it leaves, all else is as
 -- it was
-pub record Replays (most : ℕ) (old new : Core) (replayed : Replayed) : Type 0 where
+pub record Replays (most : ℕ) (old new : CoreContents) (replayed : Replayed) : Type 0 where
   pub head : new.head ≡ record old.head { regs = new.head.regs }
   pub replay : IsReplay old.head.inside most (portless old.head.spec old.head.regs old.segment old.common)
       new.head.regs (alone old.head.spec new.segment new.common) replayed

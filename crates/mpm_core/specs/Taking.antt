@@ -5,7 +5,7 @@ use Rattle.mpm_banks.specs.Allocations.{spec_of}
 use Rattle.mpm_procs.specs.Table.{process_in, process_at}
 use Rattle.mpm_system.specs.declared.system.System.{System}
 use Rattle.mpm_system.specs.Procedures.{is_inside}
-use Rattle.mpm_core_file.specs.CoreFiles.{Core}
+use Rattle.mpm_core_file.specs.CoreFiles.{CoreContents}
 use Rattle.mpm_core_file.specs.declared.head.Head.{Head}
 
 -- what the core of a process says before its memory
@@ -19,7 +19,7 @@ head_of system p base pages inside = record {
 }
 
 -- what a process that lives in a segment is: its registers, its segment and common memory, after so many steps
-abbrev pub core_in : ℕ → ℕ → System → Core
+abbrev pub core_in : ℕ → ℕ → System → CoreContents
 core_in p seg system = record {
   head = record {
     step = system.steps;
@@ -36,5 +36,5 @@ core_in p seg system = record {
 unfoldable pub segment_at : ℕ → System → Option ℕ
 segment_at p system = option_and_then (λ process. process.seg) (process_at system.kernel.dispatcher.procs p)
 
-abbrev pub core_at : ℕ → System → Option Core
+abbrev pub core_at : ℕ → System → Option CoreContents
 core_at p system = option_map (λ seg. core_in p seg system) (segment_at p system)

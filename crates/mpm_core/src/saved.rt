@@ -2,7 +2,7 @@ ghost use Rattle.std.specs.Prelude.{◌≡◌, ◌<◌, ◌≤◌, ◌+◌, ◌*
 ghost use Rattle.mpm_base.specs.Lists.{zeros as so_many_zeros};
 ghost use Rattle.mpm_port.specs.Causes.{HasCause};
 ghost use Rattle.mpm_port.specs.Texts.{AppendsPart};
-ghost use Rattle.mpm_core_file.specs.CoreFiles.{IsCore, Core as CoreOf, core_bytes, fault_of};
+ghost use Rattle.mpm_core_file.specs.CoreFiles.{IsCore, CoreContents as CoreOf, core_bytes, fault_of};
 ghost use Rattle.mpm_core.specs.Replaying.{no_core, kept, Replays};
 ghost use Rattle.mpm_core.specs.Agreement.{Agree};
 
@@ -33,7 +33,7 @@ pub struct Core {
 
 impl Model for Core {
     ghost use Rattle.std.specs.Prelude.{◌≡◌, ◌≤◌, ◌*◌, length, take};
-    ghost use Rattle.mpm_core_file.specs.CoreFiles.{Core as CoreOf};
+    ghost use Rattle.mpm_core_file.specs.CoreFiles.{CoreContents as CoreOf};
 
     ghost Value = { CoreOf };
 

@@ -10,7 +10,7 @@ use Rattle.std.proofs.lemmas.List.Sums.{AllPass-from_list_all}
 use Rattle.std.proofs.lemmas.Nat.{le_bytes_8, from_le_bytes-to_le_bytes_8}
 use Rattle.z80_regs.specs.Words.{low, high, word_of}
 use Rattle.mpm_core_file.specs.declared.head.Head.{Head}
-use Rattle.mpm_core_file.specs.CoreFiles.{Core, IsHead, IsCore, flag_byte, word_bytes, fields_of, head_bytes, core_bytes, stands, may_stand, turned, first_bad, size_of, fault_by, fault_of, step_at, head_at}
+use Rattle.mpm_core_file.specs.CoreFiles.{CoreContents, IsHead, IsCore, flag_byte, word_bytes, fields_of, head_bytes, core_bytes, stands, may_stand, turned, first_bad, size_of, fault_by, fault_of, step_at, head_at}
 use Rattle.mpm_core_file.proofs.ReadLaws.{each_stands, may, turn_below}
 
 -- the first so many elements, one by one
@@ -180,11 +180,11 @@ stands_again : (head : Head) (rest : List ℕ) → IsHead head → first_bad (he
 stands_again head rest is = none_by (head_bytes head ++ rest) _ refl (λ turn below. each_again head rest turn is below)
 
 -- the file of a core has no fault, and says the head of that core
-pub record Again (core : Core) : Type 0 where
+pub record Again (core : CoreContents) : Type 0 where
   pub none : fault_of (core_bytes core) ≡ None
   pub head : head_at (core_bytes core) ≡ core.head
 
-pub again : (core : Core) → IsCore core → Again core
+pub again : (core : CoreContents) → IsCore core → Again core
 unfolding fault_of
 again core is =
     let text = core_bytes core in
@@ -210,12 +210,12 @@ parts_same (x ∷ xs) ys (u ∷ us) vs size same =
     let rest = parts_same xs ys us vs (omega (arith, size)) more in
     (cons x u xs us first rest.0, rest.1)
 
-pub only_core : (a b : Core) → IsCore a → IsCore b → core_bytes a ≡ core_bytes b → a ≡ b
+pub only_core : (a b : CoreContents) → IsCore a → IsCore b → core_bytes a ≡ core_bytes b → a ≡ b
 only_core a b is_a is_b same =
     let heads : a.head ≡ b.head =
     sym (head_again a.head (a.segment ++ a.common) is_a.head.step) ∙ ap head_at same ∙ head_again b.head (b.segment ++ b.common) is_b.head.step in
     let after = parts_same (head_bytes a.head) (a.segment ++ a.common) (head_bytes b.head) (b.segment ++ b.common) (head_size a.head ∙ sym (head_size b.head)) same in
     let sizes : length a.segment ≡ length b.segment = is_a.segment ∙ ap (λ (h : Head). 256 * h.spec.pages) heads ∙ sym is_b.segment in
     let parts = parts_same a.segment a.common b.segment b.common sizes after.1 in
-    let made : Head → List ℕ → List ℕ → Core = λ head segment common. record { head = head; segment = segment; common = common } in
+    let made : Head → List ℕ → List ℕ → CoreContents = λ head segment common. record { head = head; segment = segment; common = common } in
     ap (λ head. made head a.segment a.common) heads ∙ ap (λ segment. made b.head segment a.common) parts.0 ∙ ap (λ common. made b.head b.segment common) parts.1

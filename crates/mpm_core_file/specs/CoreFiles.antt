@@ -7,7 +7,7 @@ use Rattle.z80_regs.specs.declared.regs.Regs.{Regs}
 use Rattle.mpm_core_file.specs.declared.head.Head.{Head}
 
 -- a core: what its head says, the bytes of the segment of its process, and those of common memory
-pub record Core : Type 0 where
+pub record CoreContents : Type 0 where
   pub head : Head
   pub segment : List ℕ
   pub common : List ℕ
@@ -20,7 +20,7 @@ pub record IsHead (head : Head) : Type 0 where
   pub mode : head.regs.mode < 3
   pub step : head.step < 2 ^ 64
 
-pub record IsCore (core : Core) : Type 0 where
+pub record IsCore (core : CoreContents) : Type 0 where
   pub head : IsHead core.head
   pub segment : length core.segment ≡ 256 * core.head.spec.pages
   pub common : length core.common ≡ 16384
@@ -53,7 +53,7 @@ unfoldable pub head_bytes : Head → List ℕ
 head_bytes head = codes "MPMCORE1" ++ (to_le_bytes w64 head.step ++ fields_of head)
 
 -- the file of a core
-abbrev pub core_bytes : Core → List ℕ
+abbrev pub core_bytes : CoreContents → List ℕ
 core_bytes core = head_bytes core.head ++ (core.segment ++ core.common)
 
 -- which bytes are no file of a core, and where that is seen

@@ -2,16 +2,16 @@
 -- 14, 24, 29, 31 and 36.)
 use Rattle.std.specs.Prelude.{◌≡◌, ℕ, ◌%◌, ◌^◌, ◌&&◌, Bool, false, List, Option, Some, None, is_some, map, sum, bytes_eq, slice_index_or, if◌then◌else◌}
 use Rattle.mpm_base.specs.Calls.{Taken, Answer, answering}
-use Rattle.mpm_functions.specs.declared.refusals.Extended.{Extended}
-use Rattle.mpm_functions.specs.Refusals.{answered, refused_value, refused_extended}
+use Rattle.mpm_file_functions.specs.declared.refusals.Extended.{Extended}
+use Rattle.mpm_file_functions.specs.Refusals.{answered, refused_value, refused_extended}
 use Rattle.std.specs.List.{range_with_len}
 use Rattle.mpm_fcb.specs.Blocks.{block_of, bytes_of}
 use Rattle.mpm_fcb.specs.Positions.{sequential_record, with_random}
 use Rattle.mpm_base.specs.declared.kind.Kind.{Kind}
 use Rattle.mpm_blocks.specs.Geometries.{parameters_of, parameter_bytes}
-use Rattle.mpm_functions.specs.declared.functions.DirectFunction.{DirectFunction}
-use Rattle.mpm_functions.specs.declared.functions.DirectFunction.TheVariants.{SelectDisk, LoginVector, ReadOnlyVector, DiskParameters, SetRandomRecord}
-use Rattle.mpm_functions.specs.declared.refusals.Refusal.TheVariants.{NotMounted}
+use Rattle.mpm_file_functions.specs.declared.functions.DirectFunction.{DirectFunction}
+use Rattle.mpm_file_functions.specs.declared.functions.DirectFunction.TheVariants.{SelectDisk, LoginVector, ReadOnlyVector, DiskParameters, SetRandomRecord}
+use Rattle.mpm_file_functions.specs.declared.refusals.Refusal.TheVariants.{NotMounted}
 use Rattle.mpm_fcb.specs.declared.block.ControlBlock.{ControlBlock}
 
 -- what becomes of the caller's current drive and DMA address: nothing, another drive, or both as at its beginning

@@ -9,7 +9,7 @@ use crate::places::kind;
 use mpm_base::{Call, Reply};
 use mpm_blocks::parameter_block;
 use mpm_fcb::ControlBlock;
-use mpm_functions::{DirectFunction, Extended, Refusal};
+use mpm_file_functions::{DirectFunction, Extended, Refusal};
 use mpm_marks::Protected;
 use mpm_mount::Mounted;
 

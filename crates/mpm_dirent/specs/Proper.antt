@@ -13,7 +13,7 @@ abbrev pub MapFits : Bool → List ℕ → Type 0
 MapFits wide blocks = (place : ℕ) → place < 16 → NumberFits wide place (slice_index blocks place)
 
 -- a first byte of bytes that are kept unread: of no user, no XFCB, no label and no free entry
-pub record IsKept (sort : ℕ) : Type 0 where
+pub record IsKeptUnread (sort : ℕ) : Type 0 where
   pub other : 33 ≤ sort
   pub used : sort ≢ 229
 
@@ -23,7 +23,7 @@ IsProper wide Free = Unit {0}
 IsProper wide (File f) = (f.user < 16) × MapFits wide f.blocks
 IsProper wide (Xfcb x) = x.user < 16
 IsProper wide (Label l) = Unit {0}
-IsProper wide (Kept bytes) = IsKept (slice_index bytes 0)
+IsProper wide (Kept bytes) = IsKeptUnread (slice_index bytes 0)
 
 -- the names, maps, passwords and stamps have the lengths of their arrays, as in each entry
 abbrev pub HasSizes : Entry → Type 0

@@ -1,6 +1,6 @@
 //! Scenes of the cache before drives in memory, whose calls are counted by those that are to fail.
 ghost use Rattle.std.specs.Prelude.{◌≡◌, ℕ, ◌<◌, List, Some, IfOk, OnOk, length};
-ghost use Rattle.mpm_port.specs.Disks.{IsInside, size_of};
+ghost use Rattle.mpm_port.specs.Disks.{IsInsideDrive, size_of};
 ghost use Rattle.mpm_port.specs.MemoryDisks.{disks_of, IsFree};
 ghost use Rattle.mpm_cache.specs.Coherent.{IsCoherent, HasNoAlias};
 
@@ -49,8 +49,8 @@ fn sectors(alloc: Global) -> Result<Vec<u8>, Fail>
 /// Attaches drives 0 and 1 to one image, which is calls 1 and 2.
 fn attach_both(alloc: Global, drives: &mut MemoryDrives) -> Result<(), Fail>
     requires { (name : List ℕ) → IsFree drives.old name }
-    ensures inside { OnOk result ((sector : ℕ) → sector < 257 → IsInside (size_of (disks_of drives.new) 0) sector) }
-    ensures alias { OnOk result ((sector : ℕ) → sector < 257 → IsInside (size_of (disks_of drives.new) 1) sector) }
+    ensures inside { OnOk result ((sector : ℕ) → sector < 257 → IsInsideDrive (size_of (disks_of drives.new) 0) sector) }
+    ensures alias { OnOk result ((sector : ℕ) → sector < 257 → IsInsideDrive (size_of (disks_of drives.new) 1) sector) }
 {
     let image = sectors(alloc)?;
     drives.add("A", image.as_slice())?;
@@ -74,10 +74,10 @@ fn read<L: Ledger>(
 ) -> Result<u8, Failed>
     requires coherent { IsCoherent cache.old (disks_of drives.old) }
     requires apart { HasNoAlias cache.old (disks_of drives.old) 0 }
-    requires inside { (sector : ℕ) → sector < 257 → IsInside (size_of (disks_of drives.old) 0) sector }
+    requires inside { (sector : ℕ) → sector < 257 → IsInsideDrive (size_of (disks_of drives.old) 0) sector }
     ensures coherent { IsCoherent cache.new (disks_of drives.new) }
     ensures apart { HasNoAlias cache.new (disks_of drives.new) 0 }
-    ensures inside { (sector : ℕ) → sector < 257 → IsInside (size_of (disks_of drives.new) 0) sector }
+    ensures inside { (sector : ℕ) → sector < 257 → IsInsideDrive (size_of (disks_of drives.new) 0) sector }
 {
     if sector >= SECTORS {
         return Err(Failed);
@@ -100,10 +100,10 @@ fn write<L: Ledger>(
 ) -> Result<(), Failed>
     requires coherent { IsCoherent cache.old (disks_of drives.old) }
     requires apart { HasNoAlias cache.old (disks_of drives.old) 0 }
-    requires inside { (sector : ℕ) → sector < 257 → IsInside (size_of (disks_of drives.old) 0) sector }
+    requires inside { (sector : ℕ) → sector < 257 → IsInsideDrive (size_of (disks_of drives.old) 0) sector }
     ensures coherent { IsCoherent cache.new (disks_of drives.new) }
     ensures apart { HasNoAlias cache.new (disks_of drives.new) 0 }
-    ensures inside { (sector : ℕ) → sector < 257 → IsInside (size_of (disks_of drives.new) 0) sector }
+    ensures inside { (sector : ℕ) → sector < 257 → IsInsideDrive (size_of (disks_of drives.new) 0) sector }
 {
     if sector >= SECTORS {
         return Err(Failed);
@@ -115,10 +115,10 @@ fn write<L: Ledger>(
 fn read_all<L: Ledger>(cache: &mut Cache, drives: &mut MemoryDrives, steps: &mut Steps<L>) -> bool
     requires coherent { IsCoherent cache.old (disks_of drives.old) }
     requires apart { HasNoAlias cache.old (disks_of drives.old) 0 }
-    requires inside { (sector : ℕ) → sector < 257 → IsInside (size_of (disks_of drives.old) 0) sector }
+    requires inside { (sector : ℕ) → sector < 257 → IsInsideDrive (size_of (disks_of drives.old) 0) sector }
     ensures coherent { IsCoherent cache.new (disks_of drives.new) }
     ensures apart { HasNoAlias cache.new (disks_of drives.new) 0 }
-    ensures inside { (sector : ℕ) → sector < 257 → IsInside (size_of (disks_of drives.new) 0) sector }
+    ensures inside { (sector : ℕ) → sector < 257 → IsInsideDrive (size_of (disks_of drives.new) 0) sector }
 {
     for sector in 0..SECTORS {
         if read(cache, drives, steps, sector) != Ok(first_byte(sector)) {
@@ -137,10 +137,10 @@ fn passes<L: Ledger>(
 ) -> bool
     requires coherent { IsCoherent cache.old (disks_of drives.old) }
     requires apart { HasNoAlias cache.old (disks_of drives.old) 0 }
-    requires inside { (sector : ℕ) → sector < 257 → IsInside (size_of (disks_of drives.old) 0) sector }
+    requires inside { (sector : ℕ) → sector < 257 → IsInsideDrive (size_of (disks_of drives.old) 0) sector }
     ensures coherent { IsCoherent cache.new (disks_of drives.new) }
     ensures apart { HasNoAlias cache.new (disks_of drives.new) 0 }
-    ensures inside { (sector : ℕ) → sector < 257 → IsInside (size_of (disks_of drives.new) 0) sector }
+    ensures inside { (sector : ℕ) → sector < 257 → IsInsideDrive (size_of (disks_of drives.new) 0) sector }
 {
     match line {
         Line::Reads(sector, byte) => read(cache, drives, steps, sector) == Ok(byte),
@@ -160,7 +160,7 @@ fn pass_all<L: Ledger>(
 ) -> Result<(), Fail>
     requires coherent { IsCoherent cache.old (disks_of drives.old) }
     requires apart { HasNoAlias cache.old (disks_of drives.old) 0 }
-    requires inside { (sector : ℕ) → sector < 257 → IsInside (size_of (disks_of drives.old) 0) sector }
+    requires inside { (sector : ℕ) → sector < 257 → IsInsideDrive (size_of (disks_of drives.old) 0) sector }
 {
     for (number, line) in lines.iter().enumerate() {
         if !passes(cache, drives, steps, *line) {
@@ -178,8 +178,8 @@ fn is_read_by_the_other<L: Ledger>(
 ) -> bool
     requires coherent { IsCoherent cache.old (disks_of drives.old) }
     requires apart { HasNoAlias cache.old (disks_of drives.old) 0 }
-    requires inside { (sector : ℕ) → sector < 257 → IsInside (size_of (disks_of drives.old) 0) sector }
-    requires alias { (sector : ℕ) → sector < 257 → IsInside (size_of (disks_of drives.old) 1) sector }
+    requires inside { (sector : ℕ) → sector < 257 → IsInsideDrive (size_of (disks_of drives.old) 0) sector }
+    requires alias { (sector : ℕ) → sector < 257 → IsInsideDrive (size_of (disks_of drives.old) 1) sector }
 {
     let mut out = [0; 128];
     cache.write(drives, 0, 7, &[90; 128], steps) == Ok(())

@@ -16,11 +16,11 @@ use Rattle.mpm_drives.specs.declared.error.BootError.{BootError}
 use Rattle.mpm_drives.specs.declared.error.BootError.TheVariants.{Image, DiskFault, OutOfMemory}
 use Rattle.mpm_mount.specs.declared.errors.MountError.{MountError}
 use Rattle.mpm_mount.specs.declared.errors.MountError.TheVariants.{Image as BadImage}
-use Rattle.mpm_mount.specs.Mounting.{IsMounted, IsImageFault, Counts}
+use Rattle.mpm_mount.specs.Mounting.{IsMounted, IsImageFault, CountsFault}
 use Rattle.mpm_mount.specs.Images.{files_of}
 use Rattle.mpm_drives.specs.Images.{Images}
 use Rattle.mpm_drives.specs.Mounted.{number_of, IsMountedAs, AreMounted, AreSynced, OnlyDrive, SameBeside, AsksNothing}
-use Rattle.mpm_drives.specs.Stopping.{Failures, IsAtFault, IsFaultless, StopsAt, IsFirst, Stops}
+use Rattle.mpm_drives.specs.Stopping.{Failures, IsAtFault, IsFaultless, StopsMounting, IsFirst, Stops}
 use Rattle.mpm_drives.proofs.Telling.{brought_mounted, brought_fault, faultless_brought}
 
 -- drives before one of some that don't clash have other numbers
@@ -96,9 +96,9 @@ failures_same f f' n n' faults names =
     ∙ ap (λ (k : List (List ℕ)). let failures : Failures = record { faults = f'; names = k } in failures) names
 
 pub stops_from : (x : Disks) (one other : Images) (spec : DriveSpec) (before old new : Failures) (error : BootError) → one ≡ other → before ≡ old
-    → StopsAt x one spec before new error → StopsAt x other spec old new error
+    → StopsMounting x one spec before new error → StopsMounting x other spec old new error
 stops_from x one other spec before old new error told is stops =
-    subst (λ (f : Failures). StopsAt x other spec f new error) is (subst (λ (images : Images). StopsAt x images spec before new error) told stops)
+    subst (λ (f : Failures). StopsMounting x other spec f new error) is (subst (λ (images : Images). StopsMounting x images spec before new error) told stops)
 
 -- one drive, as it was attached and mounted
 
@@ -128,9 +128,9 @@ fault_as x y z images spec name error cause place is fault attaches same has =
     (brought_fault (y.image (number_of spec)) (images spec.image) spec.kind (record { cause = cause; place = place })
     (subst (λ (n : List ℕ). IsSomeAnd (y.image (number_of spec)) (Brings (images n))) is attaches.image) (subst Q fault has))
 
-pub count_as : (A : Type 0) (before now : ℕ) (error : MountError) (cause place : ℕ) → error ≡ BadImage cause place → Counts {A = A} before now (Err error) → now ≡ before
+pub count_as : (A : Type 0) (before now : ℕ) (error : MountError) (cause place : ℕ) → error ≡ BadImage cause place → CountsFault {A = A} before now (Err error) → now ≡ before
 count_as A before now error cause place fault counts =
-    let P : MountError → Type 0 = λ e. Counts {A = A} before now (Err e) in subst P fault counts
+    let P : MountError → Type 0 = λ e. CountsFault {A = A} before now (Err e) in subst P fault counts
 
 -- the drives before one, and that one
 
@@ -159,15 +159,15 @@ first_behind x images P (first ∷ front) (d ∷ ds) spec rest mounted here =
     inr (faultless_as x images first d mounted.0, first_behind x images P front ds spec rest mounted.1 here)
 
 stops_behind : (x : Disks) (images : Images) (front : List DriveSpec) (ds : List Directory) (spec : DriveSpec) (rest : List DriveSpec)
-    (old new : Failures) (error : BootError) → AreMounted x images front ds → StopsAt x images spec old new error → Stops x images (front ++ (spec ∷ rest)) old new error
+    (old new : Failures) (error : BootError) → AreMounted x images front ds → StopsMounting x images spec old new error → Stops x images (front ++ (spec ∷ rest)) old new error
 stops_behind x images front ds spec rest old new (Image drive cause place) mounted stops =
-    first_behind x images (λ s. StopsAt x images s old new (Image drive cause place)) front ds spec rest mounted stops
+    first_behind x images (λ s. StopsMounting x images s old new (Image drive cause place)) front ds spec rest mounted stops
 stops_behind x images front ds spec rest old new DiskFault mounted stops =
-    first_behind x images (λ s. StopsAt x images s old new DiskFault) front ds spec rest mounted stops
+    first_behind x images (λ s. StopsMounting x images s old new DiskFault) front ds spec rest mounted stops
 stops_behind x images front ds spec rest old new OutOfMemory mounted stops = stops
 
 pub stops_at : (x : Disks) (images : Images) (specs front : List DriveSpec) (ds : List Directory) (spec : DriveSpec) (rest : List DriveSpec)
-    (old new : Failures) (error : BootError) → specs ≡ front ++ (spec ∷ rest) → AreMounted x images front ds → StopsAt x images spec old new error
+    (old new : Failures) (error : BootError) → specs ≡ front ++ (spec ∷ rest) → AreMounted x images front ds → StopsMounting x images spec old new error
     → Stops x images specs old new error
 stops_at x images specs front ds spec rest old new error is mounted stops =
     subst (λ (s : List DriveSpec). Stops x images s old new error) (sym is) (stops_behind x images front ds spec rest old new error mounted stops)

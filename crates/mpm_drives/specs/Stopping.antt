@@ -27,12 +27,12 @@ IsFaultless disks images spec =
 
 -- why it stopped at one drive: its image has a first fault; its image's name joined the failed names, or the count rose; or
 -- there was no memory
-abbrev pub StopsAt : Disks → Images → DriveSpec → Failures → Failures → BootError → Type 0
-StopsAt disks images spec old new (Image drive cause place) =
+abbrev pub StopsMounting : Disks → Images → DriveSpec → Failures → Failures → BootError → Type 0
+StopsMounting disks images spec old new (Image drive cause place) =
     (drive ≡ number_of spec) × IsAtFault disks images spec (record { cause = cause; place = place }) × (new ≡ old)
-StopsAt disks images spec old new DiskFault =
+StopsMounting disks images spec old new DiskFault =
     ((new.names ≡ old.names ++ (spec.image ∷ [])) × (new.faults ≡ old.faults)) ⊎ ((new.names ≡ old.names) × Rose old.faults new.faults)
-StopsAt disks images spec old new OutOfMemory = new ≡ old
+StopsMounting disks images spec old new OutOfMemory = new ≡ old
 
 -- so it is of one of some drives, and the images of those before it have no fault
 unfoldable pub IsFirst : (DriveSpec → Type 0) → (DriveSpec → Type 0) → List DriveSpec → Type 0
@@ -41,6 +41,6 @@ IsFirst Before Is (spec ∷ specs) = Is spec ⊎ (Before spec × IsFirst Before 
 
 -- it stopped at the first of some drives that couldn't be mounted, or for want of memory
 abbrev pub Stops : Disks → Images → List DriveSpec → Failures → Failures → BootError → Type 0
-Stops disks images specs old new (Image drive cause place) = IsFirst (IsFaultless disks images) (λ spec. StopsAt disks images spec old new (Image drive cause place)) specs
-Stops disks images specs old new DiskFault = IsFirst (IsFaultless disks images) (λ spec. StopsAt disks images spec old new DiskFault) specs
+Stops disks images specs old new (Image drive cause place) = IsFirst (IsFaultless disks images) (λ spec. StopsMounting disks images spec old new (Image drive cause place)) specs
+Stops disks images specs old new DiskFault = IsFirst (IsFaultless disks images) (λ spec. StopsMounting disks images spec old new DiskFault) specs
 Stops disks images specs old new OutOfMemory = new ≡ old

@@ -2,7 +2,7 @@ ghost use Rattle.std.specs.Prelude.{◌≡◌, ◌≢◌, true, false, [], ℕ, 
 ghost use Rattle.mpm_machine_file.specs.Drives.{all_differ};
 ghost use Rattle.mpm_machine_file.specs.MachineFiles.{IsDrive};
 ghost use Rattle.mpm_drives.specs.Mounted.{number_of, IsMountedAs, AreMounted, AreSynced, OnlyDrive, SameBeside, AsksNothing};
-ghost use Rattle.mpm_drives.specs.Stopping.{StopsAt, Stops};
+ghost use Rattle.mpm_drives.specs.Stopping.{StopsMounting, Stops};
 
 use crate::error::BootError;
 use mpm_machine_file::DriveSpec;
@@ -92,7 +92,7 @@ fn mount_drive<D: Drives>(
     ensures mounted { IfOk result (λ mounted. IsMountedAs (D.disks drives.new) (D.told drives.old) spec.now mounted) }
     ensures count { OnOk result (D.faults drives.new ≡ D.faults drives.old) }
     ensures names { OnOk result (D.failed_names drives.new ≡ D.failed_names drives.old) }
-    ensures err { IfErr result (λ error. StopsAt (D.disks drives.new) (D.told drives.old) spec.now
+    ensures err { IfErr result (λ error. StopsMounting (D.disks drives.new) (D.told drives.old) spec.now
         (record { faults = D.faults drives.old; names = D.failed_names drives.old })
         (record { faults = D.faults drives.new; names = D.failed_names drives.new }) error) }
     ensures fresh { OnOk result (D.unsynced drives.new (number_of spec.now) ≡ false) }

@@ -2,17 +2,17 @@
 //! what is there of it. Each file's records have its letter throughout, but those that the program writes.
 use mpm_base::Kind;
 use mpm_images::{
-    Entry, UNUSED, directory_sector, file, held, image, is_written, layout_of, named, place,
+    EntryBytes, UNUSED, directory_sector, file, held, image, is_written, layout_of, named, place,
     put_sector, read_record, record_at, with,
 };
 use mpm_port::MemoryDrives;
 use std::alloc::{AllocError, Global};
 
 /// The first twelve slots of a directory, in three sectors.
-pub(crate) type Slots = [Entry; 12];
+pub(crate) type Slots = [EntryBytes; 12];
 
 /// The entry of a file by its letter and its number, with one record in a block, counted from the first one of files.
-pub(crate) fn entry(kind: Kind, letter: u8, number: u8, block: u16) -> Entry {
+pub(crate) fn entry(kind: Kind, letter: u8, number: u8, block: u16) -> EntryBytes {
     let layout = layout_of(kind);
     let extent = u32::from(number).saturating_mul(layout.entry / 128);
     held(
@@ -24,7 +24,7 @@ pub(crate) fn entry(kind: Kind, letter: u8, number: u8, block: u16) -> Entry {
 }
 
 /// The entry of the file that is made, with so many records, at most 16.
-pub(crate) fn made(kind: Kind, records: u8) -> Entry {
+pub(crate) fn made(kind: Kind, records: u8) -> EntryBytes {
     let layout = layout_of(kind);
     let first = if 0 < records {
         layout.first.saturating_add(7)
@@ -46,7 +46,7 @@ pub(crate) fn made(kind: Kind, records: u8) -> Entry {
 }
 
 /// An entry that was deleted.
-pub(crate) fn gone(entry: Entry) -> Entry {
+pub(crate) fn gone(entry: EntryBytes) -> EntryBytes {
     with(entry, 0, 0xE5)
 }
 
@@ -126,7 +126,7 @@ fn has_entries(drives: &mut MemoryDrives, kind: Kind, slots: &Slots, sector: u32
 }
 
 /// Whether a file's records are there that its entry counts.
-fn has_records(drives: &mut MemoryDrives, kind: Kind, entry: &Entry) -> bool {
+fn has_records(drives: &mut MemoryDrives, kind: Kind, entry: &EntryBytes) -> bool {
     if entry[0] != 0 {
         return true;
     }
@@ -139,7 +139,7 @@ fn has_records(drives: &mut MemoryDrives, kind: Kind, entry: &Entry) -> bool {
 }
 
 /// Whether a record of a file is there.
-fn has_record(drives: &mut MemoryDrives, kind: Kind, entry: &Entry, number: u8) -> bool {
+fn has_record(drives: &mut MemoryDrives, kind: Kind, entry: &EntryBytes, number: u8) -> bool {
     let Some(at) = record_at(kind, entry, u32::from(number)) else {
         return false;
     };

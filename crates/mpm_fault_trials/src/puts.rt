@@ -4,7 +4,7 @@ ghost use Rattle.std.specs.Prelude.{◌≤◌};
 
 use crate::play::{run_booted, run_by_words};
 use mpm_base::Kind;
-use mpm_images::{Entry, held, image, put_text};
+use mpm_images::{EntryBytes, held, image, put_text};
 use mpm_port::{MemoryDrives, MemorySink};
 use mpm_top::Status;
 use std::alloc::Global;
@@ -57,7 +57,7 @@ const SHOWN: [&[u8]; 5] = [
 ];
 
 /// The entry of a file by its name, with so many records in a block and in the next one.
-fn entry(name: &[u8; 11], records: u8, block: u16) -> Entry {
+fn entry(name: &[u8; 11], records: u8, block: u16) -> EntryBytes {
     let mut entry = [0; 32];
     entry[1..12].copy_from_slice(name);
     entry[15] = records;

@@ -4,7 +4,7 @@ use Rattle.std.specs.Prelude.{is_some, slice_set, replicate}
 use Rattle.std.proofs.lemmas.Bool.{true≢false}
 use Rattle.mpm_port.specs.Disks.{Disks, size_of}
 use Rattle.mpm_blocks.specs.Geometries.{geometry_of}
-use Rattle.mpm_cache.specs.declared.cache.Place.{Place}
+use Rattle.mpm_cache.specs.declared.cache.SectorPlace.{SectorPlace}
 use Rattle.mpm_cache.specs.Coherent.{IsCoherent, HasNoAlias}
 use Rattle.mpm_mount.specs.Directories.{Directory}
 use Rattle.mpm_directories.specs.Places.{directory_at, all_put, in_places}
@@ -49,7 +49,7 @@ size_there : (disks : Disks) (number : ℕ) (place : Option Directory) → IfSom
 size_there disks number None is = tt
 size_there disks number (Some directory) is = is.size
 
-pub floppies_fit : {D : Type 0} (disks : D → Disks) (drives : D) (mounted : List (Option Directory)) (cached : List (Place × List ℕ)) → AreTwo (disks drives) → AreFloppies (disks drives) mounted
+pub floppies_fit : {D : Type 0} (disks : D → Disks) (drives : D) (mounted : List (Option Directory)) (cached : List (SectorPlace × List ℕ)) → AreTwo (disks drives) → AreFloppies (disks drives) mounted
     → ((images : Disks) → IsCoherent cached images) → ((images : Disks) (number : ℕ) → HasNoAlias cached images number) → FitsDrives disks mounted cached drives
 floppies_fit disks drives mounted cached two floppies coherent alone = record {
   sizes = λ number. size_there (disks drives) number (directory_at mounted number) (floppies number);

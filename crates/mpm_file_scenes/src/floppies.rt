@@ -8,7 +8,7 @@ ghost use Rattle.mpm_file_scenes.specs.Floppies.{AreTwo, IsFloppy, AreFloppies};
 
 use mpm_base::Kind;
 use mpm_bdos::in_places;
-use mpm_images::{Entry, guard, image, named, with};
+use mpm_images::{EntryBytes, guard, image, named, with};
 use mpm_mount::{Mounted, mount};
 use mpm_port::{Drives, Failed, FetchError, MemoryDrives};
 use std::alloc::Global;
@@ -16,7 +16,7 @@ use std::test::Fail;
 
 /// A disk with a label by which passwords hold and that has one itself, and with the files A; G, guarded against reading; P,
 /// read-only by T1' and guarded; and R, read-only.
-pub fn small_disk() -> [Entry; 7] {
+pub fn small_disk() -> [EntryBytes; 7] {
     [
         guard(32, b'L', 0x81),
         named(0, b'A'),
@@ -37,7 +37,7 @@ pub(crate) fn name_of_slot(slot: u8) -> [u8; 11] {
 }
 
 /// A disk whose 64 directory entries are files, and without a label.
-pub fn full_disk() -> [Entry; 64] {
+pub fn full_disk() -> [EntryBytes; 64] {
     let mut entries = [named(0, b'A'); 64];
     for (slot, entry) in entries.iter_mut().enumerate() {
         entry[1..12].copy_from_slice(&name_of_slot((slot % 64) as u8));
@@ -134,8 +134,8 @@ impl Drives for Floppies {
 fn attach_both(
     alloc: Global,
     drives: &mut MemoryDrives,
-    a: &[Entry],
-    b: &[Entry],
+    a: &[EntryBytes],
+    b: &[EntryBytes],
 ) -> Result<(), Fail>
     requires { (name : List ℕ) → IsFree drives.old name }
     ensures { OnOk result (AreTwo (disks_of drives.new)) }
@@ -153,8 +153,8 @@ fn attach_both(
 /// Two disks with these entries, and the drive that fails, if one does.
 pub(crate) fn two_disks(
     alloc: Global,
-    a: &[Entry],
-    b: &[Entry],
+    a: &[EntryBytes],
+    b: &[EntryBytes],
     failing: Option<u8>,
 ) -> Result<Floppies, Fail>
     ensures { IfOk result (λ d. AreTwo (disks_of d.drives)) }

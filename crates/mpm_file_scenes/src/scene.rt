@@ -13,7 +13,7 @@ use mpm_base::{Call, Pid, Reply, Steps, functions};
 use mpm_bdos::{Bdos, DirectFunction, Extended};
 use mpm_clock::{Clock, Moment};
 use mpm_files::Progress;
-use mpm_images::Entry;
+use mpm_images::EntryBytes;
 use mpm_port::{Drives, Failed};
 use mpm_procs::{NewProcess, Process, Procs};
 use std::alloc::Global;
@@ -355,8 +355,8 @@ fn wrong_by(
 /// There isn't enough memory for the disks.
 pub fn first_wrong_line(
     alloc: Global,
-    a: &[Entry],
-    b: &[Entry],
+    a: &[EntryBytes],
+    b: &[EntryBytes],
     lines: &[Line<'_>],
 ) -> Result<Option<usize>, Fail> {
     first_wrong_failing(alloc, a, b, None, lines)
@@ -368,8 +368,8 @@ pub fn first_wrong_line(
 /// There isn't enough memory for the disks.
 pub fn first_wrong_failing(
     alloc: Global,
-    a: &[Entry],
-    b: &[Entry],
+    a: &[EntryBytes],
+    b: &[EntryBytes],
     failing: Option<u8>,
     lines: &[Line<'_>],
 ) -> Result<Option<usize>, Fail> {
@@ -383,8 +383,8 @@ pub fn first_wrong_failing(
 /// The first line that isn't so on two new disks, where calls are done turn by turn or not.
 fn wrong_in(
     alloc: Global,
-    a: &[Entry],
-    b: &[Entry],
+    a: &[EntryBytes],
+    b: &[EntryBytes],
     failing: Option<u8>,
     in_turns: bool,
     lines: &[Line<'_>],

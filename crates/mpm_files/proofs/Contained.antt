@@ -9,15 +9,15 @@ use Rattle.mpm_base.proofs.Choices.{either}
 use Rattle.mpm_mount.specs.Drives.{FileName, Drive, extents_of}
 use Rattle.mpm_mount.specs.Files.{is_same_file, entries_named, is_entry_of, has_file, is_fitting}
 use Rattle.mpm_mount.proofs.Names.{one_file}
-use Rattle.mpm_functions.specs.declared.errors.RecordError.{RecordError}
+use Rattle.mpm_file_functions.specs.declared.errors.RecordError.{RecordError}
 use Rattle.mpm_jobs.specs.declared.jobs.JobKind.{JobKind}
 use Rattle.mpm_jobs.specs.declared.jobs.JobKind.TheVariants.{Read, Write, TestWrite, Make, Delete, Rename, Attributes, Label, Xfcb, Nothing}
 use Rattle.mpm_jobs.specs.declared.jobs.Job.{Job}
 use Rattle.mpm_files.specs.Units.{FileUnit, Idles, ReadsRecord, PassesRecord, AddsEntry, ClearsBlock, WritesRecord, RenamesEntry, PutsXfcb, RemovesXfcb, RenamesXfcb, stages, applied, all_applied}
-use Rattle.mpm_files.specs.Plans.{Plan, Test, behind, unless_failing, when, file_of_job, new_file_of_job, write_error, needs_entry, needs_block, clears_blocks, write_units, reading, writing, has_record, passing, testing, of_entries, of_xfcb, deleting_entry, deleting, renaming, protection_in, records_of_job, tests_of_job, plan_by, plan_of, unit_at}
+use Rattle.mpm_files.specs.Plans.{CallPlan, TestedRecord, behind, unless_failing, when, file_of_job, new_file_of_job, write_error, needs_entry, needs_block, clears_blocks, write_units, reading, writing, has_record, passing, testing, of_entries, of_xfcb, deleting_entry, deleting, renaming, protection_in, records_of_job, tests_of_job, plan_by, plan_of, unit_at}
 use Rattle.mpm_mount.specs.Records.{read_error}
 use Rattle.mpm_files.specs.Serving.{units_done}
-use Rattle.mpm_files.specs.Containment.{Keeps, SameRecords, IsWithin, IsContained, unit_names, names_label, names_by, names, is_label_job}
+use Rattle.mpm_files.specs.Containment.{KeepsOtherFiles, SameRecords, IsWithinUnit, IsContained, unit_names, names_label, names_by, names, is_label_job}
 use Rattle.mpm_files.proofs.Keeping.{keeps_itself, keeps_after, keeps_wider, all_so}
 use Rattle.mpm_files.proofs.Seen.{seen_itself}
 use Rattle.mpm_files.proofs.Within.{stages_within, unit_keeps}
@@ -53,7 +53,7 @@ name_each : {K : Type 0} (p : FileName → Bool) (l : Bool) (f : K → FileUnit)
 name_each p l f [] names = tt
 name_each p l f (k ∷ ks) names = (names k, name_each p l f ks names)
 
-name_plan : (p : FileName → Bool) (l : Bool) (error : Option RecordError) (us : List FileUnit) (plan : Plan) → AllName p l us → AllName p l plan.units
+name_plan : (p : FileName → Bool) (l : Bool) (error : Option RecordError) (us : List FileUnit) (plan : CallPlan) → AllName p l us → AllName p l plan.units
     → AllName p l (unless_failing error (behind us plan)).units
 name_plan p l None us plan one other = name_both p l us plan.units one other
 name_plan p l (Some error) us plan one other = tt
@@ -91,24 +91,24 @@ writing_names (bytes ∷ records) drive file n stamp =
     name_plan (λ other. is_same_file other file) false (write_error drive file n) units (writing (all_applied drive units) file (n + 1) records None)
     (units_name drive file n bytes stamp) (writing_names records (all_applied drive units) file (n + 1) None)
 
-passing_by : (file : FileName) (n : ℕ) (b : Bool) (plan : Plan) (failed : Plan) → One file plan.units → failed.units ≡ []
+passing_by : (file : FileName) (n : ℕ) (b : Bool) (plan : CallPlan) (failed : CallPlan) → One file plan.units → failed.units ≡ []
     → One file (if b then failed else (behind (PassesRecord file n ∷ []) plan)).units
 passing_by file n true plan failed one none = subst (One file) (sym none) tt
 passing_by file n false plan failed one none = (its file (PassesRecord file n) (λ other no. no) refl, one)
 
-passing_names : (tests : List Test) (drive : Drive) (file : FileName) (n : ℕ) → One file (passing drive file n tests).units
+passing_names : (tests : List TestedRecord) (drive : Drive) (file : FileName) (n : ℕ) → One file (passing drive file n tests).units
 unfolding passing
 passing_names [] drive file n = tt
 passing_names (test ∷ tests) drive file n =
     passing_by file n (is_some (read_error drive file n)) (passing drive file (n + 1) tests) _ (passing_names tests drive file (n + 1)) refl
 
-either_plan : (file : FileName) (error : Option RecordError) (b : Bool) (one other : Plan) → One file one.units → One file other.units
+either_plan : (file : FileName) (error : Option RecordError) (b : Bool) (one other : CallPlan) → One file one.units → One file other.units
     → One file (unless_failing error (if b then one else other)).units
 either_plan file (Some error) b one other here there = tt
 either_plan file None true one other here there = here
 either_plan file None false one other here there = there
 
-testing_names : (tests : List Test) (drive : Drive) (file : FileName) (n : ℕ) (stamp : Option (List ℕ)) → One file (testing drive file n tests stamp).units
+testing_names : (tests : List TestedRecord) (drive : Drive) (file : FileName) (n : ℕ) (stamp : Option (List ℕ)) → One file (testing drive file n tests stamp).units
 unfolding testing
 testing_names [] drive file n stamp = tt
 testing_names (test ∷ tests) drive file n stamp =
@@ -187,7 +187,7 @@ unfolding plan_of names
 job_names drive job = by_kind drive job job.kind
 
 -- what some units keep
-all_keep : (p : FileName → Bool) (l : Bool) (us : List FileUnit) (drive : Drive) → AllName p l us → Keeps p l drive (all_applied drive us)
+all_keep : (p : FileName → Bool) (l : Bool) (us : List FileUnit) (drive : Drive) → AllName p l us → KeepsOtherFiles p l drive (all_applied drive us)
 unfolding all_applied
 all_keep p l [] drive names = keeps_itself p l drive
 all_keep p l (u ∷ us) drive names =
@@ -196,7 +196,7 @@ all_keep p l (u ∷ us) drive names =
     (all_keep p l us (applied drive u) names.1)
 
 -- after each number of turns files and XFCBs that a job doesn't name are as before it, and so is the label but in a job of the label
-pub turns_keep : (drive : Drive) (job : Job) (j : ℕ) → Keeps (names drive job) (is_label_job job.kind) drive (units_done drive job j)
+pub turns_keep : (drive : Drive) (job : Job) (j : ℕ) → KeepsOtherFiles (names drive job) (is_label_job job.kind) drive (units_done drive job j)
 turns_keep drive job j =
     all_keep (names drive job) (is_label_job job.kind) (take j (plan_of drive job).units) drive
     (name_some (names drive job) (is_label_job job.kind) (plan_of drive job).units j (job_names drive job))
@@ -210,12 +210,12 @@ unit_named p l (u ∷ us) zero other each = inl each.0
 unit_named p l (u ∷ us) (suc j) other each = unit_named p l us j other each.1
 
 one_within : (before : Drive) (job : Job) (j turn : ℕ) → j ≤ turn → NamesOnly (names before job) (is_label_job job.kind) (unit_at before job turn) → (now : Drive)
-    → IsWithin (unit_at before job turn) (units_done before job turn) now → IsContained before job j now
+    → IsWithinUnit (unit_at before job turn) (units_done before job turn) now → IsContained before job j now
 one_within before job j turn since named now within =
     let p : FileName → Bool = names before job in
     let l : Bool = is_label_job job.kind in
     let unit : FileUnit = unit_at before job turn in
-    let keeps : Keeps p l before now =
+    let keeps : KeepsOtherFiles p l before now =
     keeps_after p l before (units_done before job turn) now (turns_keep before job turn)
     (keeps_wider (unit_names unit) p (names_label unit) l (units_done before job turn) now named.files named.label within.keeps) in
     elim within.records [
@@ -237,7 +237,7 @@ turn_contained before job j turn since =
     let drive : Drive = units_done before job turn in (
       record { keeps = turns_keep before job turn; turn = turn; since = since; records = seen_itself drive },
       elim (unit_named (names before job) (is_label_job job.kind) (plan_of before job).units turn (Idles (file_of_job job) None) (job_names before job)) [
-        | inl named ↦ all_so (IsWithin unit drive) (IsContained before job j) (stages unit drive) (one_within before job j turn since named) (stages_within unit drive)
+        | inl named ↦ all_so (IsWithinUnit unit drive) (IsContained before job j) (stages unit drive) (one_within before job j turn since named) (stages_within unit drive)
         | inr none ↦ subst (λ (u : FileUnit). AllByRecursion (IsContained before job j) (stages u drive)) (sym none) tt
       ],
     )

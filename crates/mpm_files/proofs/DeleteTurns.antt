@@ -32,7 +32,7 @@ use Rattle.mpm_jobs.specs.declared.jobs.Job.{Job}
 use Rattle.mpm_files.specs.declared.work.Work.{Work}
 use Rattle.mpm_files.specs.Units.{FileUnit, Idles, RemovesEntry, RemovesXfcb, stages, last_of, applied}
 use Rattle.mpm_files.specs.Plans.{plan_of, file_of_job, when, each, of_xfcb, deleting_entry, deleting}
-use Rattle.mpm_files.specs.Serving.{units_done, missed_by, has_missed, xfcb_left, left_of, Follows, IsServing}
+use Rattle.mpm_files.specs.Serving.{units_done, missed_by, has_missed, xfcb_left, left_of, Follows, IsServingJob}
 use Rattle.mpm_files.specs.Turning.{xfcb_due, xfcb_due_by, one_ended}
 use Rattle.mpm_files.proofs.CountedEntries.{there_same}
 use Rattle.mpm_files.proofs.NextEntries.{deletion_next, deleted_xfcb_next}
@@ -65,7 +65,7 @@ first_fitting files d user pattern =
 quiet : (before : Drive) (job : Job) (j k : ℕ) → job.kind ≡ Delete → has_missed before job k ≡ has_missed before job j
 quiet before job j k is = ap (missed_by before job k) is ∙ sym (ap (missed_by before job j) is)
 
-kind_is : (before : Drive) (job : Job) (j : ℕ) (work : Work) → IsServing before job j work → work.job.kind ≡ Delete → job.kind ≡ Delete
+kind_is : (before : Drive) (job : Job) (j : ℕ) (work : Work) → IsServingJob before job j work → work.job.kind ≡ Delete → job.kind ≡ Delete
 kind_is before job j work serving is = sym (ap (λ (q : Job). q.kind) serving.job_is) ∙ is
 
 -- the XFCB of the file whose last entry went, by the directory
@@ -90,7 +90,7 @@ none_left image d files user (Some found) stands none =
     ∙ none_due image d files (file_in user found.name) (list_any (is_part_of (file_in user found.name)) d.entries) stands none
 
 -- the entries that are left, where no XFCB is due
-only_entries : (image : List ℕ) (d : Directory) (before : Drive) (job : Job) (j : ℕ) (work : Work) → Stands image d (units_done before job j) → IsServing before job j work
+only_entries : (image : List ℕ) (d : Directory) (before : Drive) (job : Job) (j : ℕ) (work : Work) → Stands image d (units_done before job j) → IsServingJob before job j work
     → work.job.kind ≡ Delete → xfcb_due d work ≡ None
     → Follows (plan_of before job).units j (deleting (units_done before job j) work.job.user work.job.name (entries_named (units_done before job j)))
 only_entries image d before job j work stands serving kind none =
@@ -102,7 +102,7 @@ only_entries image d before job j work stands serving kind none =
 
 -- an entry goes
 pub entry_deleted : (image : List ℕ) (d : Directory) (before : Drive) (job : Job) (j : ℕ) (work : Work) (found : Found) → Stands image d (units_done before job j)
-    → IsServing before job j work → work.job.kind ≡ Delete → j < length (plan_of before job).units → xfcb_due d work ≡ None
+    → IsServingJob before job j work → work.job.kind ≡ Delete → j < length (plan_of before job).units → xfcb_due d work ≡ None
     → (least : IsLeast d.kind (search_of d.kind work.job.user work.job.name None) d.entries found)
     → (unit : FileUnit) × (IsDone before job j (record work { last = Some found; cleared = None }) unit
     × (stages unit (units_done before job j) ≡ exchanged (sectors_of image d.kind) (units_done before job j) (entry_in d found.slot) Free ∷ []))
@@ -166,7 +166,7 @@ either_none true file o none = refl
 either_none false file o none = ap (λ x. when (is_some x) (RemovesXfcb file)) none
 
 pub xfcb_deleted : (image : List ℕ) (d : Directory) (before : Drive) (job : Job) (j : ℕ) (work : Work) (slot : ℕ) → Stands image d (units_done before job j)
-    → IsServing before job j work → work.job.kind ≡ Delete → j < length (plan_of before job).units → xfcb_due d work ≡ Some slot
+    → IsServingJob before job j work → work.job.kind ≡ Delete → j < length (plan_of before job).units → xfcb_due d work ≡ Some slot
     → (unit : FileUnit) × (IsDone before job j (record work { cleared = None }) unit
     × (stages unit (units_done before job j) ≡ exchanged (sectors_of image d.kind) (units_done before job j) (entry_in d slot) Free ∷ []))
 unfolding stages applied last_of xfcb_of has_file
@@ -226,7 +226,7 @@ unfolding deleting
 none_fits files user pattern [] none = refl
 none_fits files user pattern (e ∷ es) none = fits_none files user pattern e es (is_fitting user pattern e.0) refl none (none_fits files user pattern es)
 
-pub deletion_goes_on : (image : List ℕ) (d : Directory) (before : Drive) (job : Job) (j : ℕ) (work : Work) → Stands image d (units_done before job j) → IsServing before job j work
+pub deletion_goes_on : (image : List ℕ) (d : Directory) (before : Drive) (job : Job) (j : ℕ) (work : Work) → Stands image d (units_done before job j) → IsServingJob before job j work
     → work.job.kind ≡ Delete → j < length (plan_of before job).units → xfcb_due d work ≡ None → IsNext d.kind (search_of d.kind work.job.user work.job.name None) d.entries None → ⊥
 deletion_goes_on image d before job j work stands serving kind h none missing =
     let files : Drive = units_done before job j in

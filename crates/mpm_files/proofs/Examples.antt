@@ -13,7 +13,7 @@ use Rattle.mpm_jobs.specs.declared.jobs.JobKind.TheVariants.{Write, Delete}
 use Rattle.mpm_jobs.specs.declared.jobs.Job.{Job}
 use Rattle.mpm_sectors.specs.Writes.{zero_record}
 use Rattle.mpm_files.specs.Units.{ClearsBlock, WritesRecord, RemovesEntry, RenamesEntry, RemovesXfcb, RenamesXfcb, applied, all_applied, stages, last_of}
-use Rattle.mpm_functions.specs.declared.errors.RecordError.TheVariants.{UnwrittenData, NoDataBlock}
+use Rattle.mpm_file_functions.specs.declared.errors.RecordError.TheVariants.{UnwrittenData, NoDataBlock}
 use Rattle.mpm_files.specs.Plans.{plan_of, writing, deleting, renaming, only}
 use Rattle.mpm_mount.specs.Records.{read_error}
 use Rattle.mpm_files.specs.Serving.{units_done}

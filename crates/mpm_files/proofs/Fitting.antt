@@ -6,10 +6,10 @@ use Rattle.std.proofs.lemmas.Bool.{true≢false}
 use Rattle.mpm_blocks.specs.Geometries.{geometry_of, last_block, block_records}
 use Rattle.mpm_mount.specs.Drives.{FileName, PhysicalExtent, Drive, places, entry_number, entry_name, free_records, free_entries}
 use Rattle.mpm_mount.proofs.Still.{nonzero}
-use Rattle.mpm_functions.specs.declared.errors.RecordError.{RecordError}
-use Rattle.mpm_functions.specs.declared.errors.RecordError.TheVariants.{Mismatch, NoDirectorySpace, NoDataBlock}
+use Rattle.mpm_file_functions.specs.declared.errors.RecordError.{RecordError}
+use Rattle.mpm_file_functions.specs.declared.errors.RecordError.TheVariants.{Mismatch, NoDirectorySpace, NoDataBlock}
 use Rattle.mpm_files.specs.Units.{FileUnit, Idles, ReadsRecord, PassesRecord, AddsEntry, ClearsBlock, WritesRecord, RemovesEntry, SetsAttributes, RenamesEntry, PutsXfcb, RemovesXfcb, RenamesXfcb, PutsLabel, new_entry, stages, last_of, applied, all_applied}
-use Rattle.mpm_files.specs.Plans.{Plan, Test, failing, behind, unless_failing, reading, needs_entry, has_block, needs_block, clears_blocks, write_error, write_units, writing, has_record, passing, testing, when}
+use Rattle.mpm_files.specs.Plans.{CallPlan, TestedRecord, failing, behind, unless_failing, reading, needs_entry, has_block, needs_block, clears_blocks, write_error, write_units, writing, has_record, passing, testing, when}
 use Rattle.mpm_mount.specs.Records.{read_error}
 use Rattle.mpm_files.proofs.Recorded.{held, put_new, none_held}
 
@@ -30,7 +30,7 @@ unfolding AllSo all_applied
 all_so_both P [] vs drive one other = other
 all_so_both P (u ∷ us) vs drive one other = (one.0, all_so_both P us vs (applied drive u) one.1 other)
 
-pub unless_so : (P : Drive → FileUnit → Type 0) (drive : Drive) (error : Option RecordError) (plan : Plan) → (error ≡ None → AllSo P drive plan.units)
+pub unless_so : (P : Drive → FileUnit → Type 0) (drive : Drive) (error : Option RecordError) (plan : CallPlan) → (error ≡ None → AllSo P drive plan.units)
     → AllSo P drive (unless_failing error plan).units
 unfolding AllSo
 unless_so P drive None plan so = so refl
@@ -150,7 +150,7 @@ unfolding writing AllSo
 writing_fits [] drive file n stamp = tt
 writing_fits (bytes ∷ records) drive file n stamp =
     let units : List FileUnit = write_units drive false file n bytes stamp in
-    let rest : Plan = writing (all_applied drive units) file (n + 1) records None in
+    let rest : CallPlan = writing (all_applied drive units) file (n + 1) records None in
     unless_so Fits drive (write_error drive file n) (behind units rest) (λ none.
     all_so_both Fits units rest.units drive
     (record_fits drive file n bytes stamp (needs_entry drive file n) (clears_blocks drive.kind && (needs_block drive file n && not false)) refl refl (room_for drive file n none))
@@ -164,26 +164,26 @@ reading_there (suc count) drive file n =
     unless_so IsThere drive (read_error drive file n) (behind (ReadsRecord file n ∷ []) (reading drive file (n + 1) count)) (λ none.
     (none, reading_there count drive file (n + 1)))
 
-passed_there : (drive : Drive) (file : FileName) (n : ℕ) (plan : Plan) (error : Option RecordError) → read_error drive file n ≡ error → AllSo IsThere drive plan.units
+passed_there : (drive : Drive) (file : FileName) (n : ℕ) (plan : CallPlan) (error : Option RecordError) → read_error drive file n ≡ error → AllSo IsThere drive plan.units
     → AllSo IsThere drive (if is_some error then failing Mismatch else behind (PassesRecord file n ∷ []) plan).units
 unfolding AllSo applied stages last_of
 passed_there drive file n plan (Some error) is there = tt
 passed_there drive file n plan None is there = (is, there)
 
-passing_there : (tests : List Test) (drive : Drive) (file : FileName) (n : ℕ) → AllSo IsThere drive (passing drive file n tests).units
+passing_there : (tests : List TestedRecord) (drive : Drive) (file : FileName) (n : ℕ) → AllSo IsThere drive (passing drive file n tests).units
 unfolding passing AllSo applied stages last_of
 passing_there [] drive file n = tt
 passing_there (test ∷ tests) drive file n =
     passed_there drive file n (passing drive file (n + 1) tests) (read_error drive file n) refl (passing_there tests drive file (n + 1))
 
-tested_there : (drive : Drive) (file : FileName) (n : ℕ) (bytes : List ℕ) (stamp : Option (List ℕ)) (plan other : Plan) (b : Bool) → read_error drive file n ≡ None
+tested_there : (drive : Drive) (file : FileName) (n : ℕ) (bytes : List ℕ) (stamp : Option (List ℕ)) (plan other : CallPlan) (b : Bool) → read_error drive file n ≡ None
     → AllSo IsThere (applied drive (WritesRecord file n bytes stamp)) plan.units → AllSo IsThere drive other.units
     → AllSo IsThere drive (if b then behind (WritesRecord file n bytes stamp ∷ []) plan else other).units
 unfolding AllSo
 tested_there drive file n bytes stamp plan other true none there passed = (none, there)
 tested_there drive file n bytes stamp plan other false none there passed = passed
 
-pub testing_there : (tests : List Test) (drive : Drive) (file : FileName) (n : ℕ) (stamp : Option (List ℕ)) → AllSo IsThere drive (testing drive file n tests stamp).units
+pub testing_there : (tests : List TestedRecord) (drive : Drive) (file : FileName) (n : ℕ) (stamp : Option (List ℕ)) → AllSo IsThere drive (testing drive file n tests stamp).units
 unfolding testing AllSo
 testing_there [] drive file n stamp = tt
 testing_there (test ∷ tests) drive file n stamp =

@@ -12,7 +12,7 @@ use Rattle.mpm_jobs.specs.declared.jobs.Job.{Job}
 use Rattle.mpm_files.specs.declared.work.Work.{Work}
 use Rattle.mpm_files.specs.Units.{FileUnit, Idles, PutsXfcb, PutsLabel, AddsEntry, applied}
 use Rattle.mpm_files.specs.Plans.{plan_by, plan_of, file_of_job, protection_in, making, when}
-use Rattle.mpm_files.specs.Serving.{units_done, records_moved, record_read, missed_by, left_by, Follows, IsServing}
+use Rattle.mpm_files.specs.Serving.{units_done, records_moved, record_read, missed_by, left_by, Follows, IsServingJob}
 use Rattle.mpm_files.specs.Turning.{SuitsKind, Suits, one_ended}
 use Rattle.mpm_files.proofs.TurnLaws.{no_turn}
 use Rattle.mpm_files.proofs.NextUnits.{units_left, next_of}
@@ -29,7 +29,7 @@ some_left units fixed j k follows h = by_size (cases_lt k (length fixed))
     by_size (inr over) = absurd (never_empty units j (drop k fixed) follows (drop_all k fixed over) h)
 
 -- the next of them is done
-pub fixed_done : (before : Drive) (job : Job) (j : ℕ) (work : Work) (kind : JobKind) (fixed : List FileUnit) → IsServing before job j work → work.job.kind ≡ kind
+pub fixed_done : (before : Drive) (job : Job) (j : ℕ) (work : Work) (kind : JobKind) (fixed : List FileUnit) → IsServingJob before job j work → work.job.kind ≡ kind
     → ((drive : Drive) (w : Work) → w.job ≡ work.job → left_by drive w kind ≡ drop w.ended fixed)
     → ((k : ℕ) → missed_by before job k kind ≡ missed_by before job j kind)
     → ((k : ℕ) → k < length fixed → (records_moved (slice_index_or fixed k (Idles (file_of_job job) None)) ≡ 0)
@@ -61,7 +61,7 @@ only_first : (unit other : FileUnit) (k : ℕ) → k < length (unit ∷ []) → 
 only_first unit other zero h = refl
 only_first unit other (suc k) h = absurd (omega arith)
 
-one_done : (before : Drive) (job : Job) (j : ℕ) (work : Work) (kind : JobKind) (unit : FileUnit) → IsServing before job j work → work.job.kind ≡ kind
+one_done : (before : Drive) (job : Job) (j : ℕ) (work : Work) (kind : JobKind) (unit : FileUnit) → IsServingJob before job j work → work.job.kind ≡ kind
     → ((drive : Drive) (w : Work) → w.job ≡ work.job → left_by drive w kind ≡ drop w.ended (unit ∷ []))
     → ((k : ℕ) → missed_by before job k kind ≡ missed_by before job j kind) → records_moved unit ≡ 0 → ((drive : Drive) → record_read drive unit ≡ [])
     → j < length (plan_of before job).units → IsDone before job j (record work { cleared = None }) unit
@@ -71,20 +71,20 @@ one_done before job j work kind unit serving is left misses moves reads h =
     (λ k less. (ap records_moved (only_first unit other k less) ∙ moves, λ drive. ap (record_read drive) (only_first unit other k less) ∙ reads drive)) h in
     subst (IsDone before job j (record work { cleared = None })) (only_first unit other work.ended done.0) done.1
 
-pub label_done : (before : Drive) (job : Job) (j : ℕ) (work : Work) → IsServing before job j work → work.job.kind ≡ Label → j < length (plan_of before job).units
+pub label_done : (before : Drive) (job : Job) (j : ℕ) (work : Work) → IsServingJob before job j work → work.job.kind ≡ Label → j < length (plan_of before job).units
     → IsDone before job j (record work { cleared = None }) (PutsLabel (record { name = work.job.new_name; protection = protection_in work.job }))
 label_done before job j work serving is h =
     one_done before job j work Label (PutsLabel (record { name = work.job.new_name; protection = protection_in work.job })) serving is
     (λ drive w same. ap (λ (q : Job). drop w.ended (PutsLabel (record { name = q.new_name; protection = protection_in q }) ∷ [])) same)
     (λ k. refl) refl (λ drive. refl) h
 
-pub xfcb_done : (before : Drive) (job : Job) (j : ℕ) (work : Work) → IsServing before job j work → work.job.kind ≡ Xfcb → j < length (plan_of before job).units
+pub xfcb_done : (before : Drive) (job : Job) (j : ℕ) (work : Work) → IsServingJob before job j work → work.job.kind ≡ Xfcb → j < length (plan_of before job).units
     → IsDone before job j (record work { cleared = None }) (PutsXfcb (file_of_job work.job) (protection_in work.job))
 xfcb_done before job j work serving is h =
     one_done before job j work Xfcb (PutsXfcb (file_of_job work.job) (protection_in work.job)) serving is
     (λ drive w same. ap (λ (q : Job). drop w.ended (PutsXfcb (file_of_job q) (protection_in q) ∷ [])) same) (λ k. refl) refl (λ drive. refl) h
 
-pub idle_done : (before : Drive) (job : Job) (j : ℕ) (work : Work) → IsServing before job j work → work.job.kind ≡ Nothing → j < length (plan_of before job).units
+pub idle_done : (before : Drive) (job : Job) (j : ℕ) (work : Work) → IsServingJob before job j work → work.job.kind ≡ Nothing → j < length (plan_of before job).units
     → IsDone before job j (record work { cleared = None }) (Idles (file_of_job work.job) work.job.stamp)
 idle_done before job j work serving is h =
     one_done before job j work Nothing (Idles (file_of_job work.job) work.job.stamp) serving is
@@ -99,13 +99,13 @@ making_at job true other (suc zero) h = (refl, λ drive. refl)
 making_at job true other (suc (suc k)) h = absurd (omega arith)
 making_at job false other (suc k) h = absurd (omega arith)
 
-made : (before : Drive) (job : Job) (j : ℕ) (work : Work) → IsServing before job j work → work.job.kind ≡ Make → j < length (plan_of before job).units
+made : (before : Drive) (job : Job) (j : ℕ) (work : Work) → IsServingJob before job j work → work.job.kind ≡ Make → j < length (plan_of before job).units
     → (work.ended < length (making work.job)) × IsDone before job j (record work { cleared = None }) (slice_index_or (making work.job) work.ended (Idles (file_of_job job) None))
 made before job j work serving is h =
     fixed_done before job j work Make (making work.job) serving is (λ drive w same. ap (λ (q : Job). drop w.ended (making q)) same) (λ k. refl)
     (making_at work.job (not (work.job.count == 0)) (Idles (file_of_job job) None)) h
 
-pub entry_made : (before : Drive) (job : Job) (j : ℕ) (work : Work) → IsServing before job j work → work.job.kind ≡ Make → j < length (plan_of before job).units → work.ended ≡ 0
+pub entry_made : (before : Drive) (job : Job) (j : ℕ) (work : Work) → IsServingJob before job j work → work.job.kind ≡ Make → j < length (plan_of before job).units → work.ended ≡ 0
     → IsDone before job j (record work { cleared = None }) (AddsEntry (file_of_job work.job) 0)
 entry_made before job j work serving is h none =
     subst (λ k. IsDone before job j (record work { cleared = None }) (slice_index_or (making work.job) k (Idles (file_of_job job) None))) none (made before job j work serving is h).1
@@ -123,7 +123,7 @@ pub record XfcbMade (before : Drive) (job : Job) (j : ℕ) (work : Work) : Type 
   pub wanted : not (work.job.count == 0) ≡ true
   pub second : work.ended ≡ 1
 
-pub xfcb_made : (before : Drive) (job : Job) (j : ℕ) (work : Work) → IsServing before job j work → work.job.kind ≡ Make → j < length (plan_of before job).units → work.ended ≢ 0
+pub xfcb_made : (before : Drive) (job : Job) (j : ℕ) (work : Work) → IsServingJob before job j work → work.job.kind ≡ Make → j < length (plan_of before job).units → work.ended ≢ 0
     → XfcbMade before job j work
 xfcb_made before job j work serving is h some =
     let done = made before job j work serving is h in
@@ -145,13 +145,13 @@ at_first before job j kind is size h =
     sym (no_turn before job)
     ∙ ap (units_done before job) (sym (one_unit (plan_of before job).units j (ap (λ k. length (plan_by before job k).units) is ∙ size) h))
 
-pub label_room : (before : Drive) (job : Job) (j : ℕ) (work : Work) → IsServing before job j work → work.job.kind ≡ Label → Suits before job → j < length (plan_of before job).units
+pub label_room : (before : Drive) (job : Job) (j : ℕ) (work : Work) → IsServingJob before job j work → work.job.kind ≡ Label → Suits before job → j < length (plan_of before job).units
     → one_if (not (is_some (units_done before job j).label)) ≤ free_entries (units_done before job j)
 label_room before job j work serving is suits h =
     let kind : job.kind ≡ Label = sym (ap (λ (q : Job). q.kind) serving.job_is) ∙ is in
     subst (λ (d : Drive). one_if (not (is_some d.label)) ≤ free_entries d) (at_first before job j Label kind refl h) (subst (SuitsKind before job) kind suits.kind)
 
-pub xfcb_room : (before : Drive) (job : Job) (j : ℕ) (work : Work) → IsServing before job j work → work.job.kind ≡ Xfcb → Suits before job → j < length (plan_of before job).units
+pub xfcb_room : (before : Drive) (job : Job) (j : ℕ) (work : Work) → IsServingJob before job j work → work.job.kind ≡ Xfcb → Suits before job → j < length (plan_of before job).units
     → one_if (not (is_some (get (units_done before job j).xfcbs (file_of_job work.job)))) ≤ free_entries (units_done before job j)
 xfcb_room before job j work serving is suits h =
     let kind : job.kind ≡ Xfcb = sym (ap (λ (q : Job). q.kind) serving.job_is) ∙ is in

@@ -8,12 +8,12 @@ use Rattle.mpm_mount.specs.Files.{is_same_file}
 use Rattle.mpm_mount.proofs.Orders.{entry_total, file_total}
 use Rattle.mpm_mount.proofs.Names.{entries_differ, files_differ}
 use Rattle.mpm_files.specs.Units.{last_of}
-use Rattle.mpm_files.specs.Containment.{Keeps}
+use Rattle.mpm_files.specs.Containment.{KeepsOtherFiles}
 
-pub keeps_itself : (p : FileName → Bool) (l : Bool) (drive : Drive) → Keeps p l drive drive
+pub keeps_itself : (p : FileName → Bool) (l : Bool) (drive : Drive) → KeepsOtherFiles p l drive drive
 keeps_itself p l drive = record { kind = refl; kept = refl; files = λ file no. record { extents = λ number. refl; xfcb = refl }; label = λ no. refl }
 
-pub keeps_after : (p : FileName → Bool) (l : Bool) (a b c : Drive) → Keeps p l a b → Keeps p l b c → Keeps p l a c
+pub keeps_after : (p : FileName → Bool) (l : Bool) (a b c : Drive) → KeepsOtherFiles p l a b → KeepsOtherFiles p l b c → KeepsOtherFiles p l a c
 keeps_after p l a b c first second = record {
   kind = second.kind ∙ first.kind;
   kept = second.kept ∙ first.kept;
@@ -25,7 +25,7 @@ keeps_after p l a b c first second = record {
 }
 
 pub keeps_wider : (p q : FileName → Bool) (l m : Bool) (a b : Drive) → ((file : FileName) → q file ≡ false → p file ≡ false) → (m ≡ false → l ≡ false)
-    → Keeps p l a b → Keeps q m a b
+    → KeepsOtherFiles p l a b → KeepsOtherFiles q m a b
 keeps_wider p q l m a b files label keeps = record {
   kind = keeps.kind;
   kept = keeps.kept;
@@ -35,7 +35,7 @@ keeps_wider p q l m a b files label keeps = record {
 
 -- an entry of a file
 abbrev pub Of : FileName → Drive → Drive → Type 0
-Of file = Keeps (λ other. is_same_file other file) false
+Of file = KeepsOtherFiles (λ other. is_same_file other file) false
 
 pub entry_put : (drive : Drive) (file : FileName) (number : ℕ) (entry : PhysicalExtent)
     → Of file drive (with_extent drive (record { user = file.user; name = file.name; number = number }) entry)
@@ -90,7 +90,7 @@ xfcb_taken drive file = record {
 
 -- two files
 abbrev pub OfBoth : FileName → FileName → Drive → Drive → Type 0
-OfBoth file new = Keeps (λ other. is_same_file other file || is_same_file other new) false
+OfBoth file new = KeepsOtherFiles (λ other. is_same_file other file || is_same_file other new) false
 
 pub first_of_both : (file new : FileName) (a b : Drive) → Of file a b → OfBoth file new a b
 first_of_both file new a b = keeps_wider (λ other. is_same_file other file) (λ other. is_same_file other file || is_same_file other new) false false a b

@@ -3,13 +3,13 @@ use Rattle.std.proofs.Common.{◌≡◌, ℕ, suc, zero, ◌+◌, ◌<◌, false
 use Rattle.std.specs.Prelude.{slice_index_or}
 use Rattle.std.proofs.lemmas.List.{append_assoc}
 use Rattle.mpm_mount.specs.Drives.{FileName, Drive}
-use Rattle.mpm_functions.specs.declared.errors.RecordError.{RecordError}
+use Rattle.mpm_file_functions.specs.declared.errors.RecordError.{RecordError}
 use Rattle.mpm_files.specs.Units.{FileUnit, all_applied}
-use Rattle.mpm_files.specs.Plans.{Plan, behind, unless_failing, write_error, write_units, writing}
+use Rattle.mpm_files.specs.Plans.{CallPlan, behind, unless_failing, write_error, write_units, writing}
 use Rattle.mpm_files.specs.Serving.{left_writing, Follows}
 
 -- the plan of a call that writes has the first of the units that there would be if none could fail
-ahead_of_all : (error : Option RecordError) (units : List FileUnit) (plan : Plan) (left : List FileUnit) → Follows plan.units 0 left
+ahead_of_all : (error : Option RecordError) (units : List FileUnit) (plan : CallPlan) (left : List FileUnit) → Follows plan.units 0 left
     → Follows (unless_failing error (behind units plan)).units 0 (units ++ left)
 ahead_of_all None units plan left first = record { rest = first.rest; same = append_assoc units plan.units first.rest ∙ ap (λ l. units ++ l) first.same }
 ahead_of_all (Some error) units plan left first = record { rest = units ++ left; same = refl }
@@ -20,7 +20,7 @@ unfolding writing left_writing
 writing_first [] drive file n stamp = record { rest = []; same = refl }
 writing_first (bytes ∷ records) drive file n stamp =
     let units : List FileUnit = write_units drive false file n bytes stamp in
-    let rest : Plan = writing (all_applied drive units) file (n + 1) records None in
+    let rest : CallPlan = writing (all_applied drive units) file (n + 1) records None in
     ahead_of_all (write_error drive file n) units rest (left_writing (all_applied drive units) false file (n + 1) records None)
     (writing_first records (all_applied drive units) file (n + 1) None)
 

@@ -9,13 +9,13 @@ use Rattle.mpm_jobs.specs.declared.jobs.Job.{Job}
 use Rattle.mpm_files.specs.declared.work.Work.{Work}
 use Rattle.mpm_files.specs.Units.{Idles, AddsEntry, stages, last_of, applied}
 use Rattle.mpm_files.specs.Plans.{plan_of, plan_by, file_of_job, unit_at}
-use Rattle.mpm_files.specs.Serving.{units_done, records_after, with_records, IsServing}
+use Rattle.mpm_files.specs.Serving.{units_done, records_after, with_records, IsServingJob}
 use Rattle.mpm_files.specs.Turning.{MayMake, SuitsKind, Suits}
 use Rattle.mpm_files.proofs.TurnLaws.{one_turn, no_turn}
 use Rattle.mpm_files.proofs.NoFile.{no_entry}
 use Rattle.mpm_files.proofs.Fitting.{added_entries}
 
-pub may_make : (before : Drive) (job : Job) (j : ℕ) (work : Work) → IsServing before job j work → work.job.kind ≡ Make → Suits before job → MayMake before job
+pub may_make : (before : Drive) (job : Job) (j : ℕ) (work : Work) → IsServingJob before job j work → work.job.kind ≡ Make → Suits before job → MayMake before job
 may_make before job j work serving is suits = subst (SuitsKind before job) (sym (ap (λ (q : Job). q.kind) serving.job_is) ∙ is) suits.kind
 
 -- its entry
@@ -26,7 +26,7 @@ pub record EntryFits (files : Drive) (job : Job) : Type 0 where
 some_left : (n m : ℕ) → suc m ≤ n → n ≢ 0
 some_left n m h none = omega (arith, h, none)
 
-pub made_entry_fits : (before : Drive) (job : Job) (j : ℕ) (work : Work) → IsServing before job j work → work.job.kind ≡ Make → Suits before job → work.ended ≡ 0
+pub made_entry_fits : (before : Drive) (job : Job) (j : ℕ) (work : Work) → IsServingJob before job j work → work.job.kind ≡ Make → Suits before job → work.ended ≡ 0
     → EntryFits (units_done before job j) work.job
 made_entry_fits before job j work serving is suits first =
     let may = may_make before job j work serving is suits in
@@ -47,7 +47,7 @@ entry_beside : (before : Drive) (job : Job) → (applied before (AddsEntry (file
 unfolding applied stages last_of
 entry_beside before job = refl
 
-pub made_xfcb_fits : (before : Drive) (job : Job) (j : ℕ) (work : Work) → IsServing before job j work → work.job.kind ≡ Make → Suits before job → work.ended ≡ 1
+pub made_xfcb_fits : (before : Drive) (job : Job) (j : ℕ) (work : Work) → IsServingJob before job j work → work.job.kind ≡ Make → Suits before job → work.ended ≡ 1
     → not (work.job.count == 0) ≡ true → one_if (not (is_some (get (units_done before job j).xfcbs (file_of_job work.job)))) ≤ free_entries (units_done before job j)
 made_xfcb_fits before job j work serving is suits second wanted =
     let may = may_make before job j work serving is suits in

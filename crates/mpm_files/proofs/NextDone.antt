@@ -17,9 +17,9 @@ use Rattle.mpm_jobs.specs.declared.jobs.Job.{Job}
 use Rattle.mpm_files.specs.declared.work.Work.{Work}
 use Rattle.mpm_files.specs.Units.{FileUnit, last_of, stages, applied}
 use Rattle.mpm_files.specs.Plans.{file_of_job, needs_entry, plan_of, unit_at}
-use Rattle.mpm_files.specs.Serving.{units_done, IsCleared, IsServing, IsInService}
-use Rattle.mpm_files.specs.Standing.{StandsOn, StandsAmong, StandsWithin, GoesThrough, Does, StandsCleared}
-use Rattle.mpm_files.specs.Turning.{Suits, InService, Contained, one_ended, DoesNext}
+use Rattle.mpm_files.specs.Serving.{units_done, IsCleared, IsServingJob, IsInService}
+use Rattle.mpm_files.specs.Standing.{StandsOn, StandsAmong, StandsWithinUnit, GoesThrough, DoesUnit, StandsCleared}
+use Rattle.mpm_files.specs.Turning.{Suits, JobInService, Contained, one_ended, DoesNext}
 use Rattle.mpm_files.proofs.TurnLaws.{one_turn}
 
 pub on_err : {A E P Q : Type 0} (result : Result A E) → (P → Q) → OnErr result P → OnErr result Q
@@ -29,11 +29,11 @@ on_err (Err e) f p = f p
 -- a unit is next, and the work after it serves the job
 pub record IsDone (before : Drive) (job : Job) (j : ℕ) (new : Work) (unit : FileUnit) : Type 0 where
   pub unit_is : unit_at before job j ≡ unit
-  pub serving : IsServing before job (suc j) (one_ended new)
+  pub serving : IsServingJob before job (suc j) (one_ended new)
 
 -- what a change went through are the unit's stages
 pub goes_as : {A E : Type 0} (disks : Disks) (drive : ℕ) (now : Directory) (files : Drive) (later : List Drive) (unit : FileUnit) (result : Result A E)
-    → GoesThrough disks drive now files later result → stages unit files ≡ later → Does disks drive now files unit result
+    → GoesThrough disks drive now files later result → stages unit files ≡ later → DoesUnit disks drive now files unit result
 unfolding applied
 goes_as disks drive now files later unit result goes is = record {
   ok = on_ok_weaker result (subst (λ l. StandsOn disks now (last_of files l)) (sym is)) goes.ok;
@@ -41,12 +41,12 @@ goes_as disks drive now files later unit result goes is = record {
 }
 
 -- of the same unit, in other words
-pub does_as : {A E : Type 0} (now : Disks) (drive : ℕ) (e : Directory) (files : Drive) (unit same : FileUnit) (result : Result A E) → unit ≡ same → Does now drive e files unit result
-    → Does now drive e files same result
-does_as now drive e files unit same result is does = subst (λ u. Does now drive e files u result) is does
+pub does_as : {A E : Type 0} (now : Disks) (drive : ℕ) (e : Directory) (files : Drive) (unit same : FileUnit) (result : Result A E) → unit ≡ same → DoesUnit now drive e files unit result
+    → DoesUnit now drive e files same result
+does_as now drive e files unit same result is does = subst (λ u. DoesUnit now drive e files u result) is does
 
 in_service : (now : Disks) (e : Directory) (before : Drive) (job : Job) (j : ℕ) (new : Work) (unit : FileUnit) → IsDone before job j new unit → new.cleared ≡ None
-    → StandsOn now e (applied (units_done before job j) unit) → InService now e before job (suc j) (one_ended new)
+    → StandsOn now e (applied (units_done before job j) unit) → JobInService now e before job (suc j) (one_ended new)
 in_service now e before job j new unit done none on = record {
   image = on.image;
   told = on.told;
@@ -59,13 +59,13 @@ in_service now e before job j new unit done none on = record {
 }
 
 contained : (now : Disks) (drive : ℕ) (before : Drive) (job : Job) (j : ℕ) (unit : FileUnit) → unit_at before job j ≡ unit
-    → StandsWithin now drive (units_done before job j) unit → Contained now drive before job j
-contained now drive before job j unit is within = record { within = subst (StandsWithin now drive (units_done before job j)) (sym is) within }
+    → StandsWithinUnit now drive (units_done before job j) unit → Contained now drive before job j
+contained now drive before job j unit is within = record { within = subst (StandsWithinUnit now drive (units_done before job j)) (sym is) within }
 
 -- a device failed within a unit that was next
 pub fails_next : {A E : Type 0} (disks now : Disks) (d e : Directory) (old new : Work) (error : E)
     → ((image : List ℕ) (before : Drive) (job : Job) (j : ℕ) → disks.image d.drive ≡ Some image → Suits before job → IsInService image d before job j old
-    → j < length (plan_of before job).units → (unit : FileUnit) × ((unit_at before job j ≡ unit) × StandsWithin now d.drive (units_done before job j) unit))
+    → j < length (plan_of before job).units → (unit : FileUnit) × ((unit_at before job j ≡ unit) × StandsWithinUnit now d.drive (units_done before job j) unit))
     → DoesNext {A = A} disks now d e old new (Err error)
 fails_next disks now d e old new error by = record {
   ok = λ before job j suits service h. tt;
@@ -83,7 +83,7 @@ pub record HasCleared (now : Disks) (d : Directory) (before : Drive) (job : Job)
   pub entered : needs_entry (units_done before job j) (file_of_job new.job) (new.job.first + new.moved) ≡ false
 
 still_in_service : (now : Disks) (d : Directory) (before : Drive) (job : Job) (j : ℕ) (new : Work) → HasCleared now d before job j new
-    → InService now d before job (suc j) (one_ended new)
+    → JobInService now d before job (suc j) (one_ended new)
 still_in_service now d before job j new has =
     let same : units_done before job (suc j) ≡ units_done before job j = one_turn before job j ∙ ap (applied (units_done before job j)) has.done.unit_is ∙ has.same in
     record {
@@ -108,7 +108,7 @@ clears_next disks now d old new x by = record {
 
 -- what is done of a job in service
 abbrev pub Done : {A E : Type 0} → Disks → Directory → Directory → Work → Work → Drive → Job → ℕ → Result A E → Type 0
-Done now d e old new before job j result = (unit : FileUnit) × (IsDone before job j new unit × Does now d.drive e (units_done before job j) unit result)
+Done now d e old new before job j result = (unit : FileUnit) × (IsDone before job j new unit × DoesUnit now d.drive e (units_done before job j) unit result)
 
 pub does_next : {A E : Type 0} (disks now : Disks) (d e : Directory) (old new : Work) (result : Result A E) → new.cleared ≡ None
     → ((image : List ℕ) (before : Drive) (job : Job) (j : ℕ) → disks.image d.drive ≡ Some image → Suits before job → IsInService image d before job j old
@@ -127,7 +127,7 @@ does_next disks now d e old new result none by = record {
 pub put_does : {A E : Type 0} (disks now : Disks) (d e : Directory) (old new : Work) (slot : ℕ) (entry : Entry) (result : Result A E) → new.cleared ≡ None
     → ((image : List ℕ) (files : Drive) → disks.image d.drive ≡ Some image → Stands image d files
     → GoesThrough now d.drive e files (exchanged (sectors_of image d.kind) files (entry_in d slot) entry ∷ []) result)
-    → ((image : List ℕ) (before : Drive) (job : Job) (j : ℕ) → Suits before job → Stands image d (units_done before job j) → IsServing before job j old → j < length (plan_of before job).units
+    → ((image : List ℕ) (before : Drive) (job : Job) (j : ℕ) → Suits before job → Stands image d (units_done before job j) → IsServingJob before job j old → j < length (plan_of before job).units
     → (unit : FileUnit) × (IsDone before job j new unit × (stages unit (units_done before job j) ≡ exchanged (sectors_of image d.kind) (units_done before job j) (entry_in d slot) entry ∷ [])))
     → DoesNext disks now d e old new result
 put_does disks now d e old new slot entry result none puts by = does_next disks now d e old new result none (λ image before job j told suits service h.

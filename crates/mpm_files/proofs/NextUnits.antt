@@ -6,7 +6,7 @@ use Rattle.std.specs.FinMap.{get}
 use Rattle.std.proofs.lemmas.Bool.{true≢false, not-true}
 use Rattle.mpm_mount.specs.Drives.{FileName, PhysicalExtent, Drive, places, entry_number, entry_name}
 use Rattle.mpm_files.specs.Units.{FileUnit, AddsEntry, ClearsBlock, WritesRecord, ReadsRecord, PassesRecord, new_entry, stages, last_of, applied, all_applied}
-use Rattle.mpm_files.specs.Plans.{Test, has_record, needs_entry, has_block, needs_block, clears_blocks, when, write_units}
+use Rattle.mpm_files.specs.Plans.{TestedRecord, has_record, needs_entry, has_block, needs_block, clears_blocks, when, write_units}
 use Rattle.mpm_files.specs.Serving.{left_writing, left_reading, left_passing, left_testing, Follows}
 use Rattle.mpm_files.proofs.Left.{first_left}
 use Rattle.mpm_files.proofs.Recorded.{at_itself}
@@ -111,14 +111,14 @@ passes_left file first done count h =
     ∙ sym (ap (λ c. PassesRecord file (first + done) ∷ left_passing file (first + (done + 1)) c) left.2)
 
 -- a record that is tested: it has the bytes, or is the first that is passed
-pub match_left : (files : Drive) (file : FileName) (n : ℕ) (test : Test) (tests : List Test) (stamp : Option (List ℕ)) → has_record files file n test.expected ≡ true
+pub match_left : (files : Drive) (file : FileName) (n : ℕ) (test : TestedRecord) (tests : List TestedRecord) (stamp : Option (List ℕ)) → has_record files file n test.expected ≡ true
     → left_testing files file n (test ∷ tests) stamp ≡ WritesRecord file n test.bytes stamp ∷ left_testing (applied files (WritesRecord file n test.bytes stamp)) file (n + 1) tests None
 unfolding left_testing
 match_left files file n test tests stamp has =
     let unit : FileUnit = WritesRecord file n test.bytes stamp in
     ap (λ b. if b then unit ∷ left_testing (applied files unit) file (n + 1) tests None else left_passing file n (suc (length tests))) has
 
-pub mismatch_left : (files : Drive) (file : FileName) (n : ℕ) (test : Test) (tests : List Test) (stamp : Option (List ℕ)) → has_record files file n test.expected ≡ false
+pub mismatch_left : (files : Drive) (file : FileName) (n : ℕ) (test : TestedRecord) (tests : List TestedRecord) (stamp : Option (List ℕ)) → has_record files file n test.expected ≡ false
     → left_testing files file n (test ∷ tests) stamp ≡ left_passing file n (suc (length tests))
 unfolding left_testing
 mismatch_left files file n test tests stamp has =

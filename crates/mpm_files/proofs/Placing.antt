@@ -31,7 +31,7 @@ use Rattle.mpm_mount.proofs.Distinct.{xfcb_by, label_by}
 use Rattle.mpm_jobs.specs.declared.jobs.Job.{Job}
 use Rattle.mpm_files.specs.Units.{FileUnit, AddsEntry, SetsAttributes, RenamesEntry, PutsXfcb, RenamesXfcb, PutsLabel, new_entry, with_attributes, stages, last_of, applied}
 use Rattle.mpm_files.specs.Plans.{file_of_job, new_file_of_job, protection_in}
-use Rattle.mpm_files.specs.Standing.{StandsOn, Does}
+use Rattle.mpm_files.specs.Standing.{StandsOn, DoesUnit}
 use Rattle.mpm_files.specs.Turning.{IsFileAt, xfcb_of_job, label_of_job, marks_set}
 use Rattle.mpm_files.proofs.NoFile.{there_at}
 
@@ -316,7 +316,7 @@ no_attributes extents none = sym (ap (λ o. unwrap_or o (replicate 11 false)) no
 
 -- a unit without stages is done by nothing
 pub does_nothing : {E : Type 0} (disks : Disks) (d : Directory) (files : Drive) (image : List ℕ) (unit : FileUnit) → disks.image d.drive ≡ Some image → Stands image d files → stages unit files ≡ []
-    → Does {A = Unit {0}} {E = E} disks d.drive d files unit (Ok tt)
+    → DoesUnit {A = Unit {0}} {E = E} disks d.drive d files unit (Ok tt)
 unfolding applied last_of
 does_nothing disks d files image unit told stands none = record {
   ok = subst (λ l. StandsOn disks d (last_of files l)) (sym none) (record { image = image; told = told; stands = stands });

@@ -15,16 +15,16 @@ use Rattle.mpm_mount.specs.Attributes.{attributes_in}
 use Rattle.mpm_mount.proofs.FreeEntries.{free_entries_same}
 use Rattle.mpm_mount.proofs.FreeRecords.{free_records_same}
 use Rattle.mpm_mount.proofs.LookedUp.{kind_of}
-use Rattle.mpm_functions.specs.declared.errors.RecordError.{RecordError}
+use Rattle.mpm_file_functions.specs.declared.errors.RecordError.{RecordError}
 use Rattle.mpm_jobs.specs.declared.jobs.JobKind.{JobKind}
 use Rattle.mpm_jobs.specs.declared.jobs.JobKind.TheVariants.{Read, Write, TestWrite, Make, Delete, Rename, Attributes, Label, Xfcb, Nothing}
 use Rattle.mpm_jobs.specs.declared.jobs.Job.{Job}
 use Rattle.mpm_files.specs.declared.counting.Count.{Count}
 use Rattle.mpm_files.specs.Units.{FileUnit, AddsEntry, ReadsRecord, PassesRecord, WritesRecord, SetsAttributes, PutsXfcb, applied, all_applied}
-use Rattle.mpm_files.specs.Plans.{Plan, Test, behind, unless_failing, when, file_of_job, new_file_of_job, record_at, reading, needs_entry, needs_block, has_record, passing, testing, test_at, each, of_entries, protection_in, records_of_job, tests_of_job, plan_by, plan_of}
+use Rattle.mpm_files.specs.Plans.{CallPlan, TestedRecord, behind, unless_failing, when, file_of_job, new_file_of_job, record_at, reading, needs_entry, needs_block, has_record, passing, testing, test_at, each, of_entries, protection_in, records_of_job, tests_of_job, plan_by, plan_of}
 use Rattle.mpm_mount.specs.Records.{read_error, record_error}
 use Rattle.mpm_files.specs.Counting.{unless_refused, same_entry, same_block, entry_more, block_more, room_error, record_units, read_count, write_count, lacks_entry, lacks_block, unit_count_by, unit_count}
-use Rattle.mpm_files.specs.Serving.{Follows, all_read, left_writing, left_reading, left_passing, left_testing, is_later, left_setting, left_by, left_of, untested_by, untested_plan, with_records, missed_by, IsServing, IsInService, begun}
+use Rattle.mpm_files.specs.Serving.{Follows, all_read, left_writing, left_reading, left_passing, left_testing, is_later, left_setting, left_by, left_of, untested_by, untested_plan, with_records, missed_by, IsServingJob, IsInService, begun}
 use Rattle.mpm_files.proofs.Left.{writing_first}
 use Rattle.mpm_files.proofs.WriteCounts.{count_of, counted_writing}
 use Rattle.mpm_files.proofs.Tied.{entry_needed, block_needed, image_whole}
@@ -73,7 +73,7 @@ writing_planned image d files job stands =
 testing_planned : (image : List ℕ) (d : Directory) (files : Drive) (job : Job) → Stands image d files → counts files job TestWrite ≡ unit_count_by d job TestWrite
 testing_planned image d files job stands =
     let file : FileName = file_of_job job in
-    let plan : Plan = reading files file job.first job.count in
+    let plan : CallPlan = reading files file job.first job.count in
     ap (λ n. record { units = n; error = plan.error })
     (testing_counted (tests_of_job job) files file job.first job.stamp (image_whole image d files file stands)
     ∙ ap (λ n. (read_count (read_error files file) job.first n).units) (length-map-range_with_len (test_at job.bytes job.count) 0 job.count)
@@ -105,7 +105,7 @@ counted_by_kind image d files job Nothing stands = refl
 all_left : (units : List FileUnit) → Follows units 0 units
 all_left units = record { rest = []; same = append-nil units }
 
-one_ahead : (error : Option RecordError) (unit : FileUnit) (plan : Plan) (left : List FileUnit) → Follows plan.units 0 left
+one_ahead : (error : Option RecordError) (unit : FileUnit) (plan : CallPlan) (left : List FileUnit) → Follows plan.units 0 left
     → Follows (unless_failing error (behind (unit ∷ []) plan)).units 0 (unit ∷ left)
 one_ahead None unit plan left first = record { rest = first.rest; same = ap (λ l. unit ∷ l) first.same }
 one_ahead (Some error) unit plan left first = record { rest = unit ∷ left; same = refl }
@@ -115,24 +115,24 @@ unfolding reading
 reading_first zero files file n = record { rest = []; same = refl }
 reading_first (suc count) files file n = one_ahead (read_error files file n) (ReadsRecord file n) (reading files file (n + 1) count) (left_reading file (n + 1) count) (reading_first count files file (n + 1))
 
-passing_by : (failed : Bool) (unit : FileUnit) (plan none : Plan) (left : List FileUnit) → Follows plan.units 0 left → none.units ≡ []
+passing_by : (failed : Bool) (unit : FileUnit) (plan none : CallPlan) (left : List FileUnit) → Follows plan.units 0 left → none.units ≡ []
     → Follows (if failed then none else (behind (unit ∷ []) plan)).units 0 (unit ∷ left)
 passing_by true unit plan none left first empty = record { rest = unit ∷ left; same = ap (λ l. l ++ (unit ∷ left)) empty }
 passing_by false unit plan none left first empty = record { rest = first.rest; same = ap (λ l. unit ∷ l) first.same }
 
-passing_first : (tests : List Test) (files : Drive) (file : FileName) (n : ℕ) → Follows (passing files file n tests).units 0 (left_passing file n (length tests))
+passing_first : (tests : List TestedRecord) (files : Drive) (file : FileName) (n : ℕ) → Follows (passing files file n tests).units 0 (left_passing file n (length tests))
 unfolding passing
 passing_first [] files file n = record { rest = []; same = refl }
 passing_first (test ∷ tests) files file n =
     passing_by (is_some (read_error files file n)) (PassesRecord file n) (passing files file (n + 1) tests) _ (left_passing file (n + 1) (length tests)) (passing_first tests files file (n + 1)) refl
 
-testing_by : (error : Option RecordError) (b : Bool) (unit : FileUnit) (plan other : Plan) (left more : List FileUnit) → Follows plan.units 0 left → Follows other.units 0 more
+testing_by : (error : Option RecordError) (b : Bool) (unit : FileUnit) (plan other : CallPlan) (left more : List FileUnit) → Follows plan.units 0 left → Follows other.units 0 more
     → Follows (unless_failing error (if b then behind (unit ∷ []) plan else other)).units 0 (if b then unit ∷ left else more)
 testing_by (Some error) b unit plan other left more first second = record { rest = if b then unit ∷ left else more; same = refl }
 testing_by None true unit plan other left more first second = record { rest = first.rest; same = ap (λ l. unit ∷ l) first.same }
 testing_by None false unit plan other left more first second = second
 
-testing_first : (tests : List Test) (files : Drive) (file : FileName) (n : ℕ) (stamp : Option (List ℕ)) → Follows (testing files file n tests stamp).units 0 (left_testing files file n tests stamp)
+testing_first : (tests : List TestedRecord) (files : Drive) (file : FileName) (n : ℕ) (stamp : Option (List ℕ)) → Follows (testing files file n tests stamp).units 0 (left_testing files file n tests stamp)
 unfolding testing left_testing
 testing_first [] files file n stamp = record { rest = []; same = refl }
 testing_first (test ∷ tests) files file n stamp =
@@ -191,7 +191,7 @@ no_records : (job : Job) → job ≡ with_records job []
 no_records job = refl
 
 serving_begins : (image : List ℕ) (d : Directory) (before : Drive) (job : Job) (count : Count) → Stands image d before → count ≡ unit_count d job
-    → IsServing before job 0 (begun job count)
+    → IsServingJob before job 0 (begun job count)
 unfolding unit_count plan_of untested_plan left_of all_applied all_read
 serving_begins image d before job count stands is =
     let same : counts before job job.kind ≡ count = counted_by_kind image d before job job.kind stands ∙ sym is in

@@ -1,6 +1,6 @@
 -- Records that are read, counted one after the other.
 use Rattle.std.proofs.Common.{◌≡◌, ℕ, suc, ◌+◌, ◌<◌, Option, Some, None, sym, ap, ◌∙◌, arith}
-use Rattle.mpm_functions.specs.declared.errors.RecordError.{RecordError}
+use Rattle.mpm_file_functions.specs.declared.errors.RecordError.{RecordError}
 use Rattle.mpm_files.specs.declared.counting.Count.{Count}
 use Rattle.mpm_files.specs.Counting.{counted, unless_refused, read_count}
 use Rattle.mpm_base.proofs.CountLaws.{less_by}

@@ -10,14 +10,14 @@ use Rattle.mpm_port.specs.Disks.{Disks}
 use Rattle.mpm_mount.specs.Drives.{FileName, Drive, extent_at, visible_of}
 use Rattle.mpm_mount.specs.Directories.{Directory, Stands}
 use Rattle.mpm_mount.specs.Files.{where_there}
-use Rattle.mpm_functions.specs.declared.errors.RecordError.TheVariants.{UnwrittenExtent, UnwrittenData}
+use Rattle.mpm_file_functions.specs.declared.errors.RecordError.TheVariants.{UnwrittenExtent, UnwrittenData}
 use Rattle.mpm_jobs.specs.declared.jobs.JobKind.TheVariants.{Read}
 use Rattle.mpm_jobs.specs.declared.jobs.Job.{Job}
 use Rattle.mpm_files.specs.declared.work.Work.{Work}
 use Rattle.mpm_files.specs.Units.{FileUnit, Idles, ReadsRecord, PassesRecord, AddsEntry, ClearsBlock, WritesRecord, RemovesEntry, SetsAttributes, RenamesEntry, PutsXfcb, RemovesXfcb, RenamesXfcb, PutsLabel, stages, last_of, applied}
 use Rattle.mpm_files.specs.Plans.{file_of_job, behind, reading, plan_by, plan_of, unit_at}
 use Rattle.mpm_mount.specs.Records.{read_error}
-use Rattle.mpm_files.specs.Serving.{units_done, records_moved, record_read, all_read, records_after, with_records, missed_by, has_missed, left_reading, Follows, IsServing}
+use Rattle.mpm_files.specs.Serving.{units_done, records_moved, record_read, all_read, records_after, with_records, missed_by, has_missed, left_reading, Follows, IsServingJob}
 use Rattle.mpm_files.specs.Standing.{StandsOn}
 use Rattle.mpm_files.specs.Turning.{Suits, DoesNext, one_ended, with_record_read}
 use Rattle.mpm_files.proofs.StandingLaws.{stays}
@@ -27,7 +27,7 @@ use Rattle.mpm_files.proofs.NextDone.{IsDone, fails_next}
 use Rattle.mpm_files.proofs.DeleteTurns.{never_empty}
 use Rattle.mpm_files.proofs.Fitting.{AllSo, unless_so, IsThere, so_at, reading_there}
 
-kind_is : (before : Drive) (job : Job) (j : ℕ) (work : Work) → IsServing before job j work → work.job.kind ≡ Read → job.kind ≡ Read
+kind_is : (before : Drive) (job : Job) (j : ℕ) (work : Work) → IsServingJob before job j work → work.job.kind ≡ Read → job.kind ≡ Read
 kind_is before job j work serving is = sym (ap (λ (q : Job). q.kind) serving.job_is) ∙ is
 
 quiet : (before : Drive) (job : Job) (j k : ℕ) → job.kind ≡ Read → has_missed before job k ≡ has_missed before job j
@@ -40,7 +40,7 @@ read_now work = work.job.first + work.ended
 pub none_left : (count done : ℕ) → count ≤ done → count - done ≡ 0
 none_left count done h = omega arith
 
-pub reads_more : (before : Drive) (job : Job) (j : ℕ) (work : Work) → IsServing before job j work → work.job.kind ≡ Read → j < length (plan_of before job).units → work.ended < work.job.count
+pub reads_more : (before : Drive) (job : Job) (j : ℕ) (work : Work) → IsServingJob before job j work → work.job.kind ≡ Read → j < length (plan_of before job).units → work.ended < work.job.count
 reads_more before job j work serving is h = by_size (cases_lt work.ended work.job.count)
   where
     by_size : (work.ended < work.job.count) ⊎ (work.job.count ≤ work.ended) → work.ended < work.job.count
@@ -49,7 +49,7 @@ reads_more before job j work serving is h = by_size (cases_lt work.ended work.jo
         absurd (never_empty (plan_of before job).units j _ (subst (Follows (plan_of before job).units j) (left_as (units_done before job j) work Read is) serving.left)
         (ap (left_reading (file_of_job work.job) (read_now work)) (none_left work.job.count work.ended over)) h)
 
-next_read : (before : Drive) (job : Job) (j : ℕ) (work : Work) → IsServing before job j work → work.job.kind ≡ Read → j < length (plan_of before job).units
+next_read : (before : Drive) (job : Job) (j : ℕ) (work : Work) → IsServingJob before job j work → work.job.kind ≡ Read → j < length (plan_of before job).units
     → (unit_at before job j ≡ ReadsRecord (file_of_job work.job) (read_now work))
     × Follows (plan_of before job).units (suc j) (left_reading (file_of_job work.job) (work.job.first + (work.ended + 1)) (work.job.count - (work.ended + 1)))
 next_read before job j work serving is h =
@@ -58,7 +58,7 @@ next_read before job j work serving is h =
     (reads_left (file_of_job work.job) work.job.first work.ended work.job.count (reads_more before job j work serving is h)) h
 
 -- it is there
-pub record_there : (before : Drive) (job : Job) (j : ℕ) (work : Work) → IsServing before job j work → work.job.kind ≡ Read → j < length (plan_of before job).units
+pub record_there : (before : Drive) (job : Job) (j : ℕ) (work : Work) → IsServingJob before job j work → work.job.kind ≡ Read → j < length (plan_of before job).units
     → read_error (units_done before job j) (file_of_job work.job) (read_now work) ≡ None
 unfolding plan_of
 record_there before job j work serving is h =
@@ -67,7 +67,7 @@ record_there before job j work serving is h =
     (subst (λ k. AllSo IsThere before (plan_by before job k).units) (sym (kind_is before job j work serving is)) (reading_there job.count before (file_of_job job) job.first)) h)
 
 -- its number, and how many were read, fit
-pub read_small : (before : Drive) (job : Job) (j : ℕ) (work : Work) → IsServing before job j work → work.job.kind ≡ Read → j < length (plan_of before job).units → Suits before job
+pub read_small : (before : Drive) (job : Job) (j : ℕ) (work : Work) → IsServingJob before job j work → work.job.kind ≡ Read → j < length (plan_of before job).units → Suits before job
     → read_now work ≤ 262286
 read_small before job j work serving is h suits =
     omega (arith, reads_more before job j work serving is h, ap (λ (q : Job). q.first) serving.job_is, ap (λ (q : Job). q.count) serving.job_is, suits.first, suits.count)
@@ -93,7 +93,7 @@ moves_few [] (suc j) = omega arith
 moves_few (u ∷ us) zero = omega arith
 moves_few (u ∷ us) (suc j) = omega (arith, moves_one u, moves_few us j, sum_by-cons records_moved u (take j us))
 
-pub few_read : (before : Drive) (job : Job) (j : ℕ) (work : Work) → IsServing before job j work → work.job.kind ≡ Read → j < length (plan_of before job).units → Suits before job
+pub few_read : (before : Drive) (job : Job) (j : ℕ) (work : Work) → IsServingJob before job j work → work.job.kind ≡ Read → j < length (plan_of before job).units → Suits before job
     → work.moved < 16
 few_read before job j work serving is h suits =
     omega (arith, reads_more before job j work serving is h, ap (λ (q : Job). q.count) serving.job_is, suits.count, serving.moved, serving.ended, moves_few (plan_of before job).units j)
@@ -131,7 +131,7 @@ as_many_read (u ∷ us) (suc j) drive all =
     length-append (record_read drive u) (all_read (applied drive u) (take j us))
     ∙ omega (arith, all.0, as_many_read us j (applied drive u) all.1, sum_by-cons records_moved u (take j us))
 
-moved_read : (before : Drive) (job : Job) (j : ℕ) (work : Work) → IsServing before job j work → work.job.kind ≡ Read → work.moved ≡ length (records_after before job j)
+moved_read : (before : Drive) (job : Job) (j : ℕ) (work : Work) → IsServingJob before job j work → work.job.kind ≡ Read → work.moved ≡ length (records_after before job j)
 unfolding plan_of
 moved_read before job j work serving is =
     serving.moved ∙ sym (as_many_read (plan_of before job).units j before
@@ -167,7 +167,7 @@ flat_size job rs size whole few =
     omega (arith, whole, size, few, length-append (flat_map (λ bytes. bytes) rs) (drop (128 * length rs) job.bytes), length-drop (128 * length rs) job.bytes)
 
 -- the turn of a record that is read
-pub record_was_read : (before : Drive) (job : Job) (j : ℕ) (work : Work) (bytes : List ℕ) → IsServing before job j work → work.job.kind ≡ Read → j < length (plan_of before job).units
+pub record_was_read : (before : Drive) (job : Job) (j : ℕ) (work : Work) (bytes : List ℕ) → IsServingJob before job j work → work.job.kind ≡ Read → j < length (plan_of before job).units
     → length job.bytes ≡ 4096 → length work.job.bytes ≡ 4096 → work.moved ≤ 32 → visible_of (units_done before job j) (file_of_job work.job) (read_now work) ≡ Some bytes
     → IsDone before job j (with_record_read (record work { cleared = None }) bytes) (ReadsRecord (file_of_job work.job) (read_now work))
 unfolding applied stages last_of

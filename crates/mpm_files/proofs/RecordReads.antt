@@ -23,7 +23,7 @@ use Rattle.mpm_mount.specs.Records.{read_error, record_error}
 use Rattle.mpm_files.specs.Plans.{has_block, needs_block}
 use Rattle.mpm_files.specs.Counting.{number_in, lacks_block_at, lacks_block}
 use Rattle.mpm_files.specs.Lookups.{HasEntry, IsHeldAt, sector_at, record_sector}
-use Rattle.mpm_files.specs.Standing.{Does}
+use Rattle.mpm_files.specs.Standing.{DoesUnit}
 use Rattle.mpm_files.proofs.StandingLaws.{goes_nowhere, stays, does}
 use Rattle.mpm_files.proofs.HeldRecords.{index_within, held_inside}
 use Rattle.mpm_files.proofs.RecordUnits.{lacks_is}
@@ -121,7 +121,7 @@ reads_visible image d files file n out (Ok x) stands none read = (is_readable im
 
 -- nothing is written
 pub reads_only : {A E : Type 0} (image : List ℕ) (d : Directory) (files : Drive) (file : FileName) (n : ℕ) (old new : Disks) (result : Result A E) → old.image d.drive ≡ Some image
-    → Stands image d files → new ≡ old → Does new d.drive d files (ReadsRecord file n) result
+    → Stands image d files → new ≡ old → DoesUnit new d.drive d files (ReadsRecord file n) result
 unfolding stages
 reads_only image d files file n old new (Ok x) told stands same =
     does new d.drive d files (ReadsRecord file n) [] (Ok x) refl

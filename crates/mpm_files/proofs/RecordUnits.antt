@@ -24,7 +24,7 @@ use Rattle.mpm_files.specs.Units.{WritesRecord, ClearsBlock, fresh_records, with
 use Rattle.mpm_files.specs.Plans.{clears_blocks}
 use Rattle.mpm_files.specs.Counting.{lacks_entry, number_in, lacks_block_at, lacks_block}
 use Rattle.mpm_files.specs.Lookups.{HasEntry}
-use Rattle.mpm_files.specs.Standing.{StandsOn, GoesThrough, Does, HasFreshBlock, StandsCleared, cleared_of, with_record, with_taken, raises}
+use Rattle.mpm_files.specs.Standing.{StandsOn, GoesThrough, DoesUnit, HasFreshBlock, StandsCleared, cleared_of, with_record, with_taken, raises}
 use Rattle.mpm_files.proofs.StandingLaws.{goes_nowhere, stays, goes_on, goes_stopped, does}
 use Rattle.mpm_files.proofs.EntryPuts.{all_told}
 use Rattle.mpm_files.proofs.HeldRecords.{index_within}
@@ -71,7 +71,7 @@ pub held_done : {A B E : Type 0} (image : List ℕ) (d now : Directory) (files :
     → GoesThrough {A = A} {E = E} mid d.drive d files (with_extent files (name_of d.kind f) (with_record d.kind n bytes (extent_in (sectors_of image d.kind) d.kind f)) ∷ []) (Ok x)
     → ((i : List ℕ) (before : Drive) → mid.image d.drive ≡ Some i → Stands i d before
     → GoesThrough new d.drive now before (with_stamp file moment before (raises d.kind n f before (extent_in (sectors_of i d.kind) d.kind f))) result)
-    → Does new d.drive now files (WritesRecord file n bytes moment) result
+    → DoesUnit new d.drive now files (WritesRecord file n bytes moment) result
 unfolding last_of
 held_done image d now files file n slot f bytes moment mid new x result stands has some first second =
     let there : PhysicalExtent = with_record d.kind n bytes (extent_in (sectors_of image d.kind) d.kind f) in
@@ -87,7 +87,7 @@ held_done image d now files file n slot f bytes moment mid new x result stands h
 pub held_failed : {A B E : Type 0} (image : List ℕ) (d now : Directory) (files : Drive) (file : FileName) (n slot : ℕ) (f : FileEntry) (bytes : List ℕ) (moment : Option (List ℕ))
     (disks : Disks) (error : E) → Stands image d files → HasEntry d file n slot f → block_at f (block_place d.kind n) ≢ 0
     → GoesThrough {A = A} disks d.drive d files (with_extent files (name_of d.kind f) (with_record d.kind n bytes (extent_in (sectors_of image d.kind) d.kind f)) ∷ []) (Err error)
-    → Does {A = B} disks d.drive now files (WritesRecord file n bytes moment) (Err error)
+    → DoesUnit {A = B} disks d.drive now files (WritesRecord file n bytes moment) (Err error)
 unfolding last_of
 held_failed image d now files file n slot f bytes moment disks error stands has some first =
     let there : PhysicalExtent = with_record d.kind n bytes (extent_in (sectors_of image d.kind) d.kind f) in
@@ -127,7 +127,7 @@ pub fresh_done : {A B E : Type 0} (image : List ℕ) (d now : Directory) (files 
     → ((i : List ℕ) (before : Drive) → mid.image d.drive ≡ Some i → Stands i d before
     → GoesThrough new d.drive now before (with_stamp file moment before
     (with_extent before (name_of d.kind f) (with_taken d.kind n (contents_of (sectors_of i d.kind) d.kind block) (extent_in (sectors_of i d.kind) d.kind f)) ∷ [])) result)
-    → Does new d.drive now files (WritesRecord file n bytes moment) result
+    → DoesUnit new d.drive now files (WritesRecord file n bytes moment) result
 fresh_done image d now files file n slot block clear index f bytes cleared moment old mid new x result told stands has none free is fresh long at puts second =
     let less : index < block_records d.kind = subst (λ (i : ℕ). i < block_records d.kind) (sym at) (index_within d.kind n) in
     let ws : List Write = block_writes d.kind block clear index bytes in
@@ -152,7 +152,7 @@ fresh_done image d now files file n slot block clear index f bytes cleared momen
 pub fresh_failed : {A B E : Type 0} (image : List ℕ) (d now : Directory) (files : Drive) (file : FileName) (n block clear index : ℕ) (bytes : List ℕ) (cleared : Option ℕ) (moment : Option (List ℕ)) (old new : Disks)
     (error : E) → old.image d.drive ≡ Some image → Stands image d files → free_block d ≡ Some block → cleared_of (clears_blocks d.kind) cleared block ≡ Some clear → length bytes ≡ 128
     → index < block_records d.kind → Puts {A = A} {E = E} d.drive d.kind (block_writes d.kind block clear index bytes) old new (Err error)
-    → Does {A = B} new d.drive now files (WritesRecord file n bytes moment) (Err error)
+    → DoesUnit {A = B} new d.drive now files (WritesRecord file n bytes moment) (Err error)
 fresh_failed image d now files file n block clear index bytes cleared moment old new error told stands free is long less puts =
     does new d.drive now files (WritesRecord file n bytes moment) (stages (WritesRecord file n bytes moment) files) (Err error) refl
     (stays new d.drive d now files (stages (WritesRecord file n bytes moment) files) error refl (record {
@@ -170,7 +170,7 @@ enough Hd4 clears = absurd (false≢true clears)
 enough Hd8 clears = omega arith
 
 pub clears_none : {A E : Type 0} (disks : Disks) (d : Directory) (image : List ℕ) (files : Drive) (file : FileName) (n : ℕ) (result : A) → disks.image d.drive ≡ Some image
-    → Stands image d files → Does {A = A} {E = E} disks d.drive d files (ClearsBlock file n) (Ok result)
+    → Stands image d files → DoesUnit {A = A} {E = E} disks d.drive d files (ClearsBlock file n) (Ok result)
 unfolding stages
 clears_none disks d image files file n result told stands =
     does disks d.drive d files (ClearsBlock file n) [] (Ok result) refl (goes_nowhere disks d.drive d files result (record { image = image; told = told; stands = stands }))
@@ -178,7 +178,7 @@ clears_none disks d image files file n result told stands =
 pub clears_first : {A B E : Type 0} (old new : Disks) (d : Directory) (image : List ℕ) (files : Drive) (file : FileName) (n block : ℕ) (x : A) (result : B) → old.image d.drive ≡ Some image
     → Stands image d files → clears_blocks d.kind ≡ true → free_block d ≡ Some block
     → Puts {A = A} {E = E} d.drive d.kind (zeros_from (sectors.block_sector d.kind block) 18) old new (Ok x)
-    → Does {A = B} {E = E} new d.drive d files (ClearsBlock file n) (Ok result)
+    → DoesUnit {A = B} {E = E} new d.drive d files (ClearsBlock file n) (Ok result)
 clears_first old new d image files file n block x result told stands clears free puts =
     let ws : List Write = zeros_from (sectors.block_sector d.kind block) 18 in
     clears_none new d (written d.kind ws image) files file n result (all_told old new d.drive d.kind ws image puts.ok told)
@@ -187,7 +187,7 @@ clears_first old new d image files file n block x result told stands clears free
 pub clears_stopped : {A B E : Type 0} (old new : Disks) (d : Directory) (image : List ℕ) (files : Drive) (file : FileName) (n block : ℕ) (error : E) → old.image d.drive ≡ Some image
     → Stands image d files → clears_blocks d.kind ≡ true → free_block d ≡ Some block
     → Puts {A = A} {E = E} d.drive d.kind (zeros_from (sectors.block_sector d.kind block) 18) old new (Err error)
-    → Does {A = B} new d.drive d files (ClearsBlock file n) (Err error)
+    → DoesUnit {A = B} new d.drive d files (ClearsBlock file n) (Err error)
 clears_stopped old new d image files file n block error told stands clears free puts =
     does new d.drive d files (ClearsBlock file n) (stages (ClearsBlock file n) files) (Err error) refl
     (stays new d.drive d d files (stages (ClearsBlock file n) files) error refl (record {

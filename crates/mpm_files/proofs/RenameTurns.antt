@@ -27,7 +27,7 @@ use Rattle.mpm_jobs.specs.declared.jobs.Job.{Job}
 use Rattle.mpm_files.specs.declared.work.Work.{Work}
 use Rattle.mpm_files.specs.Units.{FileUnit, Idles, ReadsRecord, PassesRecord, AddsEntry, ClearsBlock, WritesRecord, RemovesEntry, SetsAttributes, RenamesEntry, PutsXfcb, RemovesXfcb, RenamesXfcb, PutsLabel, stages, last_of, applied, all_applied}
 use Rattle.mpm_files.specs.Plans.{plan_of, file_of_job, new_file_of_job, each, when, of_xfcb, of_entries, renaming, plan_by, unit_at}
-use Rattle.mpm_files.specs.Serving.{units_done, records_moved, record_read, missed_by, has_missed, Follows, IsServing}
+use Rattle.mpm_files.specs.Serving.{units_done, records_moved, record_read, missed_by, has_missed, Follows, IsServingJob}
 use Rattle.mpm_files.specs.Turning.{MayRename, SuitsKind, Suits, one_ended}
 use Rattle.mpm_files.proofs.NextRenamed.{renaming_as, renaming_next, renamed_over_next, renamed_xfcb_next}
 use Rattle.mpm_files.proofs.Left.{nothing_left}
@@ -166,21 +166,21 @@ file_now work = file_of_job work.job
 abbrev new_now : Work → FileName
 new_now work = new_file_of_job work.job
 
-left_named : (before : Drive) (job : Job) (j : ℕ) (work : Work) → IsServing before job j work → work.job.kind ≡ Rename
+left_named : (before : Drive) (job : Job) (j : ℕ) (work : Work) → IsServingJob before job j work → work.job.kind ≡ Rename
     → Follows (plan_of before job).units j (renaming (units_done before job j) (file_now work) (new_now work))
 left_named before job j work serving is = subst (Follows (plan_of before job).units j) (left_as (units_done before job j) work Rename is) serving.left
 
-kind_is : (before : Drive) (job : Job) (j : ℕ) (work : Work) → IsServing before job j work → work.job.kind ≡ Rename → job.kind ≡ Rename
+kind_is : (before : Drive) (job : Job) (j : ℕ) (work : Work) → IsServingJob before job j work → work.job.kind ≡ Rename → job.kind ≡ Rename
 kind_is before job j work serving is = sym (ap (λ (q : Job). q.kind) serving.job_is) ∙ is
 
 quiet : (before : Drive) (job : Job) (j k : ℕ) → job.kind ≡ Rename → has_missed before job k ≡ has_missed before job j
 quiet before job j k is = ap (missed_by before job k) is ∙ sym (ap (missed_by before job j) is)
 
-apart_now : (before : Drive) (job : Job) (j : ℕ) (work : Work) → IsServing before job j work → MayRename before job → is_same_file (new_now work) (file_now work) ≡ false
+apart_now : (before : Drive) (job : Job) (j : ℕ) (work : Work) → IsServingJob before job j work → MayRename before job → is_same_file (new_now work) (file_now work) ≡ false
 apart_now before job j work serving may = ap (λ (q : Job). is_same_file (new_file_of_job q) (file_of_job q)) serving.job_is ∙ may.other
 
 -- the turn of a unit, by what is left after it
-renames_done : (before : Drive) (job : Job) (j : ℕ) (work : Work) (unit : FileUnit) → IsServing before job j work → work.job.kind ≡ Rename → j < length (plan_of before job).units
+renames_done : (before : Drive) (job : Job) (j : ℕ) (work : Work) (unit : FileUnit) → IsServingJob before job j work → work.job.kind ≡ Rename → j < length (plan_of before job).units
     → unit_at before job j ≡ unit → records_moved unit ≡ 0 → record_read (units_done before job j) unit ≡ []
     → Follows (plan_of before job).units (suc j) (renaming (applied (units_done before job j) unit) (file_now work) (new_now work))
     → IsDone before job j (record work { cleared = None }) unit
@@ -191,7 +191,7 @@ renames_done before job j work unit serving is h here moves reads left = record 
       (subst (Follows (plan_of before job).units (suc j)) (sym (left_as (applied (units_done before job j) unit) (one_ended (record work { cleared = None })) Rename is)) left);
 }
 
-pub may_rename : (before : Drive) (job : Job) (j : ℕ) (work : Work) → IsServing before job j work → work.job.kind ≡ Rename → Suits before job → MayRename before job
+pub may_rename : (before : Drive) (job : Job) (j : ℕ) (work : Work) → IsServingJob before job j work → work.job.kind ≡ Rename → Suits before job → MayRename before job
 may_rename before job j work serving is suits = subst (SuitsKind before job) (kind_is before job j work serving is) suits.kind
 
 pub new_xfcb : (image : List ℕ) (d : Directory) (files : Drive) (work : Work) → Stands image d files → xfcb_slot d (new_file_of_job work.job) ≡ None
@@ -200,7 +200,7 @@ new_xfcb image d files work stands none = xfcb_missing image d files (new_now wo
 
 -- the XFCB of the new name goes
 pub over_renamed : (image : List ℕ) (d : Directory) (before : Drive) (job : Job) (j : ℕ) (work : Work) (slot : ℕ) → Stands image d (units_done before job j)
-    → IsServing before job j work → work.job.kind ≡ Rename → MayRename before job → j < length (plan_of before job).units → xfcb_slot d (new_file_of_job work.job) ≡ Some slot
+    → IsServingJob before job j work → work.job.kind ≡ Rename → MayRename before job → j < length (plan_of before job).units → xfcb_slot d (new_file_of_job work.job) ≡ Some slot
     → (unit : FileUnit) × (IsDone before job j (record work { cleared = None }) unit
     × (stages unit (units_done before job j) ≡ exchanged (sectors_of image d.kind) (units_done before job j) (entry_in d slot) Free ∷ []))
 unfolding stages
@@ -229,7 +229,7 @@ pub record EntryRenamed (image : List ℕ) (d : Directory) (before : Drive) (job
   pub done : IsDone before job j (record work { cleared = None }) (RenamesEntry (file_in file.user file.name) (name_of (units_done before job j).kind file).number (new_file_of_job work.job))
 
 pub entry_renamed : (image : List ℕ) (d : Directory) (before : Drive) (job : Job) (j : ℕ) (work : Work) (found : Found) → Stands image d (units_done before job j)
-    → IsServing before job j work → work.job.kind ≡ Rename → MayRename before job → j < length (plan_of before job).units → xfcb_slot d (new_file_of_job work.job) ≡ None
+    → IsServingJob before job j work → work.job.kind ≡ Rename → MayRename before job → j < length (plan_of before job).units → xfcb_slot d (new_file_of_job work.job) ≡ None
     → IsLeast d.kind (search_of d.kind work.job.user work.job.name None) d.entries found → EntryRenamed image d before job j work found
 entry_renamed image d before job j work found stands serving is may h none least =
     let files : Drive = units_done before job j in
@@ -262,7 +262,7 @@ entry_renamed image d before job j work found stands serving is may h none least
 
 -- last its XFCB
 pub xfcb_renamed : (image : List ℕ) (d : Directory) (before : Drive) (job : Job) (j : ℕ) (work : Work) → Stands image d (units_done before job j)
-    → IsServing before job j work → work.job.kind ≡ Rename → MayRename before job → j < length (plan_of before job).units → xfcb_slot d (new_file_of_job work.job) ≡ None
+    → IsServingJob before job j work → work.job.kind ≡ Rename → MayRename before job → j < length (plan_of before job).units → xfcb_slot d (new_file_of_job work.job) ≡ None
     → IsNext d.kind (search_of d.kind work.job.user work.job.name None) d.entries None
     → IsDone before job j (record work { cleared = None }) (RenamesXfcb (file_of_job work.job) (new_file_of_job work.job))
 xfcb_renamed image d before job j work stands serving is may h none missing = by_xfcb (get (units_done before job j).xfcbs (file_now work)) refl

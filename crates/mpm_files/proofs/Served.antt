@@ -11,7 +11,7 @@ use Rattle.mpm_jobs.specs.declared.jobs.Job.{Job}
 use Rattle.mpm_files.specs.declared.work.Work.{Work}
 use Rattle.mpm_files.specs.Units.{FileUnit, Idles, applied, all_applied}
 use Rattle.mpm_files.specs.Plans.{plan_of, file_of_job, unit_at, turns_of}
-use Rattle.mpm_files.specs.Serving.{units_done, records_moved, record_read, all_read, records_after, with_records, is_passing, missed_by, has_missed, left_by, left_of, Follows, IsServing}
+use Rattle.mpm_files.specs.Serving.{units_done, records_moved, record_read, all_read, records_after, with_records, is_passing, missed_by, has_missed, left_by, left_of, Follows, IsServingJob}
 use Rattle.mpm_files.specs.Turning.{one_ended}
 use Rattle.mpm_files.proofs.TurnLaws.{one_turn}
 
@@ -49,11 +49,11 @@ unfolding left_of
 left_as drive work kind is = ap (left_by drive work) is
 
 -- a unit was done, and the cursor says so
-pub serves_on : (before : Drive) (job : Job) (j : ℕ) (work new : Work) (unit : FileUnit) → IsServing before job j work → j < length (plan_of before job).units
+pub serves_on : (before : Drive) (job : Job) (j : ℕ) (work new : Work) (unit : FileUnit) → IsServingJob before job j work → j < length (plan_of before job).units
     → unit_at before job j ≡ unit → new.job ≡ with_records job (records_after before job j ++ record_read (units_done before job j) unit)
     → new.units ≡ work.units → new.ended ≡ work.ended → new.moved ≡ work.moved + records_moved unit → new.error ≡ work.error → new.has_missed ≡ has_missed before job (suc j)
     → Follows (plan_of before job).units (suc j) (left_of (applied (units_done before job j) unit) (one_ended new))
-    → IsServing before job (suc j) (one_ended new)
+    → IsServingJob before job (suc j) (one_ended new)
 serves_on before job j work new unit serving h is records units ended moved error missed left =
     let us : List FileUnit = (plan_of before job).units in
     let other : FileUnit = Idles (file_of_job job) None in
@@ -71,12 +71,12 @@ serves_on before job j work new unit serving h is records units ended moved erro
     }
 
 -- the same, where the unit neither moves nor reads a record
-pub serves_quietly : (before : Drive) (job : Job) (j : ℕ) (work new : Work) (unit : FileUnit) → IsServing before job j work → j < length (plan_of before job).units
+pub serves_quietly : (before : Drive) (job : Job) (j : ℕ) (work new : Work) (unit : FileUnit) → IsServingJob before job j work → j < length (plan_of before job).units
     → unit_at before job j ≡ unit → records_moved unit ≡ 0 → record_read (units_done before job j) unit ≡ []
     → new.job ≡ work.job → new.units ≡ work.units → new.ended ≡ work.ended → new.moved ≡ work.moved → new.error ≡ work.error → new.has_missed ≡ work.has_missed
     → has_missed before job (suc j) ≡ has_missed before job j
     → Follows (plan_of before job).units (suc j) (left_of (applied (units_done before job j) unit) (one_ended new))
-    → IsServing before job (suc j) (one_ended new)
+    → IsServingJob before job (suc j) (one_ended new)
 serves_quietly before job j work new unit serving h is moves reads job_is units ended moved error missed misses left =
     serves_on before job j work new unit serving h is
     (job_is ∙ serving.job_is ∙ ap (with_records job) (sym (append-nil (records_after before job j)) ∙ ap (λ l. records_after before job j ++ l) (sym reads)))
@@ -109,8 +109,8 @@ done_idly before job j turn over =
     let none : (plan_of before job).units ≡ [] = nil_from_length (plan_of before job).units (omega arith) in
     ap (all_applied before) (nothing_done before job (suc j) none ∙ sym (nothing_done before job j none))
 
-pub serves_idly : (before : Drive) (job : Job) (j : ℕ) (work : Work) → IsServing before job j work → j < turns_of before job → length (plan_of before job).units ≤ j
-    → IsServing before job (suc j) (one_ended work)
+pub serves_idly : (before : Drive) (job : Job) (j : ℕ) (work : Work) → IsServingJob before job j work → j < turns_of before job → length (plan_of before job).units ≤ j
+    → IsServingJob before job (suc j) (one_ended work)
 unfolding all_applied all_read
 serves_idly before job j work serving turn over =
     let us : List FileUnit = (plan_of before job).units in

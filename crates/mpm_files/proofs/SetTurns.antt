@@ -26,7 +26,7 @@ use Rattle.mpm_jobs.specs.declared.jobs.Job.{Job}
 use Rattle.mpm_files.specs.declared.work.Work.{Work}
 use Rattle.mpm_files.specs.Units.{FileUnit, Idles, SetsAttributes, applied}
 use Rattle.mpm_files.specs.Plans.{plan_of, file_of_job, each}
-use Rattle.mpm_files.specs.Serving.{units_done, missed_by, has_missed, is_later, left_setting, Follows, IsServing}
+use Rattle.mpm_files.specs.Serving.{units_done, missed_by, has_missed, is_later, left_setting, Follows, IsServingJob}
 use Rattle.mpm_files.specs.Turning.{last_named, last_of_job, SuitsKind, Suits, one_ended}
 use Rattle.mpm_files.proofs.NoFile.{there_at, all_of_file}
 use Rattle.mpm_files.proofs.NextEntries.{filter_mapped}
@@ -100,17 +100,17 @@ all_of_them p q (x ∷ xs) all =
     all_step p x (filter q xs) (q x) parts.0 (all_of_them p q xs parts.1)
 
 -- the turn of an entry
-kind_is : (before : Drive) (job : Job) (j : ℕ) (work : Work) → IsServing before job j work → work.job.kind ≡ Attributes → job.kind ≡ Attributes
+kind_is : (before : Drive) (job : Job) (j : ℕ) (work : Work) → IsServingJob before job j work → work.job.kind ≡ Attributes → job.kind ≡ Attributes
 kind_is before job j work serving is = sym (ap (λ (q : Job). q.kind) serving.job_is) ∙ is
 
 quiet : (before : Drive) (job : Job) (j k : ℕ) → job.kind ≡ Attributes → has_missed before job k ≡ has_missed before job j
 quiet before job j k is = ap (missed_by before job k) is ∙ sym (ap (missed_by before job j) is)
 
-name_fits : (before : Drive) (job : Job) (j : ℕ) (work : Work) → IsServing before job j work → work.job.kind ≡ Attributes → Suits before job → IsUnambiguous work.job.name
+name_fits : (before : Drive) (job : Job) (j : ℕ) (work : Work) → IsServingJob before job j work → work.job.kind ≡ Attributes → Suits before job → IsUnambiguous work.job.name
 name_fits before job j work serving is suits =
     subst (λ (q : Job). IsUnambiguous q.name) (sym serving.job_is) (subst (SuitsKind before job) (kind_is before job j work serving is) suits.kind)
 
-left_now : (before : Drive) (job : Job) (j : ℕ) (work : Work) → IsServing before job j work → work.job.kind ≡ Attributes
+left_now : (before : Drive) (job : Job) (j : ℕ) (work : Work) → IsServingJob before job j work → work.job.kind ≡ Attributes
     → Follows (plan_of before job).units j (left_setting (units_done before job j) (file_of_job work.job) (attributes_in work.job.name) work.last)
 left_now before job j work serving is = subst (Follows (plan_of before job).units j) (left_as (units_done before job j) work Attributes is) serving.left
 
@@ -122,7 +122,7 @@ pub record EntrySet (d : Directory) (before : Drive) (job : Job) (j : ℕ) (work
       (SetsAttributes (file_in file.user file.name) (name_of (units_done before job j).kind file).number (attributes_in work.job.name))
 
 pub entry_set : (image : List ℕ) (d : Directory) (before : Drive) (job : Job) (j : ℕ) (work : Work) (found : Found) → Stands image d (units_done before job j)
-    → IsServing before job j work → work.job.kind ≡ Attributes → Suits before job → j < length (plan_of before job).units
+    → IsServingJob before job j work → work.job.kind ≡ Attributes → Suits before job → j < length (plan_of before job).units
     → IsLeast d.kind (search_of d.kind work.job.user work.job.name (last_of_job work)) d.entries found → EntrySet d before job j work found
 entry_set image d before job j work found stands serving is suits h least =
     let us : List FileUnit = (plan_of before job).units in
@@ -163,7 +163,7 @@ entry_set image d before job j work found stands serving is suits h least =
 
 -- there is always one
 pub setting_goes_on : (image : List ℕ) (d : Directory) (before : Drive) (job : Job) (j : ℕ) (work : Work) → Stands image d (units_done before job j)
-    → IsServing before job j work → work.job.kind ≡ Attributes → Suits before job → j < length (plan_of before job).units
+    → IsServingJob before job j work → work.job.kind ≡ Attributes → Suits before job → j < length (plan_of before job).units
     → IsNext d.kind (search_of d.kind work.job.user work.job.name (last_of_job work)) d.entries None → ⊥
 setting_goes_on image d before job j work stands serving is suits h none =
     let files : Drive = units_done before job j in

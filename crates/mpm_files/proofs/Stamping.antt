@@ -17,7 +17,7 @@ use Rattle.mpm_files.specs.declared.stamps.Stamp.{Stamp}
 use Rattle.mpm_files.specs.declared.stamps.Stamp.TheVariants.{First, Second}
 use Rattle.mpm_files.specs.Units.{Idles, first_stamped, second_stamped, stamped, with_stamp, stages, last_of}
 use Rattle.mpm_files.specs.Lookups.{HasXfcb, stamped_in, stamped_entry}
-use Rattle.mpm_files.specs.Standing.{GoesThrough, Does}
+use Rattle.mpm_files.specs.Standing.{GoesThrough, DoesUnit}
 use Rattle.mpm_files.proofs.StandingLaws.{goes_nowhere, goes_on, goes_stopped, does}
 
 same_xfcb : (x y : XfcbEntry) → Xfcb x ≡ Xfcb y → x ≡ y
@@ -94,7 +94,7 @@ unstamped disks drive d now files xs file moment error first = goes_stopped disk
 
 -- a unit that is a stamp alone
 pub idles : {A E : Type 0} (disks : Disks) (drive : ℕ) (now : Directory) (files : Drive) (file : FileName) (moment : Option (List ℕ)) (result : Result A E)
-    → GoesThrough disks drive now files (stamped first_stamped file moment files) result → Does disks drive now files (Idles file moment) result
+    → GoesThrough disks drive now files (stamped first_stamped file moment files) result → DoesUnit disks drive now files (Idles file moment) result
 unfolding stages
 idles disks drive now files file moment result goes = does disks drive now files (Idles file moment) (stamped first_stamped file moment files) result refl goes
 

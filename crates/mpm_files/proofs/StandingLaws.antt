@@ -5,7 +5,7 @@ use Rattle.mpm_port.specs.Disks.{Disks}
 use Rattle.mpm_mount.specs.Drives.{Drive}
 use Rattle.mpm_mount.specs.Directories.{Directory}
 use Rattle.mpm_files.specs.Units.{FileUnit, last_of, stages, applied}
-use Rattle.mpm_files.specs.Standing.{StandsOn, IsAmong, GoesThrough, Does}
+use Rattle.mpm_files.specs.Standing.{StandsOn, IsAmong, GoesThrough, DoesUnit}
 
 last_behind : (before : Drive) (xs ys : List Drive) → last_of (last_of before xs) ys ≡ last_of before (xs ++ ys)
 unfolding last_of
@@ -82,7 +82,7 @@ goes_stopped disks drive mid now before xs ys error goes = record {
 
 -- a unit is done by going through its stages
 pub does : {A E : Type 0} (disks : Disks) (drive : ℕ) (now : Directory) (before : Drive) (unit : FileUnit) (later : List Drive) (result : Result A E) → later ≡ stages unit before
-    → GoesThrough disks drive now before later result → Does disks drive now before unit result
+    → GoesThrough disks drive now before later result → DoesUnit disks drive now before unit result
 unfolding applied
 does disks drive now before unit later result is goes =
     let through : GoesThrough disks drive now before (stages unit before) result = subst (λ (l : List Drive). GoesThrough disks drive now before l result) is goes in

@@ -14,11 +14,11 @@ use Rattle.mpm_jobs.specs.declared.jobs.JobKind.TheVariants.{TestWrite}
 use Rattle.mpm_jobs.specs.declared.jobs.Job.{Job}
 use Rattle.mpm_files.specs.declared.work.Work.{Work}
 use Rattle.mpm_files.specs.Units.{FileUnit, Idles, PassesRecord, WritesRecord, stages, applied}
-use Rattle.mpm_files.specs.Plans.{Test, file_of_job, has_record, test_at, tests_of_job, plan_by, plan_of, unit_at}
+use Rattle.mpm_files.specs.Plans.{TestedRecord, file_of_job, has_record, test_at, tests_of_job, plan_by, plan_of, unit_at}
 use Rattle.mpm_mount.specs.Records.{read_error}
 use Rattle.mpm_files.specs.Counting.{lacks_block}
-use Rattle.mpm_files.specs.Serving.{units_done, records_after, with_records, is_passing, missed_by, has_missed, left_passing, left_testing, stamp_left, Follows, IsServing}
-use Rattle.mpm_files.specs.Standing.{StandsOn, Does}
+use Rattle.mpm_files.specs.Serving.{units_done, records_after, with_records, is_passing, missed_by, has_missed, left_passing, left_testing, stamp_left, Follows, IsServingJob}
+use Rattle.mpm_files.specs.Standing.{StandsOn, DoesUnit}
 use Rattle.mpm_files.specs.Turning.{Suits, one_ended}
 use Rattle.mpm_files.proofs.StandingLaws.{goes_nowhere, does}
 use Rattle.mpm_files.proofs.RecordReads.{is_readable}
@@ -31,17 +31,17 @@ use Rattle.mpm_files.proofs.Fitting.{AllSo, IsThere, so_at, testing_there}
 use Rattle.mpm_files.proofs.ReadTurns.{moves_few, none_left, read_now}
 use Rattle.mpm_files.proofs.WriteTurns.{next_number, no_stamp}
 
-kind_is : (before : Drive) (job : Job) (j : ℕ) (work : Work) → IsServing before job j work → work.job.kind ≡ TestWrite → job.kind ≡ TestWrite
+kind_is : (before : Drive) (job : Job) (j : ℕ) (work : Work) → IsServingJob before job j work → work.job.kind ≡ TestWrite → job.kind ≡ TestWrite
 kind_is before job j work serving is = sym (ap (λ (q : Job). q.kind) serving.job_is) ∙ is
 
 -- the record that is next: the bytes that it must have, and those that it gets
-abbrev pub test_now : Work → Test
+abbrev pub test_now : Work → TestedRecord
 test_now work = test_at work.job.bytes work.job.count work.ended
 
 abbrev pub stamp_now : Work → Option (List ℕ)
 stamp_now work = stamp_left work.job.stamp work.ended
 
-abbrev later_tests : Work → List Test
+abbrev later_tests : Work → List TestedRecord
 later_tests work = drop (work.ended + 1) (tests_of_job work.job)
 
 abbrev passes_now : Work → List FileUnit
@@ -54,7 +54,7 @@ abbrev tests_now : Drive → Work → List FileUnit
 tests_now files work = left_testing files (file_of_job work.job) (read_now work) (drop work.ended (tests_of_job work.job)) (stamp_now work)
 
 -- there is one
-no_tests : (files : Drive) (file : FileName) (n : ℕ) (tests : List Test) (stamp : Option (List ℕ)) → tests ≡ [] → left_testing files file n tests stamp ≡ []
+no_tests : (files : Drive) (file : FileName) (n : ℕ) (tests : List TestedRecord) (stamp : Option (List ℕ)) → tests ≡ [] → left_testing files file n tests stamp ≡ []
 unfolding left_testing
 no_tests files file n [] stamp none = refl
 no_tests files file n (test ∷ tests) stamp none = absurd (omega (arith, ap length none))
@@ -68,7 +68,7 @@ nothing_tested files work false over =
     no_tests files (file_of_job work.job) (read_now work) (drop work.ended (tests_of_job work.job)) (stamp_now work)
     (drop_all work.ended (tests_of_job work.job) (omega (arith, over, tests_many work.job)))
 
-pub tests_more : (before : Drive) (job : Job) (j : ℕ) (work : Work) → IsServing before job j work → work.job.kind ≡ TestWrite → j < length (plan_of before job).units → work.ended < work.job.count
+pub tests_more : (before : Drive) (job : Job) (j : ℕ) (work : Work) → IsServingJob before job j work → work.job.kind ≡ TestWrite → j < length (plan_of before job).units → work.ended < work.job.count
 tests_more before job j work serving is h = by_size (cases_lt work.ended work.job.count)
   where
     by_size : (work.ended < work.job.count) ⊎ (work.job.count ≤ work.ended) → work.ended < work.job.count
@@ -78,13 +78,13 @@ tests_more before job j work serving is h = by_size (cases_lt work.ended work.jo
         (nothing_tested (units_done before job j) work work.has_missed over) h)
 
 -- it is passed where one before it had other bytes
-left_now : (before : Drive) (job : Job) (j : ℕ) (work : Work) (missed : Bool) → IsServing before job j work → work.job.kind ≡ TestWrite → work.has_missed ≡ missed
+left_now : (before : Drive) (job : Job) (j : ℕ) (work : Work) (missed : Bool) → IsServingJob before job j work → work.job.kind ≡ TestWrite → work.has_missed ≡ missed
     → Follows (plan_of before job).units j (if missed then passes_now work else tests_now (units_done before job j) work)
 left_now before job j work missed serving is same =
     subst (Follows (plan_of before job).units j)
     (left_as (units_done before job j) work TestWrite is ∙ ap (λ b. if b then passes_now work else tests_now (units_done before job j) work) same) serving.left
 
-next_passed : (before : Drive) (job : Job) (j : ℕ) (work : Work) → IsServing before job j work → work.job.kind ≡ TestWrite → j < length (plan_of before job).units → work.has_missed ≡ true
+next_passed : (before : Drive) (job : Job) (j : ℕ) (work : Work) → IsServingJob before job j work → work.job.kind ≡ TestWrite → j < length (plan_of before job).units → work.has_missed ≡ true
     → Next (plan_of before job).units j (PassesRecord (file_of_job work.job) (read_now work)) (Idles (file_of_job job) None) (passes_later work)
 next_passed before job j work serving is h missed =
     next_of (plan_of before job).units j (PassesRecord (file_of_job work.job) (read_now work)) (Idles (file_of_job job) None) (passes_later work) (passes_now work)
@@ -92,13 +92,13 @@ next_passed before job j work serving is h missed =
     (passes_left (file_of_job work.job) work.job.first work.ended work.job.count (tests_more before job j work serving is h)) h
 
 -- else it is tested
-first_test : (before : Drive) (job : Job) (j : ℕ) (work : Work) → IsServing before job j work → work.job.kind ≡ TestWrite → j < length (plan_of before job).units
+first_test : (before : Drive) (job : Job) (j : ℕ) (work : Work) → IsServingJob before job j work → work.job.kind ≡ TestWrite → j < length (plan_of before job).units
     → tests_now (units_done before job j) work ≡ left_testing (units_done before job j) (file_of_job work.job) (read_now work) (test_now work ∷ later_tests work) (stamp_now work)
 first_test before job j work serving is h =
     ap (λ ts. left_testing (units_done before job j) (file_of_job work.job) (read_now work) ts (stamp_now work))
     (items_left (test_at work.job.bytes work.job.count) work.ended work.job.count (tests_more before job j work serving is h))
 
-next_missed : (before : Drive) (job : Job) (j : ℕ) (work : Work) → IsServing before job j work → work.job.kind ≡ TestWrite → j < length (plan_of before job).units → work.has_missed ≡ false
+next_missed : (before : Drive) (job : Job) (j : ℕ) (work : Work) → IsServingJob before job j work → work.job.kind ≡ TestWrite → j < length (plan_of before job).units → work.has_missed ≡ false
     → has_record (units_done before job j) (file_of_job work.job) (read_now work) (test_now work).expected ≡ false
     → Next (plan_of before job).units j (PassesRecord (file_of_job work.job) (read_now work)) (Idles (file_of_job job) None) (passes_later work)
 next_missed before job j work serving is h missed has =
@@ -114,7 +114,7 @@ next_missed before job j work serving is h missed has =
 abbrev pub writes_now : Work → FileUnit
 writes_now work = WritesRecord (file_of_job work.job) (read_now work) (test_now work).bytes (stamp_now work)
 
-next_matched : (before : Drive) (job : Job) (j : ℕ) (work : Work) → IsServing before job j work → work.job.kind ≡ TestWrite → j < length (plan_of before job).units → work.has_missed ≡ false
+next_matched : (before : Drive) (job : Job) (j : ℕ) (work : Work) → IsServingJob before job j work → work.job.kind ≡ TestWrite → j < length (plan_of before job).units → work.has_missed ≡ false
     → has_record (units_done before job j) (file_of_job work.job) (read_now work) (test_now work).expected ≡ true
     → Next (plan_of before job).units j (writes_now work) (Idles (file_of_job job) None)
     (left_testing (applied (units_done before job j) (writes_now work)) (file_of_job work.job) (read_now work + 1) (later_tests work) None)
@@ -132,7 +132,7 @@ there_at_turn before job j is h =
     so_at IsThere (plan_of before job).units j (Idles (file_of_job job) None) before
     (subst (λ k. AllSo IsThere before (plan_by before job k).units) (sym is) (testing_there (tests_of_job job) before (file_of_job job) job.first job.stamp)) h
 
-pub record_there : (before : Drive) (job : Job) (j : ℕ) (work : Work) → IsServing before job j work → work.job.kind ≡ TestWrite → j < length (plan_of before job).units
+pub record_there : (before : Drive) (job : Job) (j : ℕ) (work : Work) → IsServingJob before job j work → work.job.kind ≡ TestWrite → j < length (plan_of before job).units
     → read_error (units_done before job j) (file_of_job work.job) (read_now work) ≡ None
 record_there before job j work serving is h = by_missed work.has_missed refl
   where
@@ -167,7 +167,7 @@ missed_then before job j b is h passes =
     ∙ ap (λ c. c || b) (sym (ap (missed_by before job j) is))
 
 -- the turn of a record that is passed
-passed_done : (before : Drive) (job : Job) (j : ℕ) (work : Work) (missed : Bool) → IsServing before job j work → work.job.kind ≡ TestWrite → j < length (plan_of before job).units → missed ≡ true
+passed_done : (before : Drive) (job : Job) (j : ℕ) (work : Work) (missed : Bool) → IsServingJob before job j work → work.job.kind ≡ TestWrite → j < length (plan_of before job).units → missed ≡ true
     → Next (plan_of before job).units j (PassesRecord (file_of_job work.job) (read_now work)) (Idles (file_of_job job) None) (passes_later work)
     → IsDone before job j (record work { has_missed = missed; cleared = None }) (PassesRecord (file_of_job work.job) (read_now work))
 passed_done before job j work missed serving is h passing next =
@@ -183,17 +183,17 @@ passed_done before job j work missed serving is h passing next =
           (sym (left_as (applied files unit) (one_ended new) TestWrite is ∙ ap (λ b. if b then passes_later work else tests_now (applied files unit) (one_ended new)) passing)) next.1);
     }
 
-pub still_passed : (before : Drive) (job : Job) (j : ℕ) (work : Work) → IsServing before job j work → work.job.kind ≡ TestWrite → j < length (plan_of before job).units → work.has_missed ≡ true
+pub still_passed : (before : Drive) (job : Job) (j : ℕ) (work : Work) → IsServingJob before job j work → work.job.kind ≡ TestWrite → j < length (plan_of before job).units → work.has_missed ≡ true
     → IsDone before job j (record work { cleared = None }) (PassesRecord (file_of_job work.job) (read_now work))
 still_passed before job j work serving is h missed = passed_done before job j work work.has_missed serving is h missed (next_passed before job j work serving is h missed)
 
-pub first_passed : (before : Drive) (job : Job) (j : ℕ) (work : Work) → IsServing before job j work → work.job.kind ≡ TestWrite → j < length (plan_of before job).units → work.has_missed ≡ false
+pub first_passed : (before : Drive) (job : Job) (j : ℕ) (work : Work) → IsServingJob before job j work → work.job.kind ≡ TestWrite → j < length (plan_of before job).units → work.has_missed ≡ false
     → has_record (units_done before job j) (file_of_job work.job) (read_now work) (test_now work).expected ≡ false
     → IsDone before job j (record work { has_missed = true; cleared = None }) (PassesRecord (file_of_job work.job) (read_now work))
 first_passed before job j work serving is h missed has = passed_done before job j work true serving is h refl (next_missed before job j work serving is h missed has)
 
 -- the turn of a record that is replaced
-pub test_passed : (before : Drive) (job : Job) (j : ℕ) (work : Work) → IsServing before job j work → work.job.kind ≡ TestWrite → j < length (plan_of before job).units → work.has_missed ≡ false
+pub test_passed : (before : Drive) (job : Job) (j : ℕ) (work : Work) → IsServingJob before job j work → work.job.kind ≡ TestWrite → j < length (plan_of before job).units → work.has_missed ≡ false
     → has_record (units_done before job j) (file_of_job work.job) (read_now work) (test_now work).expected ≡ true
     → IsDone before job j (record work { moved = work.moved + 1; cleared = None }) (writes_now work)
 test_passed before job j work serving is h missed has =
@@ -223,7 +223,7 @@ pub record IsFew (work : Work) : Type 0 where
   pub count : work.job.count ≤ 16
   pub moved : work.moved ≤ 16
 
-pub tests_few : (before : Drive) (job : Job) (j : ℕ) (work : Work) → IsServing before job j work → work.job.kind ≡ TestWrite → Suits before job → j < length (plan_of before job).units → IsFew work
+pub tests_few : (before : Drive) (job : Job) (j : ℕ) (work : Work) → IsServingJob before job j work → work.job.kind ≡ TestWrite → Suits before job → j < length (plan_of before job).units → IsFew work
 tests_few before job j work serving is suits h =
     let more : work.ended < work.job.count = tests_more before job j work serving is h in
     let first : work.job.first ≡ job.first = ap (λ (q : Job). q.first) serving.job_is in
@@ -236,7 +236,7 @@ tests_few before job j work serving is suits h =
     }
 
 -- what the directory says of the record, and whether it has the bytes
-pub record_held : (image : List ℕ) (d : Directory) (before : Drive) (job : Job) (j : ℕ) (work : Work) → Stands image d (units_done before job j) → IsServing before job j work
+pub record_held : (image : List ℕ) (d : Directory) (before : Drive) (job : Job) (j : ℕ) (work : Work) → Stands image d (units_done before job j) → IsServingJob before job j work
     → work.job.kind ≡ TestWrite → j < length (plan_of before job).units → lacks_block d (file_of_job work.job) (read_now work) ≡ false
 record_held image d before job j work stands serving is h =
     (is_readable image d (units_done before job j) (file_of_job work.job) (read_now work) stands
@@ -247,6 +247,6 @@ has_there files file n there expected is = ap (λ (o : Option (List ℕ)). bytes
 
 -- passing changes nothing
 pub passes : {A E : Type 0} (disks : Disks) (d : Directory) (files : Drive) (file : FileName) (n : ℕ) (x : A) → StandsOn disks d files
-    → Does {A = A} {E = E} disks d.drive d files (PassesRecord file n) (Ok x)
+    → DoesUnit {A = A} {E = E} disks d.drive d files (PassesRecord file n) (Ok x)
 unfolding stages
 passes disks d files file n x stands = does disks d.drive d files (PassesRecord file n) [] (Ok x) refl (goes_nowhere disks d.drive d files x stands)

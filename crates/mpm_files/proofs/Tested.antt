@@ -6,11 +6,11 @@ use Rattle.std.proofs.lemmas.Bool.{true≢false, cases_eq}
 use Rattle.std.proofs.lemmas.Bool.Decides.{nat_tests}
 use Rattle.mpm_base.specs.declared.kind.Kind.{Kind}
 use Rattle.mpm_mount.specs.Drives.{FileName, PhysicalExtent, Drive, entry_number, entry_name, extent_at, count_in, block_place, places, visible_of}
-use Rattle.mpm_functions.specs.declared.errors.RecordError.{RecordError}
-use Rattle.mpm_functions.specs.declared.errors.RecordError.TheVariants.{Mismatch}
+use Rattle.mpm_file_functions.specs.declared.errors.RecordError.{RecordError}
+use Rattle.mpm_file_functions.specs.declared.errors.RecordError.TheVariants.{Mismatch}
 use Rattle.mpm_files.specs.declared.counting.Count.{Count}
 use Rattle.mpm_files.specs.Units.{FileUnit, ReadsRecord, PassesRecord, WritesRecord, is_raising, raised, holds_block, applied}
-use Rattle.mpm_files.specs.Plans.{Plan, Test, behind, unless_failing, reading, has_record, passing, testing}
+use Rattle.mpm_files.specs.Plans.{CallPlan, TestedRecord, behind, unless_failing, reading, has_record, passing, testing}
 use Rattle.mpm_mount.specs.Records.{read_error}
 use Rattle.mpm_files.specs.Counting.{unless_refused, read_count}
 use Rattle.mpm_files.proofs.Needs.{IsWhole}
@@ -113,25 +113,25 @@ still_whole d file n bytes stamp whole none = by_old (get d.extents (entry_name 
         blocks_of (Some e) = e.blocks
 
 -- as many units come, whatever the records hold
-passed_by : (file : FileName) (n : ℕ) (error : Option RecordError) (rest : Plan) (count : Count) → length rest.units ≡ count.units
+passed_by : (file : FileName) (n : ℕ) (error : Option RecordError) (rest : CallPlan) (count : Count) → length rest.units ≡ count.units
     → length (if is_some error then record { units = []; error = Some Mismatch } else (behind (PassesRecord file n ∷ []) rest)).units ≡ (unless_refused error 1 count).units
 passed_by file n None rest count same = ap suc same ∙ omega arith
 passed_by file n (Some error) rest count same = refl
 
-passing_counted : (tests : List Test) (d : Drive) (file : FileName) (n : ℕ) → length (passing d file n tests).units ≡ (read_count (read_error d file) n (length tests)).units
+passing_counted : (tests : List TestedRecord) (d : Drive) (file : FileName) (n : ℕ) → length (passing d file n tests).units ≡ (read_count (read_error d file) n (length tests)).units
 unfolding passing read_count
 passing_counted [] d file n = refl
 passing_counted (test ∷ tests) d file n =
     passed_by file n (read_error d file n) (passing d file (n + 1) tests) (read_count (read_error d file) (n + 1) (length tests)) (passing_counted tests d file (n + 1))
 
-tested_by : (error : Option RecordError) (b : Bool) (unit : FileUnit) (rest other : Plan) (count : Count)
+tested_by : (error : Option RecordError) (b : Bool) (unit : FileUnit) (rest other : CallPlan) (count : Count)
     → (error ≡ None → length rest.units ≡ count.units) → length other.units ≡ (unless_refused error 1 count).units
     → length (unless_failing error (if b then behind (unit ∷ []) rest else other)).units ≡ (unless_refused error 1 count).units
 tested_by (Some error) b unit rest other count same passed = refl
 tested_by None true unit rest other count same passed = ap suc (same refl) ∙ omega arith
 tested_by None false unit rest other count same passed = passed
 
-pub testing_counted : (tests : List Test) (d : Drive) (file : FileName) (n : ℕ) (stamp : Option (List ℕ)) → IsWhole file d
+pub testing_counted : (tests : List TestedRecord) (d : Drive) (file : FileName) (n : ℕ) (stamp : Option (List ℕ)) → IsWhole file d
     → length (testing d file n tests stamp).units ≡ (read_count (read_error d file) n (length tests)).units
 unfolding testing read_count
 testing_counted [] d file n stamp whole = refl

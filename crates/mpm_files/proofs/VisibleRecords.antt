@@ -8,10 +8,10 @@ use Rattle.std.proofs.lemmas.List.{length-replicate}
 use Rattle.mpm_base.specs.declared.kind.Kind.{Kind}
 use Rattle.mpm_blocks.specs.Geometries.{block_records}
 use Rattle.mpm_mount.specs.Drives.{FileName, PhysicalExtent, Drive, places, entry_number, entry_name, with_extent_there, extent_at, count_in, block_place, visible_in, visible_of}
-use Rattle.mpm_functions.specs.declared.errors.RecordError.{RecordError}
+use Rattle.mpm_file_functions.specs.declared.errors.RecordError.{RecordError}
 use Rattle.mpm_sectors.specs.Writes.{zero_record}
 use Rattle.mpm_files.specs.Units.{FileUnit, AddsEntry, ClearsBlock, WritesRecord, new_entry, stages, last_of, applied, all_applied}
-use Rattle.mpm_files.specs.Plans.{Plan, behind, unless_failing, when, has_block, needs_block, clears_blocks, write_error, write_units, writing}
+use Rattle.mpm_files.specs.Plans.{CallPlan, behind, unless_failing, when, has_block, needs_block, clears_blocks, write_error, write_units, writing}
 use Rattle.mpm_files.specs.Containment.{IsShown}
 use Rattle.mpm_files.proofs.Recorded.{Puts, put_new, none_held}
 use Rattle.mpm_files.proofs.Writes.{Written, record_written}
@@ -180,7 +180,7 @@ units_show d file n bytes stamp cleared whole =
     (get d.extents (entry_name d.kind file (n / 128))) refl refl
 
 -- what is seen of a record stays as those after it are written
-kept_by : (file : FileName) (m : ℕ) (b : List ℕ) (d : Drive) (error : Option RecordError) (units : List FileUnit) (plan : Plan) → visible_of d file m ≡ Some b
+kept_by : (file : FileName) (m : ℕ) (b : List ℕ) (d : Drive) (error : Option RecordError) (units : List FileUnit) (plan : CallPlan) → visible_of d file m ≡ Some b
     → visible_of (all_applied d (units ++ plan.units)) file m ≡ Some b → visible_of (all_applied d (unless_failing error (behind units plan)).units) file m ≡ Some b
 unfolding all_applied
 kept_by file m b d None units plan now after = after
@@ -193,7 +193,7 @@ still_seen [] d file n stamp m b whole h shown = shown
 still_seen (bytes ∷ records) d file n stamp m b whole h shown =
     let units : List FileUnit = write_units d false file n bytes stamp in
     let after : Drive = all_applied d units in
-    let rest : Plan = writing after file (n + 1) records None in
+    let rest : CallPlan = writing after file (n + 1) records None in
     let done : Done file n d after = record_done d file n bytes stamp false whole in
     kept_by file m b d (write_error d file n) units rest shown
     (ap (λ x. visible_of x file m) (all_applied_append units rest.units d)
@@ -240,7 +240,7 @@ shown_through file n d one z now m done changes later (inl same) = elim (first_w
 shown_through file n d one z now m done changes later (inr (inl after)) = inr (inl after)
 shown_through file n d one z now m done changes later (inr (inr zeros)) = inr (inr (zeros.0, (and_parts (needs_block d file m) _ (sym (done.blocks m) ∙ zeros.1)).0))
 
-shown_by_error : (file : FileName) (d : Drive) (m j : ℕ) (error : Option RecordError) (units : List FileUnit) (plan : Plan)
+shown_by_error : (file : FileName) (d : Drive) (m j : ℕ) (error : Option RecordError) (units : List FileUnit) (plan : CallPlan)
     → (error ≡ None → IsShown d (all_applied d (units ++ plan.units)) (all_applied d (take j (units ++ plan.units))) file m)
     → IsShown d (all_applied d (unless_failing error (behind units plan)).units) (all_applied d (take j (unless_failing error (behind units plan)).units)) file m
 unfolding all_applied
@@ -257,7 +257,7 @@ writing_shown [] d file n stamp (suc j) m whole = inl refl
 writing_shown (bytes ∷ records) d file n stamp j m whole =
     let units : List FileUnit = write_units d false file n bytes stamp in
     let one : Drive = all_applied d units in
-    let rest : Plan = writing one file (n + 1) records None in
+    let rest : CallPlan = writing one file (n + 1) records None in
     let z : Drive = all_applied one rest.units in
     let done : Done file n d one = record_done d file n bytes stamp false whole in
     let show : UnitsShow file n d units = units_show d file n bytes stamp false whole in

@@ -9,7 +9,7 @@ use Rattle.mpm_blocks.specs.Geometries.{block_records}
 use Rattle.mpm_mount.specs.Drives.{FileName, PhysicalExtent, Protection, DirectoryLabel, Drive, entry_number, entry_name, block_place, with_record_in, with_extent, without_extent, with_xfcb, without_xfcb}
 use Rattle.mpm_mount.specs.Files.{where_there, is_same_file}
 use Rattle.mpm_files.specs.Units.{FileUnit, Idles, ReadsRecord, PassesRecord, AddsEntry, ClearsBlock, WritesRecord, RemovesEntry, SetsAttributes, RenamesEntry, PutsXfcb, RemovesXfcb, RenamesXfcb, PutsLabel, new_entry, is_raising, raised, holds_block, with_fresh_block, rewritten, written_extents, last_of, second_stamped, stamped, with_attributes, stages, applied}
-use Rattle.mpm_files.specs.Containment.{Keeps, SameRecords, IsWithin, unit_names, names_label}
+use Rattle.mpm_files.specs.Containment.{KeepsOtherFiles, SameRecords, IsWithinUnit, unit_names, names_label}
 use Rattle.mpm_files.proofs.Keeping.{keeps_itself, keeps_after, Of, entry_put, entry_taken, xfcb_put, xfcb_taken, first_of_both, second_of_both, last_too, all_both, all_so, last_append}
 use Rattle.mpm_files.proofs.Seen.{seen_itself, seen_after, xfcb_unseen, xfcb_unseen_back, hidden_record}
 
@@ -71,19 +71,19 @@ with_its_stamp file before drives None way = subst (AllOnTheWay file before) (sy
 with_its_stamp file before drives (Some moment) way = stamping file before drives (Some moment) (get (last_of before drives).xfcbs file) way refl moment
 
 -- a unit whose only change is its last
-one_stage : (unit : FileUnit) (before now : Drive) → Keeps (unit_names unit) (names_label unit) before now → applied before unit ≡ now
-    → AllByRecursion (IsWithin unit before) (now ∷ [])
+one_stage : (unit : FileUnit) (before now : Drive) → KeepsOtherFiles (unit_names unit) (names_label unit) before now → applied before unit ≡ now
+    → AllByRecursion (IsWithinUnit unit before) (now ∷ [])
 one_stage unit before now keeps is = (record { keeps = keeps; records = inr (subst (λ (a : Drive). SameRecords a now) (sym is) (seen_itself now)) }, tt)
 
 idling : (file : FileName) (moment : List ℕ) (before : Drive) (o : Option Protection)
-    → AllByRecursion (IsWithin (Idles file (Some moment)) before) (where_there o (λ xfcb. with_xfcb before file (record xfcb { first = moment }) ∷ []))
+    → AllByRecursion (IsWithinUnit (Idles file (Some moment)) before) (where_there o (λ xfcb. with_xfcb before file (record xfcb { first = moment }) ∷ []))
 idling file moment before None = tt
 idling file moment before (Some xfcb) =
     (record { keeps = xfcb_put before file (record xfcb { first = moment }); records = inl (xfcb_unseen before file (record xfcb { first = moment })) }, tt)
 
 marking : (file : FileName) (number : ℕ) (attributes : List Bool) (before : Drive) (o : Option PhysicalExtent)
     → get before.extents (record { user = file.user; name = file.name; number = number }) ≡ o
-    → AllByRecursion (IsWithin (SetsAttributes file number attributes) before)
+    → AllByRecursion (IsWithinUnit (SetsAttributes file number attributes) before)
     (where_there o (λ entry. with_extent before (record { user = file.user; name = file.name; number = number }) (with_attributes attributes entry) ∷ []))
 unfolding applied stages last_of
 marking file number attributes before None is = tt
@@ -93,7 +93,7 @@ marking file number attributes before (Some entry) is =
 
 moving : (file new : FileName) (number : ℕ) (before : Drive) (o : Option PhysicalExtent)
     → get before.extents (record { user = file.user; name = file.name; number = number }) ≡ o
-    → AllByRecursion (IsWithin (RenamesEntry file number new) before)
+    → AllByRecursion (IsWithinUnit (RenamesEntry file number new) before)
     (where_there o (λ entry. with_extent (without_extent before (record { user = file.user; name = file.name; number = number })) (record { user = new.user; name = new.name; number = number }) entry ∷ []))
 unfolding applied stages last_of
 moving file new number before None is = tt
@@ -105,7 +105,7 @@ moving file new number before (Some entry) is =
     (ap (λ o. last_of before (where_there o (λ e. with_extent without (record { user = new.user; name = new.name; number = number }) e ∷ []))) is)
 
 moving_xfcb : (file new : FileName) (before : Drive) (o : Option Protection) → get before.xfcbs file ≡ o
-    → AllByRecursion (IsWithin (RenamesXfcb file new) before) (where_there o (λ xfcb. with_xfcb (without_xfcb before file) new xfcb ∷ []))
+    → AllByRecursion (IsWithinUnit (RenamesXfcb file new) before) (where_there o (λ xfcb. with_xfcb (without_xfcb before file) new xfcb ∷ []))
 unfolding applied stages last_of
 moving_xfcb file new before None is = tt
 moving_xfcb file new before (Some xfcb) is =
@@ -115,21 +115,21 @@ moving_xfcb file new before (Some xfcb) is =
     (first_of_both file new before without (xfcb_taken before file)) (second_of_both file new without _ (xfcb_put without new xfcb)))
     (ap (λ o. last_of before (where_there o (λ x. with_xfcb without new x ∷ []))) is)
 
-labelled : (label : DirectoryLabel) (before : Drive) → Keeps (unit_names (PutsLabel label)) true before (record before { label = Some label })
+labelled : (label : DirectoryLabel) (before : Drive) → KeepsOtherFiles (unit_names (PutsLabel label)) true before (record before { label = Some label })
 labelled label before = record { kind = refl; kept = refl; files = λ file no. record { extents = λ number. refl; xfcb = refl }; label = λ no. absurd (cc) }
 
 written : (file : FileName) (n : ℕ) (bytes : List ℕ) (stamp : Option (List ℕ)) (before : Drive)
-    → AllByRecursion (IsWithin (WritesRecord file n bytes stamp) before) (stages (WritesRecord file n bytes stamp) before)
+    → AllByRecursion (IsWithinUnit (WritesRecord file n bytes stamp) before) (stages (WritesRecord file n bytes stamp) before)
 unfolding applied stages
 written file n bytes stamp before =
     let drives : List Drive = where_there (get before.extents (entry_name before.kind file (n / 128)))
     (λ entry. map (with_extent before (entry_name before.kind file (n / 128))) (written_extents before.kind n bytes entry)) in
     let all : List Drive = drives ++ stamped second_stamped file stamp (last_of before drives) in
-    all_so (OnTheWay file before (last_of before all)) (IsWithin (WritesRecord file n bytes stamp) before) all (λ now on. record { keeps = on.0; records = on.1 })
+    all_so (OnTheWay file before (last_of before all)) (IsWithinUnit (WritesRecord file n bytes stamp) before) all (λ now on. record { keeps = on.0; records = on.1 })
     (with_its_stamp file before drives stamp (writing_there before file n bytes (get before.extents (entry_name before.kind file (n / 128))) refl))
 
 -- each drive that a unit goes through
-pub stages_within : (unit : FileUnit) (before : Drive) → AllByRecursion (IsWithin unit before) (stages unit before)
+pub stages_within : (unit : FileUnit) (before : Drive) → AllByRecursion (IsWithinUnit unit before) (stages unit before)
 unfolding stages applied last_of
 stages_within (Idles file None) before = tt
 stages_within (Idles file (Some moment)) before = idling file moment before (get before.xfcbs file)
@@ -150,8 +150,8 @@ stages_within (RenamesXfcb file new) before = moving_xfcb file new before (get b
 stages_within (PutsLabel label) before = one_stage (PutsLabel label) before _ (labelled label before) refl
 
 -- what a unit makes of a drive
-pub unit_keeps : (unit : FileUnit) (before : Drive) → Keeps (unit_names unit) (names_label unit) before (applied before unit)
+pub unit_keeps : (unit : FileUnit) (before : Drive) → KeepsOtherFiles (unit_names unit) (names_label unit) before (applied before unit)
 unfolding applied
 unit_keeps unit before =
-    last_too (Keeps (unit_names unit) (names_label unit) before) (stages unit before) before (keeps_itself (unit_names unit) (names_label unit) before)
-    (all_so (IsWithin unit before) (Keeps (unit_names unit) (names_label unit) before) (stages unit before) (λ now within. within.keeps) (stages_within unit before))
+    last_too (KeepsOtherFiles (unit_names unit) (names_label unit) before) (stages unit before) before (keeps_itself (unit_names unit) (names_label unit) before)
+    (all_so (IsWithinUnit unit before) (KeepsOtherFiles (unit_names unit) (names_label unit) before) (stages unit before) (λ now within. within.keeps) (stages_within unit before))

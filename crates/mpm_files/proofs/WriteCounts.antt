@@ -9,18 +9,18 @@ use Rattle.mpm_base.specs.declared.kind.Kind.TheVariants.{Ibm3740, Hd4, Hd8}
 use Rattle.mpm_base.specs.Counts.{one_if}
 use Rattle.mpm_blocks.specs.Geometries.{block_records}
 use Rattle.mpm_mount.specs.Drives.{FileName, Drive, entry_number, block_place, free_records, free_entries}
-use Rattle.mpm_functions.specs.declared.errors.RecordError.{RecordError}
+use Rattle.mpm_file_functions.specs.declared.errors.RecordError.{RecordError}
 use Rattle.mpm_files.specs.declared.counting.Count.{Count}
 use Rattle.mpm_files.specs.Units.{FileUnit, AddsEntry, ClearsBlock, WritesRecord, all_applied}
-use Rattle.mpm_files.specs.Plans.{Plan, behind, unless_failing, needs_entry, needs_block, clears_blocks, when, write_error, write_units, writing}
+use Rattle.mpm_files.specs.Plans.{CallPlan, behind, unless_failing, needs_entry, needs_block, clears_blocks, when, write_error, write_units, writing}
 use Rattle.mpm_files.specs.Counting.{counted, unless_refused, same_entry, same_block, entry_more, block_more, room_error, record_units, write_count}
 use Rattle.mpm_files.proofs.Needs.{IsWhole, Done, record_done}
 
-abbrev pub count_of : Plan → Count
+abbrev pub count_of : CallPlan → Count
 count_of plan = record { units = length plan.units; error = plan.error }
 
 -- a record before others
-pub counted_behind : (error : Option RecordError) (units : List FileUnit) (plan : Plan) (count : Count) (n : ℕ) → length units ≡ n → count_of plan ≡ count
+pub counted_behind : (error : Option RecordError) (units : List FileUnit) (plan : CallPlan) (count : Count) (n : ℕ) → length units ≡ n → count_of plan ≡ count
     → count_of (unless_failing error (behind units plan)) ≡ unless_refused error n count
 counted_behind None units plan count n size same =
     ap (λ k. record { units = k; error = plan.error }) (length-append units plan.units ∙ ap (λ k. k + length plan.units) size) ∙ ap (counted n) same

@@ -21,7 +21,7 @@ use Rattle.mpm_files.specs.Counting.{lacks_entry, lacks_block}
 use Rattle.mpm_files.specs.Standing.{HasFreshBlock}
 use Rattle.mpm_files.specs.Units.{FileUnit, Idles, AddsEntry, ClearsBlock, WritesRecord, stages, last_of, applied}
 use Rattle.mpm_files.specs.Plans.{file_of_job, record_at, records_of_job, needs_entry, needs_block, clears_blocks, plan_by, plan_of, unit_at}
-use Rattle.mpm_files.specs.Serving.{units_done, records_after, with_records, missed_by, has_missed, left_writing, stamp_left, Follows, IsServing, IsCleared, IsInService}
+use Rattle.mpm_files.specs.Serving.{units_done, records_after, with_records, missed_by, has_missed, left_writing, stamp_left, Follows, IsServingJob, IsCleared, IsInService}
 use Rattle.mpm_files.specs.Turning.{SuitsKind, Suits, one_ended}
 use Rattle.mpm_files.proofs.NextUnits.{items_left, entry_next, clearing_next, writing_next}
 use Rattle.mpm_files.proofs.Served.{left_as, serves_on, serves_quietly}
@@ -29,7 +29,7 @@ use Rattle.mpm_files.proofs.NextDone.{IsDone}
 use Rattle.mpm_files.proofs.DeleteTurns.{never_empty}
 use Rattle.mpm_files.proofs.Fitting.{AllSo, Fits, so_at, writing_fits}
 
-kind_is : (before : Drive) (job : Job) (j : ℕ) (work : Work) → IsServing before job j work → work.job.kind ≡ Write → job.kind ≡ Write
+kind_is : (before : Drive) (job : Job) (j : ℕ) (work : Work) → IsServingJob before job j work → work.job.kind ≡ Write → job.kind ≡ Write
 kind_is before job j work serving is = sym (ap (λ (q : Job). q.kind) serving.job_is) ∙ is
 
 quiet : (before : Drive) (job : Job) (j k : ℕ) → job.kind ≡ Write → has_missed before job k ≡ has_missed before job j
@@ -58,7 +58,7 @@ unfolding left_writing
 no_records files cleared file n [] stamp none = refl
 no_records files cleared file n (bytes ∷ records) stamp none = absurd (omega (arith, ap length none))
 
-pub records_left : (before : Drive) (job : Job) (j : ℕ) (work : Work) → IsServing before job j work → work.job.kind ≡ Write → j < length (plan_of before job).units → work.moved < work.job.count
+pub records_left : (before : Drive) (job : Job) (j : ℕ) (work : Work) → IsServingJob before job j work → work.job.kind ≡ Write → j < length (plan_of before job).units → work.moved < work.job.count
 records_left before job j work serving is h = by_size (cases_lt work.moved work.job.count)
   where
     by_size : (work.moved < work.job.count) ⊎ (work.job.count ≤ work.moved) → work.moved < work.job.count
@@ -68,7 +68,7 @@ records_left before job j work serving is h = by_size (cases_lt work.moved work.
         (no_records (units_done before job j) (is_some work.cleared) (file_of_job work.job) (record_next work) (drop work.moved (records_of_job work.job)) (stamp_now work)
         (drop_all work.moved (records_of_job work.job) (omega (arith, over, length-map-range_with_len (record_at work.job.bytes) 0 work.job.count)))) h)
 
-left_now : (before : Drive) (job : Job) (j : ℕ) (work : Work) → IsServing before job j work → work.job.kind ≡ Write → j < length (plan_of before job).units
+left_now : (before : Drive) (job : Job) (j : ℕ) (work : Work) → IsServingJob before job j work → work.job.kind ≡ Write → j < length (plan_of before job).units
     → Follows (plan_of before job).units j
     (left_writing (units_done before job j) (is_some work.cleared) (file_of_job work.job) (record_next work) (bytes_now work ∷ later_records work) (stamp_now work))
 left_now before job j work serving is h =
@@ -79,7 +79,7 @@ left_now before job j work serving is h =
     serving.left
 
 -- its directory entry is added
-pub entry_written : (before : Drive) (job : Job) (j : ℕ) (work : Work) → IsServing before job j work → work.job.kind ≡ Write → j < length (plan_of before job).units
+pub entry_written : (before : Drive) (job : Job) (j : ℕ) (work : Work) → IsServingJob before job j work → work.job.kind ≡ Write → j < length (plan_of before job).units
     → (is_some work.cleared ≡ true → needs_entry (units_done before job j) (file_of_job work.job) (record_next work) ≡ false)
     → needs_entry (units_done before job j) (file_of_job work.job) (record_next work) ≡ true
     → IsDone before job j (record work { cleared = None }) (AddsEntry (file_of_job work.job) (record_next work / 128))
@@ -106,7 +106,7 @@ pub cleared_same : (files : Drive) (file : FileName) (n : ℕ) → applied files
 unfolding applied stages last_of
 cleared_same files file n = refl
 
-pub block_cleared : (before : Drive) (job : Job) (j : ℕ) (work : Work) (block : ℕ) → IsServing before job j work → work.job.kind ≡ Write → j < length (plan_of before job).units
+pub block_cleared : (before : Drive) (job : Job) (j : ℕ) (work : Work) (block : ℕ) → IsServingJob before job j work → work.job.kind ≡ Write → j < length (plan_of before job).units
     → is_some work.cleared ≡ false → needs_entry (units_done before job j) (file_of_job work.job) (record_next work) ≡ false
     → (clears_blocks (units_done before job j).kind && (needs_block (units_done before job j) (file_of_job work.job) (record_next work) && not false)) ≡ true
     → IsDone before job j (record work { cleared = Some block }) (ClearsBlock (file_of_job work.job) (record_next work))
@@ -135,7 +135,7 @@ next_number first moved = omega arith
 pub no_stamp : (stamp : Option (List ℕ)) (moved : ℕ) → stamp_left stamp (moved + 1) ≡ None
 no_stamp stamp moved = ap (λ b. if b then stamp else None) (ne_eqb (moved + 1) 0 (λ none. omega arith))
 
-pub record_written : (before : Drive) (job : Job) (j : ℕ) (work : Work) → IsServing before job j work → work.job.kind ≡ Write → j < length (plan_of before job).units
+pub record_written : (before : Drive) (job : Job) (j : ℕ) (work : Work) → IsServingJob before job j work → work.job.kind ≡ Write → j < length (plan_of before job).units
     → needs_entry (units_done before job j) (file_of_job work.job) (record_next work) ≡ false
     → (clears_blocks (units_done before job j).kind && (needs_block (units_done before job j) (file_of_job work.job) (record_next work) && not (is_some work.cleared))) ≡ false
     → IsDone before job j (record work { moved = work.moved + 1; cleared = None }) (WritesRecord (file_of_job work.job) (record_next work) (bytes_now work) (stamp_now work))
@@ -160,20 +160,20 @@ record_written before job j work serving is h no_entry no_block =
     }
 
 -- what each step asks of the directory, and what it finds there
-pub may_write : (before : Drive) (job : Job) (j : ℕ) (work : Work) → IsServing before job j work → work.job.kind ≡ Write → Suits before job → job.first + job.count ≤ 262144
+pub may_write : (before : Drive) (job : Job) (j : ℕ) (work : Work) → IsServingJob before job j work → work.job.kind ≡ Write → Suits before job → job.first + job.count ≤ 262144
 may_write before job j work serving is suits = subst (SuitsKind before job) (kind_is before job j work serving is) suits.kind
 
-pub extent_small : (before : Drive) (job : Job) (j : ℕ) (work : Work) → IsServing before job j work → work.job.kind ≡ Write → j < length (plan_of before job).units → Suits before job
+pub extent_small : (before : Drive) (job : Job) (j : ℕ) (work : Work) → IsServingJob before job j work → work.job.kind ≡ Write → j < length (plan_of before job).units → Suits before job
     → record_next work / 128 ≤ 2047
 extent_small before job j work serving is h suits =
     omega (arith, records_left before job j work serving is h, ap (λ (q : Job). q.first) serving.job_is, ap (λ (q : Job). q.count) serving.job_is, may_write before job j work serving is suits)
 
-pub number_small : (before : Drive) (job : Job) (j : ℕ) (work : Work) → IsServing before job j work → work.job.kind ≡ Write → j < length (plan_of before job).units → Suits before job
+pub number_small : (before : Drive) (job : Job) (j : ℕ) (work : Work) → IsServingJob before job j work → work.job.kind ≡ Write → j < length (plan_of before job).units → Suits before job
     → record_next work ≤ 262286
 number_small before job j work serving is h suits =
     omega (arith, records_left before job j work serving is h, ap (λ (q : Job). q.first) serving.job_is, ap (λ (q : Job). q.count) serving.job_is, suits.first, suits.count)
 
-pub few_moved : (before : Drive) (job : Job) (j : ℕ) (work : Work) → IsServing before job j work → work.job.kind ≡ Write → j < length (plan_of before job).units → Suits before job
+pub few_moved : (before : Drive) (job : Job) (j : ℕ) (work : Work) → IsServingJob before job j work → work.job.kind ≡ Write → j < length (plan_of before job).units → Suits before job
     → work.moved < 16
 few_moved before job j work serving is h suits = omega (arith, records_left before job j work serving is h, ap (λ (q : Job). q.count) serving.job_is, suits.count)
 
@@ -203,7 +203,7 @@ entry_missing image d before job j work stands is =
     entry_needed image d (units_done before job j) (file_of_job work.job) (record_next work) stands ∙ step_entry _ _ is
 
 -- the unit that adds an entry has a free one
-pub entry_room : (before : Drive) (job : Job) (j : ℕ) (work : Work) (extent : ℕ) → IsServing before job j work → work.job.kind ≡ Write → j < length (plan_of before job).units
+pub entry_room : (before : Drive) (job : Job) (j : ℕ) (work : Work) (extent : ℕ) → IsServingJob before job j work → work.job.kind ≡ Write → j < length (plan_of before job).units
     → unit_at before job j ≡ AddsEntry (file_of_job work.job) extent → free_entries (units_done before job j) ≢ 0
 entry_room before job j work extent serving is h unit = unit_fits before job j (AddsEntry (file_of_job work.job) extent) (kind_is before job j work serving is) h unit
 
@@ -271,7 +271,7 @@ step_record false true is = absurd (true≢false (sym (ap is_record is)))
 step_record false false is = (refl, refl)
 
 -- the record is next
-pub record_ready : (image : List ℕ) (d : Directory) (before : Drive) (job : Job) (j : ℕ) (work : Work) → Stands image d (units_done before job j) → IsServing before job j work
+pub record_ready : (image : List ℕ) (d : Directory) (before : Drive) (job : Job) (j : ℕ) (work : Work) → Stands image d (units_done before job j) → IsServingJob before job j work
     → work.job.kind ≡ Write → j < length (plan_of before job).units → step_of d work (record_next work) ≡ Record
     → IsDone before job j (record work { moved = work.moved + 1; cleared = None }) (WritesRecord (file_of_job work.job) (record_next work) (bytes_now work) (stamp_now work))
 record_ready image d before job j work stands serving kind h is =

@@ -76,7 +76,7 @@ pub record SameFile (file : FileName) (old new : Drive) : Type 0 where
   pub xfcb : get new.xfcbs file ≡ get old.xfcbs file
 
 -- two drives differ in nothing but files that pass a test, and perhaps the label
-pub record Keeps (named : FileName → Bool) (has_label : Bool) (old new : Drive) : Type 0 where
+pub record KeepsOtherFiles (named : FileName → Bool) (has_label : Bool) (old new : Drive) : Type 0 where
   pub kind : new.kind ≡ old.kind
   pub kept : new.kept ≡ old.kept
   pub files : (file : FileName) → named file ≡ false → SameFile file old new
@@ -89,14 +89,14 @@ pub record SameRecords (old new : Drive) : Type 0 where
 
 -- a drive within a unit: what the unit doesn't name is as it was, and record counts and visible records are all those of before it
 -- or all those of after it
-pub record IsWithin (unit : FileUnit) (before now : Drive) : Type 0 where
-  pub keeps : Keeps (unit_names unit) (names_label unit) before now
+pub record IsWithinUnit (unit : FileUnit) (before now : Drive) : Type 0 where
+  pub keeps : KeepsOtherFiles (unit_names unit) (names_label unit) before now
   pub records : SameRecords before now ⊎ SameRecords (applied before unit) now
 
 -- a drive as a failure leaves it, in some turn of a call from turn j on. Files and XFCBs that the job doesn't name are as before the call,
 -- and so is the label but in a job of the label. Record counts and visible records are those after some number of units, at least j
 pub record IsContained (before : Drive) (job : Job) (j : ℕ) (now : Drive) : Type 0 where
-  pub keeps : Keeps (names before job) (is_label_job job.kind) before now
+  pub keeps : KeepsOtherFiles (names before job) (is_label_job job.kind) before now
   pub turn : ℕ
   pub since : j ≤ turn
   pub records : SameRecords (units_done before job turn) now

@@ -10,8 +10,8 @@ use Rattle.mpm_mount.specs.Drives.{FileName, entry_number, block_place}
 use Rattle.mpm_mount.specs.Faults.{block_at}
 use Rattle.mpm_mount.specs.Directories.{Directory, entry_in, extent_slot, xfcb_slot, free_records_in, free_entries_in}
 use Rattle.mpm_mount.specs.Files.{is_fitting, file_in, is_part_of}
-use Rattle.mpm_functions.specs.declared.errors.RecordError.{RecordError}
-use Rattle.mpm_functions.specs.declared.errors.RecordError.TheVariants.{NoDirectorySpace, NoDataBlock}
+use Rattle.mpm_file_functions.specs.declared.errors.RecordError.{RecordError}
+use Rattle.mpm_file_functions.specs.declared.errors.RecordError.TheVariants.{NoDirectorySpace, NoDataBlock}
 use Rattle.mpm_jobs.specs.declared.jobs.JobKind.{JobKind}
 use Rattle.mpm_jobs.specs.declared.jobs.JobKind.TheVariants as kinds
 use Rattle.mpm_jobs.specs.declared.jobs.Job.{Job}

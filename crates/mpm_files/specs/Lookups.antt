@@ -2,7 +2,7 @@
 use Rattle.std.specs.Prelude.{Bool, ◌≡◌, ◌≢◌, ℕ, ◌+◌, ◌*◌, ◌/◌, ◌%◌, ◌≤◌, ◌==◌, ◌&&◌, ◌||◌, List, Option, Some, None, length, nat_lt, nat_le, IsSome, slice_set, if◌then◌else◌}
 use Rattle.mpm_base.specs.declared.kind.Kind.{Kind}
 use Rattle.mpm_blocks.specs.Geometries.{geometry_of, block_records, place_of}
-use Rattle.mpm_cache.specs.declared.cache.Place.{Place}
+use Rattle.mpm_cache.specs.declared.cache.SectorPlace.{SectorPlace}
 use Rattle.mpm_cache.specs.Cached.{cached_at}
 use Rattle.mpm_dirent.specs.declared.kinds.Entry.TheVariants.{File, Xfcb}
 use Rattle.mpm_dirent.specs.declared.kinds.FileEntry.{FileEntry}
@@ -17,13 +17,13 @@ use Rattle.mpm_files.specs.Units.{first_stamped, second_stamped}
 use Rattle.mpm_files.specs.Counting.{number_in}
 
 -- a directory has all its slots and no fault
-pub record IsSound (d : Directory) : Type 0 where
+pub record IsSoundDirectory (d : Directory) : Type 0 where
   pub full : length d.entries ≡ (geometry_of d.kind).drm + 1
   pub faultless : first_fault d.kind d.entries ≡ None
 
 -- the entry that covers a record's extent
 pub record HasEntry (d : Directory) (file : FileName) (n slot : ℕ) (f : FileEntry) : Type 0 where
-  pub sound : IsSound d
+  pub sound : IsSoundDirectory d
   pub found : extent_slot d file (n / 128) ≡ Some slot
   pub within : slot ≤ (geometry_of d.kind).drm
   pub entry : entry_in d slot ≡ File f
@@ -32,7 +32,7 @@ pub record HasEntry (d : Directory) (file : FileName) (n slot : ℕ) (f : FileEn
 
 -- a file's XFCB
 pub record HasXfcb (d : Directory) (file : FileName) (slot : ℕ) (xfcb : XfcbEntry) : Type 0 where
-  pub sound : IsSound d
+  pub sound : IsSoundDirectory d
   pub found : xfcb_slot d file ≡ Some slot
   pub within : slot ≤ (geometry_of d.kind).drm
   pub entry : entry_in d slot ≡ Xfcb xfcb
@@ -52,7 +52,7 @@ abbrev pub record_sector : Directory → FileName → ℕ → ℕ
 record_sector d file n = sector_at d n (extent_slot d file (n / 128))
 
 -- and it is cached
-abbrev pub IsRecordCached : List (Place × List ℕ) → Directory → FileName → ℕ → Type 0
+abbrev pub IsRecordCached : List (SectorPlace × List ℕ) → Directory → FileName → ℕ → Type 0
 IsRecordCached cached d file n = IsSome (cached_at cached d.drive (place_of d.kind (record_sector d file n)))
 
 -- a file's entry as a record leaves it: last extent and record count where they rise, and then S1 zero, by which other tools

@@ -9,8 +9,8 @@ use Rattle.mpm_blocks.specs.Geometries.{geometry_of}
 use Rattle.mpm_mount.specs.Drives.{FileName, PhysicalExtent, Protection, Drive, entry_name, extents_of, record_of, free_records, free_entries}
 use Rattle.mpm_mount.specs.Attributes.{attributes_in}
 use Rattle.mpm_mount.specs.Files.{entries_named, is_entry_of, is_fitting, where_there}
-use Rattle.mpm_functions.specs.declared.errors.RecordError.{RecordError}
-use Rattle.mpm_functions.specs.declared.errors.RecordError.TheVariants.{Mismatch, NoDirectorySpace, NoDataBlock}
+use Rattle.mpm_file_functions.specs.declared.errors.RecordError.{RecordError}
+use Rattle.mpm_file_functions.specs.declared.errors.RecordError.TheVariants.{Mismatch, NoDirectorySpace, NoDataBlock}
 use Rattle.mpm_jobs.specs.declared.jobs.JobKind.{JobKind}
 use Rattle.mpm_jobs.specs.declared.jobs.JobKind.TheVariants.{Read, Write, TestWrite, Make, Delete, Rename, Attributes, Label, Xfcb, Nothing}
 use Rattle.mpm_jobs.specs.declared.jobs.Job.{Job}
@@ -18,21 +18,21 @@ use Rattle.mpm_files.specs.Units.{FileUnit, Idles, ReadsRecord, PassesRecord, Ad
 use Rattle.mpm_mount.specs.Records.{read_error}
 
 -- the units of a call, and why it ends after them, where a record can't be done
-pub record Plan : Type 0 where
+pub record CallPlan : Type 0 where
   pub units : List FileUnit
   pub error : Option RecordError
 
-abbrev pub only : List FileUnit → Plan
+abbrev pub only : List FileUnit → CallPlan
 only units = record { units = units; error = None }
 
-abbrev pub failing : RecordError → Plan
+abbrev pub failing : RecordError → CallPlan
 failing error = record { units = []; error = Some error }
 
 -- a plan with units before its own; that of a record which can't be done
-abbrev pub behind : List FileUnit → Plan → Plan
+abbrev pub behind : List FileUnit → CallPlan → CallPlan
 behind units plan = record plan { units = units ++ plan.units }
 
-abbrev pub unless_failing : Option RecordError → Plan → Plan
+abbrev pub unless_failing : Option RecordError → CallPlan → CallPlan
 unless_failing None plan = plan
 unless_failing (Some error) plan = failing error
 
@@ -50,7 +50,7 @@ new_file_of_job job = record { user = job.user; name = plain job.new_name }
 abbrev pub record_at : List ℕ → ℕ → List ℕ
 record_at bytes k = slice_range bytes (128 * k) (128 * k + 128)
 
-unfoldable pub reading : Drive → FileName → ℕ → ℕ → Plan
+unfoldable pub reading : Drive → FileName → ℕ → ℕ → CallPlan
 reading drive file n zero = only []
 reading drive file n (suc count) = unless_failing (read_error drive file n) (behind (ReadsRecord file n ∷ []) (reading drive file (n + 1) count))
 
@@ -83,14 +83,14 @@ write_units drive cleared file n bytes stamp =
     ++ (WritesRecord file n bytes stamp ∷ []))
 
 -- records from n on, the first with a stamp
-unfoldable pub writing : Drive → FileName → ℕ → List (List ℕ) → Option (List ℕ) → Plan
+unfoldable pub writing : Drive → FileName → ℕ → List (List ℕ) → Option (List ℕ) → CallPlan
 writing drive file n [] stamp = only []
 writing drive file n (bytes ∷ records) stamp =
     let units = write_units drive false file n bytes stamp in
     unless_failing (write_error drive file n) (behind units (writing (all_applied drive units) file (n + 1) records None))
 
 -- a record that is tested and written: the bytes that it must have, and those that it gets. ("Function 41: Test and Write Record".)
-pub record Test : Type 0 where
+pub record TestedRecord : Type 0 where
   pub expected : List ℕ
   pub bytes : List ℕ
 
@@ -98,13 +98,13 @@ abbrev pub has_record : Drive → FileName → ℕ → List ℕ → Bool
 has_record drive file n bytes = bytes_eq (where_there (record_of drive file n) (λ there. there)) bytes
 
 -- the records from one that has other bytes on: as many units as there would be, none of which changes anything
-unfoldable pub passing : Drive → FileName → ℕ → List Test → Plan
+unfoldable pub passing : Drive → FileName → ℕ → List TestedRecord → CallPlan
 passing drive file n [] = failing Mismatch
 passing drive file n (test ∷ tests) =
     if is_some (read_error drive file n) then failing Mismatch else (behind (PassesRecord file n ∷ []) (passing drive file (n + 1) tests))
 
 -- records from n on, the first with a stamp: each is compared and replaced
-unfoldable pub testing : Drive → FileName → ℕ → List Test → Option (List ℕ) → Plan
+unfoldable pub testing : Drive → FileName → ℕ → List TestedRecord → Option (List ℕ) → CallPlan
 testing drive file n [] stamp = only []
 testing drive file n (test ∷ tests) stamp =
     let unit = WritesRecord file n test.bytes stamp in
@@ -156,14 +156,14 @@ making job = AddsEntry (file_of_job job) 0 ∷ when (not (job.count == 0)) (Puts
 abbrev pub records_of_job : Job → List (List ℕ)
 records_of_job job = map (record_at job.bytes) (range_with_len 0 job.count)
 
-abbrev pub test_at : List ℕ → ℕ → ℕ → Test
+abbrev pub test_at : List ℕ → ℕ → ℕ → TestedRecord
 test_at bytes count k = record { expected = record_at bytes k; bytes = record_at bytes (count + k) }
 
-abbrev pub tests_of_job : Job → List Test
+abbrev pub tests_of_job : Job → List TestedRecord
 tests_of_job job = map (test_at job.bytes job.count) (range_with_len 0 job.count)
 
 -- the units of a job on a drive
-abbrev pub plan_by : Drive → Job → JobKind → Plan
+abbrev pub plan_by : Drive → Job → JobKind → CallPlan
 plan_by drive job Read = reading drive (file_of_job job) job.first job.count
 plan_by drive job Write = writing drive (file_of_job job) job.first (records_of_job job) job.stamp
 plan_by drive job TestWrite = testing drive (file_of_job job) job.first (tests_of_job job) job.stamp
@@ -175,7 +175,7 @@ plan_by drive job Label = only (PutsLabel (record { name = job.new_name; protect
 plan_by drive job Xfcb = only (PutsXfcb (file_of_job job) (protection_in job) ∷ [])
 plan_by drive job Nothing = only (Idles (file_of_job job) job.stamp ∷ [])
 
-unfoldable pub plan_of : Drive → Job → Plan
+unfoldable pub plan_of : Drive → Job → CallPlan
 plan_of drive job = plan_by drive job job.kind
 
 -- a unit a turn, and one turn at least

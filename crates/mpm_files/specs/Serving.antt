@@ -10,8 +10,8 @@ use Rattle.mpm_mount.specs.Drives.{FileName, Drive, entry_number, extents_of, vi
 use Rattle.mpm_mount.specs.Directories.{Directory, Stands, free_block}
 use Rattle.mpm_mount.specs.Files.{where_there, entries_named, has_file}
 use Rattle.mpm_mount.specs.Attributes.{attributes_in}
-use Rattle.mpm_functions.specs.declared.errors.RecordError.{RecordError}
-use Rattle.mpm_functions.specs.declared.errors.RecordError.TheVariants.{UnwrittenExtent, UnwrittenData, Mismatch, NoDirectorySpace, NoDataBlock}
+use Rattle.mpm_file_functions.specs.declared.errors.RecordError.{RecordError}
+use Rattle.mpm_file_functions.specs.declared.errors.RecordError.TheVariants.{UnwrittenExtent, UnwrittenData, Mismatch, NoDirectorySpace, NoDataBlock}
 use Rattle.mpm_jobs.specs.declared.jobs.JobKind.{JobKind}
 use Rattle.mpm_jobs.specs.declared.jobs.JobKind.TheVariants.{Read, Write, TestWrite, Make, Delete, Rename, Attributes, Label, Xfcb, Nothing}
 use Rattle.mpm_jobs.specs.declared.jobs.Job.{Job}
@@ -19,7 +19,7 @@ use Rattle.mpm_files.specs.declared.counting.Count.{Count}
 use Rattle.mpm_files.specs.declared.work.Work.{Work}
 use Rattle.mpm_sectors.specs.Writes.{zero_record}
 use Rattle.mpm_files.specs.Units.{FileUnit, Idles, ReadsRecord, PassesRecord, AddsEntry, ClearsBlock, WritesRecord, RemovesEntry, SetsAttributes, RenamesEntry, PutsXfcb, RemovesXfcb, RenamesXfcb, PutsLabel, applied, all_applied}
-use Rattle.mpm_files.specs.Plans.{Plan, Test, file_of_job, new_file_of_job, has_record, each, of_xfcb, deleting, renaming, protection_in, making, records_of_job, tests_of_job, needs_entry, plan_by, plan_of, turns_of, write_units}
+use Rattle.mpm_files.specs.Plans.{CallPlan, TestedRecord, file_of_job, new_file_of_job, has_record, each, of_xfcb, deleting, renaming, protection_in, making, records_of_job, tests_of_job, needs_entry, plan_by, plan_of, turns_of, write_units}
 
 -- the drive after the first j turns of a call
 abbrev pub units_done : Drive → Job → ℕ → Drive
@@ -117,7 +117,7 @@ abbrev pub left_passing : FileName → ℕ → ℕ → List FileUnit
 left_passing file n count = map (PassesRecord file) (range_with_len n count)
 
 -- records that are tested and written, up to one that has other bytes
-unfoldable pub left_testing : Drive → FileName → ℕ → List Test → Option (List ℕ) → List FileUnit
+unfoldable pub left_testing : Drive → FileName → ℕ → List TestedRecord → Option (List ℕ) → List FileUnit
 left_testing drive file n [] stamp = []
 left_testing drive file n (test ∷ tests) stamp =
     let unit = WritesRecord file n test.bytes stamp in
@@ -172,7 +172,7 @@ abbrev pub with_records : Job → List (List ℕ) → Job
 with_records job records = record job { bytes = flat_map (λ bytes. bytes) records ++ drop (128 * length records) job.bytes }
 
 -- the plan as if each record that is tested had the bytes that are named
-abbrev pub untested_by : Drive → Job → JobKind → Plan
+abbrev pub untested_by : Drive → Job → JobKind → CallPlan
 untested_by drive job TestWrite = plan_by drive job Read
 untested_by drive job Read = plan_by drive job Read
 untested_by drive job Write = plan_by drive job Write
@@ -184,11 +184,11 @@ untested_by drive job Label = plan_by drive job Label
 untested_by drive job Xfcb = plan_by drive job Xfcb
 untested_by drive job Nothing = plan_by drive job Nothing
 
-unfoldable pub untested_plan : Drive → Job → Plan
+unfoldable pub untested_plan : Drive → Job → CallPlan
 untested_plan drive job = untested_by drive job job.kind
 
 -- a job with j turns ended: what it has come to, and what its cursor says is left. Before it, the drive was this one
-pub record IsServing (before : Drive) (job : Job) (j : ℕ) (work : Work) : Type 0 where
+pub record IsServingJob (before : Drive) (job : Job) (j : ℕ) (work : Work) : Type 0 where
   pub job_is : work.job ≡ with_records job (records_after before job j)
   pub units : work.units ≡ length (plan_of before job).units
   pub ended : work.ended ≡ j
@@ -209,7 +209,7 @@ pub record IsCleared (sectors : Sectors) (d : Directory) (block : ℕ) : Type 0 
 -- a record that has its directory entry
 pub record IsInService (image : List ℕ) (d : Directory) (before : Drive) (job : Job) (j : ℕ) (work : Work) : Type 0 where
   pub stands : Stands image d (units_done before job j)
-  pub serving : IsServing before job j work
+  pub serving : IsServingJob before job j work
   pub cleared : IfSome work.cleared (IsCleared (sectors_of image d.kind) d)
   pub entered : is_some work.cleared ≡ true → needs_entry (units_done before job j) (file_of_job work.job) (work.job.first + work.moved) ≡ false
 

@@ -37,13 +37,13 @@ pub record GoesThrough {A E : Type 0} (disks : Disks) (drive : ℕ) (now : Direc
   pub err : OnErr result (StandsAmong disks drive before later)
 
 -- within a unit: the drive before it, or one of its stages
-abbrev pub StandsWithin : Disks → ℕ → Drive → FileUnit → Type 0
-StandsWithin disks drive before unit = StandsAmong disks drive before (stages unit before)
+abbrev pub StandsWithinUnit : Disks → ℕ → Drive → FileUnit → Type 0
+StandsWithinUnit disks drive before unit = StandsAmong disks drive before (stages unit before)
 
 -- a unit was to be done: after a success image and directory stand for what it makes, after a failure the image stands within it
-pub record Does {A E : Type 0} (disks : Disks) (drive : ℕ) (now : Directory) (before : Drive) (unit : FileUnit) (result : Result A E) : Type 0 where
+pub record DoesUnit {A E : Type 0} (disks : Disks) (drive : ℕ) (now : Directory) (before : Drive) (unit : FileUnit) (result : Result A E) : Type 0 where
   pub ok : OnOk result (StandsOn disks now (applied before unit))
-  pub err : OnErr result (StandsWithin disks drive before unit)
+  pub err : OnErr result (StandsWithinUnit disks drive before unit)
 
 -- a block for a record: the lowest free one; where blocks are cleared in units of their own, one that was cleared
 abbrev pub HasFreshBlock : Bool → Sectors → Directory → Option ℕ → Type 0

@@ -5,7 +5,7 @@ use Rattle.std.specs.FinMap.{get}
 use Rattle.mpm_port.specs.Disks.{Disks}
 use Rattle.mpm_base.specs.Counts.{one_if}
 use Rattle.mpm_blocks.specs.Geometries.{geometry_of}
-use Rattle.mpm_cache.specs.declared.cache.Place.{Place}
+use Rattle.mpm_cache.specs.declared.cache.SectorPlace.{SectorPlace}
 use Rattle.mpm_dirent.specs.declared.kinds.Entry.TheVariants.{File}
 use Rattle.mpm_dirent.specs.declared.kinds.FileEntry.{FileEntry}
 use Rattle.mpm_dirent.specs.Proper.{IsProper}
@@ -23,8 +23,8 @@ use Rattle.mpm_jobs.specs.declared.jobs.Job.{Job}
 use Rattle.mpm_files.specs.declared.work.Work.{Work}
 use Rattle.mpm_files.specs.Plans.{plan_of, file_of_job, new_file_of_job, protection_in, unit_at}
 use Rattle.mpm_files.specs.Serving.{units_done, IsInService}
-use Rattle.mpm_files.specs.Lookups.{IsSound, IsRecordCached}
-use Rattle.mpm_files.specs.Standing.{StandsWithin}
+use Rattle.mpm_files.specs.Lookups.{IsSoundDirectory, IsRecordCached}
+use Rattle.mpm_files.specs.Standing.{StandsWithinUnit}
 
 -- a file that is made isn't there, and there is a free entry for it, and one for its XFCB where that comes and isn't there
 pub record MayMake (drive : Drive) (job : Job) : Type 0 where
@@ -81,7 +81,7 @@ label_of_job job =
 
 -- a file's entry is in a slot
 pub record IsFileAt (d : Directory) (slot : ℕ) (f : FileEntry) : Type 0 where
-  pub sound : IsSound d
+  pub sound : IsSoundDirectory d
   pub entry : entry_in d slot ≡ File f
   pub proper : IsProper (geometry_of d.kind).wide (File f)
 
@@ -97,7 +97,7 @@ with_record_read work bytes = record work {
 }
 
 -- the sector of the record that is read next is cached
-abbrev pub IsNextCached : List (Place × List ℕ) → Directory → Work → Type 0
+abbrev pub IsNextCached : List (SectorPlace × List ℕ) → Directory → Work → Type 0
 IsNextCached cached d work = IsRecordCached cached d (file_of_job work.job) (work.job.first + work.ended)
 
 -- a job that a drive may be asked for
@@ -109,14 +109,14 @@ pub record Suits (drive : Drive) (job : Job) : Type 0 where
   pub kind : SuitsKind drive job job.kind
 
 -- a job is in service on the attached image of a directory's drive, with j turns ended
-pub record InService (disks : Disks) (d : Directory) (before : Drive) (job : Job) (j : ℕ) (work : Work) : Type 0 where
+pub record JobInService (disks : Disks) (d : Directory) (before : Drive) (job : Job) (j : ℕ) (work : Work) : Type 0 where
   pub image : List ℕ
   pub told : disks.image d.drive ≡ Some image
   pub service : IsInService image d before job j work
 
 -- a device failed in the turn after j that have ended: the image stands within its unit
 pub record Contained (disks : Disks) (drive : ℕ) (before : Drive) (job : Job) (j : ℕ) : Type 0 where
-  pub within : StandsWithin disks drive (units_done before job j) (unit_at before job j)
+  pub within : StandsWithinUnit disks drive (units_done before job j) (unit_at before job j)
 
 -- one turn more has ended
 abbrev pub one_ended : Work → Work
@@ -125,7 +125,7 @@ one_ended work = record work { ended = work.ended + 1 }
 -- a job that is in service was to do its next unit: after a success it is in service with one turn more, after a failure the image
 -- stands within the unit
 pub record DoesNext {A E : Type 0} (disks now : Disks) (d e : Directory) (old new : Work) (result : Result A E) : Type 0 where
-  pub ok : (before : Drive) (job : Job) (j : ℕ) → Suits before job → InService disks d before job j old → j < length (plan_of before job).units
-      → OnOk result (InService now e before job (suc j) (one_ended new))
-  pub err : (before : Drive) (job : Job) (j : ℕ) → Suits before job → InService disks d before job j old → j < length (plan_of before job).units
+  pub ok : (before : Drive) (job : Job) (j : ℕ) → Suits before job → JobInService disks d before job j old → j < length (plan_of before job).units
+      → OnOk result (JobInService now e before job (suc j) (one_ended new))
+  pub err : (before : Drive) (job : Job) (j : ℕ) → Suits before job → JobInService disks d before job j old → j < length (plan_of before job).units
       → OnErr result (Contained now d.drive before job j)

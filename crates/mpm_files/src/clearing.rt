@@ -5,11 +5,11 @@ ghost use Rattle.mpm_blocks.specs.Geometries.{geometry_of};
 ghost use Rattle.mpm_mount.specs.Drives.{FileName, Drive};
 ghost use Rattle.mpm_mount.specs.Directories.{Stands, free_block};
 ghost use Rattle.mpm_cache.specs.Coherent.{IsCoherent, HasNoAlias};
-ghost use Rattle.mpm_sectors.specs.Disks.{Leaves};
+ghost use Rattle.mpm_sectors.specs.Disks.{LeavesDisks};
 ghost use Rattle.mpm_sectors.specs.Writes.{Puts, zeros_from, block_sector};
 ghost use Rattle.mpm_files.specs.Units.{ClearsBlock};
 ghost use Rattle.mpm_files.specs.Plans as plans;
-ghost use Rattle.mpm_files.specs.Standing.{Does, StandsCleared};
+ghost use Rattle.mpm_files.specs.Standing.{DoesUnit, StandsCleared};
 
 use crate::entries::disk_of;
 use mpm_base::{Kind, Steps};
@@ -41,11 +41,11 @@ pub(crate) fn clear_block<D: Drives, L: Ledger>(
     requires apart { HasNoAlias cache.old (D.disks drives.old) mounted.now.drive }
     ensures block { IfOk result (λ block. block ≡ (if plans.clears_blocks mounted.now.kind then free_block mounted.now else None)) }
     ensures does { (image : List ℕ) (files : Drive) (file : FileName) (n : ℕ) → (D.disks drives.old).image mounted.now.drive ≡ Some image
-        → Stands image mounted.now files → Does (D.disks drives.new) mounted.now.drive mounted.now files (ClearsBlock file n) result }
+        → Stands image mounted.now files → DoesUnit (D.disks drives.new) mounted.now.drive mounted.now files (ClearsBlock file n) result }
     ensures cleared { (image : List ℕ) (files : Drive) → (D.disks drives.old).image mounted.now.drive ≡ Some image → Stands image mounted.now files
         → IfOk result (λ block. StandsCleared (D.disks drives.new) mounted.now files block) }
     ensures calls { steps.new ≤ steps.old + 18 }
-    ensures leaves { Leaves D.disks D.told D.failed_names D.unsynced mounted.now.drive cache.old cache.new drives.old drives.new }
+    ensures leaves { LeavesDisks D.disks D.told D.failed_names D.unsynced mounted.now.drive cache.old cache.new drives.old drives.new }
     ensures cause { HasCause (D.faults drives.old) (D.faults drives.new) result }
 {
     if !clears_blocks(mounted.kind()) {
@@ -76,7 +76,7 @@ fn clear_first<D: Drives, L: Ledger>(
     requires free { free_block mounted.now ≡ Some block }
     ensures puts { Puts mounted.now.drive mounted.now.kind (zeros_from (block_sector mounted.now.kind block) 18) (D.disks drives.old) (D.disks drives.new) result }
     ensures calls { steps.new ≤ steps.old + 18 }
-    ensures leaves { Leaves D.disks D.told D.failed_names D.unsynced mounted.now.drive cache.old cache.new drives.old drives.new }
+    ensures leaves { LeavesDisks D.disks D.told D.failed_names D.unsynced mounted.now.drive cache.old cache.new drives.old drives.new }
     ensures cause { HasCause (D.faults drives.old) (D.faults drives.new) result }
 {
     let first = u32::from(block) * block_records(mounted.kind());

@@ -9,8 +9,8 @@ ghost use Rattle.mpm_mount.specs.Faults.{cause_of};
 ghost use Rattle.mpm_mount.specs.Changes.{exchanged};
 ghost use Rattle.mpm_mount.specs.Directories.{Stands, others, entry_in, with_entry};
 ghost use Rattle.mpm_cache.specs.Coherent.{IsCoherent, HasNoAlias};
-ghost use Rattle.mpm_sectors.specs.Disks.{Leaves};
-ghost use Rattle.mpm_files.specs.Lookups.{IsSound};
+ghost use Rattle.mpm_sectors.specs.Disks.{LeavesDisks};
+ghost use Rattle.mpm_files.specs.Lookups.{IsSoundDirectory};
 ghost use Rattle.mpm_files.specs.Standing.{GoesThrough};
 
 use mpm_base::Steps;
@@ -24,7 +24,7 @@ use std::sync::ledger::Ledger;
 /// The disk of a mounted drive.
 pub(crate) fn disk_of(mounted: &Mounted) -> Disk
     ensures disk { result ≡ record { drive = mounted.now.drive; kind = mounted.now.kind } }
-    ensures sound { IsSound mounted.now }
+    ensures sound { IsSoundDirectory mounted.now }
 {
     Disk {
         drive: mounted.drive(),
@@ -55,7 +55,7 @@ pub(crate) fn put_entry<D: Drives, L: Ledger>(
     ensures drive { mounted.new.drive ≡ mounted.old.drive }
     ensures kind { mounted.new.kind ≡ mounted.old.kind }
     ensures calls { steps.new ≤ steps.old + 2 }
-    ensures leaves { Leaves D.disks D.told D.failed_names D.unsynced mounted.old.drive cache.old cache.new drives.old drives.new }
+    ensures leaves { LeavesDisks D.disks D.told D.failed_names D.unsynced mounted.old.drive cache.old cache.new drives.old drives.new }
     ensures cause { HasCause (D.faults drives.old) (D.faults drives.new) result }
 {
     let disk = disk_of(mounted);
@@ -97,7 +97,7 @@ pub(crate) fn put_entries<D: Drives, L: Ledger>(
     ensures drive { mounted.new.drive ≡ mounted.old.drive }
     ensures kind { mounted.new.kind ≡ mounted.old.kind }
     ensures calls { steps.new ≤ steps.old + 2 }
-    ensures leaves { Leaves D.disks D.told D.failed_names D.unsynced mounted.old.drive cache.old cache.new drives.old drives.new }
+    ensures leaves { LeavesDisks D.disks D.told D.failed_names D.unsynced mounted.old.drive cache.old cache.new drives.old drives.new }
     ensures cause { HasCause (D.faults drives.old) (D.faults drives.new) result }
 {
     let disk = disk_of(mounted);

@@ -22,7 +22,7 @@ mod turning;
 mod work;
 mod writing;
 
-pub use mpm_functions::RecordError;
+pub use mpm_file_functions::RecordError;
 pub use mpm_jobs::{Job, JobKind};
 pub use mpm_mount::read_error;
 pub use planning::{plan, turns};

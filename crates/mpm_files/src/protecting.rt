@@ -7,8 +7,8 @@ ghost use Rattle.mpm_blocks.specs.Geometries.{geometry_of};
 ghost use Rattle.mpm_mount.specs.Drives.{Drive, free_entries};
 ghost use Rattle.mpm_mount.specs.Directories.{Stands};
 ghost use Rattle.mpm_cache.specs.Coherent.{IsCoherent, HasNoAlias};
-ghost use Rattle.mpm_sectors.specs.Disks.{Leaves};
-ghost use Rattle.mpm_files.specs.Standing.{Does};
+ghost use Rattle.mpm_sectors.specs.Disks.{LeavesDisks};
+ghost use Rattle.mpm_files.specs.Standing.{DoesUnit};
 ghost use Rattle.mpm_files.specs.Units.{PutsXfcb, PutsLabel};
 ghost use Rattle.mpm_files.specs.Plans.{file_of_job, protection_in};
 ghost use Rattle.mpm_files.specs.Turning.{xfcb_of_job, label_of_job};
@@ -74,11 +74,11 @@ pub(crate) fn put_xfcb<D: Drives, L: Ledger>(
     requires apart { HasNoAlias cache.old (D.disks drives.old) mounted.old.drive }
     ensures does { (image : List ℕ) (files : Drive) → (D.disks drives.old).image mounted.old.drive ≡ Some image → Stands image mounted.old files
         → job.now.user < 16 → one_if (not (is_some (get files.xfcbs (file_of_job job.now)))) ≤ free_entries files
-        → Does (D.disks drives.new) mounted.old.drive mounted.new files (PutsXfcb (file_of_job job.now) (protection_in job.now)) result }
+        → DoesUnit (D.disks drives.new) mounted.old.drive mounted.new files (PutsXfcb (file_of_job job.now) (protection_in job.now)) result }
     ensures drive { mounted.new.drive ≡ mounted.old.drive }
     ensures kind { mounted.new.kind ≡ mounted.old.kind }
     ensures calls { steps.new ≤ steps.old + 2 }
-    ensures leaves { Leaves D.disks D.told D.failed_names D.unsynced mounted.old.drive cache.old cache.new drives.old drives.new }
+    ensures leaves { LeavesDisks D.disks D.told D.failed_names D.unsynced mounted.old.drive cache.old cache.new drives.old drives.new }
     ensures cause { HasCause (D.faults drives.old) (D.faults drives.new) result }
 {
     let _kind = mounted.kind();
@@ -108,11 +108,11 @@ pub(crate) fn put_label<D: Drives, L: Ledger>(
     requires apart { HasNoAlias cache.old (D.disks drives.old) mounted.old.drive }
     ensures does { (image : List ℕ) (files : Drive) → (D.disks drives.old).image mounted.old.drive ≡ Some image → Stands image mounted.old files
         → one_if (not (is_some files.label)) ≤ free_entries files
-        → Does (D.disks drives.new) mounted.old.drive mounted.new files (PutsLabel (record { name = job.now.new_name; protection = protection_in job.now })) result }
+        → DoesUnit (D.disks drives.new) mounted.old.drive mounted.new files (PutsLabel (record { name = job.now.new_name; protection = protection_in job.now })) result }
     ensures drive { mounted.new.drive ≡ mounted.old.drive }
     ensures kind { mounted.new.kind ≡ mounted.old.kind }
     ensures calls { steps.new ≤ steps.old + 2 }
-    ensures leaves { Leaves D.disks D.told D.failed_names D.unsynced mounted.old.drive cache.old cache.new drives.old drives.new }
+    ensures leaves { LeavesDisks D.disks D.told D.failed_names D.unsynced mounted.old.drive cache.old cache.new drives.old drives.new }
     ensures cause { HasCause (D.faults drives.old) (D.faults drives.new) result }
 {
     let _kind = mounted.kind();

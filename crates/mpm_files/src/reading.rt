@@ -5,13 +5,13 @@ ghost use Rattle.mpm_blocks.specs.Geometries.{geometry_of};
 ghost use Rattle.mpm_mount.specs.Drives.{Drive, record_of, visible_of};
 ghost use Rattle.mpm_mount.specs.Directories.{Stands};
 ghost use Rattle.mpm_cache.specs.Coherent.{IsCoherent};
-ghost use Rattle.mpm_sectors.specs.Disks.{Leaves};
+ghost use Rattle.mpm_sectors.specs.Disks.{LeavesDisks};
 ghost use Rattle.mpm_files.specs.Units.{ReadsRecord};
 ghost use Rattle.mpm_files.specs.Plans.{file_of_job};
 ghost use Rattle.mpm_files.specs.Counting.{lacks_block};
 ghost use Rattle.mpm_mount.specs.Records.{record_error};
 ghost use Rattle.mpm_files.specs.Lookups.{IsRecordCached};
-ghost use Rattle.mpm_files.specs.Standing.{Does};
+ghost use Rattle.mpm_files.specs.Standing.{DoesUnit};
 
 use crate::entries::disk_of;
 use crate::lookups::{find_entry, held_sector};
@@ -41,12 +41,12 @@ pub(crate) fn read_record<D: Drives, L: Ledger>(
     ensures visible { (image : List ℕ) (files : Drive) → (D.disks drives.old).image mounted.now.drive ≡ Some image → Stands image mounted.now files
         → record_error mounted.now (file_of_job job.now) n ≡ None → OnOk result (visible_of files (file_of_job job.now) n ≡ Some out.new) }
     ensures does { (image : List ℕ) (files : Drive) → (D.disks drives.old).image mounted.now.drive ≡ Some image → Stands image mounted.now files
-        → Does (D.disks drives.new) mounted.now.drive mounted.now files (ReadsRecord (file_of_job job.now) n) result }
+        → DoesUnit (D.disks drives.new) mounted.now.drive mounted.now files (ReadsRecord (file_of_job job.now) n) result }
     ensures calls { steps.new ≤ steps.old + 1 }
     ensures cached { IsRecordCached cache.old mounted.now (file_of_job job.now) n → steps.new ≡ steps.old }
     ensures disks { D.disks drives.new ≡ D.disks drives.old }
     ensures unsynced { (other : ℕ) → D.unsynced drives.new other ≡ D.unsynced drives.old other }
-    ensures leaves { Leaves D.disks D.told D.failed_names D.unsynced mounted.now.drive cache.old cache.new drives.old drives.new }
+    ensures leaves { LeavesDisks D.disks D.told D.failed_names D.unsynced mounted.now.drive cache.old cache.new drives.old drives.new }
     ensures cause { HasCause (D.faults drives.old) (D.faults drives.new) result }
 {
     let found = match find_entry(mounted, job, n) {

@@ -8,7 +8,7 @@ ghost use Rattle.mpm_mount.specs.Records as records;
 use mpm_base::Kind;
 use mpm_blocks::geometry;
 use mpm_dirent::Entry;
-use mpm_functions::RecordError;
+use mpm_file_functions::RecordError;
 use mpm_jobs::Job;
 use mpm_mount::{Mounted, block_place};
 

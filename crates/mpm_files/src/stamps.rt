@@ -11,11 +11,11 @@ ghost use Rattle.mpm_mount.specs.Changes.{exchanged};
 ghost use Rattle.mpm_mount.specs.Directories.{Stands, others, entry_in};
 ghost use Rattle.mpm_cache.specs.Coherent.{IsCoherent, HasNoAlias};
 ghost use Rattle.mpm_mount.specs.Files.{is_file};
-ghost use Rattle.mpm_sectors.specs.Disks.{Leaves};
+ghost use Rattle.mpm_sectors.specs.Disks.{LeavesDisks};
 ghost use Rattle.mpm_files.specs.Units.{Idles, stamped, with_stamp};
 ghost use Rattle.mpm_files.specs.Plans.{file_of_job};
 ghost use Rattle.mpm_files.specs.Lookups.{HasXfcb, stamped_in, stamped_entry};
-ghost use Rattle.mpm_files.specs.Standing.{GoesThrough, Does};
+ghost use Rattle.mpm_files.specs.Standing.{GoesThrough, DoesUnit};
 
 use crate::entries::{put_entries, put_entry};
 use crate::lookups::{FoundXfcb, find_xfcb, find_xfcb_beside};
@@ -71,7 +71,7 @@ pub(crate) fn put_stamp<D: Drives, L: Ledger>(
     ensures drive { mounted.new.drive ≡ mounted.old.drive }
     ensures kind { mounted.new.kind ≡ mounted.old.kind }
     ensures calls { steps.new ≤ steps.old + 2 }
-    ensures leaves { Leaves D.disks D.told D.failed_names D.unsynced mounted.old.drive cache.old cache.new drives.old drives.new }
+    ensures leaves { LeavesDisks D.disks D.told D.failed_names D.unsynced mounted.old.drive cache.old cache.new drives.old drives.new }
     ensures cause { HasCause (D.faults drives.old) (D.faults drives.new) result }
 {
     let moment = match moment {
@@ -106,11 +106,11 @@ pub(crate) fn idle<D: Drives, L: Ledger>(
     requires coherent { IsCoherent cache.old (D.disks drives.old) }
     requires apart { HasNoAlias cache.old (D.disks drives.old) mounted.old.drive }
     ensures does { (image : List ℕ) (files : Drive) → (D.disks drives.old).image mounted.old.drive ≡ Some image → Stands image mounted.old files
-        → Does (D.disks drives.new) mounted.old.drive mounted.new files (Idles (file_of_job job.now) moment) result }
+        → DoesUnit (D.disks drives.new) mounted.old.drive mounted.new files (Idles (file_of_job job.now) moment) result }
     ensures drive { mounted.new.drive ≡ mounted.old.drive }
     ensures kind { mounted.new.kind ≡ mounted.old.kind }
     ensures calls { steps.new ≤ steps.old + 2 }
-    ensures leaves { Leaves D.disks D.told D.failed_names D.unsynced mounted.old.drive cache.old cache.new drives.old drives.new }
+    ensures leaves { LeavesDisks D.disks D.told D.failed_names D.unsynced mounted.old.drive cache.old cache.new drives.old drives.new }
     ensures cause { HasCause (D.faults drives.old) (D.faults drives.new) result }
 {
     put_stamp(mounted, cache, drives, job, Stamp::First, moment, steps)
@@ -142,7 +142,7 @@ pub(crate) fn put_stamped<D: Drives, L: Ledger>(
     ensures drive { mounted.new.drive ≡ mounted.old.drive }
     ensures kind { mounted.new.kind ≡ mounted.old.kind }
     ensures calls { steps.new ≤ steps.old + 4 }
-    ensures leaves { Leaves D.disks D.told D.failed_names D.unsynced mounted.old.drive cache.old cache.new drives.old drives.new }
+    ensures leaves { LeavesDisks D.disks D.told D.failed_names D.unsynced mounted.old.drive cache.old cache.new drives.old drives.new }
     ensures cause { HasCause (D.faults drives.old) (D.faults drives.new) result }
 {
     let second = match moment {
@@ -181,7 +181,7 @@ fn put_apart<D: Drives, L: Ledger>(
     ensures drive { mounted.new.drive ≡ mounted.old.drive }
     ensures kind { mounted.new.kind ≡ mounted.old.kind }
     ensures calls { steps.new ≤ steps.old + 4 }
-    ensures leaves { Leaves D.disks D.told D.failed_names D.unsynced mounted.old.drive cache.old cache.new drives.old drives.new }
+    ensures leaves { LeavesDisks D.disks D.told D.failed_names D.unsynced mounted.old.drive cache.old cache.new drives.old drives.new }
     ensures cause { HasCause (D.faults drives.old) (D.faults drives.new) result }
 {
     match put_entry(
@@ -225,7 +225,7 @@ fn put_both<D: Drives, L: Ledger>(
     ensures drive { mounted.new.drive ≡ mounted.old.drive }
     ensures kind { mounted.new.kind ≡ mounted.old.kind }
     ensures calls { steps.new ≤ steps.old + 2 }
-    ensures leaves { Leaves D.disks D.told D.failed_names D.unsynced mounted.old.drive cache.old cache.new drives.old drives.new }
+    ensures leaves { LeavesDisks D.disks D.told D.failed_names D.unsynced mounted.old.drive cache.old cache.new drives.old drives.new }
     ensures cause { HasCause (D.faults drives.old) (D.faults drives.new) result }
 {
     let xfcb = stamped(&found.xfcb, Stamp::Second, moment);

@@ -3,14 +3,14 @@ ghost use Rattle.mpm_port.specs.Disks.{size_of};
 ghost use Rattle.mpm_port.specs.Causes.{HasCause};
 ghost use Rattle.mpm_blocks.specs.Geometries.{geometry_of};
 ghost use Rattle.mpm_cache.specs.Coherent.{IsCoherent, HasNoAlias};
-ghost use Rattle.mpm_sectors.specs.Disks.{Leaves};
+ghost use Rattle.mpm_sectors.specs.Disks.{LeavesDisks};
 ghost use Rattle.mpm_mount.specs.Drives.{Drive};
 ghost use Rattle.mpm_jobs.specs.declared.jobs.Job.{Job};
 ghost use Rattle.mpm_jobs.specs.declared.jobs.JobKind.TheVariants as kinds;
 ghost use Rattle.mpm_files.specs.declared.turning.Progress.TheVariants as progress;
 ghost use Rattle.mpm_files.specs.Plans.{turns_of};
 ghost use Rattle.mpm_files.specs.Serving.{turns_in};
-ghost use Rattle.mpm_files.specs.Turning.{Suits, InService, Contained, IsNextCached, DoesNext, one_ended};
+ghost use Rattle.mpm_files.specs.Turning.{Suits, JobInService, Contained, IsNextCached, DoesNext, one_ended};
 
 use crate::changing::{delete_next, make_next, put_next, rename_next};
 use crate::moving::{read_next, test_next, write_next};
@@ -52,7 +52,7 @@ fn do_next<D: Drives, L: Ledger>(
     ensures reads { work.old.job.kind ≡ kinds.Read → steps.new ≤ steps.old + 1 }
     ensures reads_only { work.old.job.kind ≡ kinds.Read → (other : ℕ) → D.unsynced drives.new other ≡ D.unsynced drives.old other }
     ensures cached { work.old.job.kind ≡ kinds.Read → IsNextCached cache.old mounted.old work.old → steps.new ≡ steps.old }
-    ensures leaves { Leaves D.disks D.told D.failed_names D.unsynced mounted.old.drive cache.old cache.new drives.old drives.new }
+    ensures leaves { LeavesDisks D.disks D.told D.failed_names D.unsynced mounted.old.drive cache.old cache.new drives.old drives.new }
     ensures cause { HasCause (D.faults drives.old) (D.faults drives.new) result }
 {
     match work.job.kind {
@@ -80,9 +80,9 @@ fn do_unit<D: Drives, L: Ledger>(
     requires size { size_of (D.disks drives.old) mounted.old.drive ≡ Some (geometry_of mounted.old.kind).bytes }
     requires coherent { IsCoherent cache.old (D.disks drives.old) }
     requires apart { HasNoAlias cache.old (D.disks drives.old) mounted.old.drive }
-    ensures ok { (before : Drive) (job : Job) (j : ℕ) → Suits before job → InService (D.disks drives.old) mounted.old before job j work.old → j < turns_of before job
-        → OnOk result (InService (D.disks drives.new) mounted.new before job (suc j) (one_ended work.new)) }
-    ensures err { (before : Drive) (job : Job) (j : ℕ) → Suits before job → InService (D.disks drives.old) mounted.old before job j work.old → j < turns_of before job
+    ensures ok { (before : Drive) (job : Job) (j : ℕ) → Suits before job → JobInService (D.disks drives.old) mounted.old before job j work.old → j < turns_of before job
+        → OnOk result (JobInService (D.disks drives.new) mounted.new before job (suc j) (one_ended work.new)) }
+    ensures err { (before : Drive) (job : Job) (j : ℕ) → Suits before job → JobInService (D.disks drives.old) mounted.old before job j work.old → j < turns_of before job
         → OnErr result (Contained (D.disks drives.new) mounted.old.drive before job j) }
     ensures ended { work.new.ended ≡ work.old.ended }
     ensures units { work.new.units ≡ work.old.units }
@@ -92,7 +92,7 @@ fn do_unit<D: Drives, L: Ledger>(
     ensures reads { work.old.job.kind ≡ kinds.Read → steps.new ≤ steps.old + 1 }
     ensures reads_only { work.old.job.kind ≡ kinds.Read → (other : ℕ) → D.unsynced drives.new other ≡ D.unsynced drives.old other }
     ensures cached { work.old.job.kind ≡ kinds.Read → IsNextCached cache.old mounted.old work.old → steps.new ≡ steps.old }
-    ensures leaves { Leaves D.disks D.told D.failed_names D.unsynced mounted.old.drive cache.old cache.new drives.old drives.new }
+    ensures leaves { LeavesDisks D.disks D.told D.failed_names D.unsynced mounted.old.drive cache.old cache.new drives.old drives.new }
     ensures cause { HasCause (D.faults drives.old) (D.faults drives.new) result }
 {
     if work.ended < work.units {
@@ -114,9 +114,9 @@ pub fn turn<D: Drives, L: Ledger>(
     requires size { size_of (D.disks drives.old) mounted.old.drive ≡ Some (geometry_of mounted.old.kind).bytes }
     requires coherent { IsCoherent cache.old (D.disks drives.old) }
     requires apart { HasNoAlias cache.old (D.disks drives.old) mounted.old.drive }
-    ensures ok { (before : Drive) (job : Job) (j : ℕ) → Suits before job → InService (D.disks drives.old) mounted.old before job j work.old → j < turns_of before job
-        → OnOk result (InService (D.disks drives.new) mounted.new before job (suc j) work.new) }
-    ensures err { (before : Drive) (job : Job) (j : ℕ) → Suits before job → InService (D.disks drives.old) mounted.old before job j work.old → j < turns_of before job
+    ensures ok { (before : Drive) (job : Job) (j : ℕ) → Suits before job → JobInService (D.disks drives.old) mounted.old before job j work.old → j < turns_of before job
+        → OnOk result (JobInService (D.disks drives.new) mounted.new before job (suc j) work.new) }
+    ensures err { (before : Drive) (job : Job) (j : ℕ) → Suits before job → JobInService (D.disks drives.old) mounted.old before job j work.old → j < turns_of before job
         → OnErr result (Contained (D.disks drives.new) mounted.old.drive before job j) }
     ensures progress { IfOk result (λ told. told ≡ (if nat_lt (work.old.ended + 1) (turns_in work.old) then progress.Again else progress.Done)) }
     ensures counted { work.old.ended < turns_in work.old → OnOk result (work.new.ended ≡ work.old.ended + 1) }
@@ -127,7 +127,7 @@ pub fn turn<D: Drives, L: Ledger>(
     ensures reads { work.old.job.kind ≡ kinds.Read → steps.new ≤ steps.old + 1 }
     ensures reads_only { work.old.job.kind ≡ kinds.Read → (other : ℕ) → D.unsynced drives.new other ≡ D.unsynced drives.old other }
     ensures cached { work.old.job.kind ≡ kinds.Read → IsNextCached cache.old mounted.old work.old → steps.new ≡ steps.old }
-    ensures leaves { Leaves D.disks D.told D.failed_names D.unsynced mounted.old.drive cache.old cache.new drives.old drives.new }
+    ensures leaves { LeavesDisks D.disks D.told D.failed_names D.unsynced mounted.old.drive cache.old cache.new drives.old drives.new }
     ensures cause { HasCause (D.faults drives.old) (D.faults drives.new) result }
 {
     match do_unit(mounted, cache, drives, work, steps) {

@@ -1,7 +1,7 @@
 ghost use Rattle.std.specs.Prelude.{◌≡◌};
 ghost use Rattle.mpm_files.specs.Serving.{turns_in, told_error, error_code};
 
-use mpm_functions::RecordError;
+use mpm_file_functions::RecordError;
 use mpm_jobs::Job;
 use mpm_mount::Found;
 

@@ -9,7 +9,7 @@ ghost use Rattle.mpm_mount.specs.Faults.{name_of};
 ghost use Rattle.mpm_mount.specs.Images.{contents_of, extent_in};
 ghost use Rattle.mpm_mount.specs.Directories.{Stands, free_block};
 ghost use Rattle.mpm_cache.specs.Coherent.{IsCoherent, HasNoAlias};
-ghost use Rattle.mpm_sectors.specs.Disks.{Leaves};
+ghost use Rattle.mpm_sectors.specs.Disks.{LeavesDisks};
 ghost use Rattle.mpm_sectors.specs.Writes.{Puts, block_writes, block_calls};
 ghost use Rattle.mpm_files.specs.Units.{WritesRecord, with_stamp};
 ghost use Rattle.mpm_files.specs.Plans as plans;
@@ -18,7 +18,7 @@ ghost use Rattle.mpm_files.specs.Counting.{lacks_entry, lacks_block};
 ghost use Rattle.mpm_files.specs.Lookups.{HasEntry, IsHeldAt};
 ghost use Rattle.mpm_files.specs.Lookups as entries;
 ghost use Rattle.mpm_files.specs.Standing as spec;
-ghost use Rattle.mpm_files.specs.Standing.{Does, GoesThrough, HasFreshBlock};
+ghost use Rattle.mpm_files.specs.Standing.{DoesUnit, GoesThrough, HasFreshBlock};
 
 use crate::clearing::{CLEARED, clears_blocks};
 use crate::entries::disk_of;
@@ -117,12 +117,12 @@ pub(crate) fn put_held<D: Drives, L: Ledger>(
     requires apart { HasNoAlias cache.old (D.disks drives.old) mounted.old.drive }
     ensures does { (image : List ℕ) (files : Drive) → (D.disks drives.old).image mounted.old.drive ≡ Some image → Stands image mounted.old files
         → lacks_block mounted.old (file_of_job job.now) written.now.number ≡ false
-        → Does (D.disks drives.new) mounted.old.drive mounted.new files
+        → DoesUnit (D.disks drives.new) mounted.old.drive mounted.new files
         (WritesRecord (file_of_job job.now) written.now.number written.now.bytes written.now.moment) result }
     ensures drive { mounted.new.drive ≡ mounted.old.drive }
     ensures kind { mounted.new.kind ≡ mounted.old.kind }
     ensures calls { steps.new ≤ steps.old + 5 }
-    ensures leaves { Leaves D.disks D.told D.failed_names D.unsynced mounted.old.drive cache.old cache.new drives.old drives.new }
+    ensures leaves { LeavesDisks D.disks D.told D.failed_names D.unsynced mounted.old.drive cache.old cache.new drives.old drives.new }
     ensures cause { HasCause (D.faults drives.old) (D.faults drives.new) result }
 {
     let found = match find_entry(mounted, job, written.number) {
@@ -159,12 +159,12 @@ pub(crate) fn put_fresh<D: Drives, L: Ledger>(
         → lacks_entry mounted.old (file_of_job job.now) written.now.number ≡ false
         → lacks_block mounted.old (file_of_job job.now) written.now.number ≡ true
         → HasFreshBlock (plans.clears_blocks mounted.old.kind) (sectors_of image mounted.old.kind) mounted.old cleared
-        → Does (D.disks drives.new) mounted.old.drive mounted.new files
+        → DoesUnit (D.disks drives.new) mounted.old.drive mounted.new files
         (WritesRecord (file_of_job job.now) written.now.number written.now.bytes written.now.moment) result }
     ensures drive { mounted.new.drive ≡ mounted.old.drive }
     ensures kind { mounted.new.kind ≡ mounted.old.kind }
     ensures calls { steps.new ≤ steps.old + 20 }
-    ensures leaves { Leaves D.disks D.told D.failed_names D.unsynced mounted.old.drive cache.old cache.new drives.old drives.new }
+    ensures leaves { LeavesDisks D.disks D.told D.failed_names D.unsynced mounted.old.drive cache.old cache.new drives.old drives.new }
     ensures cause { HasCause (D.faults drives.old) (D.faults drives.new) result }
 {
     let found = match find_entry(mounted, job, written.number) {
@@ -211,7 +211,7 @@ fn put_sector<D: Drives, L: Ledger>(
     ensures puts { Puts mounted.now.drive mounted.now.kind (record { sector = sector; bytes = bytes.now } ∷ []) (D.disks drives.old) (D.disks drives.new) result }
     ensures long { length bytes.now ≡ 128 }
     ensures calls { steps.new ≤ steps.old + 1 }
-    ensures leaves { Leaves D.disks D.told D.failed_names D.unsynced mounted.now.drive cache.old cache.new drives.old drives.new }
+    ensures leaves { LeavesDisks D.disks D.told D.failed_names D.unsynced mounted.now.drive cache.old cache.new drives.old drives.new }
     ensures cause { HasCause (D.faults drives.old) (D.faults drives.new) result }
 {
     disk_of(mounted).put(cache, drives, sector, bytes, steps)
@@ -238,7 +238,7 @@ fn put_in_block<D: Drives, L: Ledger>(
         (with_extent files (name_of mounted.now.kind found.now.file)
         (spec.with_record mounted.now.kind written.now.number written.now.bytes (extent_in (sectors_of image mounted.now.kind) mounted.now.kind found.now.file)) ∷ []) result }
     ensures calls { steps.new ≤ steps.old + 1 }
-    ensures leaves { Leaves D.disks D.told D.failed_names D.unsynced mounted.now.drive cache.old cache.new drives.old drives.new }
+    ensures leaves { LeavesDisks D.disks D.told D.failed_names D.unsynced mounted.now.drive cache.old cache.new drives.old drives.new }
     ensures cause { HasCause (D.faults drives.old) (D.faults drives.new) result }
 {
     put_sector(mounted, cache, drives, sector, &written.bytes, steps)
@@ -265,7 +265,7 @@ fn put_raised<D: Drives, L: Ledger>(
     ensures drive { mounted.new.drive ≡ mounted.old.drive }
     ensures kind { mounted.new.kind ≡ mounted.old.kind }
     ensures calls { steps.new ≤ steps.old + 4 }
-    ensures leaves { Leaves D.disks D.told D.failed_names D.unsynced mounted.old.drive cache.old cache.new drives.old drives.new }
+    ensures leaves { LeavesDisks D.disks D.told D.failed_names D.unsynced mounted.old.drive cache.old cache.new drives.old drives.new }
     ensures cause { HasCause (D.faults drives.old) (D.faults drives.new) result }
 {
     if is_above(&found.file, written.number) {
@@ -315,7 +315,7 @@ fn put_with_block<D: Drives, L: Ledger>(
         (block_writes mounted.now.kind block clear index bytes.now) (D.disks drives.old) (D.disks drives.new) result }
     ensures long { length bytes.now ≡ 128 }
     ensures calls { steps.new ≤ steps.old + 16 }
-    ensures leaves { Leaves D.disks D.told D.failed_names D.unsynced mounted.now.drive cache.old cache.new drives.old drives.new }
+    ensures leaves { LeavesDisks D.disks D.told D.failed_names D.unsynced mounted.now.drive cache.old cache.new drives.old drives.new }
     ensures cause { HasCause (D.faults drives.old) (D.faults drives.new) result }
 {
     disk_of(mounted).put_block(cache, drives, block, clear, index, bytes, steps)
@@ -346,7 +346,7 @@ fn put_taken<D: Drives, L: Ledger>(
     ensures drive { mounted.new.drive ≡ mounted.old.drive }
     ensures kind { mounted.new.kind ≡ mounted.old.kind }
     ensures calls { steps.new ≤ steps.old + 4 }
-    ensures leaves { Leaves D.disks D.told D.failed_names D.unsynced mounted.old.drive cache.old cache.new drives.old drives.new }
+    ensures leaves { LeavesDisks D.disks D.told D.failed_names D.unsynced mounted.old.drive cache.old cache.new drives.old drives.new }
     ensures cause { HasCause (D.faults drives.old) (D.faults drives.new) result }
 {
     let taken = taken(mounted, &found.file, written.number, block);

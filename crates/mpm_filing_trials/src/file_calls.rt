@@ -1,7 +1,7 @@
 //! File calls of programs: what they answer, what comes to the console, and what they leave. Where nobody else has the disk, a
 //! program is answered alike and leaves the same whether each of its calls is done at once or in turns.
 use mpm_base::Kind;
-use mpm_images::{Entry, file, guard, held, named, with};
+use mpm_images::{EntryBytes, file, guard, held, named, with};
 use mpm_machine_scenes::Sight::{Byte, Lives, Word};
 use mpm_machine_scenes::{Behind, Scene, Sight};
 use std::test::Fail;
@@ -153,7 +153,7 @@ fn seen(base: u8, acts: &[Act], sights: &[Sight]) -> [Sight; 64] {
 }
 
 /// The scene of one or two programs on a drive with these entries.
-fn on_a_disk<'a>(first: &'a [u8], second: &'a [u8], disk: &'a [Entry]) -> Scene<'a> {
+fn on_a_disk<'a>(first: &'a [u8], second: &'a [u8], disk: &'a [EntryBytes]) -> Scene<'a> {
     Scene {
         machine: ON_A_DISK,
         script: b"",
@@ -165,7 +165,7 @@ fn on_a_disk<'a>(first: &'a [u8], second: &'a [u8], disk: &'a [Entry]) -> Scene<
 }
 
 /// The scene of one or two programs on a drive with these entries, whose disk serves calls in turns.
-pub(crate) fn in_turns<'a>(first: &'a [u8], second: &'a [u8], disk: &'a [Entry]) -> Scene<'a> {
+pub(crate) fn in_turns<'a>(first: &'a [u8], second: &'a [u8], disk: &'a [EntryBytes]) -> Scene<'a> {
     Scene {
         machine: IN_TURNS,
         ..on_a_disk(first, second, disk)
@@ -179,7 +179,7 @@ const TURNS: u64 = 2000;
 /// is where the disk serves its calls in turns.
 fn plays(
     rt: &HostRuntime,
-    disk: &[Entry],
+    disk: &[EntryBytes],
     acts: &[Act],
     data: &[Data],
     sights: &[Sight],
@@ -195,7 +195,7 @@ fn plays(
 fn plays_at_once(
     rt: &HostRuntime,
     first: &[u8],
-    disk: &[Entry],
+    disk: &[EntryBytes],
     steps: u64,
     sights: &[Sight],
 ) -> Result<(), Fail> {
@@ -206,7 +206,7 @@ fn plays_at_once(
 fn plays_in_turns(
     rt: &HostRuntime,
     first: &[u8],
-    disk: &[Entry],
+    disk: &[EntryBytes],
     steps: u64,
     sights: &[Sight],
 ) -> Result<(), Fail> {
@@ -235,7 +235,7 @@ fn plays_below(
 }
 
 /// The entry of a file of one record.
-pub(crate) fn one_record(letter: u8) -> Entry {
+pub(crate) fn one_record(letter: u8) -> EntryBytes {
     held(Kind::Ibm3740, file(letter, 0, 1), 0, 2)
 }
 

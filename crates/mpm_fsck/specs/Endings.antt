@@ -44,7 +44,7 @@ pub record Says (kind : Kind) (image : List ℕ) (old new : List ℕ) (status : 
   pub text : new ≡ old ++ said kind image
 
 -- the image hasn't the size of its kind
-pub record IsOfOtherSize (kind : Kind) (name : List ℕ) (old new : DrivesSeen) : Type 0 where
+pub record IsOfWrongSize (kind : Kind) (name : List ℕ) (old new : DrivesSeen) : Type 0 where
   pub image : List ℕ
   pub attached : Attached name image old new
   pub size : length image ≢ (geometry_of kind).bytes
@@ -59,7 +59,7 @@ abbrev pub Checks : Kind → List ℕ → DrivesSeen → DrivesSeen → List ℕ
 Checks kind name old new first written Done = Checked kind name old new (λ image. Says kind image first written Done)
 Checks kind name old new first written Usage = ⊥
 Checks kind name old new first written (Unsound count) = Checked kind name old new (λ image. Says kind image first written (Unsound count))
-Checks kind name old new first written WrongSize = IsOfOtherSize kind name old new
+Checks kind name old new first written WrongSize = IsOfWrongSize kind name old new
 Checks kind name old new first written (BadList line) = ⊥
 Checks kind name old new first written (NotEnough slot cause) = ⊥
 Checks kind name old new first written ReadFault = ⊥
@@ -133,7 +133,7 @@ Applies missing kind name list old new Done =
     Mends kind name (missing list) (old.contents list) old.drives new.drives (λ text. new.text ≡ old.text ++ text)
 Applies missing kind name list old new Usage = ⊥
 Applies missing kind name list old new (Unsound count) = ⊥
-Applies missing kind name list old new WrongSize = IsOfOtherSize kind name old.drives new.drives
+Applies missing kind name list old new WrongSize = IsOfWrongSize kind name old.drives new.drives
 Applies missing kind name list old new (BadList line) =
     Checked kind name old.drives new.drives (λ image. HasBadLine (missing list) (old.contents list) kind line)
 Applies missing kind name list old new (NotEnough slot cause) =

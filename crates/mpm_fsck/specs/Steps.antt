@@ -18,11 +18,11 @@ use Rattle.mpm_fsck.specs.declared.checking.Findings.{Findings}
 use Rattle.mpm_fsck.specs.declared.status.FsckStatus.{FsckStatus}
 use Rattle.mpm_fsck.specs.declared.status.FsckStatus.TheVariants.{Done, Usage, Unsound, WrongSize, BadList, NotEnough, ReadFault, DiskFault, WriteFault, OutOfMemory, TooLong}
 use Rattle.mpm_fsck.specs.Outside.{DrivesSeen, FailsNowhere, KeepsImages}
-use Rattle.mpm_fsck.specs.Endings.{Checked, IsOfOtherSize, IsLost, IsLonger, Lists, HasBadLine, said, status_of, drive_without, by_fault}
+use Rattle.mpm_fsck.specs.Endings.{Checked, IsOfWrongSize, IsLost, IsLonger, Lists, HasBadLine, said, status_of, drive_without, by_fault}
 
 -- an image of another size
 pub record Mismatches (kind : Kind) (name : List ℕ) (old new : DrivesSeen) : Type 0 where
-  pub size : IsOfOtherSize kind name old new
+  pub size : IsOfWrongSize kind name old new
   pub fails : FailsNowhere old new
 
 -- no memory for it
@@ -153,19 +153,19 @@ abbrev pub slots_marked : Kind → List Bool → List ℕ
 slots_marked kind marks = listed marks ((geometry_of kind).drm + 1)
 
 -- an image of which they are free: so many, and it has no fault; or it has this one
-abbrev pub Leaves : Kind → List ℕ → List ℕ → Result ℕ FsckStatus → Type 0
-Leaves kind slots image (Ok count) = (count ≡ length slots) × (files_of (freed_image kind slots image) kind ≡ Ok (drive_without kind slots image))
-Leaves kind slots image (Err Done) = ⊥
-Leaves kind slots image (Err Usage) = ⊥
-Leaves kind slots image (Err (Unsound count)) = ⊥
-Leaves kind slots image (Err WrongSize) = ⊥
-Leaves kind slots image (Err (BadList line)) = ⊥
-Leaves kind slots image (Err (NotEnough slot cause)) = files_of (freed_image kind slots image) kind ≡ Err (record { cause = cause; place = slot })
-Leaves kind slots image (Err ReadFault) = ⊥
-Leaves kind slots image (Err DiskFault) = ⊤
-Leaves kind slots image (Err WriteFault) = ⊥
-Leaves kind slots image (Err OutOfMemory) = ⊤
-Leaves kind slots image (Err TooLong) = ⊥
+abbrev pub LeavesImage : Kind → List ℕ → List ℕ → Result ℕ FsckStatus → Type 0
+LeavesImage kind slots image (Ok count) = (count ≡ length slots) × (files_of (freed_image kind slots image) kind ≡ Ok (drive_without kind slots image))
+LeavesImage kind slots image (Err Done) = ⊥
+LeavesImage kind slots image (Err Usage) = ⊥
+LeavesImage kind slots image (Err (Unsound count)) = ⊥
+LeavesImage kind slots image (Err WrongSize) = ⊥
+LeavesImage kind slots image (Err (BadList line)) = ⊥
+LeavesImage kind slots image (Err (NotEnough slot cause)) = files_of (freed_image kind slots image) kind ≡ Err (record { cause = cause; place = slot })
+LeavesImage kind slots image (Err ReadFault) = ⊥
+LeavesImage kind slots image (Err DiskFault) = ⊤
+LeavesImage kind slots image (Err WriteFault) = ⊥
+LeavesImage kind slots image (Err OutOfMemory) = ⊤
+LeavesImage kind slots image (Err TooLong) = ⊥
 
 -- the count of faults then: it rose where the drive failed
 abbrev pub CountsLeft : {A : Type 0} → ℕ → ℕ → Result A FsckStatus → Type 0

@@ -2,7 +2,7 @@ ghost use Rattle.std.specs.Prelude.{◌≡◌, ◌≢◌, ◌≤◌, ◌+◌, If
 ghost use Rattle.std.specs.List.{All};
 ghost use Rattle.mpm_blocks.specs.Geometries.{geometry_of};
 ghost use Rattle.mpm_dirent.specs.Proper.{IsProper};
-ghost use Rattle.mpm_mount.specs.Directories.{IsWhole, free_records_in};
+ghost use Rattle.mpm_mount.specs.Directories.{IsWholeEntry, free_records_in};
 ghost use Rattle.mpm_fault_lines.specs.Lines.{sound_line as said_sound};
 ghost use Rattle.mpm_repair.specs.FaultLists as spec;
 ghost use Rattle.mpm_fsck.specs.Outside.{drives_seen};
@@ -77,7 +77,7 @@ fn find<D: Drives>(
 fn judge(alloc: Global, kind: Kind, entries: Vec<Entry>) -> Result<Findings, OutOfMemory>
     requires full { length entries.items ≡ (geometry_of kind).drm + 1 }
     requires proper { All (IsProper (geometry_of kind).wide) entries.items }
-    requires whole { All IsWhole entries.items }
+    requires whole { All IsWholeEntry entries.items }
     ensures { IfOk result (Finds kind entries.items) }
 {
     let mut entries = entries;
@@ -110,7 +110,7 @@ fn list_faults(
 fn sound(alloc: Global, kind: Kind, entries: Vec<Entry>) -> Result<Findings, OutOfMemory>
     requires full { length entries.items ≡ (geometry_of kind).drm + 1 }
     requires proper { All (IsProper (geometry_of kind).wide) entries.items }
-    requires whole { All IsWhole entries.items }
+    requires whole { All IsWholeEntry entries.items }
     ensures text { IfOk result (λ found. found.text.items ≡ said_sound (free_records_in (record { drive = 0; kind = kind; entries = entries.items }))) }
     ensures count { IfOk result (λ found. found.count ≡ 0) }
 {

@@ -3,7 +3,7 @@ ghost use Rattle.std.specs.List.{All};
 ghost use Rattle.mpm_blocks.specs.Geometries.{geometry_of};
 ghost use Rattle.mpm_port.specs.Disks.{size_of};
 ghost use Rattle.mpm_dirent.specs.Proper.{IsProper};
-ghost use Rattle.mpm_mount.specs.Directories.{IsWhole};
+ghost use Rattle.mpm_mount.specs.Directories.{IsWholeEntry};
 ghost use Rattle.mpm_mount.specs.Faults.{first_fault};
 ghost use Rattle.mpm_mount.specs.Mounting.{SameDrives};
 ghost use Rattle.mpm_fault_lines.specs.Lists.{listed};
@@ -11,7 +11,7 @@ ghost use Rattle.mpm_repair.specs.Freeing.{freed};
 ghost use Rattle.mpm_fsck.specs.Outside.{drives_seen, seen};
 ghost use Rattle.mpm_fsck.specs.Requests.{Apply};
 ghost use Rattle.mpm_fsck.specs.Endings.{Applies, TakesOwnList, FailsFiles, FailsDrives, FailsOutput, WritesNothing};
-ghost use Rattle.mpm_fsck.specs.Steps.{Reads, IsLeft, Leaves, CountsLeft, Mending, IsSaid, slots_marked};
+ghost use Rattle.mpm_fsck.specs.Steps.{Reads, IsLeft, LeavesImage, CountsLeft, Mending, IsSaid, slots_marked};
 
 use crate::opening::{open, read};
 use crate::status::FsckStatus;
@@ -120,7 +120,7 @@ fn count_freed<D: Drives>(
     drives: &mut D,
 ) -> Result<u16, FsckStatus>
     requires { size_of (D.disks drives.old) 0 ≡ Some (geometry_of kind).bytes }
-    ensures left { (image : List ℕ) → (D.disks drives.old).image 0 ≡ Some image → Leaves kind (slots_marked kind slots.now) image result }
+    ensures left { (image : List ℕ) → (D.disks drives.old).image 0 ≡ Some image → LeavesImage kind (slots_marked kind slots.now) image result }
     ensures count { CountsLeft (D.faults drives.old) (D.faults drives.new) result }
     ensures same { SameDrives D.disks D.told D.failed_names drives.old drives.new }
 {
@@ -139,7 +139,7 @@ fn count_left(
 ) -> Result<u16, FsckStatus>
     requires full { length entries.items ≡ (geometry_of kind).drm + 1 }
     requires proper { All (IsProper (geometry_of kind).wide) entries.items }
-    requires whole { All IsWhole entries.items }
+    requires whole { All IsWholeEntry entries.items }
     ensures { IsLeft (slots_marked kind slots.now) (first_fault kind (freed (slots_marked kind slots.now) entries.items)) result }
 {
     let mut entries = entries;

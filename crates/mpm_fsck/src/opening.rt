@@ -4,7 +4,7 @@ ghost use Rattle.mpm_blocks.specs.Geometries.{geometry_of};
 ghost use Rattle.mpm_blocks.specs.Sectors.{sectors_of};
 ghost use Rattle.mpm_port.specs.Disks.{size_of};
 ghost use Rattle.mpm_dirent.specs.Proper.{IsProper};
-ghost use Rattle.mpm_mount.specs.Directories.{IsWhole};
+ghost use Rattle.mpm_mount.specs.Directories.{IsWholeEntry};
 ghost use Rattle.mpm_mount.specs.Images.{entries_of};
 ghost use Rattle.mpm_mount.specs.Mounting.{SameDrives};
 ghost use Rattle.mpm_fsck.specs.Outside.{drives_seen};
@@ -45,7 +45,7 @@ pub(crate) fn read<D: Drives>(
     ensures entries { IfOk result (λ entries. IfSome ((D.disks drives.old).image 0) (λ image. entries.items ≡ entries_of (sectors_of image kind) kind)) }
     ensures full { IfOk result (λ entries. length entries.items ≡ (geometry_of kind).drm + 1) }
     ensures proper { IfOk result (λ entries. All (IsProper (geometry_of kind).wide) entries.items) }
-    ensures whole { IfOk result (λ entries. All IsWhole entries.items) }
+    ensures whole { IfOk result (λ entries. All IsWholeEntry entries.items) }
     ensures count { OnOk result (D.faults drives.new ≡ D.faults drives.old) }
     ensures err { IfErr result (λ status. Unread (D.faults drives.old) (D.faults drives.new) status) }
     ensures same { SameDrives D.disks D.told D.failed_names drives.old drives.new }

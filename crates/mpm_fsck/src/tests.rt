@@ -10,7 +10,7 @@ ghost use Rattle.mpm_port.specs.MemoryDisks.{IsFree};
 use crate::fsck::fsck_words;
 use crate::status::FsckStatus;
 use mpm_base::Kind;
-use mpm_images::{Entry, UNUSED, file, held, image};
+use mpm_images::{EntryBytes, UNUSED, file, held, image};
 use mpm_port::{MemoryDrives, MemoryFiles, MemorySink};
 use std::alloc::Global;
 use std::test::Fail;
@@ -86,7 +86,7 @@ pub(crate) fn all_go(
 pub(crate) fn add_image(
     alloc: Global,
     kind: Kind,
-    entries: &[Entry],
+    entries: &[EntryBytes],
     drives: &mut MemoryDrives,
 ) -> Result<(), Fail>
     requires { (name : List ℕ) → IsFree drives.old name }
@@ -97,12 +97,12 @@ pub(crate) fn add_image(
 }
 
 /// A file of one record, in a block.
-pub(crate) fn one_block(kind: Kind, letter: u8, block: u16) -> Entry {
+pub(crate) fn one_block(kind: Kind, letter: u8, block: u16) -> EntryBytes {
     held(kind, file(letter, 0, 1), 0, block)
 }
 
 /// The first ten slots of a directory of which 3 and 9 name block 7.
-pub(crate) fn two_of_one_block(kind: Kind) -> [Entry; 10] {
+pub(crate) fn two_of_one_block(kind: Kind) -> [EntryBytes; 10] {
     let mut entries = [UNUSED; 10];
     entries[3] = one_block(kind, b'C', 7);
     entries[9] = one_block(kind, b'J', 7);

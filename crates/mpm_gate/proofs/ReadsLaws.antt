@@ -10,7 +10,7 @@ use Rattle.z80_regs.specs.declared.regs.Regs.{Regs}
 use Rattle.mpm_gate.specs.Bytes.{bytes_from}
 use Rattle.mpm_gate.specs.Texts.{text_from}
 use Rattle.mpm_base.specs.Lists.{is_among}
-use Rattle.mpm_gate.specs.Reads.{Row, table, reads_by, reads_of, most_read}
+use Rattle.mpm_gate.specs.Reads.{ReadsRow, table, reads_by, reads_of, most_read}
 use Rattle.mpm_gate.specs.Calls.{bytes_read, taken_call}
 use Rattle.mpm_gate.specs.declared.take.TextEnd.TheVariants.{Dollar, NullOrReturn}
 use Rattle.mpm_gate.specs.declared.reads.Reads.{Reads}
@@ -21,17 +21,17 @@ use Rattle.mpm_gate.proofs.DescriptorLaws.{length_chain}
 
 -- the functions that stand in the table
 abbrev pub listed : List ℕ
-listed = flat_map (λ (row : Row). row.functions) table
+listed = flat_map (λ (row : ReadsRow). row.functions) table
 
 -- each of them once
 pub each_once : list_all (λ function. count_by (λ other. other == function) listed == 1) listed ≡ true
 each_once = refl
 
-rows_fit : List Row → Bool
+rows_fit : List ReadsRow → Bool
 rows_fit [] = true
 rows_fit (row ∷ rows) = nat_le (most_read row.reads 16) 4096 && rows_fit rows
 
-each_fits : (rows : List Row) (function : ℕ) → rows_fit rows ≡ true → most_read (reads_by rows function) 16 ≤ 4096
+each_fits : (rows : List ReadsRow) (function : ℕ) → rows_fit rows ≡ true → most_read (reads_by rows function) 16 ≤ 4096
 unfolding rows_fit
 each_fits [] function fit = omega arith
 each_fits (row ∷ rows) function fit =

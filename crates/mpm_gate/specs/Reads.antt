@@ -7,15 +7,15 @@ use Rattle.mpm_gate.specs.declared.reads.Reads.{Reads}
 use Rattle.mpm_gate.specs.declared.reads.Reads.TheVariants.{Registers, Block, Pointing, Descriptors, DollarString, TextAtDma, Command, File, Records}
 
 -- a row: some functions, and what the call of each reads
-pub record Row : Type 0 where
+pub record ReadsRow : Type 0 where
   pub functions : List ℕ
   pub reads : Reads
 
-abbrev pub row : List ℕ → Reads → Row
+abbrev pub row : List ℕ → Reads → ReadsRow
 row functions reads = record { functions = functions; reads = reads }
 
 -- the table; a function that stands in no row reads its registers alone
-abbrev pub table : List Row
+abbrev pub table : List ReadsRow
 table =
     row (PRINT_STRING ∷ []) DollarString
     ∷ row (READ_CONSOLE_BUFFER ∷ []) (Block 1)
@@ -41,7 +41,7 @@ table =
     ∷ []
 
 -- what rows say of a function
-abbrev pub reads_by : List Row → ℕ → Reads
+abbrev pub reads_by : List ReadsRow → ℕ → Reads
 reads_by [] function = Registers
 reads_by (row ∷ rows) function = if is_among function row.functions then row.reads else (reads_by rows function)
 

@@ -3,7 +3,7 @@ use Rattle.std.proofs.Common.{◌≡◌, ◌≢◌, ◌⊎◌, ℕ, ◌+◌, ◌
 use Rattle.std.specs.Prelude.{slice_index_or, slice_set, option_map, is_some, take, drop, ◌++◌}
 use Rattle.std.proofs.lemmas.List.{get_or-set_same, get_or-set_other, set-get_or, get_or_past, length-append, length-take, length-drop}
 use Rattle.std.proofs.lemmas.Bool.{cases_eq, cases_lt, false≢true}
-use Rattle.mpm_port.specs.Disks.{Disks, Untold, Attaches, Writes, KeepsTold, IsInside, size_of, with_sector}
+use Rattle.mpm_port.specs.Disks.{Disks, Untold, Attaches, WritesSector, KeepsTold, IsInsideDrive, size_of, with_sector}
 use Rattle.mpm_host.specs.Attached.{Held, RealDisks, held_by, disks_in, disks_of, is_unsynced, after_attach, after_write, written_if}
 
 here_after : (held : List (Option Held)) (drive : ℕ) (one : Option Held) → drive < length held → held_by (slice_set held drive one) drive ≡ one
@@ -20,12 +20,12 @@ is_one held drive one is = elim (cases_lt drive (length held)) [
 ]
 
 there_by : (held : List (Option Held)) (drive sector : ℕ) (o : Option Held) → held_by held drive ≡ o
-    → IsInside (option_map length (option_map (λ h. h.bytes) o)) sector → drive < length held
+    → IsInsideDrive (option_map length (option_map (λ h. h.bytes) o)) sector → drive < length held
 there_by held drive sector None is inside = absurd inside
 there_by held drive sector (Some one) is inside = is_one held drive one is
 
 -- and so is one of which a sector is inside
-pub is_there : (held : List (Option Held)) (drive sector : ℕ) → IsInside (size_of (disks_in held) drive) sector → drive < length held
+pub is_there : (held : List (Option Held)) (drive sector : ℕ) → IsInsideDrive (size_of (disks_in held) drive) sector → drive < length held
 is_there held drive sector inside = there_by held drive sector (held_by held drive) refl inside
 
 -- a drive that is attached
@@ -50,7 +50,7 @@ as_long image sector bytes h k =
     omega (arith, length-append (take (128 * sector) image) (bytes ++ drop (128 * sector + 128) image), length-append bytes (drop (128 * sector + 128) image), length-take (128 * sector) image, length-drop (128 * sector + 128) image)
 
 writes_held : (held : List (Option Held)) (drive sector : ℕ) (bytes : List ℕ) (one new : Held) → held_by held drive ≡ Some one → new ≡ record one { bytes = with_sector one.bytes sector bytes }
-    → length bytes ≡ 128 → 128 * sector + 128 ≤ length one.bytes → Writes drive sector bytes (disks_in held) (disks_in (slice_set held drive (Some new)))
+    → length bytes ≡ 128 → 128 * sector + 128 ≤ length one.bytes → WritesSector drive sector bytes (disks_in held) (disks_in (slice_set held drive (Some new)))
 writes_held held drive sector bytes one new is new_is wide inside =
     let here = here_after held drive (Some new) (is_one held drive one is) in
     record {
@@ -78,13 +78,13 @@ writes_held held drive sector bytes one new is new_is wide inside =
     by_size other (inr apart) = ap (λ (o : Option Held). option_map length (option_map (λ h. h.bytes) o)) (other_after held drive other (Some new) apart)
 
 writes_by : (held : List (Option Held)) (drive sector : ℕ) (bytes : List ℕ) (o : Option Held) → held_by held drive ≡ o → length bytes ≡ 128
-    → IsInside (option_map length (option_map (λ h. h.bytes) o)) sector → Writes drive sector bytes (disks_in held) (disks_in (slice_set held drive (written_if o sector bytes true)))
+    → IsInsideDrive (option_map length (option_map (λ h. h.bytes) o)) sector → WritesSector drive sector bytes (disks_in held) (disks_in (slice_set held drive (written_if o sector bytes true)))
 writes_by held drive sector bytes None is wide inside = absurd inside
 writes_by held drive sector bytes (Some one) is wide inside = writes_held held drive sector bytes one _ is refl wide inside
 
 -- a write that was done
-pub writes : (disks : RealDisks) (drive sector : ℕ) (bytes : List ℕ) → length bytes ≡ 128 → IsInside (size_of (disks_of disks) drive) sector
-    → Writes drive sector bytes (disks_of disks) (disks_of (after_write disks drive sector bytes true))
+pub writes : (disks : RealDisks) (drive sector : ℕ) (bytes : List ℕ) → length bytes ≡ 128 → IsInsideDrive (size_of (disks_of disks) drive) sector
+    → WritesSector drive sector bytes (disks_of disks) (disks_of (after_write disks drive sector bytes true))
 writes disks drive sector bytes wide inside = writes_by disks.held drive sector bytes (held_by disks.held drive) refl wide inside
 
 same_if : (sector : ℕ) (bytes : List ℕ) (o : Option Held) → written_if o sector bytes false ≡ o

@@ -1,6 +1,6 @@
 ghost use Rattle.std.specs.Prelude.{◌≡◌, ◌+◌, ◌*◌, ◌≤◌, ◌<◌, ℕ, Some, None, true, IsSome, IsOk, IsTrue, ◌↔◌, length};
 ghost use Rattle.mpm_port.specs.Causes.{HasCause};
-ghost use Rattle.mpm_port.specs.Disks.{IsInside, size_of};
+ghost use Rattle.mpm_port.specs.Disks.{IsInsideDrive, size_of};
 ghost use Rattle.mpm_host.specs.Attached.{no_drives, held_by, disks_of, told_of, real_agrees, is_unsynced, after_attach, after_write, after_access};
 
 use crate::image::Image;
@@ -69,7 +69,7 @@ impl RealDrives {
 
     /// Writes a sector of an attached drive, and says whether that was done.
     fn write_image(&mut self, drive: u8, sector: u32, bytes: &[u8; 128]) -> bool
-        requires { IsInside (size_of (disks_of self.old) drive) sector }
+        requires { IsInsideDrive (size_of (disks_of self.old) drive) sector }
         ensures after { self.new ≡ after_write self.old drive sector bytes.now result }
         ensures unsynced { is_unsynced self.new drive ≡ true }
     {

@@ -1,6 +1,6 @@
 //! The devices on their happy path, their refusals, and what they do with a call that fails in part or for a moment.
 ghost use Rattle.std.specs.Prelude.{◌≡◌};
-ghost use Rattle.mpm_port.specs.Disks.{IsInside, size_of};
+ghost use Rattle.mpm_port.specs.Disks.{IsInsideDrive, size_of};
 
 use crate::image::write_or_restore;
 use crate::opening::is_without_right;
@@ -172,7 +172,7 @@ fn what_is_no_regular_file_is_no_image(rt: HostRuntime) {
 
 /// Whether all bytes of a sector are this one.
 fn has<D: Drives>(drives: &mut D, drive: u8, sector: u32, byte: u8) -> bool
-    requires { IsInside (size_of (D.disks drives.old) drive) sector }
+    requires { IsInsideDrive (size_of (D.disks drives.old) drive) sector }
     ensures { D.disks drives.new ≡ D.disks drives.old }
 {
     let mut found = [0; 128];

@@ -1,7 +1,7 @@
 //! What is read of a drive in memory, and written to it, by the place of a record: the image `a.img`, to which drive 0 is attached for
 //! that.
 ghost use Rattle.std.specs.Bool.{OnTrue};
-ghost use Rattle.mpm_port.specs.Disks.{IsInside, size_of};
+ghost use Rattle.mpm_port.specs.Disks.{IsInsideDrive, size_of};
 ghost use Rattle.mpm_port.specs.MemoryDisks.{disks_of};
 
 use crate::place;
@@ -11,7 +11,7 @@ use mpm_port::{Drives, MemoryDrives};
 /// Attaches the image: whether it has a sector.
 #[tactic(auto, unfolding(mpm_port::specs::MemoryDisks::after_access))]
 fn has_sector(drives: &mut MemoryDrives, sector: u32) -> bool
-    ensures { OnTrue result (IsInside (size_of (disks_of drives.new) 0) sector) }
+    ensures { OnTrue result (IsInsideDrive (size_of (disks_of drives.new) 0) sector) }
 {
     if drives.attach(0, "a.img") != Ok(()) {
         return false;

@@ -12,10 +12,10 @@ use mpm_base::Kind;
 use std::alloc::{AllocError, Global};
 
 /// The 32 bytes of a directory entry.
-pub type Entry = [u8; 32];
+pub type EntryBytes = [u8; 32];
 
 /// A slot that was never used.
-pub const UNUSED: Entry = [0xE5; 32];
+pub const UNUSED: EntryBytes = [0xE5; 32];
 
 /// How a kind of disk is laid out.
 #[derive(Clone, Copy)]
@@ -82,7 +82,7 @@ pub fn place(kind: Kind, number: u32) -> u32 {
 }
 
 /// An entry that begins with a byte and a letter's name, `A.TXT`.
-pub fn named(first: u8, letter: u8) -> Entry {
+pub fn named(first: u8, letter: u8) -> EntryBytes {
     let mut entry = [0; 32];
     entry[0] = first;
     entry[1..12].copy_from_slice(b"        TXT");
@@ -91,7 +91,7 @@ pub fn named(first: u8, letter: u8) -> Entry {
 }
 
 /// A directory entry of a file of user 0, with its last extent and record count, and no block.
-pub fn file(letter: u8, ex: u8, rc: u8) -> Entry {
+pub fn file(letter: u8, ex: u8, rc: u8) -> EntryBytes {
     let mut entry = named(0, letter);
     entry[12] = ex;
     entry[15] = rc;
@@ -99,14 +99,14 @@ pub fn file(letter: u8, ex: u8, rc: u8) -> Entry {
 }
 
 /// An entry with a byte changed.
-pub fn with(entry: Entry, place: usize, byte: u8) -> Entry {
+pub fn with(entry: EntryBytes, place: usize, byte: u8) -> EntryBytes {
     let mut entry = entry;
     entry[place % 32] = byte;
     entry
 }
 
 /// An entry with a block at a place.
-pub fn held(kind: Kind, entry: Entry, index: usize, block: u16) -> Entry {
+pub fn held(kind: Kind, entry: EntryBytes, index: usize, block: u16) -> EntryBytes {
     let mut entry = entry;
     let [low, high] = block.to_le_bytes();
     if layout_of(kind).is_wide {
@@ -120,25 +120,25 @@ pub fn held(kind: Kind, entry: Entry, index: usize, block: u16) -> Entry {
 }
 
 /// Another file of one record, which no job names: it has the first block.
-pub fn other(kind: Kind) -> Entry {
+pub fn other(kind: Kind) -> EntryBytes {
     held(kind, file(b'B', 0, 1), 0, layout_of(kind).first)
 }
 
 /// An XFCB of a file of user 0.
-pub fn xfcb(letter: u8) -> Entry {
+pub fn xfcb(letter: u8) -> EntryBytes {
     named(16, letter)
 }
 
 /// An entry of a first byte and a letter's name that guards by the password SECRET: the XFCB of a file, or the label. Its mode is byte
 /// 12. The password's bytes are kept from the last to the first, each crossed with their sum, which is 06h modulo 256.
-pub fn guard(first: u8, letter: u8, mode: u8) -> Entry {
+pub fn guard(first: u8, letter: u8, mode: u8) -> EntryBytes {
     let mut entry = with(with(named(first, letter), 12, mode), 13, 6);
     entry[16..24].copy_from_slice(b"&&RCTECU");
     entry
 }
 
 /// The number of the block at a place of an entry; 0 where there is none.
-fn block_at(kind: Kind, entry: &Entry, index: u32) -> u32 {
+fn block_at(kind: Kind, entry: &EntryBytes, index: u32) -> u32 {
     if layout_of(kind).is_wide {
         let at = (index % 8 * 2) as usize;
         u32::from(u16::from_le_bytes([entry[16 + at], entry[17 + at]]))
@@ -148,7 +148,7 @@ fn block_at(kind: Kind, entry: &Entry, index: u32) -> u32 {
 }
 
 /// Where after the system's tracks the record of a number is in a file, by the entry that covers it, if that has its block.
-pub fn record_at(kind: Kind, entry: &Entry, number: u32) -> Option<u32> {
+pub fn record_at(kind: Kind, entry: &EntryBytes, number: u32) -> Option<u32> {
     let layout = layout_of(kind);
     let block = block_at(kind, entry, number % layout.entry / layout.block);
     if block == 0 {
@@ -162,7 +162,7 @@ pub fn record_at(kind: Kind, entry: &Entry, number: u32) -> Option<u32> {
 }
 
 /// The bytes of the directory's sector with the entries from a slot on; where none of them is left, E5h.
-pub fn directory_sector(entries: &[Entry], slot: usize) -> [u8; 128] {
+pub fn directory_sector(entries: &[EntryBytes], slot: usize) -> [u8; 128] {
     let mut sector = [0xE5; 128];
     for (byte, value) in sector.iter_mut().enumerate() {
         if let Some(entry) = entries.get(slot.saturating_add(byte / 32)) {
@@ -173,7 +173,7 @@ pub fn directory_sector(entries: &[Entry], slot: usize) -> [u8; 128] {
 }
 
 /// One of the four entries of a sector of the directory.
-pub fn entry_in(sector: &[u8; 128], index: usize) -> Entry {
+pub fn entry_in(sector: &[u8; 128], index: usize) -> EntryBytes {
     let mut entry = [0; 32];
     for (byte, value) in entry.iter_mut().enumerate() {
         if let Some(found) = sector.get((index % 4 * 32).saturating_add(byte)) {
@@ -205,7 +205,7 @@ pub fn put_text(image: &mut [u8], kind: Kind, number: u32, text: &[u8]) {
 }
 
 /// Puts the entry of a slot into an image.
-fn put_entry(image: &mut [u8], kind: Kind, slot: usize, entry: &Entry) {
+fn put_entry(image: &mut [u8], kind: Kind, slot: usize, entry: &EntryBytes) {
     let sector = place(kind, (slot / 4 % 128) as u32) as usize;
     let first = sector.saturating_mul(128).saturating_add(slot % 4 * 32);
     for (byte, value) in entry.iter().enumerate() {
@@ -217,7 +217,7 @@ fn put_entry(image: &mut [u8], kind: Kind, slot: usize, entry: &Entry) {
 
 /// The image of a disk with these entries from slot 0 on, all of whose other bytes are E5h. It is made sector by sector: in a test that is
 /// compiled with checks, a `vec!` of its bytes takes a second for each five MiB.
-pub fn image(alloc: Global, kind: Kind, entries: &[Entry]) -> Result<Vec<u8>, AllocError> {
+pub fn image(alloc: Global, kind: Kind, entries: &[EntryBytes]) -> Result<Vec<u8>, AllocError> {
     let bytes = layout_of(kind).bytes;
     let mut image = Vec::with_capacity(alloc, bytes)?;
     for _sector in 0..bytes / 128 {

@@ -14,7 +14,7 @@ use Rattle.mpm_consoles.specs.declared.keys.KeyDone.{KeyDone}
 use Rattle.mpm_consoles.specs.declared.keys.KeyDone.TheVariants.{Stored, Dropped, Wakes, Aborts, Passes, Nothing}
 use Rattle.mpm_script.specs.declared.event.Event.{Event}
 use Rattle.mpm_script.specs.declared.event.Event.TheVariants.{Tick, Key, Ready, Int}
-use Rattle.mpm_kernel.specs.Kernel.{Kernel, IsSound, afresh, dispatched}
+use Rattle.mpm_kernel.specs.Kernel.{Kernel, IsSoundKernel, afresh, dispatched}
 use Rattle.mpm_kernel.specs.Columns.{spoke}
 use Rattle.mpm_dispatcher.specs.Dispatch.{moved, all_ready, all_woken, runner_behind}
 use Rattle.mpm_kernel.specs.Waiting.{with_woken, signalled, is_flag}
@@ -56,7 +56,7 @@ aborts_named (Wakes p) console waited kernel names lives = lives
 aborts_named (Aborts p) console waited kernel names lives = names
 aborts_named (Passes from to) console waited kernel names lives = lives
 
-aborts_by_key : (console byte : ℕ) (kernel : Kernel) → IsSound kernel → AbortLives kernel → AbortLives (key_came console byte kernel)
+aborts_by_key : (console byte : ℕ) (kernel : Kernel) → IsSoundKernel kernel → AbortLives kernel → AbortLives (key_came console byte kernel)
 unfolding key_came
 aborts_by_key console byte kernel s lives =
     let resident = is_of_resident kernel.dispatcher.procs (owner_of kernel.units (ConsoleUnit console)) in
@@ -65,7 +65,7 @@ aborts_by_key console byte kernel s lives =
     (λ fits. aborts_named key console _ _ (key_names kernel console byte resident key s (grind (arith, nat_tests, fits)) refl) lives)
     (λ _. lives)
 
-aborts_by : (event : Event) (kernel : Kernel) → IsSound kernel → kernel.aborted ≡ None → AbortLives (happens event kernel)
+aborts_by : (event : Event) (kernel : Kernel) → IsSoundKernel kernel → kernel.aborted ≡ None → AbortLives (happens event kernel)
 unfolding happens clock_ticked device_ready
 aborts_by Tick kernel s none =
     let woken = woken_by_tick kernel.clock.delays in
@@ -76,9 +76,9 @@ aborts_by (Ready device byte) kernel s none =
     lives_if_none (dispatched (all_woken (pollers kernel device)) (with_ready kernel device byte)) (aborted_all_ready (pollers kernel device) (with_ready kernel device byte) ∙ none)
 aborts_by (Int flag) kernel s none = lives_if_none (flag_came flag kernel) (aborted_flag_came flag kernel ∙ none)
 
-pub abort_lives : (event : Event) (kernel : Kernel) → IsSound kernel → AbortLives (happened event kernel)
+pub abort_lives : (event : Event) (kernel : Kernel) → IsSoundKernel kernel → AbortLives (happened event kernel)
 abort_lives event kernel s = aborts_by event (afresh kernel) (sound_afresh kernel s) refl
 
 -- it is handed out
-pub sound_abort_taken : (kernel : Kernel) → IsSound kernel → IsSound (abort_taken kernel)
+pub sound_abort_taken : (kernel : Kernel) → IsSoundKernel kernel → IsSoundKernel (abort_taken kernel)
 sound_abort_taken kernel s = sound_noted kernel kernel.echo None s

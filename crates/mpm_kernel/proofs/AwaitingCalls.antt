@@ -27,7 +27,7 @@ use Rattle.mpm_queues.specs.Handling.{read_outcome, write_outcome, woken_by}
 use Rattle.mpm_queues.specs.declared.queues.QueueOutcome.{QueueOutcome}
 use Rattle.mpm_queues.specs.declared.queues.QueueOutcome.TheVariants.{Done as Passed, NotNow}
 use Rattle.mpm_kernel.specs.Awaiting.{AwaitsIn}
-use Rattle.mpm_kernel.specs.Kernel.{Kernel, IsSound, poll_list, with_changed, call_begun, dispatched}
+use Rattle.mpm_kernel.specs.Kernel.{Kernel, IsSoundKernel, poll_list, with_changed, call_begun, dispatched}
 use Rattle.mpm_kernel.specs.Columns.{spoke}
 use Rattle.mpm_kernel.specs.Called.{Called, low_parameter}
 use Rattle.mpm_kernel.specs.Calls.{call_done, called, does_echo}
@@ -46,7 +46,7 @@ use Rattle.mpm_kernel.proofs.UnitLaws.{has_own_console, has_own_printer}
 
 -- waiting for devices, flags and the clock
 
-awaits_polled : (k q : ℕ) (call : Taken) (p : ℕ) (kernel : Kernel) → IsSound kernel → Lives kernel.dispatcher.procs p → q ≢ p → AwaitsIn k q kernel
+awaits_polled : (k q : ℕ) (call : Taken) (p : ℕ) (kernel : Kernel) → IsSoundKernel kernel → Lives kernel.dispatcher.procs p → q ≢ p → AwaitsIn k q kernel
     → AwaitsIn k q (polled call p kernel).kernel
 unfolding polled
 awaits_polled k q call p kernel s h other a =
@@ -70,7 +70,7 @@ awaits_flag_waited k q call p kernel other a =
     either (λ (c : Called). AwaitsIn k q c.kernel) (is_flag flag) _ _
     (λ _. awaits_waited k q (wait_answer p (flag_at kernel.flags flag)) p (flag_waited_for kernel p flag) other a) (λ _. a)
 
-awaits_woke : (k q : ℕ) (state : Flag) (flag : ℕ) (kernel : Kernel) → IsSound kernel → flag < 32 → flag_at kernel.flags flag ≡ state → AwaitsIn k q kernel
+awaits_woke : (k q : ℕ) (state : Flag) (flag : ℕ) (kernel : Kernel) → IsSoundKernel kernel → flag < 32 → flag_at kernel.flags flag ≡ state → AwaitsIn k q kernel
     → AwaitsIn k q (with_woken (set_answer state) (record kernel { flags = with_flag kernel.flags flag (after_set state) }))
 unfolding with_woken
 awaits_woke k q Clear flag kernel s below is a = a
@@ -81,30 +81,30 @@ awaits_woke k q (Waits p) flag kernel s below is a =
     (waits_apart kernel p s (waiter_waits kernel flag p s below is), tt) (one_alone q p)
     (awaits_none k q kernel.dispatcher.lists kernel.dispatcher.completed a)
 
-pub awaits_signalled : (k q flag : ℕ) (kernel : Kernel) → IsSound kernel → flag < 32 → AwaitsIn k q kernel → AwaitsIn k q (signalled flag kernel)
+pub awaits_signalled : (k q flag : ℕ) (kernel : Kernel) → IsSoundKernel kernel → flag < 32 → AwaitsIn k q kernel → AwaitsIn k q (signalled flag kernel)
 unfolding signalled
 awaits_signalled k q flag kernel s below a = awaits_woke k q (flag_at kernel.flags flag) flag kernel s below refl a
 
-awaits_flag_set : (k q : ℕ) (call : Taken) (kernel : Kernel) → IsSound kernel → AwaitsIn k q kernel → AwaitsIn k q (flag_set call kernel).kernel
+awaits_flag_set : (k q : ℕ) (call : Taken) (kernel : Kernel) → IsSoundKernel kernel → AwaitsIn k q kernel → AwaitsIn k q (flag_set call kernel).kernel
 unfolding flag_set
 awaits_flag_set k q call kernel s a =
     let flag = low_parameter call in
     either (λ (c : Called). AwaitsIn k q c.kernel) (is_flag flag) _ _ (λ is. awaits_signalled k q flag kernel s (flag_below flag is) a) (λ _. a)
 
-pub awaits_behind : (k q p : ℕ) (kernel : Kernel) → IsSound kernel → Lives kernel.dispatcher.procs p → IsReady kernel.dispatcher p → AwaitsIn k q kernel
+pub awaits_behind : (k q p : ℕ) (kernel : Kernel) → IsSoundKernel kernel → Lives kernel.dispatcher.procs p → IsReady kernel.dispatcher p → AwaitsIn k q kernel
     → AwaitsIn k q (dispatched (behind_equals p) kernel)
 awaits_behind k q p kernel s h ready a =
     subst (AwaitsIn k q) (sym (turned kernel p ready))
     (awaits_ready k q kernel.dispatcher.lists kernel.dispatcher.completed p (process_in kernel.dispatcher.procs p).priority (lives_below kernel.dispatcher.procs p s.slots h) a)
 
-awaits_priority : (k q p priority : ℕ) (kernel : Kernel) → IsSound kernel → Lives kernel.dispatcher.procs p → IsReady kernel.dispatcher p → AwaitsIn k q kernel
+awaits_priority : (k q p priority : ℕ) (kernel : Kernel) → IsSoundKernel kernel → Lives kernel.dispatcher.procs p → IsReady kernel.dispatcher p → AwaitsIn k q kernel
     → AwaitsIn k q (dispatched (with_priority p priority) kernel)
 awaits_priority k q p priority kernel s h ready a =
     let changed = with_changed kernel p (record (process_in kernel.dispatcher.procs p) { priority = priority }) in
     subst (AwaitsIn k q) (sym (turned changed p ready))
     (awaits_ready k q kernel.dispatcher.lists kernel.dispatcher.completed p (process_in changed.dispatcher.procs p).priority (lives_below kernel.dispatcher.procs p s.slots h) a)
 
-awaits_delayed : (k q : ℕ) (call : Taken) (p : ℕ) (kernel : Kernel) → IsSound kernel → Lives kernel.dispatcher.procs p → IsReady kernel.dispatcher p → q ≢ p
+awaits_delayed : (k q : ℕ) (call : Taken) (p : ℕ) (kernel : Kernel) → IsSoundKernel kernel → Lives kernel.dispatcher.procs p → IsReady kernel.dispatcher p → q ≢ p
     → AwaitsIn k q kernel → AwaitsIn k q (process_delayed call p kernel).kernel
 unfolding process_delayed
 awaits_delayed k q call p kernel s h ready other a =
@@ -135,50 +135,50 @@ unfolding blocked_or_refused queued
 awaits_refused k q waits p n reader kernel other a =
     either (λ (c : Called). AwaitsIn k q c.kernel) waits _ _ (λ is. awaits_removed k q kernel.dispatcher.lists kernel.dispatcher.completed p (other is) a) (λ _. a)
 
-awaits_was_read : (k q : ℕ) (outcome : QueueOutcome) (waits : Bool) (call : Taken) (p n : ℕ) (kernel : Kernel) → IsSound kernel → read_outcome kernel.queues n ≡ outcome
+awaits_was_read : (k q : ℕ) (outcome : QueueOutcome) (waits : Bool) (call : Taken) (p n : ℕ) (kernel : Kernel) → IsSoundKernel kernel → read_outcome kernel.queues n ≡ outcome
     → (waits ≡ true → q ≢ p) → AwaitsIn k q kernel → AwaitsIn k q (was_read outcome waits call p n kernel).kernel
 unfolding was_read
 awaits_was_read k q (Passed woken) waits call p n kernel s done other a =
     awaits_other k q woken (taken_from kernel p n) (λ w first. let held = held_by_read kernel n w s (ap woken_by done ∙ first) in record { below = held.below; waits = held.waits }) a
 awaits_was_read k q NotNow waits call p n kernel s not other a = awaits_refused k q waits p n true kernel other a
 
-pub awaits_read_at : (k q : ℕ) (slot : Option ℕ) (waits : Bool) (call : Taken) (p : ℕ) (kernel : Kernel) → IsSound kernel → (waits ≡ true → q ≢ p) → AwaitsIn k q kernel
+pub awaits_read_at : (k q : ℕ) (slot : Option ℕ) (waits : Bool) (call : Taken) (p : ℕ) (kernel : Kernel) → IsSoundKernel kernel → (waits ≡ true → q ≢ p) → AwaitsIn k q kernel
     → AwaitsIn k q (read_at slot waits call p kernel).kernel
 unfolding read_at
 awaits_read_at k q None waits call p kernel s other a = a
 awaits_read_at k q (Some n) waits call p kernel s other a = awaits_was_read k q (read_outcome kernel.queues n) waits call p n kernel s refl other a
 
 -- a message is written
-pub awaits_given : (k q p n : ℕ) (woken : Option ℕ) (kernel : Kernel) → IsSound kernel → woken_by (write_outcome kernel.queues n) ≡ woken → AwaitsIn k q kernel
+pub awaits_given : (k q p n : ℕ) (woken : Option ℕ) (kernel : Kernel) → IsSoundKernel kernel → woken_by (write_outcome kernel.queues n) ≡ woken → AwaitsIn k q kernel
     → AwaitsIn k q (dispatched (with_other woken) (given_to kernel p n))
 awaits_given k q p n woken kernel s done a =
     awaits_other k q woken (given_to kernel p n) (λ w first. let held = held_by_write kernel n w s (done ∙ first) in record { below = held.below; waits = held.waits }) a
 
-awaits_was_written : (k q : ℕ) (outcome : QueueOutcome) (waits : Bool) (p n : ℕ) (kernel : Kernel) → IsSound kernel → write_outcome kernel.queues n ≡ outcome
+awaits_was_written : (k q : ℕ) (outcome : QueueOutcome) (waits : Bool) (p n : ℕ) (kernel : Kernel) → IsSoundKernel kernel → write_outcome kernel.queues n ≡ outcome
     → (waits ≡ true → q ≢ p) → AwaitsIn k q kernel → AwaitsIn k q (was_written outcome waits p n kernel).kernel
 unfolding was_written
 awaits_was_written k q (Passed woken) waits p n kernel s done other a = awaits_given k q p n woken kernel s (ap woken_by done) a
 awaits_was_written k q NotNow waits p n kernel s not other a = awaits_refused k q waits p n false kernel other a
 
-pub awaits_write_at : (k q : ℕ) (slot : Option ℕ) (waits : Bool) (p : ℕ) (kernel : Kernel) → IsSound kernel → (waits ≡ true → q ≢ p) → AwaitsIn k q kernel
+pub awaits_write_at : (k q : ℕ) (slot : Option ℕ) (waits : Bool) (p : ℕ) (kernel : Kernel) → IsSoundKernel kernel → (waits ≡ true → q ≢ p) → AwaitsIn k q kernel
     → AwaitsIn k q (write_at slot waits p kernel).kernel
 unfolding write_at
 awaits_write_at k q None waits p kernel s other a = a
 awaits_write_at k q (Some n) waits p kernel s other a = awaits_was_written k q (write_outcome kernel.queues n) waits p n kernel s refl other a
 
-awaits_procedure_read : (k q : ℕ) (outcome : QueueOutcome) (p n : ℕ) (kernel : Kernel) → IsSound kernel → read_outcome kernel.queues n ≡ outcome → q ≢ p
+awaits_procedure_read : (k q : ℕ) (outcome : QueueOutcome) (p n : ℕ) (kernel : Kernel) → IsSoundKernel kernel → read_outcome kernel.queues n ≡ outcome → q ≢ p
     → AwaitsIn k q kernel → AwaitsIn k q (procedure_read outcome p n kernel).kernel
 unfolding procedure_read inside
 awaits_procedure_read k q (Passed woken) p n kernel s done other a =
     awaits_other k q woken (taken_from kernel p n) (λ w first. let held = held_by_read kernel n w s (ap woken_by done ∙ first) in record { below = held.below; waits = held.waits }) a
 awaits_procedure_read k q NotNow p n kernel s not other a = awaits_refused k q true p n true kernel (λ _. other) a
 
-awaits_procedure_at : (k q : ℕ) (slot : Option ℕ) (p : ℕ) (kernel : Kernel) → IsSound kernel → q ≢ p → AwaitsIn k q kernel → AwaitsIn k q (procedure_at slot p kernel).kernel
+awaits_procedure_at : (k q : ℕ) (slot : Option ℕ) (p : ℕ) (kernel : Kernel) → IsSoundKernel kernel → q ≢ p → AwaitsIn k q kernel → AwaitsIn k q (procedure_at slot p kernel).kernel
 unfolding procedure_at
 awaits_procedure_at k q None p kernel s other a = a
 awaits_procedure_at k q (Some n) p kernel s other a = awaits_procedure_read k q (read_outcome kernel.queues n) p n kernel s refl other a
 
-awaits_procedure_called : (k q : ℕ) (call : Taken) (p : ℕ) (kernel : Kernel) → IsSound kernel → q ≢ p → AwaitsIn k q kernel → AwaitsIn k q (procedure_called call p kernel).kernel
+awaits_procedure_called : (k q : ℕ) (call : Taken) (p : ℕ) (kernel : Kernel) → IsSoundKernel kernel → q ≢ p → AwaitsIn k q kernel → AwaitsIn k q (procedure_called call p kernel).kernel
 unfolding procedure_called
 awaits_procedure_called k q call p kernel s other a =
     either (λ (c : Called). AwaitsIn k q c.kernel) (is_some (process_in kernel.dispatcher.procs p).procedure) _ _ (λ _. a)
@@ -213,22 +213,22 @@ awaits_attached_now : (k q p : ℕ) (unit : Unit) (kernel : Kernel) → AwaitsIn
 unfolding attached_now
 awaits_attached_now k q p unit kernel a = either (λ (c : Called). AwaitsIn k q c.kernel) (may_attach kernel.units p unit) _ _ (λ _. a) (λ _. a)
 
-pub awaits_unit_left : (k q p : ℕ) (unit : Unit) (kernel : Kernel) → IsSound kernel → HasUnit kernel.units unit → AwaitsIn k q kernel → AwaitsIn k q (unit_left p unit kernel)
+pub awaits_unit_left : (k q p : ℕ) (unit : Unit) (kernel : Kernel) → IsSoundKernel kernel → HasUnit kernel.units unit → AwaitsIn k q kernel → AwaitsIn k q (unit_left p unit kernel)
 unfolding unit_left
 awaits_unit_left k q p unit kernel s has a =
     awaits_heir k q _ kernel.dispatcher.procs kernel.dispatcher.lists kernel.dispatcher.completed s.slots
     (λ h is. heir_lives kernel _ _ h s (passed_detach kernel.units p unit s.units has) is) a
 
-awaits_detached : (k q p : ℕ) (unit : Unit) (kernel : Kernel) → IsSound kernel → HasUnit kernel.units unit → AwaitsIn k q kernel → AwaitsIn k q (detached p unit kernel).kernel
+awaits_detached : (k q p : ℕ) (unit : Unit) (kernel : Kernel) → IsSoundKernel kernel → HasUnit kernel.units unit → AwaitsIn k q kernel → AwaitsIn k q (detached p unit kernel).kernel
 awaits_detached k q p unit kernel s has a = awaits_unit_left k q p unit kernel s has a
 
-awaits_console_changed : (k q p console : ℕ) (kernel : Kernel) → IsSound kernel → Lives kernel.dispatcher.procs p → AwaitsIn k q kernel → AwaitsIn k q (console_changed p console kernel)
+awaits_console_changed : (k q p console : ℕ) (kernel : Kernel) → IsSoundKernel kernel → Lives kernel.dispatcher.procs p → AwaitsIn k q kernel → AwaitsIn k q (console_changed p console kernel)
 unfolding console_changed
 awaits_console_changed k q p console kernel s h a =
     let process = process_in kernel.dispatcher.procs p in
     either (AwaitsIn k q) (process.console == console) _ _ (λ _. a) (λ _. awaits_unit_left k q p (ConsoleUnit process.console) kernel s (has_own_console kernel p s h) a)
 
-awaits_printer_changed : (k q p printer : ℕ) (kernel : Kernel) → IsSound kernel → Lives kernel.dispatcher.procs p → printer < length kernel.units.printers → AwaitsIn k q kernel
+awaits_printer_changed : (k q p printer : ℕ) (kernel : Kernel) → IsSoundKernel kernel → Lives kernel.dispatcher.procs p → printer < length kernel.units.printers → AwaitsIn k q kernel
     → AwaitsIn k q (printer_changed p printer kernel)
 unfolding printer_changed
 awaits_printer_changed k q p printer kernel s h some a =
@@ -236,7 +236,7 @@ awaits_printer_changed k q p printer kernel s h some a =
     either (AwaitsIn k q) (process.printer == printer) _ _ (λ _. a)
     (λ _. awaits_unit_left k q p (PrinterUnit process.printer) kernel s (has_own_printer kernel p s h (omega (arith, some))) a)
 
-awaits_console_set : (k q : ℕ) (call : Taken) (p : ℕ) (kernel : Kernel) → IsSound kernel → Lives kernel.dispatcher.procs p → q ≢ p → AwaitsIn k q kernel
+awaits_console_set : (k q : ℕ) (call : Taken) (p : ℕ) (kernel : Kernel) → IsSoundKernel kernel → Lives kernel.dispatcher.procs p → q ≢ p → AwaitsIn k q kernel
     → AwaitsIn k q (console_set call p kernel).kernel
 unfolding console_set
 awaits_console_set k q call p kernel s h other a =
@@ -244,7 +244,7 @@ awaits_console_set k q call p kernel s h other a =
     either (λ (c : Called). AwaitsIn k q c.kernel) (nat_lt console (length kernel.units.consoles)) _ _
     (λ _. awaits_attached k q p (ConsoleUnit console) (console_changed p console kernel) other (awaits_console_changed k q p console kernel s h a)) (λ _. a)
 
-awaits_printer_set : (k q : ℕ) (call : Taken) (p : ℕ) (kernel : Kernel) → IsSound kernel → Lives kernel.dispatcher.procs p → q ≢ p → AwaitsIn k q kernel
+awaits_printer_set : (k q : ℕ) (call : Taken) (p : ℕ) (kernel : Kernel) → IsSoundKernel kernel → Lives kernel.dispatcher.procs p → q ≢ p → AwaitsIn k q kernel
     → AwaitsIn k q (printer_set call p kernel).kernel
 unfolding printer_set
 awaits_printer_set k q call p kernel s h other a =
@@ -257,14 +257,14 @@ this_heir : (b : Bool) (to h : ℕ) → if_it b to ≡ Some h → to ≡ h
 this_heir true to h is = cc
 this_heir false to h is = absurd (cc)
 
-pub awaits_owner_made : (k q console to : ℕ) (kernel : Kernel) → IsSound kernel → Lives kernel.dispatcher.procs to → AwaitsIn k q kernel → AwaitsIn k q (owner_made console to kernel)
+pub awaits_owner_made : (k q console to : ℕ) (kernel : Kernel) → IsSoundKernel kernel → Lives kernel.dispatcher.procs to → AwaitsIn k q kernel → AwaitsIn k q (owner_made console to kernel)
 unfolding owner_made
 awaits_owner_made k q console to kernel s living a =
     let waiting = waits_for kernel.units to (ConsoleUnit console) in
     awaits_heir k q (if_it waiting to) kernel.dispatcher.procs kernel.dispatcher.lists kernel.dispatcher.completed s.slots
     (λ h is. subst (Lives kernel.dispatcher.procs) (this_heir waiting to h is) living) a
 
-awaits_assigned_to : (k q : ℕ) (o : Option ℕ) (call : Taken) (kernel : Kernel) → IsSound kernel → ((r : ℕ) → o ≡ Some r → Lives kernel.dispatcher.procs r) → AwaitsIn k q kernel
+awaits_assigned_to : (k q : ℕ) (o : Option ℕ) (call : Taken) (kernel : Kernel) → IsSoundKernel kernel → ((r : ℕ) → o ≡ Some r → Lives kernel.dispatcher.procs r) → AwaitsIn k q kernel
     → AwaitsIn k q (assigned_to o call kernel).kernel
 unfolding assigned_to
 awaits_assigned_to k q None call kernel s living a = a
@@ -272,7 +272,7 @@ awaits_assigned_to k q (Some to) call kernel s living a =
     either (λ (c : Called). AwaitsIn k q c.kernel) (is_meant call (process_in kernel.dispatcher.procs to)) _ _
     (λ _. awaits_owner_made k q (byte_in call 0) to kernel s (living to refl) a) (λ _. a)
 
-awaits_assigned : (k q : ℕ) (call : Taken) (p : ℕ) (kernel : Kernel) → IsSound kernel → AwaitsIn k q kernel → AwaitsIn k q (assigned call p kernel).kernel
+awaits_assigned : (k q : ℕ) (call : Taken) (p : ℕ) (kernel : Kernel) → IsSoundKernel kernel → AwaitsIn k q kernel → AwaitsIn k q (assigned call p kernel).kernel
 unfolding assigned
 awaits_assigned k q call p kernel s a =
     either (λ (c : Called). AwaitsIn k q c.kernel) (nat_lt (byte_in call 0) (length kernel.units.consoles) && may_attach kernel.units p (ConsoleUnit (byte_in call 0))) _ _
@@ -280,7 +280,7 @@ awaits_assigned k q call p kernel s a =
     (λ r is. (and_parts (lives kernel.dispatcher.procs r) _ (lowest_passes (is_called kernel.dispatcher.procs (name_at call 1)) r is).0).0) a)
     (λ _. a)
 
-awaits_printer_called : (k q : ℕ) (call : Taken) (p : ℕ) (kernel : Kernel) → IsSound kernel → Lives kernel.dispatcher.procs p → q ≢ p → AwaitsIn k q kernel
+awaits_printer_called : (k q : ℕ) (call : Taken) (p : ℕ) (kernel : Kernel) → IsSoundKernel kernel → Lives kernel.dispatcher.procs p → q ≢ p → AwaitsIn k q kernel
     → AwaitsIn k q (printer_called call p kernel).kernel
 unfolding printer_called
 awaits_printer_called k q call p kernel s h other a =
@@ -300,7 +300,7 @@ awaits_printer_called k q call p kernel s h other a =
       ),
     ) a)
 
-awaits_unit_called : (k q : ℕ) (call : Taken) (p : ℕ) (kernel : Kernel) → IsSound kernel → Lives kernel.dispatcher.procs p → q ≢ p → AwaitsIn k q kernel
+awaits_unit_called : (k q : ℕ) (call : Taken) (p : ℕ) (kernel : Kernel) → IsSoundKernel kernel → Lives kernel.dispatcher.procs p → q ≢ p → AwaitsIn k q kernel
     → AwaitsIn k q (unit_called call p kernel).kernel
 unfolding unit_called
 awaits_unit_called k q call p kernel s h other a =
@@ -417,7 +417,7 @@ awaits_console_called k q call p kernel other a =
 
 -- any call
 
-awaits_call_done : (k q : ℕ) (call : Taken) (p : ℕ) (kernel : Kernel) → IsSound kernel → Lives kernel.dispatcher.procs p → IsReady kernel.dispatcher p → q ≢ p
+awaits_call_done : (k q : ℕ) (call : Taken) (p : ℕ) (kernel : Kernel) → IsSoundKernel kernel → Lives kernel.dispatcher.procs p → IsReady kernel.dispatcher p → q ≢ p
     → AwaitsIn k q kernel → AwaitsIn k q (call_done call p (process_in kernel.dispatcher.procs p) kernel).kernel
 awaits_call_done k q call p kernel s h ready other a =
     by_table (λ (c : Called). AwaitsIn k q c.kernel) call p (process_in kernel.dispatcher.procs p) kernel (
@@ -503,7 +503,7 @@ awaits_call_done k q call p kernel s h ready other a =
       ),
     ) a
 
-pub awaits_called : (k p q : ℕ) (kernel : Kernel) → IsSound kernel → Lives kernel.dispatcher.procs p → IsReady kernel.dispatcher p → q ≢ p → AwaitsIn k q kernel
+pub awaits_called : (k p q : ℕ) (kernel : Kernel) → IsSoundKernel kernel → Lives kernel.dispatcher.procs p → IsReady kernel.dispatcher p → q ≢ p → AwaitsIn k q kernel
     → AwaitsIn k q (called p kernel).kernel
 awaits_called k p q kernel s h ready other a =
     let call = call_of kernel.dispatcher.procs p in

@@ -33,10 +33,10 @@ use Rattle.mpm_ready.proofs.TableLaws.{table_inserted, table_removed, list_of_in
 use Rattle.mpm_script.specs.declared.event.Event.{Event}
 use Rattle.mpm_script.specs.declared.event.Event.TheVariants.{Tick, Key, Ready, Int}
 use Rattle.mpm_kernel.specs.Awaiting.{Awaits, AwaitsIn, completions}
-use Rattle.mpm_kernel.specs.Kernel.{Kernel, IsSound, poll_list, waits_of, afresh, dispatched}
+use Rattle.mpm_kernel.specs.Kernel.{Kernel, IsSoundKernel, poll_list, waits_of, afresh, dispatched}
 use Rattle.mpm_kernel.specs.Columns.{spoke}
 use Rattle.mpm_kernel.specs.Consoling.{IfLives, KeyNames, if_it, is_of_resident, key_done, key_came, echoed, is_from, handed_over, given}
-use Rattle.mpm_kernel.specs.Ending.{dropped_out, returned, all_returned, consoles_left, printers_left, units_left, relieved, discharged, Leaves}
+use Rattle.mpm_kernel.specs.Ending.{dropped_out, returned, all_returned, consoles_left, printers_left, units_left, relieved, discharged, IsLeaving}
 use Rattle.mpm_kernel.specs.Events.{with_tick, clock_ticked, pollers, device_ready, flag_came, happens, happened, inside_of, with_procedure, with_first, handed_out}
 use Rattle.mpm_kernel.specs.Procedures.{procedure_queue, inside, still_completed, outside, given_back_to, given_back}
 use Rattle.mpm_kernel.specs.Queueing.{queued, blocked_or_refused, taken_from, was_read, read_at}
@@ -138,7 +138,7 @@ awaits_lists_behind k q (Some p) kernel below a =
 ticked_waits : (kernel : Kernel) (p : ℕ) → 0 < completions p (woken_by_tick kernel.clock.delays) → 0 < waits_of kernel p
 ticked_waits kernel p some = omega (arith, delays_ticked kernel.clock.delays p, some)
 
-awaits_ticked : (k q : ℕ) (kernel : Kernel) → IsSound kernel → AwaitsIn k q kernel → AwaitsIn k q (clock_ticked kernel)
+awaits_ticked : (k q : ℕ) (kernel : Kernel) → IsSoundKernel kernel → AwaitsIn k q kernel → AwaitsIn k q (clock_ticked kernel)
 unfolding clock_ticked
 awaits_ticked k q kernel s a =
     let woken = woken_by_tick kernel.clock.delays in
@@ -168,7 +168,7 @@ awaits_key_done k q (Passes from to) console waited kernel slots names a =
     awaits_heir k q (if_it waited from) procs _ kernel.dispatcher.completed slots (λ h is. only_it (Lives procs) waited from h names.0 is)
     (awaits_heir k q to procs kernel.dispatcher.lists kernel.dispatcher.completed slots (λ h is. MatchOption-at_some ⊤ (Lives procs) h is names.1) a)
 
-awaits_key : (k q console byte : ℕ) (kernel : Kernel) → IsSound kernel → AwaitsIn k q kernel → AwaitsIn k q (key_came console byte kernel)
+awaits_key : (k q console byte : ℕ) (kernel : Kernel) → IsSoundKernel kernel → AwaitsIn k q kernel → AwaitsIn k q (key_came console byte kernel)
 unfolding key_came
 awaits_key k q console byte kernel s a =
     let resident = is_of_resident kernel.dispatcher.procs (owner_of kernel.units (ConsoleUnit console)) in
@@ -180,7 +180,7 @@ awaits_key k q console byte kernel s a =
 some_apart : (device : ℕ) (o : Option ℕ) → o ≡ Some (poll_list device) → o ≡ Some ready → ⊥
 some_apart device o polls is = (let same : poll_list device ≡ ready = cc in omega (arith, same))
 
-awaits_device : (k q device byte : ℕ) (kernel : Kernel) → IsSound kernel → AwaitsIn k q kernel → AwaitsIn k q (device_ready kernel device byte)
+awaits_device : (k q device byte : ℕ) (kernel : Kernel) → IsSoundKernel kernel → AwaitsIn k q kernel → AwaitsIn k q (device_ready kernel device byte)
 unfolding device_ready pollers
 awaits_device k q device byte kernel s a =
     let lists = kernel.dispatcher.lists in
@@ -192,19 +192,19 @@ awaits_device k q device byte kernel s a =
     (once_in_list q ms (s.table.once (poll_list device)))
     (awaits_none k q lists kernel.dispatcher.completed a)
 
-awaits_flag_came : (k q flag : ℕ) (kernel : Kernel) → IsSound kernel → AwaitsIn k q kernel → AwaitsIn k q (flag_came flag kernel)
+awaits_flag_came : (k q flag : ℕ) (kernel : Kernel) → IsSoundKernel kernel → AwaitsIn k q kernel → AwaitsIn k q (flag_came flag kernel)
 unfolding flag_came
 awaits_flag_came k q flag kernel s a =
     either (AwaitsIn k q) (is_flag flag) _ _ (λ is. awaits_signalled k q flag kernel s (flag_below flag is) a) (λ _. a)
 
-awaits_happens : (k q : ℕ) (event : Event) (kernel : Kernel) → IsSound kernel → AwaitsIn k q kernel → AwaitsIn k q (happens event kernel)
+awaits_happens : (k q : ℕ) (event : Event) (kernel : Kernel) → IsSoundKernel kernel → AwaitsIn k q kernel → AwaitsIn k q (happens event kernel)
 unfolding happens
 awaits_happens k q Tick kernel s a = awaits_ticked k q kernel s a
 awaits_happens k q (Key console byte) kernel s a = awaits_key k q console byte kernel s a
 awaits_happens k q (Ready device byte) kernel s a = awaits_device k q device byte kernel s a
 awaits_happens k q (Int flag) kernel s a = awaits_flag_came k q flag kernel s a
 
-pub awaits_happened : (k q : ℕ) (event : Event) (kernel : Kernel) → IsSound kernel → AwaitsIn k q kernel → AwaitsIn k q (happened event kernel)
+pub awaits_happened : (k q : ℕ) (event : Event) (kernel : Kernel) → IsSoundKernel kernel → AwaitsIn k q kernel → AwaitsIn k q (happened event kernel)
 awaits_happened k q event kernel s a =
     awaits_happens k q event (afresh kernel) (sound_afresh kernel s) (awaits_none k q kernel.dispatcher.lists kernel.dispatcher.completed a)
 
@@ -222,28 +222,28 @@ unfolding outside
 awaits_outside k q p kernel a =
     awaits_fewer k q kernel.dispatcher.lists kernel.dispatcher.completed _ (fewer_still q p kernel.dispatcher.completed kernel.dispatcher.procs) a
 
-awaits_back : (k q : ℕ) (queue : Option ℕ) (p : ℕ) (kernel : Kernel) → IsSound kernel → AwaitsIn k q kernel → AwaitsIn k q (given_back_to queue p kernel)
+awaits_back : (k q : ℕ) (queue : Option ℕ) (p : ℕ) (kernel : Kernel) → IsSoundKernel kernel → AwaitsIn k q kernel → AwaitsIn k q (given_back_to queue p kernel)
 unfolding given_back_to
 awaits_back k q None p kernel s a = a
 awaits_back k q (Some n) p kernel s a =
     either (AwaitsIn k q) (is_made kernel.queues n) _ _ (λ _. awaits_given k q p n (woken_by (write_outcome kernel.queues n)) kernel s refl a) (λ _. a)
 
-pub awaits_given_back : (k q p : ℕ) (kernel : Kernel) → IsSound kernel → Lives kernel.dispatcher.procs p → AwaitsIn k q kernel → AwaitsIn k q (given_back p kernel)
+pub awaits_given_back : (k q p : ℕ) (kernel : Kernel) → IsSoundKernel kernel → Lives kernel.dispatcher.procs p → AwaitsIn k q kernel → AwaitsIn k q (given_back p kernel)
 unfolding given_back
 awaits_given_back k q p kernel s h a =
     awaits_back k q (process_in kernel.dispatcher.procs p).procedure p (outside p kernel) (sound_outside p kernel s h) (awaits_outside k q p kernel a)
 
-awaits_returned : (k q p n : ℕ) (kernel : Kernel) → IsSound kernel → AwaitsIn k q kernel → AwaitsIn k q (returned p n kernel)
+awaits_returned : (k q p n : ℕ) (kernel : Kernel) → IsSoundKernel kernel → AwaitsIn k q kernel → AwaitsIn k q (returned p n kernel)
 unfolding returned
 awaits_returned k q p n kernel s a = either (AwaitsIn k q) (holds kernel.queues p n) _ _ (λ _. awaits_back k q (Some n) p kernel s a) (λ _. a)
 
-awaits_all_returned : (k q : ℕ) (ns : List ℕ) (p : ℕ) (kernel : Kernel) → Leaves p kernel → AwaitsIn k q kernel → AwaitsIn k q (all_returned ns p kernel)
+awaits_all_returned : (k q : ℕ) (ns : List ℕ) (p : ℕ) (kernel : Kernel) → IsLeaving p kernel → AwaitsIn k q kernel → AwaitsIn k q (all_returned ns p kernel)
 unfolding all_returned
 awaits_all_returned k q [] p kernel l a = a
 awaits_all_returned k q (n ∷ ns) p kernel l a =
     awaits_all_returned k q ns p (returned p n kernel) (leaves_returned p n kernel l) (awaits_returned k q p n kernel l.sound a)
 
-awaits_consoles_left : (k q p n : ℕ) (kernel : Kernel) → IsSound kernel → n ≤ length kernel.units.consoles → AwaitsIn k q kernel → AwaitsIn k q (consoles_left p n kernel)
+awaits_consoles_left : (k q p n : ℕ) (kernel : Kernel) → IsSoundKernel kernel → n ≤ length kernel.units.consoles → AwaitsIn k q kernel → AwaitsIn k q (consoles_left p n kernel)
 unfolding consoles_left
 awaits_consoles_left k q p zero kernel s few a = a
 awaits_consoles_left k q p (suc n) kernel s few a =
@@ -251,7 +251,7 @@ awaits_consoles_left k q p (suc n) kernel s few a =
     awaits_unit_left k q p (ConsoleUnit n) (consoles_left p n kernel) (sound_consoles_left p n kernel s below)
     (omega (arith, few, count_consoles_left p n kernel s below)) (awaits_consoles_left k q p n kernel s below a)
 
-awaits_printers_left : (k q p n : ℕ) (kernel : Kernel) → IsSound kernel → n ≤ length kernel.units.printers → AwaitsIn k q kernel → AwaitsIn k q (printers_left p n kernel)
+awaits_printers_left : (k q p n : ℕ) (kernel : Kernel) → IsSoundKernel kernel → n ≤ length kernel.units.printers → AwaitsIn k q kernel → AwaitsIn k q (printers_left p n kernel)
 unfolding printers_left
 awaits_printers_left k q p zero kernel s few a = a
 awaits_printers_left k q p (suc n) kernel s few a =
@@ -259,7 +259,7 @@ awaits_printers_left k q p (suc n) kernel s few a =
     awaits_unit_left k q p (PrinterUnit n) (printers_left p n kernel) (sound_printers_left p n kernel s below)
     (omega (arith, few, count_printers_left p n kernel s below)) (awaits_printers_left k q p n kernel s below a)
 
-awaits_units_left : (k q p : ℕ) (kernel : Kernel) → IsSound kernel → AwaitsIn k q kernel → AwaitsIn k q (units_left p kernel)
+awaits_units_left : (k q p : ℕ) (kernel : Kernel) → IsSoundKernel kernel → AwaitsIn k q kernel → AwaitsIn k q (units_left p kernel)
 unfolding units_left
 awaits_units_left k q p kernel s a =
     let first = consoles_left p (length kernel.units.consoles) kernel in
@@ -270,7 +270,7 @@ awaits_dropped : (k q p : ℕ) (kernel : Kernel) → q ≢ p → AwaitsIn k q ke
 unfolding dropped_out
 awaits_dropped k q p kernel other a = awaits_removed k q kernel.dispatcher.lists kernel.dispatcher.completed p other a
 
-awaits_relieved : (k q p : ℕ) (kernel : Kernel) → IsSound kernel → Lives kernel.dispatcher.procs p → q ≢ p → AwaitsIn k q kernel → AwaitsIn k q (relieved p kernel)
+awaits_relieved : (k q p : ℕ) (kernel : Kernel) → IsSoundKernel kernel → Lives kernel.dispatcher.procs p → q ≢ p → AwaitsIn k q kernel → AwaitsIn k q (relieved p kernel)
 unfolding relieved
 awaits_relieved k q p kernel s h other a =
     let gone = dropped_out p kernel in
@@ -279,19 +279,19 @@ awaits_relieved k q p kernel s h other a =
     (awaits_all_returned k q (range_with_len 0 32) p back (leaves_given_back p kernel s h)
     (awaits_given_back k q p gone (sound_dropped p kernel s h) (lives_dropped p p kernel h) (awaits_dropped k q p kernel other a)))
 
-pub awaits_discharged : (k q : ℕ) (kernel : Kernel) (p : ℕ) → IsSound kernel → Lives kernel.dispatcher.procs p → q ≢ p → AwaitsIn k q kernel → AwaitsIn k q (discharged kernel p)
+pub awaits_discharged : (k q : ℕ) (kernel : Kernel) (p : ℕ) → IsSoundKernel kernel → Lives kernel.dispatcher.procs p → q ≢ p → AwaitsIn k q kernel → AwaitsIn k q (discharged kernel p)
 unfolding discharged
 awaits_discharged k q kernel p s h other a = awaits_relieved k q p kernel s h other a
 
 -- a console is given
 
-awaits_handed : (k q console : ℕ) (from to : Option ℕ) (kernel : Kernel) → IsSound kernel → console < length kernel.units.consoles → IfLives kernel.dispatcher.procs to
+awaits_handed : (k q console : ℕ) (from to : Option ℕ) (kernel : Kernel) → IsSoundKernel kernel → console < length kernel.units.consoles → IfLives kernel.dispatcher.procs to
     → AwaitsIn k q kernel → AwaitsIn k q (handed_over console from to kernel)
 awaits_handed k q console None None kernel s below living a = a
 awaits_handed k q console (Some p) None kernel s below living a = awaits_unit_left k q p (ConsoleUnit console) kernel s below a
 awaits_handed k q console from (Some to) kernel s below living a = awaits_owner_made k q console to kernel s living a
 
-pub awaits_gave : (k q console : ℕ) (from to : Option ℕ) (kernel : Kernel) → IsSound kernel → console < length kernel.units.consoles → IfLives kernel.dispatcher.procs to
+pub awaits_gave : (k q console : ℕ) (from to : Option ℕ) (kernel : Kernel) → IsSoundKernel kernel → console < length kernel.units.consoles → IfLives kernel.dispatcher.procs to
     → AwaitsIn k q kernel → AwaitsIn k q (given console from to kernel)
 unfolding given
 awaits_gave k q console from to kernel s below living a =
@@ -299,7 +299,7 @@ awaits_gave k q console from to kernel s below living a =
 
 -- a process begins
 
-pub awaits_in_slot : (k q : ℕ) (kernel : Kernel) (new : NewProcess) (slot : Option ℕ) → IsSound kernel → lowest_free kernel.dispatcher.procs ≡ slot → AwaitsIn k q kernel
+pub awaits_in_slot : (k q : ℕ) (kernel : Kernel) (new : NewProcess) (slot : Option ℕ) → IsSoundKernel kernel → lowest_free kernel.dispatcher.procs ≡ slot → AwaitsIn k q kernel
     → AwaitsIn k q (dispatched (in_slot new slot) kernel)
 awaits_in_slot k q kernel new None s free a = a
 awaits_in_slot k q kernel new (Some p) s free a =
@@ -323,7 +323,7 @@ AwaitsAfter Held q kernel = AwaitsIn 1 q kernel
 AwaitsAfter Retry q kernel = ⊥
 AwaitsAfter Ended q kernel = ⊥
 
-own_was_read : (outcome : QueueOutcome) (call : Taken) (p n : ℕ) (kernel : Kernel) → IsSound kernel → read_outcome kernel.queues n ≡ outcome → AwaitsIn 0 p kernel
+own_was_read : (outcome : QueueOutcome) (call : Taken) (p n : ℕ) (kernel : Kernel) → IsSoundKernel kernel → read_outcome kernel.queues n ≡ outcome → AwaitsIn 0 p kernel
     → AwaitsAfter (was_read outcome true call p n kernel).outcome p (was_read outcome true call p n kernel).kernel
 unfolding was_read blocked_or_refused queued
 own_was_read (Passed woken) call p n kernel s done a =
@@ -334,7 +334,7 @@ own_was_read NotNow call p n kernel s not a = record {
   at_once = λ all. absurd (omega (arith, all, a.few));
 }
 
-pub own_read : (slot : Option ℕ) (call : Taken) (p : ℕ) (kernel : Kernel) → IsSound kernel → AwaitsIn 0 p kernel
+pub own_read : (slot : Option ℕ) (call : Taken) (p : ℕ) (kernel : Kernel) → IsSoundKernel kernel → AwaitsIn 0 p kernel
     → AwaitsAfter (read_at slot true call p kernel).outcome p (read_at slot true call p kernel).kernel
 unfolding read_at
 own_read None call p kernel s a = a

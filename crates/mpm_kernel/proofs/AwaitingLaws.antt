@@ -12,7 +12,7 @@ use Rattle.mpm_queues.specs.Handling.{read_outcome, write_outcome, woken_by}
 use Rattle.mpm_queues.proofs.WaitLaws.{waits_one, read_ends_waiter, write_ends_waiter}
 use Rattle.mpm_dispatcher.specs.Dispatch.{ready, ready_in, lists_ready, also_completed, with_other}
 use Rattle.mpm_kernel.specs.Awaiting.{Awaits, AwaitsIn, completions}
-use Rattle.mpm_kernel.specs.Kernel.{Kernel, IsSound, waits_of, dispatched}
+use Rattle.mpm_kernel.specs.Kernel.{Kernel, IsSoundKernel, waits_of, dispatched}
 use Rattle.mpm_kernel.proofs.PlaceLaws.{not_equal, moved_lists, table_moved, list_moved, list_moved_other}
 use Rattle.mpm_kernel.proofs.Soundness.{listed_once}
 
@@ -179,7 +179,7 @@ one_alone q p = omega (arith, count_cons (λ x. x == q) p [], at_most_one (p == 
 
 -- who waits isn't ready
 
-pub waits_apart : (kernel : Kernel) (w : ℕ) → IsSound kernel → 0 < waits_of kernel w → list_of kernel.dispatcher.lists w ≡ Some ready → ⊥
+pub waits_apart : (kernel : Kernel) (w : ℕ) → IsSoundKernel kernel → 0 < waits_of kernel w → list_of kernel.dispatcher.lists w ≡ Some ready → ⊥
 waits_apart kernel w s some is = omega (arith, some, listed_once kernel w ready s is)
 
 -- the held call of another one at a queue is completed
@@ -188,16 +188,16 @@ pub record IsHeld (kernel : Kernel) (w : ℕ) : Type 0 where
   pub below : w < 32
   pub waits : list_of kernel.dispatcher.lists w ≡ Some ready → ⊥
 
-held_at_queue : (kernel : Kernel) (w : ℕ) → IsSound kernel → 0 < waits_of kernel w → IsHeld kernel w
+held_at_queue : (kernel : Kernel) (w : ℕ) → IsSoundKernel kernel → 0 < waits_of kernel w → IsHeld kernel w
 held_at_queue kernel w s some = record {
   below = lives_below kernel.dispatcher.procs w s.slots (s.live w (omega (arith, some)));
   waits = waits_apart kernel w s some;
 }
 
-pub held_by_read : (kernel : Kernel) (q w : ℕ) → IsSound kernel → woken_by (read_outcome kernel.queues q) ≡ Some w → IsHeld kernel w
+pub held_by_read : (kernel : Kernel) (q w : ℕ) → IsSoundKernel kernel → woken_by (read_outcome kernel.queues q) ≡ Some w → IsHeld kernel w
 held_by_read kernel q w s is = held_at_queue kernel w s (omega (arith, waits_one kernel.queues q w s.queues (read_ends_waiter kernel.queues q w is)))
 
-pub held_by_write : (kernel : Kernel) (q w : ℕ) → IsSound kernel → woken_by (write_outcome kernel.queues q) ≡ Some w → IsHeld kernel w
+pub held_by_write : (kernel : Kernel) (q w : ℕ) → IsSoundKernel kernel → woken_by (write_outcome kernel.queues q) ≡ Some w → IsHeld kernel w
 held_by_write kernel q w s is = held_at_queue kernel w s (omega (arith, waits_one kernel.queues q w s.queues (write_ends_waiter kernel.queues q w is)))
 
 pub awaits_other : (k q : ℕ) (other : Option ℕ) (kernel : Kernel) → ((w : ℕ) → other ≡ Some w → IsHeld kernel w) → AwaitsIn k q kernel

@@ -5,11 +5,11 @@ use Rattle.mpm_base.specs.declared.devices.Devices.{Devices}
 use Rattle.mpm_procs.specs.Table.{Lives, process_in, with_process}
 use Rattle.mpm_procs.specs.declared.process.Process.{Process}
 use Rattle.mpm_procs.proofs.MapLaws.{lives_below, process_changed}
-use Rattle.mpm_kernel.specs.Kernel.{Kernel, IsSound, with_changed}
+use Rattle.mpm_kernel.specs.Kernel.{Kernel, IsSoundKernel, with_changed}
 use Rattle.mpm_kernel.proofs.SoundLaws.{sound_process, sound_devices}
 
 -- a process that lives is the one that was put there
-pub process_put : (kernel : Kernel) (p : ℕ) (process : Process) → IsSound kernel → Lives kernel.dispatcher.procs p
+pub process_put : (kernel : Kernel) (p : ℕ) (process : Process) → IsSoundKernel kernel → Lives kernel.dispatcher.procs p
     → process_in (with_process kernel.dispatcher.procs p process) p ≡ process
 process_put kernel p process s h =
     process_changed kernel.dispatcher.procs p process (omega (arith, s.slots.processes, lives_below kernel.dispatcher.procs p s.slots h))
@@ -29,7 +29,7 @@ burst_left kernel p process devices regs left same_process same_regs =
     ∙ ap (λ (r : Regs). with_changed (record kernel { devices = devices }) p (record (process_in kernel.dispatcher.procs p) { regs = r })) same_regs
 
 -- it stays sound
-pub sound_burst : (kernel : Kernel) (devices : Devices) (p : ℕ) (regs : Regs) → IsSound kernel → Lives kernel.dispatcher.procs p
-    → IsSound (with_changed (record kernel { devices = devices }) p (record (process_in kernel.dispatcher.procs p) { regs = regs }))
+pub sound_burst : (kernel : Kernel) (devices : Devices) (p : ℕ) (regs : Regs) → IsSoundKernel kernel → Lives kernel.dispatcher.procs p
+    → IsSoundKernel (with_changed (record kernel { devices = devices }) p (record (process_in kernel.dispatcher.procs p) { regs = regs }))
 sound_burst kernel devices p regs s h =
     sound_process (record kernel { devices = devices }) p (record (process_in kernel.dispatcher.procs p) { regs = regs }) (sound_devices kernel devices s) h refl refl refl refl

@@ -4,7 +4,7 @@ use Rattle.mpm_base.specs.Calls.{Taken, name_at, word_at}
 use Rattle.mpm_procs.specs.Table.{HasSlots, lives, Lives, process_in, call_of, with_call}
 use Rattle.mpm_procs.specs.declared.process.Process.{Process}
 use Rattle.mpm_procs.proofs.MapLaws.{call_after}
-use Rattle.mpm_kernel.specs.Kernel.{Kernel, IsSound, with_changed, dispatched}
+use Rattle.mpm_kernel.specs.Kernel.{Kernel, IsSoundKernel, with_changed, dispatched}
 use Rattle.mpm_kernel.specs.Called.{Called, valued, low_parameter}
 use Rattle.mpm_kernel.specs.Waiting.{polled, is_flag, flag_waited_for, waited, with_woken, signalled, flag_waited, flag_set, process_delayed}
 use Rattle.mpm_clock.specs.PackedDecimal.{names_time}
@@ -57,7 +57,7 @@ kept_same kernel called e count = record {
   consoles = count;
 }
 
-pub kept_changed : (p value : ℕ) (kernel : Kernel) (process : Process) → IsSound kernel → Lives kernel.dispatcher.procs p
+pub kept_changed : (p value : ℕ) (kernel : Kernel) (process : Process) → IsSoundKernel kernel → Lives kernel.dispatcher.procs p
     → process.seg ≡ (process_in kernel.dispatcher.procs p).seg → process.abort_due ≡ (process_in kernel.dispatcher.procs p).abort_due
     → ((call_of kernel.dispatcher.procs p).function ≢ SET_BDOS_ERROR_MODE → process.error_mode ≡ (process_in kernel.dispatcher.procs p).error_mode)
     → ((call_of kernel.dispatcher.procs p).function ≢ SET_MULTI_SECTOR_COUNT → process.multi ≡ (process_in kernel.dispatcher.procs p).multi)
@@ -91,7 +91,7 @@ kept_procs old middle called first e count = record {
 pub kept_behind : (p value : ℕ) (kernel : Kernel) → KeepsHome kernel (valued value (dispatched (behind_equals p) kernel))
 kept_behind p value kernel = kept_same kernel _ refl refl
 
-pub kept_priority : (p value priority : ℕ) (kernel : Kernel) → IsSound kernel → Lives kernel.dispatcher.procs p
+pub kept_priority : (p value priority : ℕ) (kernel : Kernel) → IsSoundKernel kernel → Lives kernel.dispatcher.procs p
     → KeepsHome kernel (valued value (dispatched (with_priority p priority) kernel))
 kept_priority p value priority kernel s h =
     let process = record (process_in kernel.dispatcher.procs p) { priority = priority } in
@@ -201,7 +201,7 @@ kept_delivered_to false (Some r) message kernel called e one count =
       consoles = count;
     }
 
-kept_was_written : (outcome : QueueOutcome) (may_wait : Bool) (p q : ℕ) (kernel : Kernel) → IsSound kernel → KeepsHome kernel (was_written outcome may_wait p q kernel)
+kept_was_written : (outcome : QueueOutcome) (may_wait : Bool) (p q : ℕ) (kernel : Kernel) → IsSoundKernel kernel → KeepsHome kernel (was_written outcome may_wait p q kernel)
 unfolding was_written procs_after_write
 kept_was_written (Handled other) may_wait p q kernel s =
     let t = kernel.queues in
@@ -209,13 +209,13 @@ kept_was_written (Handled other) may_wait p q kernel s =
     (λ r first. waits_one t q r s.queues (reader_waits t q r first)) refl
 kept_was_written NotNow may_wait p q kernel s = kept_blocked_or_refused may_wait p q false kernel
 
-pub kept_write_at : (slot : Option ℕ) (may_wait : Bool) (p : ℕ) (kernel : Kernel) → IsSound kernel → KeepsHome kernel (write_at slot may_wait p kernel)
+pub kept_write_at : (slot : Option ℕ) (may_wait : Bool) (p : ℕ) (kernel : Kernel) → IsSoundKernel kernel → KeepsHome kernel (write_at slot may_wait p kernel)
 unfolding write_at
 kept_write_at None may_wait p kernel s = kept_same kernel _ refl refl
 kept_write_at (Some q) may_wait p kernel s = kept_was_written (write_outcome kernel.queues q) may_wait p q kernel s
 
 -- a process is in a resident procedure from now on
-kept_inside : (p q message value : ℕ) (old kernel : Kernel) → IsSound old → Lives old.dispatcher.procs p → kernel.dispatcher.procs ≡ old.dispatcher.procs
+kept_inside : (p q message value : ℕ) (old kernel : Kernel) → IsSoundKernel old → Lives old.dispatcher.procs p → kernel.dispatcher.procs ≡ old.dispatcher.procs
     → length kernel.units.consoles ≡ length old.units.consoles
     → KeepsHome old (valued value (inside p q message kernel))
 unfolding inside
@@ -230,19 +230,19 @@ kept_inside p q message value old kernel s h same count =
       consoles = count;
     }
 
-kept_procedure_read : (outcome : QueueOutcome) (p q : ℕ) (kernel : Kernel) → IsSound kernel → Lives kernel.dispatcher.procs p
+kept_procedure_read : (outcome : QueueOutcome) (p q : ℕ) (kernel : Kernel) → IsSoundKernel kernel → Lives kernel.dispatcher.procs p
     → KeepsHome kernel (procedure_read outcome p q kernel)
 unfolding procedure_read
 kept_procedure_read (Handled other) p q kernel s h =
     kept_inside p q _ 0 kernel (dispatched (with_other other) (taken_from kernel p q)) s h (procs_with_other other (taken_from kernel p q)) refl
 kept_procedure_read NotNow p q kernel s h = kept_blocked_or_refused true p q true kernel
 
-kept_procedure_at : (slot : Option ℕ) (p : ℕ) (kernel : Kernel) → IsSound kernel → Lives kernel.dispatcher.procs p → KeepsHome kernel (procedure_at slot p kernel)
+kept_procedure_at : (slot : Option ℕ) (p : ℕ) (kernel : Kernel) → IsSoundKernel kernel → Lives kernel.dispatcher.procs p → KeepsHome kernel (procedure_at slot p kernel)
 unfolding procedure_at
 kept_procedure_at None p kernel s h = kept_same kernel _ refl refl
 kept_procedure_at (Some q) p kernel s h = kept_procedure_read (read_outcome kernel.queues q) p q kernel s h
 
-pub kept_procedure_called : (call : Taken) (p : ℕ) (kernel : Kernel) → IsSound kernel → Lives kernel.dispatcher.procs p
+pub kept_procedure_called : (call : Taken) (p : ℕ) (kernel : Kernel) → IsSoundKernel kernel → Lives kernel.dispatcher.procs p
     → KeepsHome kernel (procedure_called call p kernel)
 unfolding procedure_called
 kept_procedure_called call p kernel s h =

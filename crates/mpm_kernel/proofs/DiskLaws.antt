@@ -13,7 +13,7 @@ use Rattle.mpm_service.specs.Places.{is_call_of, at_disk, served_without, withou
 use Rattle.mpm_service.proofs.PlaceLaws.{at_none, at_entered, at_entered_other, at_turned, at_last, at_begun, at_passed, at_unserved, at_unserved_own, waits_not, served_not, without_absent}
 use Rattle.mpm_dispatcher.specs.declared.dispatcher.Dispatcher.{Dispatcher}
 use Rattle.mpm_dispatcher.specs.Dispatch.{ready, IsReady, descheduled, lists_ready}
-use Rattle.mpm_kernel.specs.Kernel.{Kernel, places, IsSound, dispatched}
+use Rattle.mpm_kernel.specs.Kernel.{Kernel, places, IsSoundKernel, dispatched}
 use Rattle.mpm_kernel.specs.Disk.{with_disk, is_served, in_turns, waiting_for_disk, ready_again, IsOver}
 use Rattle.mpm_kernel.specs.Ending.{discharged}
 use Rattle.mpm_kernel.proofs.DiskStays.{disk_discharged}
@@ -21,8 +21,8 @@ use Rattle.mpm_kernel.proofs.PlaceLaws.{in_none, list_moved}
 use Rattle.mpm_kernel.proofs.Soundness.{own_queues, listed_once, sound_unlisted, sound_ready}
 
 -- another service, at which everybody stands in at most one place that only living processes have
-pub sound_with_disk : (kernel : Kernel) (disk : DiskService) → IsSound kernel → ((q : ℕ) → places (record kernel { disk = disk }) q ≤ 1)
-    → ((q : ℕ) → 0 < places (record kernel { disk = disk }) q → Lives kernel.dispatcher.procs q) → IsSound (record kernel { disk = disk })
+pub sound_with_disk : (kernel : Kernel) (disk : DiskService) → IsSoundKernel kernel → ((q : ℕ) → places (record kernel { disk = disk }) q ≤ 1)
+    → ((q : ℕ) → 0 < places (record kernel { disk = disk }) q → Lives kernel.dispatcher.procs q) → IsSoundKernel (record kernel { disk = disk })
 sound_with_disk kernel disk s once live = record {
   units = s.units;
   owners = s.owners;
@@ -39,33 +39,33 @@ sound_with_disk kernel disk s once live = record {
 }
 
 -- one at which nobody stands who didn't before
-sound_fewer : (kernel : Kernel) (disk : DiskService) → IsSound kernel → ((q : ℕ) → at_disk disk q ≤ at_disk kernel.disk q) → IsSound (record kernel { disk = disk })
+sound_fewer : (kernel : Kernel) (disk : DiskService) → IsSoundKernel kernel → ((q : ℕ) → at_disk disk q ≤ at_disk kernel.disk q) → IsSoundKernel (record kernel { disk = disk })
 sound_fewer kernel disk s fewer =
     sound_with_disk kernel disk s (λ q. omega (arith, s.once q, fewer q)) (λ q some. s.live q (omega (arith, fewer q, some)))
 
-pub sound_in_turns : (turn_steps : ℕ) (kernel : Kernel) → IsSound kernel → IsSound (in_turns turn_steps kernel)
+pub sound_in_turns : (turn_steps : ℕ) (kernel : Kernel) → IsSoundKernel kernel → IsSoundKernel (in_turns turn_steps kernel)
 sound_in_turns turn_steps kernel s = sound_fewer kernel (no_service turn_steps) s (λ q. omega (arith, at_none turn_steps q))
 
-pub sound_turned : (kernel : Kernel) → IsSound kernel → IsSound (with_disk turned kernel)
+pub sound_turned : (kernel : Kernel) → IsSoundKernel kernel → IsSoundKernel (with_disk turned kernel)
 sound_turned kernel s = sound_fewer kernel (turned kernel.disk) s (λ q. at_turned kernel.disk q)
 
-pub sound_begun_call : (kernel : Kernel) (turns : ℕ) → IsSound kernel → IsSound (with_disk (λ disk. begun disk turns) kernel)
+pub sound_begun_call : (kernel : Kernel) (turns : ℕ) → IsSoundKernel kernel → IsSoundKernel (with_disk (λ disk. begun disk turns) kernel)
 sound_begun_call kernel turns s = sound_fewer kernel (begun kernel.disk turns) s (λ q. omega (arith, at_begun kernel.disk turns q))
 
-pub sound_passed_by : (kernel : Kernel) (steps : ℕ) → IsSound kernel → IsSound (with_disk (passed_by steps) kernel)
+pub sound_passed_by : (kernel : Kernel) (steps : ℕ) → IsSoundKernel kernel → IsSoundKernel (with_disk (passed_by steps) kernel)
 sound_passed_by kernel steps s = sound_fewer kernel (passed_by steps kernel.disk) s (λ q. omega (arith, at_passed kernel.disk steps q))
 
-pub sound_unserved : (kernel : Kernel) → IsSound kernel → IsSound (with_disk unserved kernel)
+pub sound_unserved : (kernel : Kernel) → IsSoundKernel kernel → IsSoundKernel (with_disk unserved kernel)
 sound_unserved kernel s = sound_fewer kernel (unserved kernel.disk) s (λ q. at_unserved kernel.disk q)
 
 -- who is ready isn't at the disk
-pub ready_not_at_disk : (kernel : Kernel) (p : ℕ) → IsSound kernel → IsReady kernel.dispatcher p → at_disk kernel.disk p ≡ 0
+pub ready_not_at_disk : (kernel : Kernel) (p : ℕ) → IsSoundKernel kernel → IsReady kernel.dispatcher p → at_disk kernel.disk p ≡ 0
 ready_not_at_disk kernel p s is_ready = omega (arith, listed_once kernel p ready s is_ready)
 
-pub ready_waits_not : (kernel : Kernel) (p : ℕ) → IsSound kernel → IsReady kernel.dispatcher p → in_list p kernel.disk.waiting ≡ false
+pub ready_waits_not : (kernel : Kernel) (p : ℕ) → IsSoundKernel kernel → IsReady kernel.dispatcher p → in_list p kernel.disk.waiting ≡ false
 ready_waits_not kernel p s is_ready = waits_not kernel.disk p (ready_not_at_disk kernel p s is_ready)
 
-pub ready_served_not : (kernel : Kernel) (p : ℕ) → IsSound kernel → IsReady kernel.dispatcher p → IfSome kernel.disk.served (λ call. call.p ≢ p)
+pub ready_served_not : (kernel : Kernel) (p : ℕ) → IsSoundKernel kernel → IsReady kernel.dispatcher p → IfSome kernel.disk.served (λ call. call.p ≢ p)
 ready_served_not kernel p s is_ready = served_not kernel.disk p (ready_not_at_disk kernel p s is_ready)
 
 -- whether a process is served, by whom the disk serves
@@ -98,7 +98,7 @@ served_discharged kernel p q other is =
     ap (λ (disk : DiskService). is_call_of q disk.served) (disk_discharged kernel p) ∙ still_served kernel.disk.served p q other is
 
 -- so the end of one who is ready leaves the disk as it is
-pub disk_ended : (kernel : Kernel) (p : ℕ) → IsSound kernel → IsReady kernel.dispatcher p → (discharged kernel p).disk ≡ kernel.disk
+pub disk_ended : (kernel : Kernel) (p : ℕ) → IsSoundKernel kernel → IsReady kernel.dispatcher p → (discharged kernel p).disk ≡ kernel.disk
 disk_ended kernel p s is_ready = disk_discharged kernel p ∙ without_absent kernel.disk p (ready_not_at_disk kernel p s is_ready)
 
 -- the parts of the kernel in which a process's call waits
@@ -109,14 +109,14 @@ waits_for_disk kernel p d disk quiet waits =
     ap (λ d. record kernel { dispatcher = d; disk = disk }) quiet ∙ ap (λ disk. record kernel { dispatcher = descheduled p kernel.dispatcher; disk = disk }) waits
 
 -- a ready process's call waits
-pub sound_waiting_for_disk : (kernel : Kernel) (p : ℕ) → IsSound kernel → Lives kernel.dispatcher.procs p → IsReady kernel.dispatcher p → IsSound (waiting_for_disk p kernel)
+pub sound_waiting_for_disk : (kernel : Kernel) (p : ℕ) → IsSoundKernel kernel → Lives kernel.dispatcher.procs p → IsReady kernel.dispatcher p → IsSoundKernel (waiting_for_disk p kernel)
 unfolding waiting_for_disk
 sound_waiting_for_disk kernel p s h is_ready =
     let quiet = dispatched (descheduled p) kernel in
     let priority = (process_in kernel.dispatcher.procs p).priority in
     let once = listed_once kernel p ready s is_ready in
     let none = in_none _ (list_of_removed kernel.dispatcher.lists p) in
-    let sound : IsSound quiet =
+    let sound : IsSoundKernel quiet =
     sound_unlisted kernel p kernel.flags kernel.clock kernel.queues s h s.flags (own_queues kernel s) (omega (arith, once)) (λ q other. refl) in
     sound_with_disk quiet (entered kernel.disk p priority) sound
     (λ q. elim (cases_eq q p) [
@@ -129,25 +129,25 @@ sound_waiting_for_disk kernel p s h is_ready =
     ])
 
 -- whose last turn ended lives and stands nowhere
-pub over_turned : (kernel : Kernel) (p : ℕ) → IsSound kernel → turn_answer kernel.disk ≡ Work p true → IsOver p (with_disk turned kernel)
+pub over_turned : (kernel : Kernel) (p : ℕ) → IsSoundKernel kernel → turn_answer kernel.disk ≡ Work p true → IsOver p (with_disk turned kernel)
 over_turned kernel p s is = record {
   lives = s.live p (omega (arith, at_last kernel.disk p is));
   nowhere = omega (arith, s.once p, at_last kernel.disk p is);
 }
 
 -- and so does he whose service ends
-pub over_unserved : (kernel : Kernel) (p : ℕ) → IsSound kernel → served_process kernel.disk ≡ Some p → IsOver p (with_disk unserved kernel)
+pub over_unserved : (kernel : Kernel) (p : ℕ) → IsSoundKernel kernel → served_process kernel.disk ≡ Some p → IsOver p (with_disk unserved kernel)
 over_unserved kernel p s is = record {
   lives = s.live p (omega (arith, at_unserved_own kernel.disk p is));
   nowhere = omega (arith, s.once p, at_unserved_own kernel.disk p is);
 }
 
 -- it is ready again
-pub sound_ready_again : (kernel : Kernel) (p : ℕ) → IsSound kernel → IsOver p kernel → IsSound (ready_again p kernel)
+pub sound_ready_again : (kernel : Kernel) (p : ℕ) → IsSoundKernel kernel → IsOver p kernel → IsSoundKernel (ready_again p kernel)
 unfolding lists_ready
 sound_ready_again kernel p s over = sound_ready kernel p s over.lives (omega (arith, over.nowhere))
 
-pub ready_ready_again : (kernel : Kernel) (p : ℕ) → IsSound kernel → IsOver p kernel → IsReady (ready_again p kernel).dispatcher p
+pub ready_ready_again : (kernel : Kernel) (p : ℕ) → IsSoundKernel kernel → IsOver p kernel → IsReady (ready_again p kernel).dispatcher p
 unfolding lists_ready
 ready_ready_again kernel p s over =
     list_moved kernel.dispatcher.lists ready p (process_in kernel.dispatcher.procs p).priority s.table (omega arith) (lives_below kernel.dispatcher.procs p s.slots over.lives)

@@ -23,11 +23,11 @@ use Rattle.mpm_consoles.specs.declared.unit.Unit.{Unit}
 use Rattle.mpm_consoles.specs.Handling.{units_without_waiter}
 use Rattle.mpm_consoles.proofs.SoundLaws.{sound_units_without}
 use Rattle.mpm_dispatcher.specs.Dispatch.{ready, IsReady, moved, lists_ready, also_completed, with_other}
-use Rattle.mpm_kernel.specs.Kernel.{Kernel, in_lists, places, IsOfTwo, IsFit, IsSound, CompletedLive, dispatched}
+use Rattle.mpm_kernel.specs.Kernel.{Kernel, in_lists, places, IsOfTwo, IsFit, IsSoundKernel, CompletedLive, dispatched}
 use Rattle.mpm_kernel.specs.Called.{valued}
 use Rattle.mpm_kernel.specs.Queueing.{given_to}
 use Rattle.mpm_kernel.specs.Procedures.{writing, outside, given_back_to, given_back}
-use Rattle.mpm_kernel.specs.Ending.{dropped_out, returned, all_returned, consoles_left, printers_left, units_left, relieved, vacated, discharged, Leaves}
+use Rattle.mpm_kernel.specs.Ending.{dropped_out, returned, all_returned, consoles_left, printers_left, units_left, relieved, vacated, discharged, IsLeaving}
 use Rattle.mpm_kernel.proofs.PlaceLaws.{in_none, not_equal, list_moved_other, flags_without_own, flags_without_other, length_without_waiter}
 use Rattle.mpm_kernel.proofs.Soundness.{AreUnits, fit_kept, listed_once, runs_other, sound_ready, sound_with_completed, MayBeReady}
 use Rattle.mpm_kernel.proofs.UnitWaits.{units_without_own, units_without_other, length_units_without, printers_units_without, has_units_without, owner_units_without}
@@ -45,7 +45,7 @@ unfolding dropped_out clock_without_delay
 dropped_nowhere p kernel =
     omega (arith, in_none _ (list_of_removed kernel.dispatcher.lists p), flags_without_own kernel.flags p, delays_without_own kernel.clock.delays p, waits_without_waiter kernel.queues p, units_without_own kernel.units p, at_without kernel.disk p)
 
-dropped_elsewhere : (p q : ℕ) (kernel : Kernel) → IsSound kernel → q ≢ p → places (dropped_out p kernel) q ≡ places kernel q
+dropped_elsewhere : (p q : ℕ) (kernel : Kernel) → IsSoundKernel kernel → q ≢ p → places (dropped_out p kernel) q ≡ places kernel q
 unfolding dropped_out clock_without_delay
 dropped_elsewhere p q kernel s other =
     let same = list_of_removed_other kernel.dispatcher.lists p q s.table (not_equal p q (λ e. other (sym e))) in
@@ -63,7 +63,7 @@ procs_dropped : (p : ℕ) (kernel : Kernel) → (dropped_out p kernel).dispatche
 unfolding dropped_out
 procs_dropped p kernel = refl
 
-units_dropped : (kernel : Kernel) (p : ℕ) → IsSound kernel → AreUnits kernel.units kernel.dispatcher.procs (units_without_waiter kernel.units p)
+units_dropped : (kernel : Kernel) (p : ℕ) → IsSoundKernel kernel → AreUnits kernel.units kernel.dispatcher.procs (units_without_waiter kernel.units p)
 units_dropped kernel p s = record {
   sound = sound_units_without kernel.units p s.units;
   consoles = length_units_without kernel.units p;
@@ -72,7 +72,7 @@ units_dropped kernel p s = record {
       s.owners unit q (has_units_without kernel.units p unit there) (sym (ap (λ o. is_owner o q) (owner_units_without kernel.units p unit)) ∙ is);
 }
 
-pub sound_dropped : (p : ℕ) (kernel : Kernel) → IsSound kernel → Lives kernel.dispatcher.procs p → IsSound (dropped_out p kernel)
+pub sound_dropped : (p : ℕ) (kernel : Kernel) → IsSoundKernel kernel → Lives kernel.dispatcher.procs p → IsSoundKernel (dropped_out p kernel)
 unfolding dropped_out
 sound_dropped p kernel s h = record {
   units = (units_dropped kernel p s).sound;
@@ -107,7 +107,7 @@ places_outside : (p q : ℕ) (kernel : Kernel) → places (outside p kernel) q �
 unfolding outside
 places_outside p q kernel = refl
 
-leaves_outside : (p : ℕ) (kernel : Kernel) → IsSound kernel → Lives kernel.dispatcher.procs p → places kernel p ≡ 0 → Leaves p (outside p kernel)
+leaves_outside : (p : ℕ) (kernel : Kernel) → IsSoundKernel kernel → Lives kernel.dispatcher.procs p → places kernel p ≡ 0 → IsLeaving p (outside p kernel)
 leaves_outside p kernel s h none =
     record {
       sound = sound_outside p kernel s h;
@@ -117,8 +117,8 @@ leaves_outside p kernel s h none =
     }
 
 -- the held call of another one is completed
-leaves_other : (other : Option ℕ) (p : ℕ) (kernel : Kernel) → Leaves p kernel → ((r : ℕ) → other ≡ Some r → MayBeReady kernel r × (r ≢ p))
-    → Leaves p (dispatched (with_other other) kernel)
+leaves_other : (other : Option ℕ) (p : ℕ) (kernel : Kernel) → IsLeaving p kernel → ((r : ℕ) → other ≡ Some r → MayBeReady kernel r × (r ≢ p))
+    → IsLeaving p (dispatched (with_other other) kernel)
 unfolding lists_ready also_completed
 leaves_other None p kernel l may = l
 leaves_other (Some r) p kernel l may =
@@ -137,7 +137,7 @@ others_kept : (old new : Table) (p : ℕ) (ps : List ℕ) → ((q : ℕ) → liv
 others_kept old new p [] same all = tt
 others_kept old new p (q ∷ ps) same all = ((same q ∙ all.0.0, all.0.1), others_kept old new p ps same all.1)
 
-leaves_written : (p q : ℕ) (kernel : Kernel) → Leaves p kernel → IsMade kernel.queues q → Leaves p (given_to kernel p q)
+leaves_written : (p q : ℕ) (kernel : Kernel) → IsLeaving p kernel → IsMade kernel.queues q → IsLeaving p (given_to kernel p q)
 leaves_written p q kernel l is =
     let t = kernel.queues in
     record {
@@ -148,41 +148,41 @@ leaves_written p q kernel l is =
     }
 
 -- who waits to read from a queue is another one
-waiter_apart : (p q r : ℕ) (kernel : Kernel) → Leaves p kernel → woken_by (write_outcome kernel.queues q) ≡ Some r → r ≢ p
+waiter_apart : (p q r : ℕ) (kernel : Kernel) → IsLeaving p kernel → woken_by (write_outcome kernel.queues q) ≡ Some r → r ≢ p
 waiter_apart p q r kernel l first = λ same.
     let t = kernel.queues in
     omega (arith, waits_one t q r l.sound.queues (write_ends_waiter t q r first), ap (waits t) same, l.nowhere)
 
-leaves_given : (queue : Option ℕ) (p : ℕ) (kernel : Kernel) → Leaves p kernel → Leaves p (given_back_to queue p kernel)
+leaves_given : (queue : Option ℕ) (p : ℕ) (kernel : Kernel) → IsLeaving p kernel → IsLeaving p (given_back_to queue p kernel)
 unfolding given_back_to
 leaves_given None p kernel l = l
 leaves_given (Some q) p kernel l =
-    either (Leaves p) (is_made kernel.queues q) _ _
+    either (IsLeaving p) (is_made kernel.queues q) _ _
     (λ is. leaves_other (woken_by (write_outcome kernel.queues q)) p (given_to kernel p q) (leaves_written p q kernel l is)
     (λ r first. (may_by_write kernel p q r l.sound first, waiter_apart p q r kernel l first)))
     (λ _. l)
 
-pub leaves_given_back : (p : ℕ) (kernel : Kernel) → IsSound kernel → Lives kernel.dispatcher.procs p → Leaves p (given_back p (dropped_out p kernel))
+pub leaves_given_back : (p : ℕ) (kernel : Kernel) → IsSoundKernel kernel → Lives kernel.dispatcher.procs p → IsLeaving p (given_back p (dropped_out p kernel))
 unfolding given_back
 leaves_given_back p kernel s h =
     let gone = dropped_out p kernel in
     leaves_given (process_in gone.dispatcher.procs p).procedure p (outside p gone)
     (leaves_outside p gone (sound_dropped p kernel s h) (lives_dropped p p kernel h) (dropped_nowhere p kernel))
 
-pub held_made : (p q : ℕ) (kernel : Kernel) → Leaves p kernel → holds kernel.queues p q ≡ true → IsMade kernel.queues q
+pub held_made : (p q : ℕ) (kernel : Kernel) → IsLeaving p kernel → holds kernel.queues p q ≡ true → IsMade kernel.queues q
 held_made p q kernel l held = holds_made kernel.queues p q l.sound.queues held
 
-pub leaves_returned : (p q : ℕ) (kernel : Kernel) → Leaves p kernel → Leaves p (returned p q kernel)
+pub leaves_returned : (p q : ℕ) (kernel : Kernel) → IsLeaving p kernel → IsLeaving p (returned p q kernel)
 unfolding returned
-leaves_returned p q kernel l = either (Leaves p) (holds kernel.queues p q) _ _ (λ _. leaves_given (Some q) p kernel l) (λ _. l)
+leaves_returned p q kernel l = either (IsLeaving p) (holds kernel.queues p q) _ _ (λ _. leaves_given (Some q) p kernel l) (λ _. l)
 
-pub leaves_all_returned : (qs : List ℕ) (p : ℕ) (kernel : Kernel) → Leaves p kernel → Leaves p (all_returned qs p kernel)
+pub leaves_all_returned : (qs : List ℕ) (p : ℕ) (kernel : Kernel) → IsLeaving p kernel → IsLeaving p (all_returned qs p kernel)
 unfolding all_returned
 leaves_all_returned [] p kernel l = l
 leaves_all_returned (q ∷ qs) p kernel l = leaves_all_returned qs p (returned p q kernel) (leaves_returned p q kernel l)
 
-pub leaves_messages : (p : ℕ) (kernel : Kernel) → IsSound kernel → Lives kernel.dispatcher.procs p
-    → Leaves p (all_returned (range_with_len 0 32) p (given_back p (dropped_out p kernel)))
+pub leaves_messages : (p : ℕ) (kernel : Kernel) → IsSoundKernel kernel → Lives kernel.dispatcher.procs p
+    → IsLeaving p (all_returned (range_with_len 0 32) p (given_back p (dropped_out p kernel)))
 leaves_messages p kernel s h = leaves_all_returned (range_with_len 0 32) p _ (leaves_given_back p kernel s h)
 
 -- its consoles and printers pass on
@@ -193,7 +193,7 @@ completed_as p old new same all_same all =
     let Q : List ℕ → Type 0 = λ ps. AllByRecursion (λ q. Lives old.dispatcher.procs q × (q ≢ p)) ps in
     subst P (sym same) (subst Q (sym all_same) all)
 
-leaves_units_left : (p : ℕ) (kernel : Kernel) → Leaves p kernel → Leaves p (units_left p kernel)
+leaves_units_left : (p : ℕ) (kernel : Kernel) → IsLeaving p kernel → IsLeaving p (units_left p kernel)
 leaves_units_left p kernel l =
     let left = left_units p kernel l.sound in
     record {
@@ -203,11 +203,11 @@ leaves_units_left p kernel l =
       others = completed_as p kernel (units_left p kernel) left.procs left.completed l.others;
     }
 
-pub leaves_relieved : (p : ℕ) (kernel : Kernel) → IsSound kernel → Lives kernel.dispatcher.procs p → Leaves p (relieved p kernel)
+pub leaves_relieved : (p : ℕ) (kernel : Kernel) → IsSoundKernel kernel → Lives kernel.dispatcher.procs p → IsLeaving p (relieved p kernel)
 unfolding relieved
 leaves_relieved p kernel s h = leaves_units_left p _ (leaves_messages p kernel s h)
 
-nothing_relieved : (p : ℕ) (kernel : Kernel) → IsSound kernel → Lives kernel.dispatcher.procs p → OwnsNothing (relieved p kernel).units p
+nothing_relieved : (p : ℕ) (kernel : Kernel) → IsSoundKernel kernel → Lives kernel.dispatcher.procs p → OwnsNothing (relieved p kernel).units p
 unfolding relieved
 nothing_relieved p kernel s h = owns_none p _ (leaves_messages p kernel s h).sound
 
@@ -237,13 +237,13 @@ few_returned p q kernel =
 -- the queues so far: what is left of all
 pub record ReturnedSo (p : ℕ) (start now : Kernel) (q : ℕ) : Type 0 where
   pub kernel : (rest : ℕ) → q + rest ≡ 32 → all_returned (range_with_len 0 32) p start ≡ all_returned (range_with_len q rest) p now
-  pub leaves : Leaves p now
+  pub leaves : IsLeaving p now
   pub few : length now.dispatcher.completed ≤ 2 + q
 
 all_of : (rest : ℕ) → 0 + rest ≡ 32 → 32 ≡ rest
 all_of rest all = omega (arith, all)
 
-pub returned_nothing : (p : ℕ) (start : Kernel) → Leaves p start → length start.dispatcher.completed ≤ 2 → ReturnedSo p start start 0
+pub returned_nothing : (p : ℕ) (start : Kernel) → IsLeaving p start → length start.dispatcher.completed ≤ 2 → ReturnedSo p start start 0
 returned_nothing p start l few = record {
   kernel = λ rest all. ap (λ (n : ℕ). all_returned (range_with_len 0 n) p start) (all_of rest all);
   leaves = l;
@@ -259,7 +259,7 @@ returned_more p start now next q so is = record {
   kernel = λ rest all.
       so.kernel (suc rest) (omega (arith, all)) ∙ one_returned q (range_with_len (q + 1) rest) p now
       ∙ ap (λ (kernel : Kernel). all_returned (range_with_len (q + 1) rest) p kernel) (sym is);
-  leaves = subst (Leaves p) (sym is) (leaves_returned p q now so.leaves);
+  leaves = subst (IsLeaving p) (sym is) (leaves_returned p q now so.leaves);
   few = omega (arith, ap (λ (kernel : Kernel). length kernel.dispatcher.completed) is, few_returned p q now, so.few);
 }
 
@@ -277,13 +277,13 @@ returned_all p start now q end so =
     sym (so.kernel 0 all ∙ none_returned p now)
 
 -- the slot is free
-owners_vacated : (p : ℕ) (kernel : Kernel) → Leaves p kernel → OwnsNothing kernel.units p
+owners_vacated : (p : ℕ) (kernel : Kernel) → IsLeaving p kernel → OwnsNothing kernel.units p
     → (unit : Unit) (q : ℕ) → HasUnit kernel.units unit → owns kernel.units q unit ≡ true → Lives (without kernel.dispatcher.procs p) q
 owners_vacated p kernel l nothing unit q has is =
     let other : q ≢ p = λ same. false≢true (sym (nothing unit has) ∙ ap (λ x. owns kernel.units x unit) (sym same) ∙ is) in
     lives_without_other kernel.dispatcher.procs p q other ∙ l.sound.owners unit q has is
 
-sound_vacated : (p : ℕ) (kernel : Kernel) → Leaves p kernel → OwnsNothing kernel.units p → IsSound (vacated p kernel)
+sound_vacated : (p : ℕ) (kernel : Kernel) → IsLeaving p kernel → OwnsNothing kernel.units p → IsSoundKernel (vacated p kernel)
 sound_vacated p kernel l nothing =
     let s = l.sound in
     let below : p < 32 = lives_below kernel.dispatcher.procs p s.slots l.lives in
@@ -320,16 +320,16 @@ others_live p [] procs all = tt
 others_live p (q ∷ ps) procs all = (lives_without_other procs p q all.0.1 ∙ all.0.0, others_live p ps procs all.1)
 
 -- a process ends
-pub sound_discharged : (kernel : Kernel) (p : ℕ) → IsSound kernel → Lives kernel.dispatcher.procs p → IsSound (discharged kernel p)
+pub sound_discharged : (kernel : Kernel) (p : ℕ) → IsSoundKernel kernel → Lives kernel.dispatcher.procs p → IsSoundKernel (discharged kernel p)
 unfolding discharged
 sound_discharged kernel p s h = sound_vacated p (relieved p kernel) (leaves_relieved p kernel s h) (nothing_relieved p kernel s h)
 
-pub live_discharged : (kernel : Kernel) (p : ℕ) → IsSound kernel → Lives kernel.dispatcher.procs p → CompletedLive (discharged kernel p)
+pub live_discharged : (kernel : Kernel) (p : ℕ) → IsSoundKernel kernel → Lives kernel.dispatcher.procs p → CompletedLive (discharged kernel p)
 unfolding discharged
 live_discharged kernel p s h =
     let afterwards = relieved p kernel in others_live p afterwards.dispatcher.completed afterwards.dispatcher.procs (leaves_relieved p kernel s h).others
 
-pub dead_discharged : (kernel : Kernel) (p : ℕ) → IsSound kernel → Lives kernel.dispatcher.procs p → lives (discharged kernel p).dispatcher.procs p ≡ false
+pub dead_discharged : (kernel : Kernel) (p : ℕ) → IsSoundKernel kernel → Lives kernel.dispatcher.procs p → lives (discharged kernel p).dispatcher.procs p ≡ false
 unfolding discharged
 dead_discharged kernel p s h =
     let l = leaves_relieved p kernel s h in
@@ -346,7 +346,7 @@ unfolding all_returned
 homes_all_returned [] p kernel = homes_stay kernel kernel refl
 homes_all_returned (q ∷ qs) p kernel = homes_both kernel (returned p q kernel) _ (homes_returned p q kernel) (homes_all_returned qs p (returned p q kernel))
 
-homes_relieved : (p : ℕ) (kernel : Kernel) → IsSound kernel → Lives kernel.dispatcher.procs p → SameHomes kernel (relieved p kernel)
+homes_relieved : (p : ℕ) (kernel : Kernel) → IsSoundKernel kernel → Lives kernel.dispatcher.procs p → SameHomes kernel (relieved p kernel)
 unfolding relieved
 homes_relieved p kernel s h =
     let gone = dropped_out p kernel in
@@ -357,7 +357,7 @@ homes_relieved p kernel s h =
     (homes_both back returned_all _ (homes_all_returned (range_with_len 0 32) p back)
     (homes_stay returned_all (units_left p returned_all) (left_units p returned_all (leaves_messages p kernel s h).sound).procs)))
 
-pub homes_discharged : (kernel : Kernel) (p : ℕ) → IsSound kernel → Lives kernel.dispatcher.procs p → SameHomes kernel (discharged kernel p)
+pub homes_discharged : (kernel : Kernel) (p : ℕ) → IsSoundKernel kernel → Lives kernel.dispatcher.procs p → SameHomes kernel (discharged kernel p)
 unfolding discharged
 homes_discharged kernel p s h =
     let afterwards = relieved p kernel in
@@ -390,7 +390,7 @@ keeps_same q old new same none = record {
 keeps_itself : (q : ℕ) (kernel : Kernel) → Keeps q kernel kernel
 keeps_itself q kernel = keeps_same q kernel kernel refl (λ none. none)
 
-keeps_dropped : (p q : ℕ) (kernel : Kernel) → IsSound kernel → q ≢ p → Keeps q kernel (dropped_out p kernel)
+keeps_dropped : (p q : ℕ) (kernel : Kernel) → IsSoundKernel kernel → q ≢ p → Keeps q kernel (dropped_out p kernel)
 unfolding dropped_out
 keeps_dropped p q kernel s other = keeps_same q kernel (dropped_out p kernel) refl (λ none. waits_without_other kernel.queues p q s.queues other ∙ none)
 
@@ -412,7 +412,7 @@ keeps_outside p q kernel other = record {
   beside = beside_outside p q kernel other;
 }
 
-keeps_written : (p q k : ℕ) (kernel : Kernel) → IsSound kernel → Keeps k kernel (dispatched (with_other (woken_by (write_outcome kernel.queues q))) (given_to kernel p q))
+keeps_written : (p q k : ℕ) (kernel : Kernel) → IsSoundKernel kernel → Keeps k kernel (dispatched (with_other (woken_by (write_outcome kernel.queues q))) (given_to kernel p q))
 unfolding procs_after_write
 keeps_written p q k kernel s =
     let t = kernel.queues in
@@ -427,34 +427,34 @@ keeps_written p q k kernel s =
       waits = λ none. omega (arith, none, ap (λ queues. waits queues k) (queues_with_other other (given_to kernel p q)), write_waits t p q kernel.dispatcher.procs k s.queues);
     }
 
-keeps_given : (queue : Option ℕ) (p k : ℕ) (kernel : Kernel) → IsSound kernel → Keeps k kernel (given_back_to queue p kernel)
+keeps_given : (queue : Option ℕ) (p k : ℕ) (kernel : Kernel) → IsSoundKernel kernel → Keeps k kernel (given_back_to queue p kernel)
 unfolding given_back_to
 keeps_given None p k kernel s = keeps_itself k kernel
 keeps_given (Some q) p k kernel s = either (Keeps k kernel) (is_made kernel.queues q) _ _ (λ _. keeps_written p q k kernel s) (λ _. keeps_itself k kernel)
 
-keeps_given_back : (p k : ℕ) (kernel : Kernel) → IsSound kernel → Lives kernel.dispatcher.procs p → k ≢ p → Keeps k kernel (given_back p kernel)
+keeps_given_back : (p k : ℕ) (kernel : Kernel) → IsSoundKernel kernel → Lives kernel.dispatcher.procs p → k ≢ p → Keeps k kernel (given_back p kernel)
 unfolding given_back
 keeps_given_back p k kernel s h other =
     keeps_both k kernel (outside p kernel) _ (keeps_outside p k kernel other)
     (keeps_given (process_in kernel.dispatcher.procs p).procedure p k (outside p kernel) (sound_outside p kernel s h))
 
-keeps_returned : (p q k : ℕ) (kernel : Kernel) → IsSound kernel → Keeps k kernel (returned p q kernel)
+keeps_returned : (p q k : ℕ) (kernel : Kernel) → IsSoundKernel kernel → Keeps k kernel (returned p q kernel)
 unfolding returned
 keeps_returned p q k kernel s = either (Keeps k kernel) (holds kernel.queues p q) _ _ (λ _. keeps_given (Some q) p k kernel s) (λ _. keeps_itself k kernel)
 
-keeps_all_returned : (qs : List ℕ) (p k : ℕ) (kernel : Kernel) → Leaves p kernel → Keeps k kernel (all_returned qs p kernel)
+keeps_all_returned : (qs : List ℕ) (p k : ℕ) (kernel : Kernel) → IsLeaving p kernel → Keeps k kernel (all_returned qs p kernel)
 unfolding all_returned
 keeps_all_returned [] p k kernel l = keeps_itself k kernel
 keeps_all_returned (q ∷ qs) p k kernel l =
     keeps_both k kernel (returned p q kernel) _ (keeps_returned p q k kernel l.sound)
     (keeps_all_returned qs p k (returned p q kernel) (leaves_returned p q kernel l))
 
-keeps_units_left : (p k : ℕ) (kernel : Kernel) → IsSound kernel → Keeps k kernel (units_left p kernel)
+keeps_units_left : (p k : ℕ) (kernel : Kernel) → IsSoundKernel kernel → Keeps k kernel (units_left p kernel)
 keeps_units_left p k kernel s =
     let left = left_units p kernel s in
     keeps_same k kernel (units_left p kernel) left.procs (λ none. ap (λ queues. waits queues k) left.queues ∙ none)
 
-keeps_relieved : (p k : ℕ) (kernel : Kernel) → IsSound kernel → Lives kernel.dispatcher.procs p → k ≢ p → Keeps k kernel (relieved p kernel)
+keeps_relieved : (p k : ℕ) (kernel : Kernel) → IsSoundKernel kernel → Lives kernel.dispatcher.procs p → k ≢ p → Keeps k kernel (relieved p kernel)
 unfolding relieved
 keeps_relieved p k kernel s h other =
     let gone = dropped_out p kernel in
@@ -465,26 +465,26 @@ keeps_relieved p k kernel s h other =
     (keeps_both k back returned_all _ (keeps_all_returned (range_with_len 0 32) p k back (leaves_given_back p kernel s h))
     (keeps_units_left p k returned_all (leaves_messages p kernel s h).sound)))
 
-pub lives_discharged : (kernel : Kernel) (p q : ℕ) → IsSound kernel → Lives kernel.dispatcher.procs p → q ≢ p → lives (discharged kernel p).dispatcher.procs q ≡ lives kernel.dispatcher.procs q
+pub lives_discharged : (kernel : Kernel) (p q : ℕ) → IsSoundKernel kernel → Lives kernel.dispatcher.procs p → q ≢ p → lives (discharged kernel p).dispatcher.procs q ≡ lives kernel.dispatcher.procs q
 unfolding discharged
 lives_discharged kernel p q s h other = lives_without_other (relieved p kernel).dispatcher.procs p q other ∙ (keeps_relieved p q kernel s h other).lives
 
-pub call_discharged : (kernel : Kernel) (p q : ℕ) → IsSound kernel → Lives kernel.dispatcher.procs p → q ≢ p → waits kernel.queues q ≡ 0
+pub call_discharged : (kernel : Kernel) (p q : ℕ) → IsSoundKernel kernel → Lives kernel.dispatcher.procs p → q ≢ p → waits kernel.queues q ≡ 0
     → call_of (discharged kernel p).dispatcher.procs q ≡ call_of kernel.dispatcher.procs q
 unfolding discharged
 call_discharged kernel p q s h other none =
     call_without_other (relieved p kernel).dispatcher.procs p q other ∙ (keeps_relieved p q kernel s h other).call none
 
-pub call_given_back : (p q : ℕ) (kernel : Kernel) → IsSound kernel → Lives kernel.dispatcher.procs p → q ≢ p → waits kernel.queues q ≡ 0
+pub call_given_back : (p q : ℕ) (kernel : Kernel) → IsSoundKernel kernel → Lives kernel.dispatcher.procs p → q ≢ p → waits kernel.queues q ≡ 0
     → call_of (given_back p kernel).dispatcher.procs q ≡ call_of kernel.dispatcher.procs q
 call_given_back p q kernel s h other none = (keeps_given_back p q kernel s h other).call none
 
 -- what a process that leaves its resident procedure, or ends, leaves of each other one
-pub beside_given_back : (p q : ℕ) (kernel : Kernel) → IsSound kernel → Lives kernel.dispatcher.procs p → q ≢ p
+pub beside_given_back : (p q : ℕ) (kernel : Kernel) → IsSoundKernel kernel → Lives kernel.dispatcher.procs p → q ≢ p
     → StaysBeside q kernel.dispatcher.procs (given_back p kernel).dispatcher.procs
 beside_given_back p q kernel s h other = (keeps_given_back p q kernel s h other).beside
 
-pub beside_discharged : (kernel : Kernel) (p q : ℕ) → IsSound kernel → Lives kernel.dispatcher.procs p → q ≢ p
+pub beside_discharged : (kernel : Kernel) (p q : ℕ) → IsSoundKernel kernel → Lives kernel.dispatcher.procs p → q ≢ p
     → StaysBeside q kernel.dispatcher.procs (discharged kernel p).dispatcher.procs
 unfolding discharged
 beside_discharged kernel p q s h other =
@@ -510,7 +510,7 @@ consoles_all_returned (q ∷ qs) p kernel =
     consoles_all_returned qs p (returned p q kernel)
     ∙ either (λ (k : Kernel). length k.units.consoles ≡ length kernel.units.consoles) (holds kernel.queues p q) _ _ (λ _. consoles_given_back_to (Some q) p kernel) (λ _. refl)
 
-pub consoles_discharged : (kernel : Kernel) (p : ℕ) → IsSound kernel → Lives kernel.dispatcher.procs p → length (discharged kernel p).units.consoles ≡ length kernel.units.consoles
+pub consoles_discharged : (kernel : Kernel) (p : ℕ) → IsSoundKernel kernel → Lives kernel.dispatcher.procs p → length (discharged kernel p).units.consoles ≡ length kernel.units.consoles
 unfolding discharged relieved dropped_out
 consoles_discharged kernel p s h =
     let back = given_back p (dropped_out p kernel) in
@@ -520,11 +520,11 @@ consoles_discharged kernel p s h =
     ∙ length_units_without kernel.units p
 
 -- the code: after each part of an end
-pub leaves_messages_back : (p : ℕ) (kernel gone back afterwards : Kernel) → IsSound kernel → Lives kernel.dispatcher.procs p → gone ≡ dropped_out p kernel
-    → back ≡ given_back p gone → afterwards ≡ all_returned (range_with_len 0 32) p back → Leaves p afterwards
+pub leaves_messages_back : (p : ℕ) (kernel gone back afterwards : Kernel) → IsSoundKernel kernel → Lives kernel.dispatcher.procs p → gone ≡ dropped_out p kernel
+    → back ≡ given_back p gone → afterwards ≡ all_returned (range_with_len 0 32) p back → IsLeaving p afterwards
 leaves_messages_back p kernel gone back afterwards s h is_gone is_back is_behind =
     let first : back ≡ given_back p (dropped_out p kernel) = is_back ∙ ap (given_back p) is_gone in
-    subst (Leaves p) (sym (is_behind ∙ ap (all_returned (range_with_len 0 32) p) first)) (leaves_messages p kernel s h)
+    subst (IsLeaving p) (sym (is_behind ∙ ap (all_returned (range_with_len 0 32) p) first)) (leaves_messages p kernel s h)
 
 pub units_by : (p : ℕ) (kernel without_consoles new : Kernel) → without_consoles ≡ consoles_left p (length kernel.units.consoles) kernel
     → new ≡ printers_left p (length without_consoles.units.printers) without_consoles → new ≡ units_left p kernel
@@ -541,5 +541,5 @@ discharged_by p kernel gone back afterwards left new is_gone is_back is_behind i
     is_new ∙ ap (vacated p) (is_left ∙ ap (units_left p) all)
 
 -- who is ready waits at no queue
-pub ready_waits_at_none : (kernel : Kernel) (p : ℕ) → IsSound kernel → IsReady kernel.dispatcher p → waits kernel.queues p ≡ 0
+pub ready_waits_at_none : (kernel : Kernel) (p : ℕ) → IsSoundKernel kernel → IsReady kernel.dispatcher p → waits kernel.queues p ≡ 0
 ready_waits_at_none kernel p s is_ready = omega (arith, listed_once kernel p ready s is_ready)

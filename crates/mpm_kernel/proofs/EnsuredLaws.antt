@@ -4,12 +4,12 @@ use Rattle.std.proofs.lemmas.List.{length-replicate}
 use Rattle.mpm_consoles.specs.Console.{new_console}
 use Rattle.mpm_consoles.specs.Consoles.{no_owners}
 use Rattle.mpm_clock.specs.declared.moment.Moment.{Moment}
-use Rattle.mpm_kernel.specs.Kernel.{Kernel, IsSound, new_kernel}
+use Rattle.mpm_kernel.specs.Kernel.{Kernel, IsSoundKernel, new_kernel}
 use Rattle.mpm_kernel.proofs.SoundLaws.{sound_new}
 
 pub sound_if_new : (kernel : Kernel) (consoles printers : ℕ) (now : Moment) → 1 ≤ consoles → consoles ≤ 8 → printers ≤ 4 → kernel ≡ new_kernel consoles printers now
-    → IsSound kernel
-sound_if_new kernel consoles printers now some few more is = subst IsSound (sym is) (sound_new consoles printers now some few more)
+    → IsSoundKernel kernel
+sound_if_new kernel consoles printers now some few more is = subst IsSoundKernel (sym is) (sound_new consoles printers now some few more)
 
 -- how many consoles there are at first
 pub many_new : (consoles printers : ℕ) (now : Moment) → length (new_kernel consoles printers now).units.consoles ≡ consoles

@@ -3,24 +3,24 @@ use Rattle.std.proofs.Common.{◌≡◌, ℕ, ◌<◌, Option, Some, None, refl,
 use Rattle.mpm_base.proofs.Choices.{either}
 use Rattle.mpm_consoles.specs.Consoles.{owner_of}
 use Rattle.mpm_consoles.specs.declared.unit.Unit.TheVariants.{Console as ConsoleUnit}
-use Rattle.mpm_kernel.specs.Kernel.{Kernel, IsSound}
+use Rattle.mpm_kernel.specs.Kernel.{Kernel, IsSoundKernel}
 use Rattle.mpm_kernel.specs.Consoling.{unit_left, IfLives, owner_made, is_from, handed_over, given}
 use Rattle.mpm_kernel.proofs.Staying.{SameProcesses}
 use Rattle.mpm_kernel.proofs.Passing.{sound_unit_left}
 use Rattle.mpm_kernel.proofs.UnitCalls.{sound_owner_made}
 use Rattle.mpm_kernel.proofs.UnitCounts.{many_detached, many_assigned}
 
-pub sound_handed : (console : ℕ) (from to : Option ℕ) (kernel : Kernel) → IsSound kernel → console < length kernel.units.consoles → IfLives kernel.dispatcher.procs to
-    → IsSound (handed_over console from to kernel)
+pub sound_handed : (console : ℕ) (from to : Option ℕ) (kernel : Kernel) → IsSoundKernel kernel → console < length kernel.units.consoles → IfLives kernel.dispatcher.procs to
+    → IsSoundKernel (handed_over console from to kernel)
 sound_handed console None None kernel s below lives = s
 sound_handed console (Some p) None kernel s below lives = sound_unit_left kernel p (ConsoleUnit console) s below
 sound_handed console from (Some to) kernel s below lives = sound_owner_made console to kernel s lives below
 
-pub sound_gave : (console : ℕ) (from to : Option ℕ) (kernel : Kernel) → IsSound kernel → console < length kernel.units.consoles → IfLives kernel.dispatcher.procs to
-    → IsSound (given console from to kernel)
+pub sound_gave : (console : ℕ) (from to : Option ℕ) (kernel : Kernel) → IsSoundKernel kernel → console < length kernel.units.consoles → IfLives kernel.dispatcher.procs to
+    → IsSoundKernel (given console from to kernel)
 unfolding given
 sound_gave console from to kernel s below lives =
-    either IsSound (is_from (owner_of kernel.units (ConsoleUnit console)) from) _ _ (λ _. sound_handed console from to kernel s below lives) (λ _. s)
+    either IsSoundKernel (is_from (owner_of kernel.units (ConsoleUnit console)) from) _ _ (λ _. sound_handed console from to kernel s below lives) (λ _. s)
 
 -- no process changes, and nobody's call is completed
 keeps_handed : (console : ℕ) (from to : Option ℕ) (kernel : Kernel) → SameProcesses kernel (handed_over console from to kernel)

@@ -5,7 +5,7 @@ use Rattle.mpm_queues.specs.Queue.{block_size}
 use Rattle.mpm_procs.specs.Table.{Table, Lives, call_of}
 use Rattle.mpm_dispatcher.specs.declared.dispatcher.Dispatcher.{Dispatcher}
 use Rattle.mpm_dispatcher.specs.Dispatch.{with_completed, first_completed}
-use Rattle.mpm_kernel.specs.Kernel.{Kernel, IsOfTwo, IsSound, CompletedLive, dispatched}
+use Rattle.mpm_kernel.specs.Kernel.{Kernel, IsOfTwo, IsSoundKernel, CompletedLive, dispatched}
 use Rattle.mpm_kernel.specs.Called.{valued}
 use Rattle.mpm_base.specs.Calls.{word_at}
 use Rattle.mpm_base.specs.declared.functions.TheConstants.{CALL_RESIDENT_SYSTEM_PROCEDURE}
@@ -39,26 +39,26 @@ stays_with_procedure p kernel s =
     (λ _. s)
 
 record IsHanded (kernel : Kernel) : Type 0 where
-  pub sound : IsSound kernel
+  pub sound : IsSoundKernel kernel
   pub live : CompletedLive kernel
 
-handed_first : (first : Option ℕ) (kernel : Kernel) → IsSound kernel → CompletedLive kernel → ((p : ℕ) → first ≡ Some p → Lives kernel.dispatcher.procs p)
+handed_first : (first : Option ℕ) (kernel : Kernel) → IsSoundKernel kernel → CompletedLive kernel → ((p : ℕ) → first ≡ Some p → Lives kernel.dispatcher.procs p)
     → IsHanded (with_first first kernel)
 handed_first None kernel s live living = record { sound = s; live = live }
 handed_first (Some p) kernel s live living =
     let stays = stays_with_procedure p kernel (record { sound = s; lives = living p refl; completed = live }) in
     record { sound = stays.sound; live = stays.completed }
 
-is_handed : (kernel : Kernel) → IsSound kernel → CompletedLive kernel → IsHanded (handed_out kernel)
+is_handed : (kernel : Kernel) → IsSoundKernel kernel → CompletedLive kernel → IsHanded (handed_out kernel)
 unfolding handed_out
 is_handed kernel s live =
     handed_first (first_completed kernel.dispatcher.completed) (dispatched (with_completed (drop 1 kernel.dispatcher.completed)) kernel) (sound_with_completed kernel _ s)
     (dropped_live kernel.dispatcher.procs kernel.dispatcher.completed live) (λ p first. completed_lives kernel p live first)
 
-pub sound_completed : (kernel : Kernel) → IsSound kernel → CompletedLive kernel → IsSound (handed_out kernel)
+pub sound_completed : (kernel : Kernel) → IsSoundKernel kernel → CompletedLive kernel → IsSoundKernel (handed_out kernel)
 sound_completed kernel s live = (is_handed kernel s live).sound
 
-pub live_handed_out : (kernel : Kernel) → IsSound kernel → CompletedLive kernel → CompletedLive (handed_out kernel)
+pub live_handed_out : (kernel : Kernel) → IsSoundKernel kernel → CompletedLive kernel → CompletedLive (handed_out kernel)
 live_handed_out kernel s live = (is_handed kernel s live).live
 
 -- who is handed out first

@@ -8,15 +8,15 @@ use Rattle.std.proofs.lemmas.Option.{same_Some}
 use Rattle.mpm_base.proofs.Choices.{either}
 use Rattle.mpm_procs.specs.Table.{Lives, process_in}
 use Rattle.mpm_queues.specs.Queue.{is_full, is_exclusive}
-use Rattle.mpm_queues.specs.Queues.{Queues, is_made, queue_in, is_holder, holds, waits, IsSound as AreSound}
+use Rattle.mpm_queues.specs.Queues.{Queues, is_made, queue_in, is_holder, holds, waits, AreSoundQueues as AreSound}
 use Rattle.mpm_queues.specs.Handling.{queues_without_waiter, first_reader, write_outcome, woken_by}
 use Rattle.mpm_queues.proofs.QueueLaws.{no_bytes}
 use Rattle.mpm_queues.proofs.SoundLaws.{made_below, reader_waits}
 use Rattle.mpm_queues.proofs.WaitLaws.{waits_one, holds_made, holder_write, write_else}
-use Rattle.mpm_kernel.specs.Kernel.{Kernel, IsOfTwo, IsSound}
+use Rattle.mpm_kernel.specs.Kernel.{Kernel, IsOfTwo, IsSoundKernel}
 use Rattle.mpm_kernel.specs.Queueing.{given_to}
 use Rattle.mpm_kernel.specs.Procedures.{outside, given_back_to, given_back}
-use Rattle.mpm_kernel.specs.Ending.{dropped_out, returned, all_returned, relieved, discharged, Leaves}
+use Rattle.mpm_kernel.specs.Ending.{dropped_out, returned, all_returned, relieved, discharged, IsLeaving}
 use Rattle.mpm_kernel.proofs.QueueingLaws.{two_width}
 use Rattle.mpm_kernel.proofs.QueueCalls.{queues_with_other}
 use Rattle.mpm_kernel.proofs.EndingLaws.{sound_dropped, lives_dropped, leaves_given_back, leaves_returned, leaves_messages, leaves_relieved}
@@ -39,12 +39,12 @@ other_holder b None p apart = refl
 other_holder true (Some r) p apart = (let other = apart r refl in grind (arith, nat_tests, other))
 other_holder false (Some r) p apart = refl
 
-reader_apart : (p q r : ℕ) (kernel : Kernel) → Leaves p kernel → first_reader kernel.queues q ≡ Some r → r ≢ p
+reader_apart : (p q r : ℕ) (kernel : Kernel) → IsLeaving p kernel → first_reader kernel.queues q ≡ Some r → r ≢ p
 reader_apart p q r kernel l first = λ same.
     let t = kernel.queues in
     omega (arith, waits_one t q r l.sound.queues (reader_waits t q r first), ap (waits t) same, l.nowhere)
 
-held_no_more : (p q : ℕ) (kernel : Kernel) → Leaves p kernel → holds kernel.queues p q ≡ true → holds (given_back_to (Some q) p kernel).queues p q ≡ false
+held_no_more : (p q : ℕ) (kernel : Kernel) → IsLeaving p kernel → holds kernel.queues p q ≡ true → holds (given_back_to (Some q) p kernel).queues p q ≡ false
 unfolding given_back_to
 held_no_more p q kernel l held =
     let t = kernel.queues in
@@ -67,7 +67,7 @@ held_elsewhere p q holder k kernel other =
     (λ _. refl)
 
 -- after each number, and after all
-own_gone : (p q : ℕ) (kernel : Kernel) → Leaves p kernel → holds (returned p q kernel).queues p q ≡ false
+own_gone : (p q : ℕ) (kernel : Kernel) → IsLeaving p kernel → holds (returned p q kernel).queues p q ≡ false
 unfolding returned
 own_gone p q kernel l = either (λ (k : Kernel). holds k.queues p q ≡ false) (holds kernel.queues p q) _ _ (λ held. held_no_more p q kernel l held) (λ free. free)
 
@@ -82,7 +82,7 @@ unfolding all_returned
 all_stay_gone [] p k kernel none = none
 all_stay_gone (q ∷ qs) p k kernel none = all_stay_gone qs p k (returned p q kernel) (stays_gone p q k kernel none)
 
-all_gone : (n a p k : ℕ) (kernel : Kernel) → Leaves p kernel → a ≤ k → k < a + n → holds (all_returned (range_with_len a n) p kernel).queues p k ≡ false
+all_gone : (n a p k : ℕ) (kernel : Kernel) → IsLeaving p kernel → a ≤ k → k < a + n → holds (all_returned (range_with_len a n) p kernel).queues p k ≡ false
 unfolding all_returned
 all_gone zero a p k kernel l from below = absurd (omega (arith, from, below))
 all_gone (suc n) a p k kernel l from below = elim (cases_eq k a) [
@@ -92,13 +92,13 @@ all_gone (suc n) a p k kernel l from below = elim (cases_eq k a) [
   | inr other ↦ all_gone n (a + 1) p k (returned p a kernel) (leaves_returned p a kernel l) (omega (arith, from, other)) (omega (arith, below))
 ]
 
-relieved_gone : (p k : ℕ) (kernel : Kernel) → IsSound kernel → Lives kernel.dispatcher.procs p → k < 32 → holds (relieved p kernel).queues p k ≡ false
+relieved_gone : (p k : ℕ) (kernel : Kernel) → IsSoundKernel kernel → Lives kernel.dispatcher.procs p → k < 32 → holds (relieved p kernel).queues p k ≡ false
 unfolding relieved
 relieved_gone p k kernel s h below =
     ap (λ (queues : Queues). holds queues p k) (left_units p _ (leaves_messages p kernel s h).sound).queues
     ∙ all_gone 32 0 p k _ (leaves_given_back p kernel s h) (omega arith) (omega (arith, below))
 
-pub nothing_held : (kernel : Kernel) (p q : ℕ) → IsSound kernel → Lives kernel.dispatcher.procs p → holds (discharged kernel p).queues p q ≡ false
+pub nothing_held : (kernel : Kernel) (p q : ℕ) → IsSoundKernel kernel → Lives kernel.dispatcher.procs p → holds (discharged kernel p).queues p q ≡ false
 unfolding discharged
 nothing_held kernel p q s h = elim (cases_lt q 32) [
   | inl below ↦ relieved_gone p q kernel s h below
@@ -132,7 +132,7 @@ unfolding given_back_to
 still_given None p holder q kernel apart = refl
 still_given (Some other) p holder q kernel apart = held_elsewhere p other holder q kernel (apart other refl)
 
-still_given_back : (p holder q : ℕ) (kernel : Kernel) → IsSound kernel → Lives kernel.dispatcher.procs p → holds kernel.queues holder q ≡ true
+still_given_back : (p holder q : ℕ) (kernel : Kernel) → IsSoundKernel kernel → Lives kernel.dispatcher.procs p → holds kernel.queues holder q ≡ true
     → holds (given_back p kernel).queues holder q ≡ true
 unfolding given_back
 still_given_back p holder q kernel s h held =
@@ -157,7 +157,7 @@ all_still_returned [] p holder q kernel apart held = held
 all_still_returned (other ∷ qs) p holder q kernel apart held =
     all_still_returned qs p holder q (returned p other kernel) apart (still_returned p other holder q kernel apart held)
 
-still_relieved : (p holder q : ℕ) (kernel : Kernel) → IsSound kernel → Lives kernel.dispatcher.procs p → holder ≢ p → holds kernel.queues holder q ≡ true
+still_relieved : (p holder q : ℕ) (kernel : Kernel) → IsSoundKernel kernel → Lives kernel.dispatcher.procs p → holder ≢ p → holds kernel.queues holder q ≡ true
     → holds (relieved p kernel).queues holder q ≡ true
 unfolding relieved
 still_relieved p holder q kernel s h apart held =
@@ -166,7 +166,7 @@ still_relieved p holder q kernel s h apart held =
     ∙ all_still_returned (range_with_len 0 32) p holder q (given_back p gone) apart
     (still_given_back p holder q gone (sound_dropped p kernel s h) (lives_dropped p p kernel h) (holds_dropped p holder q kernel ∙ held))
 
-pub still_held : (kernel : Kernel) (p holder q : ℕ) → IsSound kernel → Lives kernel.dispatcher.procs p → holder ≢ p → holds kernel.queues holder q ≡ true
+pub still_held : (kernel : Kernel) (p holder q : ℕ) → IsSoundKernel kernel → Lives kernel.dispatcher.procs p → holder ≢ p → holds kernel.queues holder q ≡ true
     → holds (discharged kernel p).queues holder q ≡ true
 unfolding discharged
 still_held kernel p holder q s h apart held = still_relieved p holder q kernel s h apart held

@@ -12,7 +12,7 @@ use Rattle.mpm_procs.specs.Table.{HasSlots, lives, Lives, process_in, call_of, w
 use Rattle.mpm_procs.specs.declared.process.Process.{Process}
 use Rattle.mpm_procs.proofs.MapLaws.{lives_changed, call_after}
 use Rattle.mpm_dispatcher.specs.Dispatch.{ready, IsReady, with_completed, first_completed}
-use Rattle.mpm_kernel.specs.Kernel.{Kernel, IsSound, CompletedLive, is_aborted, with_changed, call_begun, afresh, dispatched}
+use Rattle.mpm_kernel.specs.Kernel.{Kernel, IsSoundKernel, CompletedLive, is_aborted, with_changed, call_begun, afresh, dispatched}
 use Rattle.mpm_kernel.specs.Called.{Called, low_parameter}
 use Rattle.mpm_kernel.specs.Calls.{call_done, called, does_echo}
 use Rattle.mpm_kernel.specs.Waiting.{is_flag}
@@ -46,7 +46,7 @@ only one f is = eqb-true f one (or_off (f == one) is) where
   or_off true e = refl
   or_off false e = e
 
-kept_call_done : (call : Taken) (p : ℕ) (kernel : Kernel) → IsSound kernel → Lives kernel.dispatcher.procs p → call ≡ call_of kernel.dispatcher.procs p
+kept_call_done : (call : Taken) (p : ℕ) (kernel : Kernel) → IsSoundKernel kernel → Lives kernel.dispatcher.procs p → call ≡ call_of kernel.dispatcher.procs p
     → KeepsHome kernel (call_done call p (process_in kernel.dispatcher.procs p) kernel)
 kept_call_done call p kernel s h own =
     let same : (called : Called) → called.kernel.dispatcher.procs ≡ kernel.dispatcher.procs
@@ -142,26 +142,26 @@ homes_through echoes old new homes = homes_both old (call_begun echoes old) new 
 abbrev begun : ℕ → Kernel → Kernel
 begun p kernel = call_begun (does_echo (call_of kernel.dispatcher.procs p).function) kernel
 
-pub homes_called : (p : ℕ) (kernel : Kernel) → IsSound kernel → Lives kernel.dispatcher.procs p → SameHomes kernel (called p kernel).kernel
+pub homes_called : (p : ℕ) (kernel : Kernel) → IsSoundKernel kernel → Lives kernel.dispatcher.procs p → SameHomes kernel (called p kernel).kernel
 homes_called p kernel s h =
     homes_through _ kernel _ (kept_call_done (call_of kernel.dispatcher.procs p) p (begun p kernel) (sound_begun _ kernel s) h refl).homes
 
 -- a call changes its own call as little as another that is kept, but that of a reader to whom it hands a message
-pub calls_called : (p : ℕ) (kernel : Kernel) → IsSound kernel → Lives kernel.dispatcher.procs p
+pub calls_called : (p : ℕ) (kernel : Kernel) → IsSoundKernel kernel → Lives kernel.dispatcher.procs p
     → (q : ℕ) → waits kernel.queues q ≡ 0 → call_of (called p kernel).kernel.dispatcher.procs q ≡ call_of kernel.dispatcher.procs q
 calls_called p kernel s h q none =
     (kept_call_done (call_of kernel.dispatcher.procs p) p (begun p kernel) (sound_begun _ kernel s) h refl).call q none
 
 -- what it leaves of each process
-pub beside_called : (p q : ℕ) (kernel : Kernel) → IsSound kernel → Lives kernel.dispatcher.procs p → StaysBeside q kernel.dispatcher.procs (called p kernel).kernel.dispatcher.procs
+pub beside_called : (p q : ℕ) (kernel : Kernel) → IsSoundKernel kernel → Lives kernel.dispatcher.procs p → StaysBeside q kernel.dispatcher.procs (called p kernel).kernel.dispatcher.procs
 beside_called p q kernel s h =
     (kept_call_done (call_of kernel.dispatcher.procs p) p (begun p kernel) (sound_begun _ kernel s) h refl).beside q
 
-pub consoles_called : (p : ℕ) (kernel : Kernel) → IsSound kernel → Lives kernel.dispatcher.procs p → length (called p kernel).kernel.units.consoles ≡ length kernel.units.consoles
+pub consoles_called : (p : ℕ) (kernel : Kernel) → IsSoundKernel kernel → Lives kernel.dispatcher.procs p → length (called p kernel).kernel.units.consoles ≡ length kernel.units.consoles
 consoles_called p kernel s h =
     (kept_call_done (call_of kernel.dispatcher.procs p) p (begun p kernel) (sound_begun _ kernel s) h refl).consoles
 
-pub call_called : (p : ℕ) (kernel : Kernel) → IsSound kernel → Lives kernel.dispatcher.procs p → IsReady kernel.dispatcher p
+pub call_called : (p : ℕ) (kernel : Kernel) → IsSoundKernel kernel → Lives kernel.dispatcher.procs p → IsReady kernel.dispatcher p
     → call_of (called p kernel).kernel.dispatcher.procs p ≡ call_of kernel.dispatcher.procs p
 call_called p kernel s h is_ready = calls_called p kernel s h p (omega (arith, listed_once kernel p ready s is_ready))
 
@@ -296,7 +296,7 @@ homes_first (Some p) kernel slots living =
     either (SameHomes kernel) (call.function == CALL_RESIDENT_SYSTEM_PROCEDURE) _ _
     (λ _. homes_inside (procedure_queue kernel.queues call) p (word_at call block_size) kernel slots (living p refl)) (λ _. homes_stay kernel kernel refl)
 
-pub homes_handed_out : (kernel : Kernel) → IsSound kernel → CompletedLive kernel → SameHomes kernel (handed_out kernel)
+pub homes_handed_out : (kernel : Kernel) → IsSoundKernel kernel → CompletedLive kernel → SameHomes kernel (handed_out kernel)
 unfolding handed_out
 homes_handed_out kernel s live =
     let left = dispatched (with_completed (drop 1 kernel.dispatcher.completed)) kernel in

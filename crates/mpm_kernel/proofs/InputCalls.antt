@@ -16,7 +16,7 @@ use Rattle.mpm_consoles.proofs.SoundLaws.{sound_raw, sound_take, sound_wait}
 use Rattle.mpm_line_input.specs.Echoes.{key_echo}
 use Rattle.mpm_line_input.specs.Lines.{is_full, ends, line_end}
 use Rattle.mpm_dispatcher.specs.Dispatch.{ready}
-use Rattle.mpm_kernel.specs.Kernel.{Kernel, IsSound, CompletedLive, HasConsole, with_changed}
+use Rattle.mpm_kernel.specs.Kernel.{Kernel, IsSoundKernel, CompletedLive, IsConsole, with_changed}
 use Rattle.mpm_kernel.specs.Columns.{column_of, spoke}
 use Rattle.mpm_kernel.specs.Called.{Called, low_parameter}
 use Rattle.mpm_kernel.specs.Consoling.{attaching, awaited, echoed}
@@ -32,7 +32,7 @@ use Rattle.mpm_kernel.proofs.Staying.{StaysSound, Calls, nobody, called_if, same
 -- a process that calls, and owns its console
 record Serves (p console : ℕ) (kernel : Kernel) : Type 0 where
   pub calls : Calls p kernel
-  pub has : HasConsole kernel console
+  pub has : IsConsole kernel console
   pub owner : owns kernel.units p (ConsoleUnit console) ≡ true
 
 -- the owner waits at its gate
@@ -55,7 +55,7 @@ unfolding awaited
 stays_awaited p console key kernel v = stays_retried p _ kernel v.calls (waits_at_gate p console key kernel v)
 
 -- the console changes, but neither its owner nor who waits
-serves_console : (p console : ℕ) (now : Consoles) (kernel : Kernel) → Serves p console kernel → IsSound (record kernel { units = now })
+serves_console : (p console : ℕ) (now : Consoles) (kernel : Kernel) → Serves p console kernel → IsSoundKernel (record kernel { units = now })
     → console < length now.consoles → owns now p (ConsoleUnit console) ≡ true → Serves p console (record kernel { units = now })
 serves_console p console now kernel v sound has owner = record {
   calls = record { sound = sound; lives = v.calls.lives; ready = v.calls.ready; none = v.calls.none };
@@ -63,7 +63,7 @@ serves_console p console now kernel v sound has owner = record {
   owner = owner;
 }
 
-sound_raw_if : (b raw : Bool) (console : ℕ) (kernel : Kernel) → IsSound kernel → HasConsole kernel console → IsSound (raw_if b console raw kernel)
+sound_raw_if : (b raw : Bool) (console : ℕ) (kernel : Kernel) → IsSoundKernel kernel → IsConsole kernel console → IsSoundKernel (raw_if b console raw kernel)
 unfolding raw_set with_raw
 sound_raw_if true raw console kernel s has =
     sound_console kernel console (with_raw raw (console_at kernel.units console)) s has refl refl (sound_raw kernel.units console raw s.units has)
@@ -74,19 +74,19 @@ serves_raw b raw p console kernel v =
     serves_console p console _ kernel v (sound_raw_if b raw console kernel v.calls.sound v.has) (has_raw kernel b raw console console v.has)
     (owns_raw kernel b raw p console (ConsoleUnit console) v.has v.owner)
 
-sound_taken : (console : ℕ) (kernel : Kernel) → IsSound kernel → HasConsole kernel console → IsSound (key_taken console kernel)
+sound_taken : (console : ℕ) (kernel : Kernel) → IsSoundKernel kernel → IsConsole kernel console → IsSoundKernel (key_taken console kernel)
 unfolding first_taken without_first
 sound_taken console kernel s has = sound_console kernel console (without_first (console_at kernel.units console)) s has refl refl (sound_take kernel.units console s.units has)
 
 -- what is so of a kernel after a part of a call
 record Stays (p : ℕ) (kernel : Kernel) : Type 0 where
-  pub sound : IsSound kernel
+  pub sound : IsSoundKernel kernel
   pub lives : Lives kernel.dispatcher.procs p
   pub none : kernel.dispatcher.completed ≡ []
 
 stays_of : (p : ℕ) (kernel : Kernel) → Stays p kernel → (called : Called) → called.kernel ≡ kernel → StaysSound p called
 stays_of p kernel t called is =
-    let P : Kernel → Type 0 = λ k. IsSound k × (Lives k.dispatcher.procs p × CompletedLive k) in
+    let P : Kernel → Type 0 = λ k. IsSoundKernel k × (Lives k.dispatcher.procs p × CompletedLive k) in
     let all : P called.kernel = subst P (sym is) (t.sound, (t.lives, nobody kernel t.none)) in
     record { sound = all.0; lives = all.1.0; completed = all.1.1 }
 
@@ -128,7 +128,7 @@ stays_direct call p console kernel v =
     (λ _. same p 0 kernel v.calls)))
 
 -- a line is read
-changed : (p : ℕ) (kernel : Kernel) (process : Process) → Stays p kernel → IsSound (with_changed kernel p process) → Stays p (with_changed kernel p process)
+changed : (p : ℕ) (kernel : Kernel) (process : Process) → Stays p kernel → IsSoundKernel (with_changed kernel p process) → Stays p (with_changed kernel p process)
 changed p kernel process t sound = record {
   sound = sound;
   lives = lives_changed kernel.dispatcher.procs p p process ∙ t.lives;

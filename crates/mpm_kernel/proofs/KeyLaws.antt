@@ -14,14 +14,14 @@ use Rattle.mpm_consoles.specs.declared.keys.KeyDone.TheVariants.{Stored, Dropped
 use Rattle.mpm_consoles.proofs.ConsoleLaws.{owner_key, woken_key}
 use Rattle.mpm_consoles.proofs.FateLaws.{cooked}
 use Rattle.mpm_consoles.proofs.SoundLaws.{sound_typed, sound_resumed, sound_stop}
-use Rattle.mpm_consoles.specs.Consoles.{Consoles, console_at, HasConsole, with_console, first_waiter, waits, gate_waits, IsSound as AreUnitsSound}
+use Rattle.mpm_consoles.specs.Consoles.{Consoles, console_at, HasConsole, with_console, first_waiter, waits, gate_waits, AreSoundConsoles as AreUnitsSound}
 use Rattle.mpm_consoles.specs.Handling.{given, unlisted, pass_to, passed, passed_by_key, subject, abort_answer, pass_answer, wake_answer, typed_answer, key_by, answer_by, keyed, key_answer}
 use Rattle.mpm_consoles.specs.Keys.{control_of}
 use Rattle.mpm_consoles.specs.declared.keys.Control.{Control}
 use Rattle.mpm_consoles.specs.declared.keys.Control.TheVariants.{Stop, Resume, Abort, Detach}
 use Rattle.mpm_consoles.specs.declared.unit.Unit.TheVariants.{Console as ConsoleUnit}
 use Rattle.mpm_procs.specs.Table.{Lives}
-use Rattle.mpm_kernel.specs.Kernel.{Kernel, waits_of, HasConsole as HasConsoleIn, IsSound, dispatched}
+use Rattle.mpm_kernel.specs.Kernel.{Kernel, waits_of, IsConsole as HasConsoleIn, IsSoundKernel, dispatched}
 use Rattle.mpm_kernel.specs.Columns.{spoke}
 use Rattle.mpm_dispatcher.specs.Dispatch.{lists_ready, made_ready}
 use Rattle.mpm_kernel.specs.Consoling.{if_it, abort_text, echoed, key_done, is_of_resident, key_came}
@@ -126,10 +126,10 @@ resumed_as t n sound has =
 
 -- who is woken, by the answer
 sound_wakes : (other : KeyDone) (heir : Option ℕ) (n : ℕ) (waited : Bool) (kernel : Kernel) (units : Consoles) → ((k : Kernel) → key_done other n waited k ≡ k)
-    → IsSound kernel → HavePassed kernel.units units heir → IsSound (key_done (wake_answer other heir) n waited (record kernel { units = units }))
+    → IsSoundKernel kernel → HavePassed kernel.units units heir → IsSoundKernel (key_done (wake_answer other heir) n waited (record kernel { units = units }))
 unfolding key_done lists_ready
 sound_wakes other None n waited kernel units nothing s are =
-    subst IsSound (sym (nothing (record kernel { units = units }))) (sound_made None kernel units (sound_passed kernel units None s are))
+    subst IsSoundKernel (sym (nothing (record kernel { units = units }))) (sound_made None kernel units (sound_passed kernel units None s are))
 sound_wakes other (Some h) n waited kernel units nothing s are = sound_made (Some h) kernel units (sound_passed kernel units (Some h) s are)
 
 not_passing : (b : Bool) (n : ℕ) (waited : Bool) (k : Kernel) → key_done (if b then Stored else Dropped) n waited k ≡ k
@@ -142,7 +142,7 @@ unfolding key_done
 nothing_passing n waited k = refl
 
 -- ^C
-sound_abort : (o : Option ℕ) (n : ℕ) (waited : Bool) (kernel : Kernel) → IsSound kernel → IsSound (key_done (abort_answer o) n waited kernel)
+sound_abort : (o : Option ℕ) (n : ℕ) (waited : Bool) (kernel : Kernel) → IsSoundKernel kernel → IsSoundKernel (key_done (abort_answer o) n waited kernel)
 unfolding key_done echoed spoke
 sound_abort None n waited kernel s = s
 sound_abort (Some p) n waited kernel s = sound_noted (spoke kernel n abort_text) abort_text (Some p) (sound_spoke kernel n abort_text s)
@@ -163,15 +163,15 @@ unfolding passed
 gates_passed t n q has = gates_passed_to (first_waiter t (ConsoleUnit n)) t n q has
 
 -- a process is ready, if it is at all
-owner_if : (b : Bool) (kernel : Kernel) (p : ℕ) → IsSound kernel → Lives kernel.dispatcher.procs p → (b ≡ true → waits_of kernel p ≡ 0) → IsSound (dispatched (made_ready (if_it b p)) kernel)
+owner_if : (b : Bool) (kernel : Kernel) (p : ℕ) → IsSoundKernel kernel → Lives kernel.dispatcher.procs p → (b ≡ true → waits_of kernel p ≡ 0) → IsSoundKernel (dispatched (made_ready (if_it b p)) kernel)
 unfolding lists_ready
 owner_if true kernel p s h none = sound_ready kernel p s h (none refl)
 owner_if false kernel p s h none = s
 
 -- the old owner is ready again, if it waited at its gate
-sound_old_owner : (waited : Bool) (n p : ℕ) (kernel : Kernel) → IsSound kernel → HasConsoleIn kernel n → (console_at kernel.units n).owner ≡ Some p
+sound_old_owner : (waited : Bool) (n p : ℕ) (kernel : Kernel) → IsSoundKernel kernel → HasConsoleIn kernel n → (console_at kernel.units n).owner ≡ Some p
     → is_some (console_at kernel.units n).awaits ≡ waited
-    → IsSound (dispatched (made_ready (if_it waited p)) (dispatched (made_ready (first_waiter kernel.units (ConsoleUnit n))) (record kernel { units = passed kernel.units (ConsoleUnit n) })))
+    → IsSoundKernel (dispatched (made_ready (if_it waited p)) (dispatched (made_ready (first_waiter kernel.units (ConsoleUnit n))) (record kernel { units = passed kernel.units (ConsoleUnit n) })))
 unfolding lists_ready
 sound_old_owner waited n p kernel s has owner is =
     let t = kernel.units in
@@ -184,8 +184,8 @@ sound_old_owner waited n p kernel s has owner is =
     (λ waits.
     omega (arith, s.once p, are.waiters p, gates_passed t n p has, one_if_true (is_at_gate p (console_at t n)) (owner_at_gate t n p owner (is ∙ waits))))
 
-sound_pass : (o : Option ℕ) (n : ℕ) (kernel : Kernel) → IsSound kernel → HasConsoleIn kernel n → ((p : ℕ) → o ≡ Some p → (console_at kernel.units n).owner ≡ Some p)
-    → IsSound (key_done (pass_answer o kernel.units n) n (is_some (console_at kernel.units n).awaits) (record kernel { units = passed_by_key o kernel.units n }))
+sound_pass : (o : Option ℕ) (n : ℕ) (kernel : Kernel) → IsSoundKernel kernel → HasConsoleIn kernel n → ((p : ℕ) → o ≡ Some p → (console_at kernel.units n).owner ≡ Some p)
+    → IsSoundKernel (key_done (pass_answer o kernel.units n) n (is_some (console_at kernel.units n).awaits) (record kernel { units = passed_by_key o kernel.units n }))
 unfolding key_done
 sound_pass None n kernel s has owner = s
 sound_pass (Some p) n kernel s has owner = sound_old_owner (is_some (console_at kernel.units n).awaits) n p kernel s has (owner p refl) refl
@@ -194,23 +194,23 @@ subject_owner : (resident : Bool) (owner : Option ℕ) (p : ℕ) → subject res
 subject_owner true owner p is = absurd (cc)
 subject_owner false owner p is = is
 
-sound_stopped : (n : ℕ) (kernel : Kernel) → IsSound kernel → HasConsoleIn kernel n → (console_at kernel.units n).raw ≡ false
-    → IsSound (record kernel { units = with_console kernel.units n (with_output_stopped (console_at kernel.units n)) })
+sound_stopped : (n : ℕ) (kernel : Kernel) → IsSoundKernel kernel → HasConsoleIn kernel n → (console_at kernel.units n).raw ≡ false
+    → IsSoundKernel (record kernel { units = with_console kernel.units n (with_output_stopped (console_at kernel.units n)) })
 unfolding with_output_stopped
 sound_stopped n kernel s has cooked = sound_console kernel n _ s has refl refl (sound_stop kernel.units n s.units has cooked)
 
-sound_by : (control : Option Control) (n byte : ℕ) (resident : Bool) (kernel : Kernel) → IsSound kernel → HasConsoleIn kernel n
+sound_by : (control : Option Control) (n byte : ℕ) (resident : Bool) (kernel : Kernel) → IsSoundKernel kernel → HasConsoleIn kernel n
     → control_of (console_at kernel.units n).raw byte ≡ control
-    → IsSound (key_done (answer_by control kernel.units n resident) n (is_some (console_at kernel.units n).awaits) (record kernel { units = key_by control kernel.units n byte resident }))
+    → IsSoundKernel (key_done (answer_by control kernel.units n resident) n (is_some (console_at kernel.units n).awaits) (record kernel { units = key_by control kernel.units n byte resident }))
 unfolding typed_answer
 sound_by None n byte resident kernel s has is =
     let console = console_at kernel.units n in
     let waited = is_some console.awaits in
-    let P : Option ℕ → Type 0 = λ o. IsSound (key_done (wake_answer (if has_room console then Stored else Dropped) o) n waited (record kernel { units = with_console kernel.units n (typed byte console) })) in
+    let P : Option ℕ → Type 0 = λ o. IsSoundKernel (key_done (wake_answer (if has_room console then Stored else Dropped) o) n waited (record kernel { units = with_console kernel.units n (typed byte console) })) in
     subst P (woken_key Key byte console)
     (sound_wakes (if has_room console then Stored else Dropped) (woken Key (with_key byte console)) n waited kernel _ (λ k. not_passing (has_room console) n waited k) s (typed_passed kernel.units n byte s.units has))
 sound_by (Some Stop) n byte resident kernel s has is =
-    subst IsSound (sym (nothing_passing n (is_some (console_at kernel.units n).awaits) (record kernel { units = with_console kernel.units n (with_output_stopped (console_at kernel.units n)) })))
+    subst IsSoundKernel (sym (nothing_passing n (is_some (console_at kernel.units n).awaits) (record kernel { units = with_console kernel.units n (with_output_stopped (console_at kernel.units n)) })))
     (sound_stopped n kernel s has (cooked (console_at kernel.units n).raw byte Stop is))
 sound_by (Some Resume) n byte resident kernel s has is =
     sound_wakes Nothing (woken Output (console_at kernel.units n)) n _ kernel _ (λ k. nothing_passing n _ k) s (resumed_as kernel.units n s.units has)
@@ -218,10 +218,10 @@ sound_by (Some Abort) n byte resident kernel s has is = sound_abort (subject res
 sound_by (Some Detach) n byte resident kernel s has is =
     sound_pass (subject resident (console_at kernel.units n).owner) n kernel s has (λ p e. subject_owner resident (console_at kernel.units n).owner p e)
 
-pub sound_key_came : (console byte : ℕ) (kernel : Kernel) → IsSound kernel → IsSound (key_came console byte kernel)
+pub sound_key_came : (console byte : ℕ) (kernel : Kernel) → IsSoundKernel kernel → IsSoundKernel (key_came console byte kernel)
 unfolding key_came keyed key_answer
 sound_key_came console byte kernel s =
-    either IsSound (nat_lt console (length kernel.units.consoles)) _ _
+    either IsSoundKernel (nat_lt console (length kernel.units.consoles)) _ _
     (λ fits. sound_by (control_of (console_at kernel.units console).raw byte) console byte (is_of_resident kernel.dispatcher.procs (console_at kernel.units console).owner) kernel s
     (grind (arith, nat_tests, fits)) refl)
     (λ _. s)

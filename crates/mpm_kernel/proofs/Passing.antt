@@ -6,14 +6,14 @@ use Rattle.mpm_ready.proofs.OrderLaws.{first_is_in}
 use Rattle.mpm_procs.specs.Table.{Lives, process_in}
 use Rattle.mpm_procs.proofs.MapLaws.{lives_below}
 use Rattle.mpm_consoles.specs.Console.{is_owner}
-use Rattle.mpm_consoles.specs.Consoles.{Consoles, HasUnit, owner_of, owns, waiters_of, first_waiter, waits_for, waits, gate_waits, IsSound as AreUnitsSound}
+use Rattle.mpm_consoles.specs.Consoles.{Consoles, HasUnit, owner_of, owns, waiters_of, first_waiter, waits_for, waits, gate_waits, AreSoundConsoles as AreUnitsSound}
 use Rattle.mpm_consoles.specs.Handling.{given, unlisted, pass_to, passed, unit_detached, heir_of}
 use Rattle.mpm_consoles.specs.declared.unit.Unit.{Unit}
 use Rattle.mpm_consoles.specs.declared.unit.Unit.TheVariants.{Console as ConsoleUnit, Printer as PrinterUnit}
 use Rattle.mpm_consoles.proofs.SoundLaws.{sound_given, sound_unlisted, for_unlisted, nobody_first}
 use Rattle.mpm_consoles.proofs.WaitLaws.{has_unlisted}
 use Rattle.mpm_dispatcher.specs.Dispatch.{ready, IsReady, moved, lists_ready, made_ready}
-use Rattle.mpm_kernel.specs.Kernel.{Kernel, in_lists, waits_at_units, places, IsSound, dispatched}
+use Rattle.mpm_kernel.specs.Kernel.{Kernel, in_lists, waits_at_units, places, IsSoundKernel, dispatched}
 use Rattle.mpm_kernel.specs.Consoling.{unit_left}
 use Rattle.mpm_kernel.proofs.PlaceLaws.{list_moved, list_moved_other}
 use Rattle.mpm_consoles.proofs.PlaceLaws.{owner_is, gate_waits_unlisted}
@@ -106,10 +106,10 @@ has_then : (t new : Consoles) (heir : Option ℕ) (unit : Unit) → HavePassed t
 has_then t new heir (ConsoleUnit n) are has = omega (arith, are.consoles, has)
 has_then t new heir (PrinterUnit n) are has = omega (arith, are.printers, has)
 
-pub heir_lives : (kernel : Kernel) (units : Consoles) (heir : Option ℕ) (h : ℕ) → IsSound kernel → HavePassed kernel.units units heir → heir ≡ Some h → Lives kernel.dispatcher.procs h
+pub heir_lives : (kernel : Kernel) (units : Consoles) (heir : Option ℕ) (h : ℕ) → IsSoundKernel kernel → HavePassed kernel.units units heir → heir ≡ Some h → Lives kernel.dispatcher.procs h
 heir_lives kernel units heir h s are is = s.live h (omega (arith, are.first h is))
 
-pub units_passed : (kernel : Kernel) (units : Consoles) (heir : Option ℕ) → IsSound kernel → HavePassed kernel.units units heir
+pub units_passed : (kernel : Kernel) (units : Consoles) (heir : Option ℕ) → IsSoundKernel kernel → HavePassed kernel.units units heir
     → AreUnits kernel.units kernel.dispatcher.procs units
 units_passed kernel units heir s are = record {
   sound = are.sound;
@@ -121,19 +121,19 @@ units_passed kernel units heir s are = record {
   ];
 }
 
-pub sound_passed : (kernel : Kernel) (units : Consoles) (heir : Option ℕ) → IsSound kernel → HavePassed kernel.units units heir
-    → IsSound (record kernel { dispatcher = made_ready heir kernel.dispatcher; units = units })
+pub sound_passed : (kernel : Kernel) (units : Consoles) (heir : Option ℕ) → IsSoundKernel kernel → HavePassed kernel.units units heir
+    → IsSoundKernel (record kernel { dispatcher = made_ready heir kernel.dispatcher; units = units })
 unfolding lists_ready
 sound_passed kernel units None s are =
     sound_units kernel units s (units_passed kernel units None s are) (λ q. omega (arith, are.waiters q, are.at_gates q))
 sound_passed kernel units (Some h) s are =
     let afterwards = record kernel { units = units } in
-    let sound : IsSound afterwards = sound_units kernel units s (units_passed kernel units (Some h) s are) (λ q. omega (arith, are.waiters q, are.at_gates q)) in
+    let sound : IsSoundKernel afterwards = sound_units kernel units s (units_passed kernel units (Some h) s are) (λ q. omega (arith, are.waiters q, are.at_gates q)) in
     let was = are.first h refl in
     sound_ready afterwards h sound (heir_lives kernel units (Some h) h s are refl) (omega (arith, s.once h, was))
 
 -- who is ready stays so
-pub ready_passed : (kernel : Kernel) (heir : Option ℕ) (p : ℕ) → IsSound kernel → ((h : ℕ) → heir ≡ Some h → Lives kernel.dispatcher.procs h) → IsReady kernel.dispatcher p
+pub ready_passed : (kernel : Kernel) (heir : Option ℕ) (p : ℕ) → IsSoundKernel kernel → ((h : ℕ) → heir ≡ Some h → Lives kernel.dispatcher.procs h) → IsReady kernel.dispatcher p
     → list_of (lists_ready heir kernel.dispatcher.procs kernel.dispatcher.lists) p ≡ Some ready
 unfolding lists_ready
 ready_passed kernel None p s live is_ready = is_ready
@@ -146,7 +146,7 @@ ready_passed kernel (Some h) p s live is_ready =
     ]
 
 -- who stands nowhere and isn't the heir stands nowhere still
-nowhere_passed : (kernel : Kernel) (units : Consoles) (heir : Option ℕ) (p : ℕ) → IsSound kernel → HavePassed kernel.units units heir
+nowhere_passed : (kernel : Kernel) (units : Consoles) (heir : Option ℕ) (p : ℕ) → IsSoundKernel kernel → HavePassed kernel.units units heir
     → (heir ≡ Some p → ⊥) → places kernel p ≡ 0 → places (record kernel { dispatcher = made_ready heir kernel.dispatcher; units = units }) p ≡ 0
 unfolding lists_ready
 nowhere_passed kernel units None p s are other none = omega (arith, none, are.waiters p, are.at_gates p)
@@ -157,11 +157,11 @@ nowhere_passed kernel units (Some h) p s are other none =
     omega (arith, ap in_lists there, none, are.waiters p, are.at_gates p)
 
 -- a process leaves a unit
-pub sound_unit_left : (kernel : Kernel) (p : ℕ) (unit : Unit) → IsSound kernel → HasUnit kernel.units unit → IsSound (unit_left p unit kernel)
+pub sound_unit_left : (kernel : Kernel) (p : ℕ) (unit : Unit) → IsSoundKernel kernel → HasUnit kernel.units unit → IsSoundKernel (unit_left p unit kernel)
 unfolding unit_left
 sound_unit_left kernel p unit s has = sound_passed kernel _ _ s (passed_detach kernel.units p unit s.units has)
 
-pub ready_unit_left : (kernel : Kernel) (p q : ℕ) (unit : Unit) → IsSound kernel → HasUnit kernel.units unit → IsReady kernel.dispatcher q → IsReady (unit_left p unit kernel).dispatcher q
+pub ready_unit_left : (kernel : Kernel) (p q : ℕ) (unit : Unit) → IsSoundKernel kernel → HasUnit kernel.units unit → IsReady kernel.dispatcher q → IsReady (unit_left p unit kernel).dispatcher q
 unfolding unit_left
 ready_unit_left kernel p q unit s has is_ready =
     ready_passed kernel _ q s (λ h is. heir_lives kernel _ _ h s (passed_detach kernel.units p unit s.units has) is) is_ready
@@ -207,7 +207,7 @@ now_false t p unit sound has = elim (cases_Bool (owns (unit_detached t p unit) p
 ]
 
 -- who stands nowhere leaves a unit
-pub nowhere_unit_left : (kernel : Kernel) (p : ℕ) (unit : Unit) → IsSound kernel → HasUnit kernel.units unit → places kernel p ≡ 0
+pub nowhere_unit_left : (kernel : Kernel) (p : ℕ) (unit : Unit) → IsSoundKernel kernel → HasUnit kernel.units unit → places kernel p ≡ 0
     → places (unit_left p unit kernel) p ≡ 0
 unfolding unit_left
 nowhere_unit_left kernel p unit s has none =

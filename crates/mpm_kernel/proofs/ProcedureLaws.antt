@@ -9,7 +9,7 @@ use Rattle.mpm_procs.proofs.MapLaws.{lives_changed, lives_after}
 use Rattle.mpm_queues.specs.Queue.{is_full, with_given}
 use Rattle.mpm_queues.specs.Queues.{is_made, queue_in}
 use Rattle.mpm_queues.specs.Handling.{first_reader, written_by, delivered_to, procs_after_write, write_outcome, woken_by}
-use Rattle.mpm_kernel.specs.Kernel.{Kernel, IsSound, CompletedLive, with_changed, dispatched}
+use Rattle.mpm_kernel.specs.Kernel.{Kernel, IsSoundKernel, CompletedLive, with_changed, dispatched}
 use Rattle.mpm_kernel.specs.Called.{valued}
 use Rattle.mpm_dispatcher.specs.Dispatch.{first_completed, with_other}
 use Rattle.mpm_kernel.specs.Queueing.{given_to}
@@ -23,7 +23,7 @@ pub use Rattle.mpm_kernel.proofs.QueueCalls.{procedure_made}
 
 -- the process is in no procedure any more
 
-pub sound_outside : (p : ℕ) (kernel : Kernel) → IsSound kernel → Lives kernel.dispatcher.procs p → IsSound (outside p kernel)
+pub sound_outside : (p : ℕ) (kernel : Kernel) → IsSoundKernel kernel → Lives kernel.dispatcher.procs p → IsSoundKernel (outside p kernel)
 unfolding outside
 sound_outside p kernel s h =
     let fit = s.fit p h in
@@ -70,7 +70,7 @@ live_outside p kernel =
     all_still (λ q. Lives (outside p kernel).dispatcher.procs q) (first_completed kernel.dispatcher.completed) p kernel.dispatcher.procs
     (λ q living _. lives_outside p q kernel living)
 
-homes_outside : (p : ℕ) (kernel : Kernel) → IsSound kernel → Lives kernel.dispatcher.procs p → SameHomes kernel (outside p kernel)
+homes_outside : (p : ℕ) (kernel : Kernel) → IsSoundKernel kernel → Lives kernel.dispatcher.procs p → SameHomes kernel (outside p kernel)
 unfolding outside
 homes_outside p kernel s h =
     let process = record (process_in kernel.dispatcher.procs p) { procedure = None } in
@@ -81,7 +81,7 @@ homes_outside p kernel s h =
 
 -- and its message is written
 
-stays_given : (queue : Option ℕ) (p : ℕ) (kernel : Kernel) → IsSound kernel → Lives kernel.dispatcher.procs p → CompletedLive kernel
+stays_given : (queue : Option ℕ) (p : ℕ) (kernel : Kernel) → IsSoundKernel kernel → Lives kernel.dispatcher.procs p → CompletedLive kernel
     → StaysSound p (valued 0 (given_back_to queue p kernel))
 unfolding given_back_to
 stays_given None p kernel s h live = record { sound = s; lives = h; completed = live }
@@ -93,12 +93,12 @@ stays_given (Some q) p kernel s h live =
     (λ _. record { sound = s; lives = h; completed = live })
 
 -- of the queue whose procedure it left
-pub stays_written_back : (queue : Option ℕ) (p : ℕ) (kernel : Kernel) → IsSound kernel → Lives kernel.dispatcher.procs p
+pub stays_written_back : (queue : Option ℕ) (p : ℕ) (kernel : Kernel) → IsSoundKernel kernel → Lives kernel.dispatcher.procs p
     → StaysSound p (valued 0 (given_back_to queue p (outside p kernel)))
 stays_written_back queue p kernel s h =
     stays_given queue p (outside p kernel) (sound_outside p kernel s h) (lives_outside p p kernel h) (live_outside p kernel)
 
-pub stays_given_back : (p : ℕ) (kernel : Kernel) → IsSound kernel → Lives kernel.dispatcher.procs p → StaysSound p (valued 0 (given_back p kernel))
+pub stays_given_back : (p : ℕ) (kernel : Kernel) → IsSoundKernel kernel → Lives kernel.dispatcher.procs p → StaysSound p (valued 0 (given_back p kernel))
 unfolding given_back
 stays_given_back p kernel s h = stays_written_back (process_in kernel.dispatcher.procs p).procedure p kernel s h
 
@@ -118,12 +118,12 @@ homes_given (Some q) p kernel =
     (λ _. homes_delivered (first_reader t q) (is_full (queue_in t q)) kernel _ (written_by t q kernel.dispatcher.procs p) (procs_with_other (woken_by (write_outcome t q)) (given_to kernel p q)))
     (λ _. homes_stay kernel kernel refl)
 
-pub homes_given_back : (p : ℕ) (kernel : Kernel) → IsSound kernel → Lives kernel.dispatcher.procs p → SameHomes kernel (given_back p kernel)
+pub homes_given_back : (p : ℕ) (kernel : Kernel) → IsSoundKernel kernel → Lives kernel.dispatcher.procs p → SameHomes kernel (given_back p kernel)
 unfolding given_back
 homes_given_back p kernel s h =
     homes_both kernel (outside p kernel) _ (homes_outside p kernel s h) (homes_given (process_in kernel.dispatcher.procs p).procedure p (outside p kernel))
 
-pub lives_given_back : (p : ℕ) (old new : Kernel) → IsSound old → Lives old.dispatcher.procs p → new ≡ given_back p old → Lives new.dispatcher.procs p
+pub lives_given_back : (p : ℕ) (old new : Kernel) → IsSoundKernel old → Lives old.dispatcher.procs p → new ≡ given_back p old → Lives new.dispatcher.procs p
 lives_given_back p old new s h is = ap (λ (kernel : Kernel). lives kernel.dispatcher.procs p) is ∙ (stays_given_back p old s h).lives
 
 -- the held call of another process is completed

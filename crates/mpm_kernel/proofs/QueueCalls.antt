@@ -13,7 +13,7 @@ use Rattle.mpm_queues.specs.declared.queues.QueueOutcome.TheVariants.{Done as Pa
 use Rattle.mpm_queues.specs.Handling.{read_outcome, write_outcome, enlisted, may_wait, woken_by}
 use Rattle.mpm_queues.proofs.WaitLaws.{waits_enlisted, waits_enlisted_other}
 use Rattle.mpm_dispatcher.specs.Dispatch.{ready, at_rest, moved, lists_ready, also_completed, with_other}
-use Rattle.mpm_kernel.specs.Kernel.{Kernel, IsOfTwo, IsSound, CompletedLive, with_changed, dispatched}
+use Rattle.mpm_kernel.specs.Kernel.{Kernel, IsOfTwo, IsSoundKernel, CompletedLive, with_changed, dispatched}
 use Rattle.mpm_kernel.specs.Called.{valued, done, failure_code}
 use Rattle.mpm_kernel.specs.Queueing.{with_queue, queue_made, opened, queue_opened, may_delete, deleted, queue_deleted, pointed, queued, blocked_or_refused, taken_from, was_read, read_at, queue_read, given_to, was_written, write_at, queue_written}
 use Rattle.mpm_kernel.specs.Procedures.{no_procedure, is_two, of_two_bytes, procedure_queue, inside, procedure_read, procedure_at, procedure_called}
@@ -91,7 +91,7 @@ stays_blocked_or_refused waits p q reader kernel c is may =
     (λ _. same p failure_code kernel c)
 
 -- the call of another process is completed
-pub stays_other : (other : Option ℕ) (p value : ℕ) (kernel : Kernel) → IsSound kernel → Lives kernel.dispatcher.procs p → CompletedLive kernel
+pub stays_other : (other : Option ℕ) (p value : ℕ) (kernel : Kernel) → IsSoundKernel kernel → Lives kernel.dispatcher.procs p → CompletedLive kernel
     → ((w : ℕ) → other ≡ Some w → MayBeReady kernel w) → StaysSound p (valued value (dispatched (with_other other) kernel))
 unfolding lists_ready also_completed
 stays_other None p value kernel s h live may = record { sound = s; lives = h; completed = live }

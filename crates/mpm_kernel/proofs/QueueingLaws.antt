@@ -15,7 +15,7 @@ use Rattle.mpm_procs.specs.Table.{Table, lives, Lives, process_in, call_of}
 use Rattle.mpm_procs.specs.Finding.{is_queue, is_inside_of, is_entered}
 use Rattle.mpm_procs.proofs.MapLaws.{lives_below, lives_after}
 use Rattle.mpm_queues.specs.Queue.{new_queue, no_queue, with_given, is_drained, is_full}
-use Rattle.mpm_queues.specs.Queues.{Queues, IsMade, is_made, is_free, is_named, queue_in, width_of, lowest, found, lowest_free, waits, waits_at, WaitsNowhere, made, may_end, without_queue, without, IsSound as AreSound, make_error}
+use Rattle.mpm_queues.specs.Queues.{Queues, IsMade, is_made, is_free, is_named, queue_in, width_of, lowest, found, lowest_free, waits, waits_at, WaitsAtNoQueue, made, may_end, without_queue, without, AreSoundQueues as AreSound, make_error}
 use Rattle.mpm_queues.specs.declared.queues.MakeRefused.{MakeRefused}
 use Rattle.mpm_queues.specs.declared.queues.MakeRefused.TheVariants.{BadCount, Exists, NoQueueRoom}
 use Rattle.mpm_queues.specs.declared.queues.QueueOutcome.{QueueOutcome}
@@ -27,16 +27,16 @@ use Rattle.mpm_queues.proofs.SoundLaws.{sound_made, sound_delete, sound_read, so
 use Rattle.mpm_queues.proofs.RunLaws.{made_operation}
 use Rattle.mpm_queues.proofs.WaitLaws.{waits_one, nowhere_waits, named_made, kept_read, kept_write, waiters_made, waiters_delete, waits_read_woken, waits_read_other, waits_write_woken, waits_write_other, read_ends_waiter, write_ends_waiter}
 use Rattle.mpm_dispatcher.specs.Dispatch.{ready, IsReady, with_procs}
-use Rattle.mpm_kernel.specs.Kernel.{Kernel, IsOfTwo, IsSound, dispatched}
+use Rattle.mpm_kernel.specs.Kernel.{Kernel, IsOfTwo, IsSoundKernel, dispatched}
 use Rattle.mpm_kernel.specs.Queueing.{OnlySystems, IfNotNow, made_at, pointed, taken_from, given_to}
 use Rattle.mpm_kernel.proofs.Soundness.{AreQueues, own_queues, MayBeReady, listed_once, sound_fewer, sound_call}
 
 -- who waits at a queue lives
-pub waiters_live : (kernel : Kernel) (q p : ℕ) → IsSound kernel → waits_at kernel.queues q p ≡ true → Lives kernel.dispatcher.procs p
+pub waiters_live : (kernel : Kernel) (q p : ℕ) → IsSoundKernel kernel → waits_at kernel.queues q p ≡ true → Lives kernel.dispatcher.procs p
 waiters_live kernel q p s there = s.live p (omega (arith, waits_one kernel.queues q p s.queues there))
 
 -- who is ready waits at none
-pub ready_waits_nowhere : (kernel : Kernel) (p : ℕ) → IsSound kernel → IsReady kernel.dispatcher p → WaitsNowhere kernel.queues p
+pub ready_waits_nowhere : (kernel : Kernel) (p : ℕ) → IsSoundKernel kernel → IsReady kernel.dispatcher p → WaitsAtNoQueue kernel.queues p
 ready_waits_nowhere kernel p s is_ready =
     nowhere_waits kernel.queues p (omega (arith, listed_once kernel p ready s is_ready))
 
@@ -47,7 +47,7 @@ number_below t q free = (lowest_passes (is_free t) q free).1
 number_free : (t : Queues) (q : ℕ) → lowest_free t ≡ Some q → is_made t q ≡ false
 number_free t q free = not-true (is_made t q) (lowest_passes (is_free t) q free).0
 
-pub system_is_lowest : (kernel : Kernel) (q : ℕ) → IsSound kernel → OnlySystems kernel → lowest_free kernel.queues ≡ Some q → q ≡ kernel.system_queues
+pub system_is_lowest : (kernel : Kernel) (q : ℕ) → IsSoundKernel kernel → OnlySystems kernel → lowest_free kernel.queues ≡ Some q → q ≡ kernel.system_queues
 system_is_lowest kernel q s only free =
     let passes = lowest_passes (is_free kernel.queues) q free in
     elim (cases_lt q kernel.system_queues) [
@@ -81,8 +81,8 @@ pointed_made t pointer q is =
     subst (IsMade t) named.1 (both _ _ _ named.0)
 
 -- queues are others at which nobody waits who didn't before
-pub sound_queues : (kernel : Kernel) (queues : Queues) → IsSound kernel → AreQueues kernel queues → ((q : ℕ) → waits queues q ≤ waits kernel.queues q)
-    → IsSound (record kernel { queues = queues })
+pub sound_queues : (kernel : Kernel) (queues : Queues) → IsSoundKernel kernel → AreQueues kernel queues → ((q : ℕ) → waits queues q ≤ waits kernel.queues q)
+    → IsSoundKernel (record kernel { queues = queues })
 sound_queues kernel queues s are fewer = sound_fewer kernel kernel.flags kernel.clock queues s s.flags are (λ q. omega (arith, fewer q))
 
 waits_same : (t new : Queues) (p : ℕ) → new.waiters ≡ t.waiters → waits new p ≡ waits t p
@@ -144,7 +144,7 @@ width_more t q k name width count other =
 made_apart : (t : Queues) (q k : ℕ) → lowest_free t ≡ Some q → IsMade t k → k ≢ q
 made_apart t q k free is = λ same. false≢true (sym (number_free t q free) ∙ ap (is_made t) (sym same) ∙ is)
 
-made_queues : (kernel : Kernel) (slot : Option ℕ) (name : Name8) (width count : ℕ) → IsSound kernel → lowest_free kernel.queues ≡ slot
+made_queues : (kernel : Kernel) (slot : Option ℕ) (name : Name8) (width count : ℕ) → IsSoundKernel kernel → lowest_free kernel.queues ≡ slot
     → Accepts kernel.queues name width count → AreQueues kernel (made_at slot kernel.queues name width count)
 made_queues kernel None name width count s free a = own_queues kernel s
 made_queues kernel (Some q) name width count s free a = record {
@@ -159,8 +159,8 @@ waits_made : (slot : Option ℕ) (t : Queues) (name : Name8) (width count p : �
 waits_made None t name width count p = refl
 waits_made (Some q) t name width count p = waits_same t (made t q name width count) p (waiters_made t q name width count)
 
-pub sound_with_queue : (kernel : Kernel) (name : Name8) (width count : ℕ) → IsSound kernel → is_none (make_error kernel.queues name width count) ≡ true
-    → IsSound (record kernel { queues = made_at (lowest_free kernel.queues) kernel.queues name width count })
+pub sound_with_queue : (kernel : Kernel) (name : Name8) (width count : ℕ) → IsSoundKernel kernel → is_none (make_error kernel.queues name width count) ≡ true
+    → IsSoundKernel (record kernel { queues = made_at (lowest_free kernel.queues) kernel.queues name width count })
 sound_with_queue kernel name width count s none =
     sound_queues kernel _ s (made_queues kernel (lowest_free kernel.queues) name width count s refl (accepts kernel.queues name width count none))
     (λ p. omega (arith, waits_made (lowest_free kernel.queues) kernel.queues name width count p))
@@ -182,7 +182,7 @@ is_this : (k q : ℕ) (o : Option ℕ) → o ≡ Some k → k ≡ q → is_queue
 is_this k q None is same = absurd (none-some k is)
 is_this k q (Some other) is same = (let equal = same_Some other k is in grind (arith, nat_tests, equal, same))
 
-inside_apart : (kernel : Kernel) (q p k : ℕ) → IsSound kernel → is_entered kernel.dispatcher.procs q ≡ false → Lives kernel.dispatcher.procs p
+inside_apart : (kernel : Kernel) (q p k : ℕ) → IsSoundKernel kernel → is_entered kernel.dispatcher.procs q ≡ false → Lives kernel.dispatcher.procs p
     → (process_in kernel.dispatcher.procs p).procedure ≡ Some k → k ≢ q
 unfolding is_entered
 inside_apart kernel q p k s none living is = λ same.
@@ -190,8 +190,8 @@ inside_apart kernel q p k s none living is = λ same.
     let fails : test p ≡ false = lowest_none test (none_there (lowest test) none) p (lives_below kernel.dispatcher.procs p s.slots living) in
     false≢true (sym fails ∙ ap (λ b. b && is_queue q (process_in kernel.dispatcher.procs p).procedure) living ∙ is_this k q _ is same)
 
-pub sound_with_deleted : (kernel : Kernel) (q : ℕ) → IsSound kernel → IsMade kernel.queues q → kernel.system_queues ≤ q → is_entered kernel.dispatcher.procs q ≡ false
-    → IsSound (record kernel { queues = without_queue kernel.queues q })
+pub sound_with_deleted : (kernel : Kernel) (q : ℕ) → IsSoundKernel kernel → IsMade kernel.queues q → kernel.system_queues ≤ q → is_entered kernel.dispatcher.procs q ≡ false
+    → IsSoundKernel (record kernel { queues = without_queue kernel.queues q })
 unfolding without_queue
 sound_with_deleted kernel q s is own none =
     let gone = may_end kernel.queues q in
@@ -225,7 +225,7 @@ pub width_written : (t : Queues) (p q k : ℕ) (procs : Table) → AreSound t �
 width_written t p q k procs s is =
     width_same t (message_written t p q procs) k (alive_same t (message_written t p q procs) k (made_operation t q (Writes p procs))) (kept_write t p q k procs s is).width
 
-pub sound_taken : (kernel : Kernel) (p q : ℕ) → IsSound kernel → IsMade kernel.queues q → IsSound (taken_from kernel p q)
+pub sound_taken : (kernel : Kernel) (p q : ℕ) → IsSoundKernel kernel → IsMade kernel.queues q → IsSoundKernel (taken_from kernel p q)
 sound_taken kernel p q s is =
     let t = kernel.queues in
     sound_queues kernel (message_read t p q kernel.dispatcher.procs) s
@@ -237,19 +237,19 @@ sound_taken kernel p q s is =
     (λ k. read_waits t p q kernel.dispatcher.procs k s.queues)
 
 -- whose wait at a queue was ended lives, and waits for nothing else
-pub may_by_read : (kernel : Kernel) (p q w : ℕ) → IsSound kernel → woken_by (read_outcome kernel.queues q) ≡ Some w → MayBeReady (taken_from kernel p q) w
+pub may_by_read : (kernel : Kernel) (p q w : ℕ) → IsSoundKernel kernel → woken_by (read_outcome kernel.queues q) ≡ Some w → MayBeReady (taken_from kernel p q) w
 may_by_read kernel p q w s is =
     let t = kernel.queues in
     let one = waits_one t q w s.queues (read_ends_waiter t q w is) in
     (s.live w (omega (arith, one)), omega (arith, one, s.once w, waits_read_woken t p q kernel.dispatcher.procs w is))
 
 -- a message is written, which may come into the call that another process keeps
-sound_delivered : (o : Option ℕ) (message : List ℕ) (kernel : Kernel) → IsSound kernel → IsSound (dispatched (with_procs (delivered_to o message kernel.dispatcher.procs)) kernel)
+sound_delivered : (o : Option ℕ) (message : List ℕ) (kernel : Kernel) → IsSoundKernel kernel → IsSoundKernel (dispatched (with_procs (delivered_to o message kernel.dispatcher.procs)) kernel)
 sound_delivered None message kernel s = s
 sound_delivered (Some r) message kernel s = sound_call kernel r (with_given message (call_of kernel.dispatcher.procs r)) s
 
-sound_delivered_if : (b : Bool) (o : Option ℕ) (message : List ℕ) (kernel : Kernel) → IsSound kernel
-    → IsSound (dispatched (with_procs (if b then kernel.dispatcher.procs else (delivered_to o message kernel.dispatcher.procs))) kernel)
+sound_delivered_if : (b : Bool) (o : Option ℕ) (message : List ℕ) (kernel : Kernel) → IsSoundKernel kernel
+    → IsSoundKernel (dispatched (with_procs (if b then kernel.dispatcher.procs else (delivered_to o message kernel.dispatcher.procs))) kernel)
 sound_delivered_if true o message kernel s = s
 sound_delivered_if false o message kernel s = sound_delivered o message kernel s
 
@@ -268,7 +268,7 @@ write_waits t p q procs k s = elim (woken_or_not (woken_by (write_outcome t q)) 
   | inr apart ↦ omega (arith, waits_write_other t p q procs k s apart)
 ]
 
-pub sound_given : (kernel : Kernel) (p q : ℕ) → IsSound kernel → IsMade kernel.queues q → IsSound (given_to kernel p q)
+pub sound_given : (kernel : Kernel) (p q : ℕ) → IsSoundKernel kernel → IsMade kernel.queues q → IsSoundKernel (given_to kernel p q)
 unfolding procs_after_write
 sound_given kernel p q s is =
     let t = kernel.queues in
@@ -281,7 +281,7 @@ sound_given kernel p q s is =
     })
     (λ k. write_waits t p q kernel.dispatcher.procs k s.queues))
 
-pub may_by_write : (kernel : Kernel) (p q r : ℕ) → IsSound kernel → woken_by (write_outcome kernel.queues q) ≡ Some r → MayBeReady (given_to kernel p q) r
+pub may_by_write : (kernel : Kernel) (p q r : ℕ) → IsSoundKernel kernel → woken_by (write_outcome kernel.queues q) ≡ Some r → MayBeReady (given_to kernel p q) r
 may_by_write kernel p q r s is =
     let t = kernel.queues in
     let one = waits_one t q r s.queues (write_ends_waiter t q r is) in
@@ -322,13 +322,13 @@ pub some_lives : (o : Option ℕ) (kernel : Kernel) → ((w : ℕ) → o ≡ Som
 some_lives None kernel may = tt
 some_lives (Some w) kernel may = (may w refl).0
 
-pub lives_by_read : (kernel : Kernel) (p q : ℕ) (procs : Table) (outcome : QueueOutcome) → IsSound kernel → outcome ≡ read_outcome kernel.queues q
+pub lives_by_read : (kernel : Kernel) (p q : ℕ) (procs : Table) (outcome : QueueOutcome) → IsSoundKernel kernel → outcome ≡ read_outcome kernel.queues q
     → procs ≡ kernel.dispatcher.procs → IfSome (woken_by outcome) (λ w. Lives procs w)
 lives_by_read kernel p q procs outcome s is same =
     let P : Table → Type 0 = λ table. IfSome (woken_by outcome) (λ w. Lives table w) in
     subst P (sym same) (some_lives (woken_by outcome) (taken_from kernel p q) (λ w first. may_by_read kernel p q w s (ap woken_by (sym is) ∙ first)))
 
-pub lives_by_write : (kernel : Kernel) (p q : ℕ) (outcome : QueueOutcome) → IsSound kernel → outcome ≡ write_outcome kernel.queues q
+pub lives_by_write : (kernel : Kernel) (p q : ℕ) (outcome : QueueOutcome) → IsSoundKernel kernel → outcome ≡ write_outcome kernel.queues q
     → IfSome (woken_by outcome) (λ w. Lives (given_to kernel p q).dispatcher.procs w)
 lives_by_write kernel p q outcome s is =
     some_lives (woken_by outcome) (given_to kernel p q) (λ w first. may_by_write kernel p q w s (ap woken_by (sym is) ∙ first))
@@ -371,7 +371,7 @@ two_enlisted : (t : Queues) (p priority q : ℕ) (reader : Bool) (k : ℕ) → I
 unfolding enlisted
 two_enlisted t p priority q reader k two = two
 
-pub queues_enlisted : (kernel : Kernel) (p priority q : ℕ) (reader : Bool) → IsSound kernel → Lives kernel.dispatcher.procs p → IsReady kernel.dispatcher p
+pub queues_enlisted : (kernel : Kernel) (p priority q : ℕ) (reader : Bool) → IsSoundKernel kernel → Lives kernel.dispatcher.procs p → IsReady kernel.dispatcher p
     → IsMade kernel.queues q → may_wait kernel.queues q reader ≡ true → AreQueues kernel (enlisted kernel.queues p priority q reader)
 queues_enlisted kernel p priority q reader s h is_ready is may =
     let t = kernel.queues in

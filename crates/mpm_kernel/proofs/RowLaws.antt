@@ -9,14 +9,14 @@ use Rattle.mpm_base.specs.Calls.{Taken}
 use Rattle.mpm_procs.specs.Table.{call_of, process_in}
 use Rattle.mpm_procs.specs.declared.process.Process.{Process}
 use Rattle.mpm_kernel.specs.Kernel.{Kernel}
-use Rattle.mpm_kernel.specs.Called.{Called, valued, Row, functions_of, done_by}
+use Rattle.mpm_kernel.specs.Called.{Called, valued, CallRow, functions_of, done_by}
 use Rattle.mpm_kernel.specs.Calls.{table, call_done}
 
 -- a property of the call of a row's functions
-abbrev pub IsSoOf : (Called → Type 0) → Taken → ℕ → Process → Kernel → Row → Type 0
+abbrev pub IsSoOf : (Called → Type 0) → Taken → ℕ → Process → Kernel → CallRow → Type 0
 IsSoOf P call p process kernel row = is_among call.function row.functions ≡ true → P (row.does call p process kernel)
 
-pub by_rows : (P : Called → Type 0) (call : Taken) (p : ℕ) (process : Process) (kernel : Kernel) (rows : List Row)
+pub by_rows : (P : Called → Type 0) (call : Taken) (p : ℕ) (process : Process) (kernel : Kernel) (rows : List CallRow)
     → AllByRecursion (IsSoOf P call p process kernel) rows → P (valued 65535 kernel) → P (done_by rows call p process kernel)
 by_rows P call p process kernel [] each none = none
 by_rows P call p process kernel (row ∷ rows) each none =
@@ -28,12 +28,12 @@ unfolding call_done
 by_table P call p process kernel each none = by_rows P call p process kernel table each none
 
 -- a call of a number is done by the first row that names the number
-abbrev pub done_at : ℕ → List Row → Taken → ℕ → Process → Kernel → Called
+abbrev pub done_at : ℕ → List CallRow → Taken → ℕ → Process → Kernel → Called
 done_at n [] call p process kernel = valued 65535 kernel
 done_at n (row ∷ rows) call p process kernel =
     if is_among n row.functions then row.does call p process kernel else (done_at n rows call p process kernel)
 
-at_its_row : (call : Taken) (p : ℕ) (process : Process) (kernel : Kernel) (rows : List Row)
+at_its_row : (call : Taken) (p : ℕ) (process : Process) (kernel : Kernel) (rows : List CallRow)
     → done_at call.function rows call p process kernel ≡ done_by rows call p process kernel
 at_its_row call p process kernel [] = refl
 at_its_row call p process kernel (row ∷ rows) =

@@ -24,7 +24,7 @@ use Rattle.mpm_procs.specs.Table.{Table, lives, Lives, process_in, call_of}
 use Rattle.mpm_procs.specs.declared.process.Process.{Process}
 use Rattle.mpm_procs.proofs.MapLaws.{lives_changed}
 use Rattle.mpm_dispatcher.specs.Dispatch.{ready, IsReady, at_rest, is_ready, behind_equals, with_priority, unlisted, moved, ready_in, all_ready, all_woken}
-use Rattle.mpm_kernel.specs.Kernel.{Kernel, poll_list, is_waiter, flags_of, waits_of, IsSound, CompletedLive, with_changed, call_begun, afresh, dispatched}
+use Rattle.mpm_kernel.specs.Kernel.{Kernel, poll_list, is_waiter, flags_of, waits_of, IsSoundKernel, CompletedLive, with_changed, call_begun, afresh, dispatched}
 use Rattle.mpm_procs.specs.Settings.{is_count, with_user, with_multi}
 use Rattle.mpm_kernel.specs.Calls.{call_done, called}
 use Rattle.mpm_kernel.specs.Called.{Called, valued, low_parameter, failure_code}
@@ -53,16 +53,16 @@ use Rattle.mpm_kernel.proofs.QueueCalls.{stays_queue_made, stays_queue_opened, s
 pub use Rattle.mpm_kernel.proofs.Soundness.{sound_new, sound_changed, sound_process, sound_call, sound_devices, sound_spoke, first_is_ready, listed, listed_once, not_delayed, runner_lives, sound_picked, free_is_unlisted, sound_begun, sound_afresh, sound_admitted, sound_in_slot, completed_in_slot, sound_ready, sound_moved, sound_unlisted, sound_fewer, own_queues, sound_behind_equals, lives_behind_equals, sound_all_ready, procs_all_ready, running_all_ready, is_ready_true, sound_runner_behind, sound_with_completed, MayBeReady}
 
 -- a byte comes to a unit
-pub sound_wrote : (kernel : Kernel) (unit : Unit) (byte : ℕ) (tabs : Bool) → IsSound kernel → IsSound (wrote kernel unit byte tabs)
+pub sound_wrote : (kernel : Kernel) (unit : Unit) (byte : ℕ) (tabs : Bool) → IsSoundKernel kernel → IsSoundKernel (wrote kernel unit byte tabs)
 unfolding wrote put_out
-sound_wrote kernel (ConsoleUnit n) byte true s = subst IsSound (sym (wrote_tabbed kernel n byte)) (sound_spoke kernel n _ s)
-sound_wrote kernel (ConsoleUnit n) byte false s = subst IsSound (sym (wrote_itself kernel n byte)) (sound_spoke kernel n _ s)
+sound_wrote kernel (ConsoleUnit n) byte true s = subst IsSoundKernel (sym (wrote_tabbed kernel n byte)) (sound_spoke kernel n _ s)
+sound_wrote kernel (ConsoleUnit n) byte false s = subst IsSoundKernel (sym (wrote_itself kernel n byte)) (sound_spoke kernel n _ s)
 sound_wrote kernel (PrinterUnit n) byte tabs s = s
 
 -- the calls of the kernel
 
 -- the process with a field changed
-stays_changed : (p value : ℕ) (kernel : Kernel) (process : Process) → Calls p kernel → IsSound (with_changed kernel p process)
+stays_changed : (p value : ℕ) (kernel : Kernel) (process : Process) → Calls p kernel → IsSoundKernel (with_changed kernel p process)
     → StaysSound p (valued value (with_changed kernel p process))
 stays_changed p value kernel process c sound = record {
   sound = sound;
@@ -131,15 +131,15 @@ waiter_own p q e = one_if_true (p == q) (grind (arith, nat_tests, e))
 waiter_other : (p q : ℕ) → q ≢ p → one_if (is_waiter q (Waits p)) ≡ 0
 waiter_other p q other = one_if_false (p == q) (grind (arith, nat_tests, other))
 
-flags_from : (kernel : Kernel) (flag : ℕ) (old new : Flag) (q : ℕ) → IsSound kernel → flag < 32 → flag_at kernel.flags flag ≡ old
+flags_from : (kernel : Kernel) (flag : ℕ) (old new : Flag) (q : ℕ) → IsSoundKernel kernel → flag < 32 → flag_at kernel.flags flag ≡ old
     → flags_of (with_flag kernel.flags flag new) q + one_if (is_waiter q old) ≡ flags_of kernel.flags q + one_if (is_waiter q new)
 flags_from kernel flag old new q s below is =
     let P : Flag → Type 0 = λ f. flags_of (with_flag kernel.flags flag new) q + one_if (is_waiter q f) ≡ flags_of kernel.flags q + one_if (is_waiter q new) in
     subst P is (flags_with kernel.flags flag new q (omega (arith, s.flags, below)))
 
 -- a flag for which nobody waits afterwards who didn't before
-sound_flag : (kernel : Kernel) (flag : ℕ) (old new : Flag) → IsSound kernel → flag < 32 → flag_at kernel.flags flag ≡ old
-    → ((q : ℕ) → one_if (is_waiter q new) ≤ one_if (is_waiter q old)) → IsSound (record kernel { flags = with_flag kernel.flags flag new })
+sound_flag : (kernel : Kernel) (flag : ℕ) (old new : Flag) → IsSoundKernel kernel → flag < 32 → flag_at kernel.flags flag ≡ old
+    → ((q : ℕ) → one_if (is_waiter q new) ≤ one_if (is_waiter q old)) → IsSoundKernel (record kernel { flags = with_flag kernel.flags flag new })
 sound_flag kernel flag old new s below is no_more =
     sound_fewer kernel (with_flag kernel.flags flag new) kernel.clock kernel.queues s (length-set kernel.flags flag new ∙ s.flags) (own_queues kernel s)
     (λ q. omega (arith, flags_from kernel flag old new q s below is, no_more q))
@@ -192,17 +192,17 @@ stays_flag_waited call p kernel c =
 
 -- a flag is set
 record Woke (kernel : Kernel) : Type 0 where
-  pub sound : IsSound kernel
+  pub sound : IsSoundKernel kernel
   pub completed : CompletedLive kernel
 
 -- who waits for a flag lives, and waits for nothing else
-pub waiter_waits : (kernel : Kernel) (flag q : ℕ) → IsSound kernel → flag < 32 → flag_at kernel.flags flag ≡ Waits q → 0 < waits_of kernel q
+pub waiter_waits : (kernel : Kernel) (flag q : ℕ) → IsSoundKernel kernel → flag < 32 → flag_at kernel.flags flag ≡ Waits q → 0 < waits_of kernel q
 waiter_waits kernel flag q s below is = omega (arith, flags_from kernel flag (Waits q) Clear q s below is, waiter_own q q refl)
 
-pub waiter_lives : (kernel : Kernel) (flag q : ℕ) → IsSound kernel → flag < 32 → flag_at kernel.flags flag ≡ Waits q → Lives kernel.dispatcher.procs q
+pub waiter_lives : (kernel : Kernel) (flag q : ℕ) → IsSoundKernel kernel → flag < 32 → flag_at kernel.flags flag ≡ Waits q → Lives kernel.dispatcher.procs q
 waiter_lives kernel flag q s below is = s.live q (omega (arith, waiter_waits kernel flag q s below is))
 
-woke_by : (state : Flag) (flag : ℕ) (kernel : Kernel) → IsSound kernel → CompletedLive kernel → flag < 32 → flag_at kernel.flags flag ≡ state
+woke_by : (state : Flag) (flag : ℕ) (kernel : Kernel) → IsSoundKernel kernel → CompletedLive kernel → flag < 32 → flag_at kernel.flags flag ≡ state
     → Woke (with_woken (set_answer state) (record kernel { flags = with_flag kernel.flags flag (after_set state) }))
 unfolding with_woken ready_in
 woke_by Clear flag kernel s live below is = record { sound = sound_flag kernel flag Clear Set s below is (λ q. omega arith); completed = live }
@@ -217,11 +217,11 @@ woke_by (Waits p) flag kernel s live below is =
       completed = (lives, tt);
     }
 
-woke_signalled : (flag : ℕ) (kernel : Kernel) → IsSound kernel → CompletedLive kernel → flag < 32 → Woke (signalled flag kernel)
+woke_signalled : (flag : ℕ) (kernel : Kernel) → IsSoundKernel kernel → CompletedLive kernel → flag < 32 → Woke (signalled flag kernel)
 unfolding signalled
 woke_signalled flag kernel s live below = woke_by (flag_at kernel.flags flag) flag kernel s live below refl
 
-woke_flag_came : (flag : ℕ) (kernel : Kernel) → IsSound kernel → CompletedLive kernel → Woke (flag_came flag kernel)
+woke_flag_came : (flag : ℕ) (kernel : Kernel) → IsSoundKernel kernel → CompletedLive kernel → Woke (flag_came flag kernel)
 unfolding flag_came
 woke_flag_came flag kernel s live =
     either Woke (is_flag flag) _ _ (λ is. woke_signalled flag kernel s live (flag_below flag is)) (λ _. record { sound = s; completed = live })
@@ -271,7 +271,7 @@ stays_delayed call p kernel c =
     })
 
 -- the date and the time
-sound_set : (kernel : Kernel) (moment : Moment) → IsSound kernel → IsSound (record kernel { clock = set_to kernel.clock moment })
+sound_set : (kernel : Kernel) (moment : Moment) → IsSoundKernel kernel → IsSoundKernel (record kernel { clock = set_to kernel.clock moment })
 unfolding set_to
 sound_set kernel moment s =
     sound_fewer kernel kernel.flags (set_to kernel.clock moment) kernel.queues s s.flags (own_queues kernel s) (λ q. omega arith)
@@ -289,7 +289,7 @@ stays_date_set call p kernel c = called_if p (names_time call) _ _
 stays_answered : (p : ℕ) (kernel : Kernel) (called : Called) → called.kernel ≡ kernel → Calls p kernel → StaysSound p called
 stays_answered p kernel called e c =
     let s = same p 0 kernel c in
-    let P : Kernel → Type 0 = λ k. IsSound k × (Lives k.dispatcher.procs p × CompletedLive k) in
+    let P : Kernel → Type 0 = λ k. IsSoundKernel k × (Lives k.dispatcher.procs p × CompletedLive k) in
     let t : P called.kernel = subst P (sym e) (s.sound, (s.lives, s.completed)) in
     record { sound = t.0; lives = t.1.0; completed = t.1.1 }
 
@@ -389,32 +389,32 @@ stays_call_done call p kernel c =
     (same p _ kernel c)
 
 -- a process that is ready may call
-begun : (p : ℕ) (echoes : Bool) (kernel : Kernel) → IsSound kernel → Lives kernel.dispatcher.procs p → IsReady kernel.dispatcher p → Calls p (call_begun echoes kernel)
+begun : (p : ℕ) (echoes : Bool) (kernel : Kernel) → IsSoundKernel kernel → Lives kernel.dispatcher.procs p → IsReady kernel.dispatcher p → Calls p (call_begun echoes kernel)
 begun p echoes kernel s h is_ready = record { sound = sound_begun echoes kernel s; lives = h; ready = is_ready; none = refl }
 
 -- and so his call, whether or not it echoes, leaves the kernel sound
-pub stays_called : (p : ℕ) (echoes : Bool) (kernel : Kernel) → IsSound kernel → Lives kernel.dispatcher.procs p → IsReady kernel.dispatcher p
+pub stays_called : (p : ℕ) (echoes : Bool) (kernel : Kernel) → IsSoundKernel kernel → Lives kernel.dispatcher.procs p → IsReady kernel.dispatcher p
     → StaysSound p (call_done (call_of kernel.dispatcher.procs p) p (process_in kernel.dispatcher.procs p) (call_begun echoes kernel))
 stays_called p echoes kernel s h is_ready = stays_call_done (call_of kernel.dispatcher.procs p) p _ (begun p echoes kernel s h is_ready)
 
-pub sound_called : (p : ℕ) (kernel : Kernel) → IsSound kernel → Lives kernel.dispatcher.procs p → IsReady kernel.dispatcher p → IsSound (called p kernel).kernel
+pub sound_called : (p : ℕ) (kernel : Kernel) → IsSoundKernel kernel → Lives kernel.dispatcher.procs p → IsReady kernel.dispatcher p → IsSoundKernel (called p kernel).kernel
 sound_called p kernel s h is_ready = (stays_called p _ kernel s h is_ready).sound
 
-pub lives_called : (p : ℕ) (kernel : Kernel) → IsSound kernel → Lives kernel.dispatcher.procs p → IsReady kernel.dispatcher p → Lives (called p kernel).kernel.dispatcher.procs p
+pub lives_called : (p : ℕ) (kernel : Kernel) → IsSoundKernel kernel → Lives kernel.dispatcher.procs p → IsReady kernel.dispatcher p → Lives (called p kernel).kernel.dispatcher.procs p
 lives_called p kernel s h is_ready = (stays_called p _ kernel s h is_ready).lives
 
-pub live_called : (p : ℕ) (kernel : Kernel) → IsSound kernel → Lives kernel.dispatcher.procs p → IsReady kernel.dispatcher p → CompletedLive (called p kernel).kernel
+pub live_called : (p : ℕ) (kernel : Kernel) → IsSoundKernel kernel → Lives kernel.dispatcher.procs p → IsReady kernel.dispatcher p → CompletedLive (called p kernel).kernel
 live_called p kernel s h is_ready = (stays_called p _ kernel s h is_ready).completed
 
 -- events
 
 -- who is woken by a tick lived, and waits for nothing after it
-sound_ticked : (kernel : Kernel) → IsSound kernel → IsSound (with_tick kernel)
+sound_ticked : (kernel : Kernel) → IsSoundKernel kernel → IsSoundKernel (with_tick kernel)
 unfolding ticked
 sound_ticked kernel s =
     sound_fewer kernel kernel.flags (ticked kernel.clock) kernel.queues s s.flags (own_queues kernel s) (λ q. omega (arith, delays_ticked kernel.clock.delays q))
 
-may_by_tick : (kernel : Kernel) → IsSound kernel
+may_by_tick : (kernel : Kernel) → IsSoundKernel kernel
     → AllByRecursion (MayBeReady (with_tick kernel)) (woken_by_tick kernel.clock.delays)
 unfolding ticked
 may_by_tick kernel s =
@@ -426,7 +426,7 @@ all_live kernel [] may = tt
 all_live kernel (p ∷ ps) may = (may.0.0, all_live kernel ps may.1)
 
 -- processes that wait for nothing else are woken
-woke_all : (ps : List ℕ) (kernel : Kernel) → IsSound kernel → AllByRecursion (MayBeReady kernel) ps → Woke (dispatched (all_woken ps) kernel)
+woke_all : (ps : List ℕ) (kernel : Kernel) → IsSoundKernel kernel → AllByRecursion (MayBeReady kernel) ps → Woke (dispatched (all_woken ps) kernel)
 woke_all ps kernel s may =
     let P : Table → Type 0 = λ procs. AllByRecursion (λ p. Lives procs p) ps in
     record {
@@ -435,7 +435,7 @@ woke_all ps kernel s may =
     }
 
 -- in a tick, and as a device becomes ready
-pub live_by_tick : (kernel : Kernel) → IsSound kernel → AllByRecursion (λ p. Lives kernel.dispatcher.procs p) (woken_by_tick kernel.clock.delays)
+pub live_by_tick : (kernel : Kernel) → IsSoundKernel kernel → AllByRecursion (λ p. Lives kernel.dispatcher.procs p) (woken_by_tick kernel.clock.delays)
 live_by_tick kernel s = all_live (with_tick kernel) (woken_by_tick kernel.clock.delays) (may_by_tick kernel s)
 
 live_same : (old new : Kernel) → new.dispatcher.procs ≡ old.dispatcher.procs → new.dispatcher.completed ≡ old.dispatcher.completed → CompletedLive old → CompletedLive new
@@ -444,7 +444,7 @@ live_same old new procs completed live =
     let Q : List ℕ → Type 0 = λ ps. AllByRecursion (λ p. Lives new.dispatcher.procs p) ps in
     subst Q (sym completed) (subst P (sym procs) live)
 
-woke_clock_ticked : (kernel : Kernel) → IsSound kernel → Woke (clock_ticked kernel)
+woke_clock_ticked : (kernel : Kernel) → IsSoundKernel kernel → Woke (clock_ticked kernel)
 unfolding clock_ticked
 woke_clock_ticked kernel s =
     let afterwards = dispatched (all_woken (woken_by_tick kernel.clock.delays)) (with_tick kernel) in
@@ -455,22 +455,22 @@ woke_clock_ticked kernel s =
     }
 
 -- who polls a device lives, and waits for nothing else
-pub poller_in_list : (kernel : Kernel) (device p : ℕ) → IsSound kernel → in_list p (list_at kernel.dispatcher.lists (poll_list device)) ≡ true → MayBeReady kernel p
+pub poller_in_list : (kernel : Kernel) (device p : ℕ) → IsSoundKernel kernel → in_list p (list_at kernel.dispatcher.lists (poll_list device)) ≡ true → MayBeReady kernel p
 poller_in_list kernel device p s here =
     let list = list_of_known kernel.dispatcher.lists p (poll_list device) s.table here in
     (listed kernel p (poll_list device) s list, listed_once kernel p (poll_list device) s list)
 
-pub may_by_device : (kernel : Kernel) (device : ℕ) → IsSound kernel → AllByRecursion (MayBeReady kernel) (pollers kernel device)
+pub may_by_device : (kernel : Kernel) (device : ℕ) → IsSoundKernel kernel → AllByRecursion (MayBeReady kernel) (pollers kernel device)
 unfolding pollers
 may_by_device kernel device s =
     all_members (MayBeReady kernel) (list_at kernel.dispatcher.lists (poll_list device)) (λ p here. poller_in_list kernel device p s here)
 
-woke_device_ready : (kernel : Kernel) (device byte : ℕ) → IsSound kernel → Woke (device_ready kernel device byte)
+woke_device_ready : (kernel : Kernel) (device byte : ℕ) → IsSoundKernel kernel → Woke (device_ready kernel device byte)
 unfolding device_ready
 woke_device_ready kernel device byte s =
     woke_all (pollers kernel device) (with_ready kernel device byte) (sound_devices kernel _ s) (may_by_device kernel device s)
 
-woke_happens : (event : Event) (kernel : Kernel) → MayCome event → IsSound kernel → CompletedLive kernel → Woke (happens event kernel)
+woke_happens : (event : Event) (kernel : Kernel) → MayCome event → IsSoundKernel kernel → CompletedLive kernel → Woke (happens event kernel)
 unfolding happens
 woke_happens Tick kernel may s live = woke_clock_ticked kernel s
 woke_happens (Key console byte) kernel may s live =
@@ -478,10 +478,10 @@ woke_happens (Key console byte) kernel may s live =
 woke_happens (Ready device byte) kernel may s live = woke_device_ready kernel device byte s
 woke_happens (Int flag) kernel may s live = woke_flag_came flag kernel s live
 
-pub sound_happened : (event : Event) (kernel : Kernel) → MayCome event → IsSound kernel → IsSound (happened event kernel)
+pub sound_happened : (event : Event) (kernel : Kernel) → MayCome event → IsSoundKernel kernel → IsSoundKernel (happened event kernel)
 sound_happened event kernel may s = (woke_happens event (afresh kernel) may (sound_afresh kernel s) tt).sound
 
-pub live_happened : (event : Event) (kernel : Kernel) → MayCome event → IsSound kernel → CompletedLive (happened event kernel)
+pub live_happened : (event : Event) (kernel : Kernel) → MayCome event → IsSoundKernel kernel → CompletedLive (happened event kernel)
 live_happened event kernel may s = (woke_happens event (afresh kernel) may (sound_afresh kernel s) tt).completed
 
 -- no event changes a process or the call that it keeps

@@ -25,12 +25,12 @@ use Rattle.mpm_procs.specs.declared.process.Process.{Process}
 use Rattle.mpm_procs.specs.declared.process.NewProcess.{NewProcess}
 use Rattle.mpm_procs.specs.Opening.{opening}
 use Rattle.mpm_procs.proofs.MapLaws.{lives_below, process_changed, process_kept, lives_changed, slots_changed, slots_after, free_below, free_is_dead, lives_added, lives_added_other, process_added, process_added_other, slots_added, slots_none, nobody_lives}
-use Rattle.mpm_queues.specs.Queues.{Queues, no_queues, IsMade, waits, IsSound as AreSound}
+use Rattle.mpm_queues.specs.Queues.{Queues, no_queues, IsMade, waits, AreSoundQueues as AreSound}
 use Rattle.mpm_queues.proofs.SoundLaws.{sound_none}
 use Rattle.mpm_queues.proofs.WaitLaws.{waits_nowhere}
 use Rattle.mpm_consoles.proofs.PlaceLaws.{waits_nowhere as waits_for_none}
 use Rattle.mpm_consoles.specs.Console.{Console, new_console, is_owner, spoken}
-use Rattle.mpm_consoles.specs.Consoles.{Consoles, HasUnit, gate_waits, no_owners, owns, console_at, owner_of, with_console, IsSound as AreUnitsSound}
+use Rattle.mpm_consoles.specs.Consoles.{Consoles, HasUnit, gate_waits, no_owners, owns, console_at, owner_of, with_console, AreSoundConsoles as AreUnitsSound}
 use Rattle.mpm_consoles.specs.Handling.{spoke as spoke_units}
 use Rattle.mpm_consoles.specs.declared.unit.Unit.{Unit}
 use Rattle.mpm_consoles.specs.declared.unit.Unit.TheVariants.{Console as ConsoleUnit, Printer as PrinterUnit}
@@ -39,7 +39,7 @@ use Rattle.mpm_service.proofs.PlaceLaws.{at_none}
 use Rattle.mpm_consoles.proofs.SoundLaws.{sound_none as sound_units_new, sound_kept}
 use Rattle.mpm_kernel.proofs.UnitWaits.{is_at_gate, gates_kept, waits_console, owner_kept, has_before, proper_spoken}
 use Rattle.mpm_dispatcher.specs.Dispatch.{ready, new_dispatcher, IsReady, with_completed, stays, admitted, in_slot, at_rest, runs_still, runner, picked, is_ready, behind_equals, rotated_in, lists_behind, moved, all_ready, ready_in, runner_behind, with_procs, descheduled}
-use Rattle.mpm_kernel.specs.Kernel.{Kernel, in_lists, flags_of, waits_in, waits_at_units, waits_of, places, IsOfTwo, IsFit, HasConsole, IsSound, with_changed, call_begun, afresh, new_kernel, dispatched}
+use Rattle.mpm_kernel.specs.Kernel.{Kernel, in_lists, flags_of, waits_in, waits_at_units, waits_of, places, IsOfTwo, IsFit, IsConsole, IsSoundKernel, with_changed, call_begun, afresh, new_kernel, dispatched}
 use Rattle.mpm_kernel.specs.Columns.{spoke}
 pub use Rattle.mpm_dispatcher.proofs.ReadyLaws.{is_ready_true}
 use Rattle.mpm_kernel.proofs.PlaceLaws.{in_some, in_none, in_at_most, not_equal, moved_lists, table_moved, list_moved, list_moved_other, flags_none}
@@ -87,7 +87,7 @@ fit_kept before units process consoles printers fit = record {
 }
 
 -- no process lives
-pub sound_new : (consoles printers : ℕ) (now : Moment) → 1 ≤ consoles → consoles ≤ 8 → printers ≤ 4 → IsSound (new_kernel consoles printers now)
+pub sound_new : (consoles printers : ℕ) (now : Moment) → 1 ≤ consoles → consoles ≤ 8 → printers ≤ 4 → IsSoundKernel (new_kernel consoles printers now)
 unfolding new_kernel new_dispatcher new_clock no_flags
 sound_new consoles printers now some few more = record {
   units = sound_units_new consoles printers some few more;
@@ -105,8 +105,8 @@ sound_new consoles printers now some few more = record {
 }
 
 -- a process is another one that fits
-pub sound_changed : (kernel : Kernel) (p : ℕ) (process : Process) → IsSound kernel → Lives kernel.dispatcher.procs p → IsFit kernel.units process
-    → ((q : ℕ) → process.procedure ≡ Some q → IsOfTwo kernel.queues q) → IsSound (with_changed kernel p process)
+pub sound_changed : (kernel : Kernel) (p : ℕ) (process : Process) → IsSoundKernel kernel → Lives kernel.dispatcher.procs p → IsFit kernel.units process
+    → ((q : ℕ) → process.procedure ≡ Some q → IsOfTwo kernel.queues q) → IsSoundKernel (with_changed kernel p process)
 sound_changed kernel p process s h fit two = record {
   units = s.units;
   owners = λ unit q has is. lives_changed kernel.dispatcher.procs p q process ∙ s.owners unit q has is;
@@ -142,9 +142,9 @@ sound_changed kernel p process s h fit two = record {
 
 -- a process keeps another call
 -- and one that keeps its console, its printer, its multi-sector count and the procedure that it is in, fits
-pub sound_process : (kernel : Kernel) (p : ℕ) (process : Process) → IsSound kernel → Lives kernel.dispatcher.procs p
+pub sound_process : (kernel : Kernel) (p : ℕ) (process : Process) → IsSoundKernel kernel → Lives kernel.dispatcher.procs p
     → process.console ≡ (process_in kernel.dispatcher.procs p).console → process.printer ≡ (process_in kernel.dispatcher.procs p).printer
-    → process.multi ≡ (process_in kernel.dispatcher.procs p).multi → process.procedure ≡ (process_in kernel.dispatcher.procs p).procedure → IsSound (with_changed kernel p process)
+    → process.multi ≡ (process_in kernel.dispatcher.procs p).multi → process.procedure ≡ (process_in kernel.dispatcher.procs p).procedure → IsSoundKernel (with_changed kernel p process)
 sound_process kernel p process s h console printer multi procedure =
     let fit = s.fit p h in
     sound_changed kernel p process s h
@@ -156,7 +156,7 @@ sound_process kernel p process s h console printer multi procedure =
     })
     (λ q is. s.inside p q h (sym procedure ∙ is))
 
-pub sound_call : (kernel : Kernel) (p : ℕ) (call : Taken) → IsSound kernel → IsSound (dispatched (with_procs (with_call kernel.dispatcher.procs p call)) kernel)
+pub sound_call : (kernel : Kernel) (p : ℕ) (call : Taken) → IsSoundKernel kernel → IsSoundKernel (dispatched (with_procs (with_call kernel.dispatcher.procs p call)) kernel)
 unfolding with_call
 sound_call kernel p call s = record {
   units = s.units;
@@ -173,7 +173,7 @@ sound_call kernel p call s = record {
   runs = s.runs;
 }
 
-pub sound_devices : (kernel : Kernel) (devices : Devices) → IsSound kernel → IsSound (record kernel { devices = devices })
+pub sound_devices : (kernel : Kernel) (devices : Devices) → IsSoundKernel kernel → IsSoundKernel (record kernel { devices = devices })
 sound_devices kernel devices s = record {
   units = s.units;
   owners = s.owners;
@@ -190,9 +190,9 @@ sound_devices kernel devices s = record {
 }
 
 -- the units are others, and everybody stands in at most one place
-pub sound_with_units : (kernel : Kernel) (units : Consoles) → IsSound kernel → AreUnits kernel.units kernel.dispatcher.procs units
+pub sound_with_units : (kernel : Kernel) (units : Consoles) → IsSoundKernel kernel → AreUnits kernel.units kernel.dispatcher.procs units
     → ((q : ℕ) → places (record kernel { units = units }) q ≤ 1) → ((q : ℕ) → 0 < places (record kernel { units = units }) q → Lives kernel.dispatcher.procs q)
-    → IsSound (record kernel { units = units })
+    → IsSoundKernel (record kernel { units = units })
 sound_with_units kernel units s are once live = record {
   units = are.sound;
   owners = are.owners;
@@ -209,13 +209,13 @@ sound_with_units kernel units s are once live = record {
 }
 
 -- the units are others, at which nobody waits who didn't before
-pub sound_units : (kernel : Kernel) (units : Consoles) → IsSound kernel → AreUnits kernel.units kernel.dispatcher.procs units
-    → ((q : ℕ) → waits_at_units units q ≤ waits_at_units kernel.units q) → IsSound (record kernel { units = units })
+pub sound_units : (kernel : Kernel) (units : Consoles) → IsSoundKernel kernel → AreUnits kernel.units kernel.dispatcher.procs units
+    → ((q : ℕ) → waits_at_units units q ≤ waits_at_units kernel.units q) → IsSoundKernel (record kernel { units = units })
 sound_units kernel units s are fewer =
     sound_with_units kernel units s are (λ q. omega (arith, s.once q, fewer q)) (λ q some. s.live q (omega (arith, fewer q, some)))
 
 -- what was written by the last call, and who is aborted, is no part of that
-pub sound_noted : (kernel : Kernel) (echo : List ℕ) (aborted : Option ℕ) → IsSound kernel → IsSound (record kernel { echo = echo; aborted = aborted })
+pub sound_noted : (kernel : Kernel) (echo : List ℕ) (aborted : Option ℕ) → IsSoundKernel kernel → IsSoundKernel (record kernel { echo = echo; aborted = aborted })
 sound_noted kernel echo aborted s = record {
   units = s.units;
   owners = s.owners;
@@ -232,7 +232,7 @@ sound_noted kernel echo aborted s = record {
 }
 
 -- one console is another one, of the same owner, at whose gate the same process waits
-pub units_console : (kernel : Kernel) (n : ℕ) (console : Console) → IsSound kernel → HasConsole kernel n
+pub units_console : (kernel : Kernel) (n : ℕ) (console : Console) → IsSoundKernel kernel → IsConsole kernel n
     → console.owner ≡ (console_at kernel.units n).owner → AreUnitsSound (with_console kernel.units n console)
     → AreUnits kernel.units kernel.dispatcher.procs (with_console kernel.units n console)
 units_console kernel n console s has same sound = record {
@@ -242,22 +242,22 @@ units_console kernel n console s has same sound = record {
   owners = λ unit p there is. s.owners unit p (has_before kernel.units n console unit there) (sym (ap (λ o. is_owner o p) (owner_kept kernel.units n console unit has same)) ∙ is);
 }
 
-pub sound_console : (kernel : Kernel) (n : ℕ) (console : Console) → IsSound kernel → HasConsole kernel n
+pub sound_console : (kernel : Kernel) (n : ℕ) (console : Console) → IsSoundKernel kernel → IsConsole kernel n
     → console.owner ≡ (console_at kernel.units n).owner → console.awaits ≡ (console_at kernel.units n).awaits
-    → AreUnitsSound (with_console kernel.units n console) → IsSound (record kernel { units = with_console kernel.units n console })
+    → AreUnitsSound (with_console kernel.units n console) → IsSoundKernel (record kernel { units = with_console kernel.units n console })
 sound_console kernel n console s has owner awaits sound =
     sound_units kernel (with_console kernel.units n console) s (units_console kernel n console s has owner sound)
     (λ q. omega (arith, gates_kept kernel.units n console q has owner awaits, waits_console kernel.units n console q))
 
 -- bytes come to a console
-pub sound_spoke : (kernel : Kernel) (console : ℕ) (bytes : List ℕ) → IsSound kernel → IsSound (spoke kernel console bytes)
+pub sound_spoke : (kernel : Kernel) (console : ℕ) (bytes : List ℕ) → IsSoundKernel kernel → IsSoundKernel (spoke kernel console bytes)
 unfolding spoke spoke_units spoken
 sound_spoke kernel console bytes s = elim (cases_lt console (length kernel.units.consoles)) [
   | inl has ↦
       sound_console kernel console _ s has refl refl
       (sound_kept kernel.units console _ s.units has refl (proper_spoken (console_at kernel.units console) bytes (s.units.proper console)))
   | inr past ↦
-      let P : List Console → Type 0 = λ cs. IsSound (record kernel { units = record kernel.units { consoles = cs } }) in
+      let P : List Console → Type 0 = λ cs. IsSoundKernel (record kernel { units = record kernel.units { consoles = cs } }) in
       subst P (sym (set_past kernel.units.consoles console _ past)) s
 ]
 
@@ -286,33 +286,33 @@ unfolding opening
 opening_outside new = refl
 
 -- the first of the ready list is ready
-pub first_is_ready : (kernel : Kernel) (p : ℕ) → IsSound kernel → first_of (list_at kernel.dispatcher.lists ready) ≡ Some p → IsReady kernel.dispatcher p
+pub first_is_ready : (kernel : Kernel) (p : ℕ) → IsSoundKernel kernel → first_of (list_at kernel.dispatcher.lists ready) ≡ Some p → IsReady kernel.dispatcher p
 first_is_ready kernel p s e = list_of_known kernel.dispatcher.lists p ready s.table (first_is_in (list_at kernel.dispatcher.lists ready) p e)
 
 -- who is in a list lives
-pub listed : (kernel : Kernel) (p list : ℕ) → IsSound kernel → list_of kernel.dispatcher.lists p ≡ Some list → Lives kernel.dispatcher.procs p
+pub listed : (kernel : Kernel) (p list : ℕ) → IsSoundKernel kernel → list_of kernel.dispatcher.lists p ≡ Some list → Lives kernel.dispatcher.procs p
 listed kernel p list s e = s.live p (omega (arith, in_some _ list e))
 
 -- who is in a list waits for nothing else
-pub listed_once : (kernel : Kernel) (p list : ℕ) → IsSound kernel → list_of kernel.dispatcher.lists p ≡ Some list
+pub listed_once : (kernel : Kernel) (p list : ℕ) → IsSoundKernel kernel → list_of kernel.dispatcher.lists p ≡ Some list
     → waits_of kernel p ≡ 0
 listed_once kernel p list s e = omega (arith, in_some _ list e, s.once p)
 
 -- who is ready waits for no tick
-pub not_delayed : (kernel : Kernel) (p : ℕ) → IsSound kernel → IsReady kernel.dispatcher p → delays_of kernel.clock.delays p ≡ 0
+pub not_delayed : (kernel : Kernel) (p : ℕ) → IsSoundKernel kernel → IsReady kernel.dispatcher p → delays_of kernel.clock.delays p ≡ 0
 not_delayed kernel p s is_ready = omega (arith, listed_once kernel p ready s is_ready)
 
 -- who runs lives
-pub runner_lives : (kernel : Kernel) (p : ℕ) → IsSound kernel → kernel.dispatcher.running ≡ Some p → Lives kernel.dispatcher.procs p
+pub runner_lives : (kernel : Kernel) (p : ℕ) → IsSoundKernel kernel → kernel.dispatcher.running ≡ Some p → Lives kernel.dispatcher.procs p
 runner_lives kernel p s e = listed kernel p ready s (s.runs p e)
 
 -- who runs is picked, who is ready
-runner_if : (b : Bool) (kernel : Kernel) (p : ℕ) → IsSound kernel
+runner_if : (b : Bool) (kernel : Kernel) (p : ℕ) → IsSoundKernel kernel
     → (if b then kernel.dispatcher.running else first_of (list_at kernel.dispatcher.lists ready)) ≡ Some p → IsReady kernel.dispatcher p
 runner_if true kernel p s e = s.runs p e
 runner_if false kernel p s e = first_is_ready kernel p s e
 
-pub sound_picked : (kernel : Kernel) (instruction : Bool) → IsSound kernel → IsSound (dispatched (picked instruction) kernel)
+pub sound_picked : (kernel : Kernel) (instruction : Bool) → IsSoundKernel kernel → IsSoundKernel (dispatched (picked instruction) kernel)
 unfolding runner
 sound_picked kernel instruction s = record {
   units = s.units;
@@ -330,7 +330,7 @@ sound_picked kernel instruction s = record {
 }
 
 -- a slot where nobody lives stands in no list
-pub free_is_unlisted : (kernel : Kernel) (p : ℕ) → IsSound kernel → lowest_free kernel.dispatcher.procs ≡ Some p → list_of kernel.dispatcher.lists p ≡ None
+pub free_is_unlisted : (kernel : Kernel) (p : ℕ) → IsSoundKernel kernel → lowest_free kernel.dispatcher.procs ≡ Some p → list_of kernel.dispatcher.lists p ≡ None
 free_is_unlisted kernel p s free =
     unlisted_if_dead (list_of kernel.dispatcher.lists p) (λ list e. both_ways _ (free_is_dead kernel.dispatcher.procs p free) (listed kernel p list s e))
 
@@ -339,14 +339,14 @@ none_if_dead : (n : ℕ) → (0 < n → ⊥) → n ≡ 0
 none_if_dead zero h = refl
 none_if_dead (suc n) h = absurd (h (omega arith))
 
-free_is_nowhere : (kernel : Kernel) (p : ℕ) → IsSound kernel → lowest_free kernel.dispatcher.procs ≡ Some p
+free_is_nowhere : (kernel : Kernel) (p : ℕ) → IsSoundKernel kernel → lowest_free kernel.dispatcher.procs ≡ Some p
     → waits_of kernel p ≡ 0
 free_is_nowhere kernel p s free =
     let none = none_if_dead (places kernel p) (λ some. both_ways _ (free_is_dead kernel.dispatcher.procs p free) (s.live p some)) in
     omega (arith, none)
 
 -- who lives lives on as a process begins
-lives_on : (kernel : Kernel) (p : ℕ) (new : NewProcess) → IsSound kernel → lowest_free kernel.dispatcher.procs ≡ Some p → (q : ℕ) → Lives kernel.dispatcher.procs q
+lives_on : (kernel : Kernel) (p : ℕ) (new : NewProcess) → IsSoundKernel kernel → lowest_free kernel.dispatcher.procs ≡ Some p → (q : ℕ) → Lives kernel.dispatcher.procs q
     → Lives (added kernel.dispatcher.procs p new) q
 lives_on kernel p new s free q living = elim (cases_eq q p) [
   | inl same ↦ absurd (both_ways _ (free_is_dead kernel.dispatcher.procs p free) (ap (lives kernel.dispatcher.procs) (sym same) ∙ living))
@@ -354,8 +354,8 @@ lives_on kernel p new s free q living = elim (cases_eq q p) [
 ]
 
 -- a process begins
-pub sound_admitted : (kernel : Kernel) (p : ℕ) (new : NewProcess) → IsSound kernel → lowest_free kernel.dispatcher.procs ≡ Some p → new.console < length kernel.units.consoles
-    → IsSound (dispatched (admitted p new) kernel)
+pub sound_admitted : (kernel : Kernel) (p : ℕ) (new : NewProcess) → IsSoundKernel kernel → lowest_free kernel.dispatcher.procs ≡ Some p → new.console < length kernel.units.consoles
+    → IsSoundKernel (dispatched (admitted p new) kernel)
 sound_admitted kernel p new s free console =
     let below : p < 32 = omega (arith, free_below kernel.dispatcher.procs p free, s.slots.alive) in
     let member : Member = record { slot = p; priority = new.priority } in
@@ -407,8 +407,8 @@ sound_admitted kernel p new s free console =
       ];
     }
 
-pub sound_in_slot : (kernel : Kernel) (new : NewProcess) (slot : Option ℕ) → IsSound kernel → lowest_free kernel.dispatcher.procs ≡ slot → new.console < length kernel.units.consoles
-    → IsSound (dispatched (in_slot new slot) kernel)
+pub sound_in_slot : (kernel : Kernel) (new : NewProcess) (slot : Option ℕ) → IsSoundKernel kernel → lowest_free kernel.dispatcher.procs ≡ slot → new.console < length kernel.units.consoles
+    → IsSoundKernel (dispatched (in_slot new slot) kernel)
 sound_in_slot kernel new None s free console = s
 sound_in_slot kernel new (Some p) s free console = sound_admitted kernel p new s free console
 
@@ -417,10 +417,10 @@ completed_in_slot kernel new None = refl
 completed_in_slot kernel new (Some p) = refl
 
 -- a process is put into a list and is nowhere else
-placed_in : (kernel : Kernel) (list p : ℕ) (running : Option ℕ) → IsSound kernel → Lives kernel.dispatcher.procs p → list < 96
+placed_in : (kernel : Kernel) (list p : ℕ) (running : Option ℕ) → IsSoundKernel kernel → Lives kernel.dispatcher.procs p → list < 96
     → waits_of kernel p ≡ 0
     → ((q : ℕ) → running ≡ Some q → list_of (moved_lists kernel.dispatcher.lists list p (process_in kernel.dispatcher.procs p).priority) q ≡ Some ready)
-    → IsSound (record kernel { dispatcher = record kernel.dispatcher { lists = moved_lists kernel.dispatcher.lists list p (process_in kernel.dispatcher.procs p).priority; running = running } })
+    → IsSoundKernel (record kernel { dispatcher = record kernel.dispatcher { lists = moved_lists kernel.dispatcher.lists list p (process_in kernel.dispatcher.procs p).priority; running = running } })
 placed_in kernel list p running s h small nowhere_else runs =
     let below : p < 32 = lives_below kernel.dispatcher.procs p s.slots h in
     let priority = (process_in kernel.dispatcher.procs p).priority in
@@ -448,8 +448,8 @@ placed_in kernel list p running s h small nowhere_else runs =
     }
 
 -- a process that waits for nothing else becomes ready
-pub sound_ready : (kernel : Kernel) (p : ℕ) → IsSound kernel → Lives kernel.dispatcher.procs p → waits_of kernel p ≡ 0
-    → IsSound (dispatched (moved ready p) kernel)
+pub sound_ready : (kernel : Kernel) (p : ℕ) → IsSoundKernel kernel → Lives kernel.dispatcher.procs p → waits_of kernel p ≡ 0
+    → IsSoundKernel (dispatched (moved ready p) kernel)
 sound_ready kernel p s h nowhere_else =
     let below : p < 32 = lives_below kernel.dispatcher.procs p s.slots h in
     let priority = (process_in kernel.dispatcher.procs p).priority in
@@ -459,8 +459,8 @@ sound_ready kernel p s h nowhere_else =
     ])
 
 -- a process that runs no more is put into another list
-pub sound_moved : (kernel : Kernel) (list p : ℕ) → IsSound kernel → Lives kernel.dispatcher.procs p → list < 96
-    → waits_of kernel p ≡ 0 → IsSound (dispatched (at_rest p) (dispatched (moved list p) kernel))
+pub sound_moved : (kernel : Kernel) (list p : ℕ) → IsSoundKernel kernel → Lives kernel.dispatcher.procs p → list < 96
+    → waits_of kernel p ≡ 0 → IsSoundKernel (dispatched (at_rest p) (dispatched (moved list p) kernel))
 sound_moved kernel list p s h small nowhere_else =
     let below : p < 32 = lives_below kernel.dispatcher.procs p s.slots h in
     placed_in kernel list p (runs_still p kernel.dispatcher.running) s h small nowhere_else (λ q e.
@@ -473,15 +473,15 @@ pub record AreQueues (kernel : Kernel) (queues : Queues) : Type 0 where
   pub system : (q : ℕ) → q < kernel.system_queues → IsMade queues q
   pub inside : (p q : ℕ) → Lives kernel.dispatcher.procs p → (process_in kernel.dispatcher.procs p).procedure ≡ Some q → IsOfTwo queues q
 
-pub own_queues : (kernel : Kernel) → IsSound kernel → AreQueues kernel kernel.queues
+pub own_queues : (kernel : Kernel) → IsSoundKernel kernel → AreQueues kernel kernel.queues
 own_queues kernel s = record { sound = s.queues; system = s.system; inside = s.inside }
 
 -- a process that runs no more leaves its list, and waits for a flag, for the clock or at a queue
-pub sound_unlisted : (kernel : Kernel) (p : ℕ) (flags : List Flag) (clock : Clock) (queues : Queues) → IsSound kernel → Lives kernel.dispatcher.procs p
+pub sound_unlisted : (kernel : Kernel) (p : ℕ) (flags : List Flag) (clock : Clock) (queues : Queues) → IsSoundKernel kernel → Lives kernel.dispatcher.procs p
     → length flags ≡ 32 → AreQueues kernel queues
     → waits_in flags clock queues p + waits_at_units kernel.units p + at_disk kernel.disk p ≤ 1
     → ((q : ℕ) → q ≢ p → waits_in flags clock queues q ≡ waits_in kernel.flags kernel.clock kernel.queues q)
-    → IsSound (record kernel { dispatcher = descheduled p kernel.dispatcher; flags = flags; clock = clock; queues = queues })
+    → IsSoundKernel (record kernel { dispatcher = descheduled p kernel.dispatcher; flags = flags; clock = clock; queues = queues })
 sound_unlisted kernel p flags clock queues s h size are own others = record {
   units = s.units;
   owners = s.owners;
@@ -513,9 +513,9 @@ sound_unlisted kernel p flags clock queues s h size are own others = record {
 }
 
 -- nobody waits more than before
-pub sound_fewer : (kernel : Kernel) (flags : List Flag) (clock : Clock) (queues : Queues) → IsSound kernel → length flags ≡ 32 → AreQueues kernel queues
+pub sound_fewer : (kernel : Kernel) (flags : List Flag) (clock : Clock) (queues : Queues) → IsSoundKernel kernel → length flags ≡ 32 → AreQueues kernel queues
     → ((q : ℕ) → waits_in flags clock queues q ≤ waits_in kernel.flags kernel.clock kernel.queues q)
-    → IsSound (record kernel { flags = flags; clock = clock; queues = queues })
+    → IsSoundKernel (record kernel { flags = flags; clock = clock; queues = queues })
 sound_fewer kernel flags clock queues s size are fewer = record {
   units = s.units;
   owners = s.owners;
@@ -539,9 +539,9 @@ turned kernel p is_ready =
     let with_lists : List (List Member) → Kernel = λ lists. record kernel { dispatcher = record kernel.dispatcher { lists = lists } } in
     ap with_lists (ap (reinserted kernel.dispatcher.lists p priority) is_ready)
 
-pub sound_behind_equals : (kernel : Kernel) (p : ℕ) → IsSound kernel → Lives kernel.dispatcher.procs p → IsReady kernel.dispatcher p → IsSound (dispatched (behind_equals p) kernel)
+pub sound_behind_equals : (kernel : Kernel) (p : ℕ) → IsSoundKernel kernel → Lives kernel.dispatcher.procs p → IsReady kernel.dispatcher p → IsSoundKernel (dispatched (behind_equals p) kernel)
 sound_behind_equals kernel p s h is_ready =
-    let P : Kernel → Type 0 = λ k. IsSound k in
+    let P : Kernel → Type 0 = λ k. IsSoundKernel k in
     subst P (sym (turned kernel p is_ready)) (sound_ready kernel p s h (listed_once kernel p ready s is_ready))
 
 pub lives_behind_equals : (kernel : Kernel) (p q : ℕ) → Lives kernel.dispatcher.procs q → Lives (dispatched (behind_equals p) kernel).dispatcher.procs q
@@ -552,7 +552,7 @@ lives_behind_equals kernel p q h = h
 abbrev pub MayBeReady : Kernel → ℕ → Type 0
 MayBeReady kernel p = Lives kernel.dispatcher.procs p × (waits_of kernel p ≡ 0)
 
-pub sound_all_ready : (ps : List ℕ) (kernel : Kernel) → IsSound kernel → AllByRecursion (MayBeReady kernel) ps → IsSound (dispatched (all_ready ps) kernel)
+pub sound_all_ready : (ps : List ℕ) (kernel : Kernel) → IsSoundKernel kernel → AllByRecursion (MayBeReady kernel) ps → IsSoundKernel (dispatched (all_ready ps) kernel)
 unfolding ready_in
 sound_all_ready [] kernel s may = s
 sound_all_ready (p ∷ ps) kernel s may = sound_all_ready ps (dispatched (moved ready p) kernel) (sound_ready kernel p s may.0.0 may.0.1) may.1
@@ -564,22 +564,22 @@ pub running_all_ready : (ps : List ℕ) (kernel : Kernel) → (dispatched (all_r
 running_all_ready ps kernel = refl
 
 -- who runs is put after its equals
-behind_if : (b : Bool) (kernel : Kernel) (p : ℕ) → IsSound kernel → (b ≡ true → IsReady kernel.dispatcher p)
-    → IsSound (record kernel { dispatcher = record kernel.dispatcher { lists = if b then rotated_in kernel.dispatcher.procs kernel.dispatcher.lists p else kernel.dispatcher.lists } })
+behind_if : (b : Bool) (kernel : Kernel) (p : ℕ) → IsSoundKernel kernel → (b ≡ true → IsReady kernel.dispatcher p)
+    → IsSoundKernel (record kernel { dispatcher = record kernel.dispatcher { lists = if b then rotated_in kernel.dispatcher.procs kernel.dispatcher.lists p else kernel.dispatcher.lists } })
 behind_if true kernel p s h = sound_behind_equals kernel p s (listed kernel p ready s (h refl)) (h refl)
 behind_if false kernel p s h = s
 
-sound_lists_behind : (running : Option ℕ) (kernel : Kernel) → IsSound kernel
-    → IsSound (record kernel { dispatcher = record kernel.dispatcher { lists = lists_behind running kernel.dispatcher.procs kernel.dispatcher.lists } })
+sound_lists_behind : (running : Option ℕ) (kernel : Kernel) → IsSoundKernel kernel
+    → IsSoundKernel (record kernel { dispatcher = record kernel.dispatcher { lists = lists_behind running kernel.dispatcher.procs kernel.dispatcher.lists } })
 unfolding lists_behind
 sound_lists_behind None kernel s = s
 sound_lists_behind (Some p) kernel s = behind_if (is_ready (list_of kernel.dispatcher.lists p)) kernel p s (is_ready_true (list_of kernel.dispatcher.lists p))
 
-pub sound_runner_behind : (kernel : Kernel) → IsSound kernel → IsSound (dispatched runner_behind kernel)
+pub sound_runner_behind : (kernel : Kernel) → IsSoundKernel kernel → IsSoundKernel (dispatched runner_behind kernel)
 sound_runner_behind kernel s = sound_lists_behind kernel.dispatcher.running kernel s
 
 -- a call begins, or an event
-pub sound_begun : (echoes : Bool) (kernel : Kernel) → IsSound kernel → IsSound (call_begun echoes kernel)
+pub sound_begun : (echoes : Bool) (kernel : Kernel) → IsSoundKernel kernel → IsSoundKernel (call_begun echoes kernel)
 sound_begun echoes kernel s = record {
   units = s.units;
   owners = s.owners;
@@ -595,7 +595,7 @@ sound_begun echoes kernel s = record {
   runs = s.runs;
 }
 
-pub sound_afresh : (kernel : Kernel) → IsSound kernel → IsSound (afresh kernel)
+pub sound_afresh : (kernel : Kernel) → IsSoundKernel kernel → IsSoundKernel (afresh kernel)
 sound_afresh kernel s = record {
   units = s.units;
   owners = s.owners;
@@ -612,7 +612,7 @@ sound_afresh kernel s = record {
 }
 
 -- calls are completed
-pub sound_with_completed : (kernel : Kernel) (ps : List ℕ) → IsSound kernel → IsSound (dispatched (with_completed ps) kernel)
+pub sound_with_completed : (kernel : Kernel) (ps : List ℕ) → IsSoundKernel kernel → IsSoundKernel (dispatched (with_completed ps) kernel)
 sound_with_completed kernel ps s = record {
   units = s.units;
   owners = s.owners;

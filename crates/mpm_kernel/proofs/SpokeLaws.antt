@@ -7,19 +7,19 @@ use Rattle.mpm_consoles.specs.Handling.{spoke as spoke_units, output_spaces}
 use Rattle.mpm_consoles.proofs.ColumnLaws.{spaces_most as most_there, tab_is_spaces as spaces_there, tab_is_itself as itself_there}
 use Rattle.mpm_consoles.proofs.SpokeLaws.{column_spoke as column_in_units, spoke_none as none_in_units, spoke_both as both_in_units, output_itself, output_tabbed}
 use Rattle.mpm_consoles.specs.declared.unit.Unit.TheVariants.{Console as ConsoleUnit}
-use Rattle.mpm_kernel.specs.Kernel.{Kernel, HasConsole}
+use Rattle.mpm_kernel.specs.Kernel.{Kernel, IsConsole}
 use Rattle.mpm_kernel.specs.Columns.{columns_after, tab_text, column_of, spoke, wrote, spaces_for}
 
 with_units : Kernel → Consoles → Kernel
 with_units kernel units = record kernel { units = units }
 
 -- the column after some bytes
-pub column_spoke : (kernel : Kernel) (console : ℕ) (bytes : List ℕ) → HasConsole kernel console
+pub column_spoke : (kernel : Kernel) (console : ℕ) (bytes : List ℕ) → IsConsole kernel console
     → column_of (spoke kernel console bytes) console ≡ columns_after (column_of kernel console) bytes
 unfolding spoke
 column_spoke kernel console bytes has = column_in_units kernel.units console bytes has
 
-pub has_spoke : (kernel : Kernel) (console : ℕ) (bytes : List ℕ) → HasConsole kernel console → HasConsole (spoke kernel console bytes) console
+pub has_spoke : (kernel : Kernel) (console : ℕ) (bytes : List ℕ) → IsConsole kernel console → IsConsole (spoke kernel console bytes) console
 unfolding spoke spoke_units
 has_spoke kernel console bytes has = omega (arith, length-set kernel.units.consoles console (spoken bytes (console_at kernel.units console)), has)
 
@@ -27,7 +27,7 @@ pub spoke_none : (kernel : Kernel) (console : ℕ) → spoke kernel console [] �
 unfolding spoke with_units
 spoke_none kernel console = ap (with_units kernel) (none_in_units kernel.units console)
 
-pub spoke_both : (kernel : Kernel) (console : ℕ) (a b : List ℕ) → HasConsole kernel console
+pub spoke_both : (kernel : Kernel) (console : ℕ) (a b : List ℕ) → IsConsole kernel console
     → spoke (spoke kernel console a) console b ≡ spoke kernel console (a ++ b)
 unfolding spoke with_units
 spoke_both kernel console a b has = ap (with_units kernel) (both_in_units kernel.units console a b has)

@@ -4,12 +4,12 @@ use Rattle.std.specs.List.{AllByRecursion}
 use Rattle.mpm_base.proofs.Choices.{either}
 use Rattle.mpm_procs.specs.Table.{Table, Lives}
 use Rattle.mpm_dispatcher.specs.Dispatch.{IsReady}
-use Rattle.mpm_kernel.specs.Kernel.{Kernel, IsSound, CompletedLive}
+use Rattle.mpm_kernel.specs.Kernel.{Kernel, IsSoundKernel, CompletedLive}
 use Rattle.mpm_kernel.specs.Called.{Called, valued}
 
 -- what a call leaves is sound, its process lives, and so does each whose held call it completed
 pub record StaysSound (p : ℕ) (called : Called) : Type 0 where
-  pub sound : IsSound called.kernel
+  pub sound : IsSoundKernel called.kernel
   pub lives : Lives called.kernel.dispatcher.procs p
   pub completed : CompletedLive called.kernel
 
@@ -49,7 +49,7 @@ kernel_if p b x y value s t = either (λ (kernel : Kernel). StaysSound p (valued
 
 -- a process that is ready and lives, in a sound kernel that has completed no call yet
 pub record Calls (p : ℕ) (kernel : Kernel) : Type 0 where
-  pub sound : IsSound kernel
+  pub sound : IsSoundKernel kernel
   pub lives : Lives kernel.dispatcher.procs p
   pub ready : IsReady kernel.dispatcher p
   pub none : kernel.dispatcher.completed ≡ []

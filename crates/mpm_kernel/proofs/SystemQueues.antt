@@ -9,7 +9,7 @@ use Rattle.mpm_clock.specs.declared.moment.Moment.{Moment}
 use Rattle.mpm_queues.specs.Queues.{Queues, no_queues, IsMade, is_made, is_free, found, lowest_free, made, make_error}
 use Rattle.mpm_queues.specs.declared.queues.MakeRefused.TheVariants.{BadCount, Exists, NoQueueRoom}
 use Rattle.mpm_queues.proofs.Finding.{lowest_none}
-use Rattle.mpm_kernel.specs.Kernel.{Kernel, IsSound, new_kernel}
+use Rattle.mpm_kernel.specs.Kernel.{Kernel, IsSoundKernel, new_kernel}
 use Rattle.mpm_kernel.specs.Queueing.{OnlySystems, made_at, with_queue, with_system_queue}
 use Rattle.mpm_kernel.proofs.QueueingLaws.{accepts, found_made, number_below, system_is_lowest, sound_with_queue}
 
@@ -54,7 +54,7 @@ unfolding new_kernel
 may_make_new consoles printers now name width count some few = may_make_first name width count some few
 
 -- one more: it is the system's, and there are still only those of the system
-made_there : (kernel : Kernel) (slot : Option ℕ) (name : Name8) (width count : ℕ) → IsSound kernel → OnlySystems kernel → lowest_free kernel.queues ≡ slot
+made_there : (kernel : Kernel) (slot : Option ℕ) (name : Name8) (width count : ℕ) → IsSoundKernel kernel → OnlySystems kernel → lowest_free kernel.queues ≡ slot
     → is_none slot ≡ false → IsMade (made_at slot kernel.queues name width count) kernel.system_queues
 unfolding made
 made_there kernel None name width count s only free some = absurd (cc)
@@ -69,7 +69,7 @@ made_before None t name width count k other = refl
 made_before (Some q) t name width count k other = get_or-set_other t.alive q k true false (λ same. other (ap (λ (n : ℕ). Some n) (sym same)))
 
 -- a queue of the system has the lowest free number, and so they have the lowest
-pub system_made : (kernel : Kernel) (name : Name8) (width count q : ℕ) (queues : Queues) → IsSound kernel → OnlySystems kernel → lowest_free kernel.queues ≡ Some q
+pub system_made : (kernel : Kernel) (name : Name8) (width count q : ℕ) (queues : Queues) → IsSoundKernel kernel → OnlySystems kernel → lowest_free kernel.queues ≡ Some q
     → queues ≡ made kernel.queues q name width count → record kernel { queues = queues; system_queues = q + 1 } ≡ with_system_queue kernel name width count
 unfolding with_system_queue with_queue
 system_made kernel name width count q queues s only free is =
@@ -77,8 +77,8 @@ system_made kernel name width count q queues s only free is =
     ∙ ap (λ slot. record kernel { queues = made_at slot kernel.queues name width count; system_queues = q + 1 }) (sym free)
     ∙ ap (λ (n : ℕ). record (with_queue kernel name width count) { system_queues = n + 1 }) (system_is_lowest kernel q s only free)
 
-pub sound_system_queue : (kernel : Kernel) (name : Name8) (width count : ℕ) → IsSound kernel → OnlySystems kernel
-    → make_error kernel.queues name width count ≡ None → IsSound (with_system_queue kernel name width count)
+pub sound_system_queue : (kernel : Kernel) (name : Name8) (width count : ℕ) → IsSoundKernel kernel → OnlySystems kernel
+    → make_error kernel.queues name width count ≡ None → IsSoundKernel (with_system_queue kernel name width count)
 unfolding with_system_queue with_queue
 sound_system_queue kernel name width count s only none =
     let accepted : is_none (make_error kernel.queues name width count) ≡ true = ap is_none none in
@@ -103,7 +103,7 @@ sound_system_queue kernel name width count s only none =
       runs = more.runs;
     }
 
-pub only_systems_again : (kernel : Kernel) (name : Name8) (width count : ℕ) → IsSound kernel → OnlySystems kernel
+pub only_systems_again : (kernel : Kernel) (name : Name8) (width count : ℕ) → IsSoundKernel kernel → OnlySystems kernel
     → OnlySystems (with_system_queue kernel name width count)
 unfolding with_system_queue with_queue
 only_systems_again kernel name width count s only = record {

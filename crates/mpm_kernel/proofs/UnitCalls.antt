@@ -18,7 +18,7 @@ use Rattle.mpm_consoles.specs.declared.unit.Unit.{Unit}
 use Rattle.mpm_consoles.specs.declared.unit.Unit.TheVariants.{Console as ConsoleUnit, Printer as PrinterUnit}
 use Rattle.mpm_consoles.proofs.SoundLaws.{sound_given, sound_listed, for_free, for_absent}
 use Rattle.mpm_dispatcher.specs.Dispatch.{ready, lists_ready, made_ready, descheduled}
-use Rattle.mpm_kernel.specs.Kernel.{Kernel, in_lists, waits_at_units, waits_of, IsSound, with_changed, dispatched}
+use Rattle.mpm_kernel.specs.Kernel.{Kernel, in_lists, waits_at_units, waits_of, IsSoundKernel, with_changed, dispatched}
 use Rattle.mpm_kernel.specs.Consoling.{unit_left, retried, attached, attached_now, detached, console_changed, printer_changed, console_set, printer_set, is_called, named, owner_made, is_meant, assigned_to, assigned, printer_called, unit_called}
 use Rattle.mpm_kernel.specs.Called.{valued, failure_code, low_parameter}
 use Rattle.mpm_kernel.specs.Consoling.{retried, attached, attached_now, detached, console_changed, printer_changed, console_set, printer_set, is_called, named, owner_made, is_meant, assigned_to, assigned, printer_rows, printer_called, unit_rows, unit_called}
@@ -42,7 +42,7 @@ pub record WaitsAt (kernel : Kernel) (p : ℕ) (units : Consoles) : Type 0 where
 quiet : Kernel → ℕ → Kernel
 quiet kernel p = record kernel { dispatcher = descheduled p kernel.dispatcher }
 
-sound_quiet : (p : ℕ) (kernel : Kernel) → Calls p kernel → IsSound (quiet kernel p)
+sound_quiet : (p : ℕ) (kernel : Kernel) → Calls p kernel → IsSoundKernel (quiet kernel p)
 unfolding quiet
 sound_quiet p kernel c =
     sound_unlisted kernel p kernel.flags kernel.clock kernel.queues c.sound c.lives c.sound.flags (own_queues kernel c.sound)
@@ -76,7 +76,7 @@ pub record AreQuiet (kernel : Kernel) (units : Consoles) : Type 0 where
   pub are : AreUnits kernel.units kernel.dispatcher.procs units
   pub fewer : (q : ℕ) → waits_at_units units q ≤ waits_at_units kernel.units q
 
-quiet_same : (kernel : Kernel) → IsSound kernel → AreQuiet kernel kernel.units
+quiet_same : (kernel : Kernel) → IsSoundKernel kernel → AreQuiet kernel kernel.units
 quiet_same kernel s = record {
   are = record { sound = s.units; consoles = refl; printers = refl; owners = s.owners };
   fewer = λ q. omega arith;
@@ -87,7 +87,7 @@ has_before_given t unit (ConsoleUnit n) owner has = omega (arith, consoles_given
 has_before_given t unit (PrinterUnit n) owner has = omega (arith, printers_given t unit owner, has)
 
 -- a unit comes to a living process that doesn't wait for it
-pub quiet_given : (kernel : Kernel) (unit : Unit) (p : ℕ) → IsSound kernel → HasUnit kernel.units unit → Lives kernel.dispatcher.procs p
+pub quiet_given : (kernel : Kernel) (unit : Unit) (p : ℕ) → IsSoundKernel kernel → HasUnit kernel.units unit → Lives kernel.dispatcher.procs p
     → MayWait (Some p) (waiters_of kernel.units unit) → AreQuiet kernel (given kernel.units unit (Some p))
 quiet_given kernel unit p s has h for = record {
   are = record {
@@ -103,7 +103,7 @@ quiet_given kernel unit p s has h for = record {
 }
 
 -- a unit is attached
-quiet_either : (b c : Bool) (kernel : Kernel) (x : Consoles) → IsSound kernel → b ≡ true → AreQuiet kernel (if b || c then kernel.units else x)
+quiet_either : (b c : Bool) (kernel : Kernel) (x : Consoles) → IsSoundKernel kernel → b ≡ true → AreQuiet kernel (if b || c then kernel.units else x)
 quiet_either true c kernel x s is = quiet_same kernel s
 quiet_either false c kernel x s is = absurd (false≢true is)
 
@@ -237,13 +237,13 @@ stays_printer_set call p kernel c =
     (λ _. same p failure_code kernel c)
 
 -- a console is assigned
-pub sound_made : (heir : Option ℕ) (kernel : Kernel) (units : Consoles) → IsSound (record kernel { dispatcher = made_ready heir kernel.dispatcher; units = units })
-    → IsSound (dispatched (made_ready heir) (record kernel { units = units }))
+pub sound_made : (heir : Option ℕ) (kernel : Kernel) (units : Consoles) → IsSoundKernel (record kernel { dispatcher = made_ready heir kernel.dispatcher; units = units })
+    → IsSoundKernel (dispatched (made_ready heir) (record kernel { units = units }))
 sound_made heir kernel units s = s
 
-owner_by : (own waiting : Bool) (console to : ℕ) (kernel : Kernel) → IsSound kernel → Lives kernel.dispatcher.procs to → console < length kernel.units.consoles
+owner_by : (own waiting : Bool) (console to : ℕ) (kernel : Kernel) → IsSoundKernel kernel → Lives kernel.dispatcher.procs to → console < length kernel.units.consoles
     → owns kernel.units to (ConsoleUnit console) ≡ own → waits_for kernel.units to (ConsoleUnit console) ≡ waiting
-    → IsSound (dispatched (made_ready (if waiting then Some to else None)) (record kernel { units = if own then kernel.units else given (if waiting then unlisted kernel.units to else kernel.units) (ConsoleUnit console) (Some to) }))
+    → IsSoundKernel (dispatched (made_ready (if waiting then Some to else None)) (record kernel { units = if own then kernel.units else given (if waiting then unlisted kernel.units to else kernel.units) (ConsoleUnit console) (Some to) }))
 unfolding lists_ready
 owner_by true true console to kernel s h has own there =
     absurd (false≢true (sym ((s.units.waited (ConsoleUnit console) has).others to (owner_is _ to own)) ∙ there))
@@ -254,8 +254,8 @@ owner_by false false console to kernel s h has own absent =
     let a = quiet_given kernel (ConsoleUnit console) to s has h (for_absent kernel.units (ConsoleUnit console) to absent) in
     sound_units kernel _ s a.are a.fewer
 
-pub sound_owner_made : (console to : ℕ) (kernel : Kernel) → IsSound kernel → Lives kernel.dispatcher.procs to → console < length kernel.units.consoles
-    → IsSound (owner_made console to kernel)
+pub sound_owner_made : (console to : ℕ) (kernel : Kernel) → IsSoundKernel kernel → Lives kernel.dispatcher.procs to → console < length kernel.units.consoles
+    → IsSoundKernel (owner_made console to kernel)
 unfolding owner_made console_assigned
 sound_owner_made console to kernel s h has =
     owner_by (owns kernel.units to (ConsoleUnit console)) (waits_for kernel.units to (ConsoleUnit console)) console to kernel s h has refl refl

@@ -6,7 +6,7 @@ use Rattle.mpm_base.specs.Calls.{Taken, byte_in, name_at}
 use Rattle.mpm_procs.specs.Table.{HasSlots, lives, Lives, process_in, call_of, with_process}
 use Rattle.mpm_procs.specs.declared.process.Process.{Process}
 use Rattle.mpm_procs.proofs.MapLaws.{lives_changed, call_after, slots_changed}
-use Rattle.mpm_kernel.specs.Kernel.{Kernel, IsSound, with_changed}
+use Rattle.mpm_kernel.specs.Kernel.{Kernel, IsSoundKernel, with_changed}
 use Rattle.mpm_kernel.specs.Columns.{spoke}
 use Rattle.mpm_kernel.specs.Called.{Called, valued, low_parameter}
 use Rattle.mpm_kernel.specs.Calls.{called}
@@ -67,7 +67,7 @@ kept_detached : (p : ℕ) (unit : Unit) (kernel : Kernel) → KeepsHome kernel (
 unfolding unit_left
 kept_detached p unit kernel = kept_same kernel _ refl (many_left p unit kernel).consoles
 
-kept_left_changed : (p : ℕ) (unit : Unit) (process : Process) (kernel : Kernel) → IsSound kernel → Lives kernel.dispatcher.procs p
+kept_left_changed : (p : ℕ) (unit : Unit) (process : Process) (kernel : Kernel) → IsSoundKernel kernel → Lives kernel.dispatcher.procs p
     → process.seg ≡ (process_in kernel.dispatcher.procs p).seg → process.abort_due ≡ (process_in kernel.dispatcher.procs p).abort_due
     → ((call_of kernel.dispatcher.procs p).function ≢ SET_BDOS_ERROR_MODE → process.error_mode ≡ (process_in kernel.dispatcher.procs p).error_mode)
     → ((call_of kernel.dispatcher.procs p).function ≢ SET_MULTI_SECTOR_COUNT → process.multi ≡ (process_in kernel.dispatcher.procs p).multi)
@@ -76,7 +76,7 @@ unfolding unit_left
 kept_left_changed p unit process kernel s h same due mode multi =
     kept_procs kernel (with_changed kernel p process) _ (kept_changed p 0 kernel process s h same due mode multi) refl (many_left p unit kernel).consoles
 
-kept_console_set : (call : Taken) (p : ℕ) (kernel : Kernel) → IsSound kernel → Lives kernel.dispatcher.procs p → KeepsHome kernel (console_set call p kernel)
+kept_console_set : (call : Taken) (p : ℕ) (kernel : Kernel) → IsSoundKernel kernel → Lives kernel.dispatcher.procs p → KeepsHome kernel (console_set call p kernel)
 unfolding console_set console_changed
 kept_console_set call p kernel s h =
     let console = low_parameter call in
@@ -88,7 +88,7 @@ kept_console_set call p kernel s h =
     (kept_attached p (ConsoleUnit console) _))
     (kept_same kernel _ refl refl)
 
-kept_printer_set : (call : Taken) (p : ℕ) (kernel : Kernel) → IsSound kernel → Lives kernel.dispatcher.procs p → KeepsHome kernel (printer_set call p kernel)
+kept_printer_set : (call : Taken) (p : ℕ) (kernel : Kernel) → IsSoundKernel kernel → Lives kernel.dispatcher.procs p → KeepsHome kernel (printer_set call p kernel)
 unfolding printer_set printer_changed
 kept_printer_set call p kernel s h =
     let printer = low_parameter call in
@@ -100,7 +100,7 @@ kept_printer_set call p kernel s h =
     (kept_attached p (PrinterUnit printer) _))
     (kept_same kernel _ refl refl)
 
-kept_assigned_to : (o : Option ℕ) (call : Taken) (kernel : Kernel) → IsSound kernel → ((q : ℕ) → o ≡ Some q → Lives kernel.dispatcher.procs q) → KeepsHome kernel (assigned_to o call kernel)
+kept_assigned_to : (o : Option ℕ) (call : Taken) (kernel : Kernel) → IsSoundKernel kernel → ((q : ℕ) → o ≡ Some q → Lives kernel.dispatcher.procs q) → KeepsHome kernel (assigned_to o call kernel)
 unfolding assigned_to owner_made
 kept_assigned_to None call kernel s live = kept_same kernel _ refl refl
 kept_assigned_to (Some to) call kernel s live =
@@ -108,7 +108,7 @@ kept_assigned_to (Some to) call kernel s live =
     (kept_procs kernel (with_changed kernel to (record (process_in kernel.dispatcher.procs to) { console = byte_in call 0 })) _ (kept_changed to 0 kernel _ s (live to refl) refl refl (λ _. refl) (λ _. refl)) refl (many_assigned kernel.units (byte_in call 0) to).consoles)
     (kept_same kernel _ refl refl)
 
-kept_assigned : (call : Taken) (p : ℕ) (kernel : Kernel) → IsSound kernel → KeepsHome kernel (assigned call p kernel)
+kept_assigned : (call : Taken) (p : ℕ) (kernel : Kernel) → IsSoundKernel kernel → KeepsHome kernel (assigned call p kernel)
 unfolding assigned
 kept_assigned call p kernel s =
     kept_if kernel (nat_lt (byte_in call 0) (length kernel.units.consoles) && may_attach kernel.units p (ConsoleUnit (byte_in call 0))) _ _
@@ -116,7 +116,7 @@ kept_assigned call p kernel s =
     (λ q is. (and_parts (lives kernel.dispatcher.procs q) _ (lowest_passes (is_called kernel.dispatcher.procs (name_at call 1)) q is).0).0))
     (kept_same kernel _ refl refl)
 
-kept_printer_called : (call : Taken) (p : ℕ) (kernel : Kernel) → IsSound kernel → Lives kernel.dispatcher.procs p → KeepsHome kernel (printer_called call p kernel)
+kept_printer_called : (call : Taken) (p : ℕ) (kernel : Kernel) → IsSoundKernel kernel → Lives kernel.dispatcher.procs p → KeepsHome kernel (printer_called call p kernel)
 unfolding printer_called
 kept_printer_called call p kernel s h =
     kept_if kernel (length kernel.units.printers == 0) _ _ (kept_same kernel _ refl refl)
@@ -135,7 +135,7 @@ kept_printer_called call p kernel s h =
     )
     (kept_same kernel _ refl refl))
 
-pub kept_unit_called : (call : Taken) (p : ℕ) (kernel : Kernel) → IsSound kernel → Lives kernel.dispatcher.procs p → KeepsHome kernel (unit_called call p kernel)
+pub kept_unit_called : (call : Taken) (p : ℕ) (kernel : Kernel) → IsSoundKernel kernel → Lives kernel.dispatcher.procs p → KeepsHome kernel (unit_called call p kernel)
 unfolding unit_called
 kept_unit_called call p kernel s h =
     by_rows (KeepsHome kernel) call p (process_in kernel.dispatcher.procs p) kernel unit_rows (
@@ -245,7 +245,7 @@ kept_line_read call p console kernel slots h =
     (kept_then kernel _ _ (kept_same kernel _ refl (consoles_spoken kernel.units console line_end)) refl (kept_line_done call p (echoed console line_end kernel) slots h))
     (kept_line_by (next_key console kernel) call p console kernel slots h)
 
-pub kept_console_called : (call : Taken) (p : ℕ) (kernel : Kernel) → IsSound kernel → Lives kernel.dispatcher.procs p → KeepsHome kernel (console_called call p kernel)
+pub kept_console_called : (call : Taken) (p : ℕ) (kernel : Kernel) → IsSoundKernel kernel → Lives kernel.dispatcher.procs p → KeepsHome kernel (console_called call p kernel)
 unfolding console_called unless_stopped console_served retried
 kept_console_called call p kernel s h =
     let f = call.function in

@@ -7,7 +7,7 @@ use Rattle.std.proofs.lemmas.List.{set-get_or}
 use Rattle.mpm_base.proofs.Choices.{either}
 use Rattle.mpm_procs.specs.Table.{Table, Lives, process_in}
 use Rattle.mpm_consoles.specs.Console.{new_console, first_key, without_first, is_for, woken, has_room}
-use Rattle.mpm_consoles.specs.Consoles.{Consoles, console_at, HasUnit, owner_of, owns, waiters_of, first_waiter, waits_for, WaitsNowhere}
+use Rattle.mpm_consoles.specs.Consoles.{Consoles, console_at, HasUnit, owner_of, owns, waiters_of, first_waiter, waits_for, WaitsForNoUnit}
 use Rattle.mpm_consoles.specs.Handling.{attaches, may_attach, attach_from, unit_attached, heir_of, first_taken, subject, abort_answer, pass_answer, wake_answer, typed_answer, answer_by, key_answer}
 use Rattle.mpm_consoles.specs.Keys.{control_of}
 use Rattle.mpm_consoles.specs.declared.console.Awaited.TheVariants.{Key, Output}
@@ -18,48 +18,48 @@ use Rattle.mpm_consoles.specs.declared.keys.KeyDone.TheVariants.{Stored, Dropped
 use Rattle.mpm_consoles.specs.declared.unit.Unit.{Unit}
 use Rattle.mpm_consoles.specs.declared.unit.Unit.TheVariants.{Console as ConsoleUnit}
 use Rattle.mpm_dispatcher.specs.Dispatch.{ready, IsReady}
-use Rattle.mpm_kernel.specs.Kernel.{Kernel, IsSound, HasConsole}
+use Rattle.mpm_kernel.specs.Kernel.{Kernel, IsSoundKernel, IsConsole}
 use Rattle.mpm_kernel.specs.Consoling.{IfLives, KeyNames}
 use Rattle.mpm_kernel.proofs.PlaceLaws.{in_some}
 use Rattle.mpm_kernel.proofs.UnitWaits.{nowhere_waits, waits_one, is_own}
 use Rattle.mpm_ready.proofs.OrderLaws.{first_is_in}
 
 -- the units that there are
-pub has_first_console : (kernel : Kernel) → IsSound kernel → 0 < length kernel.units.consoles
+pub has_first_console : (kernel : Kernel) → IsSoundKernel kernel → 0 < length kernel.units.consoles
 has_first_console kernel s = s.units.some
 
-pub has_own_console : (kernel : Kernel) (p : ℕ) → IsSound kernel → Lives kernel.dispatcher.procs p → (process_in kernel.dispatcher.procs p).console < length kernel.units.consoles
+pub has_own_console : (kernel : Kernel) (p : ℕ) → IsSoundKernel kernel → Lives kernel.dispatcher.procs p → (process_in kernel.dispatcher.procs p).console < length kernel.units.consoles
 has_own_console kernel p s h = (s.fit p h).console
 
-pub has_own_printer : (kernel : Kernel) (p : ℕ) → IsSound kernel → Lives kernel.dispatcher.procs p → 0 < length kernel.units.printers
+pub has_own_printer : (kernel : Kernel) (p : ℕ) → IsSoundKernel kernel → Lives kernel.dispatcher.procs p → 0 < length kernel.units.printers
     → (process_in kernel.dispatcher.procs p).printer < length kernel.units.printers
 has_own_printer kernel p s h some = (s.fit p h).printer some
 
 -- who is ready waits for no unit
-pub waits_at_no_unit : (kernel : Kernel) (p : ℕ) → IsSound kernel → IsReady kernel.dispatcher p → WaitsNowhere kernel.units p
+pub waits_at_no_unit : (kernel : Kernel) (p : ℕ) → IsSoundKernel kernel → IsReady kernel.dispatcher p → WaitsForNoUnit kernel.units p
 waits_at_no_unit kernel p s is_ready = nowhere_waits kernel.units p (omega (arith, in_some _ ready is_ready, s.once p))
 
-pub waits_at_none : (kernel : Kernel) (p : ℕ) (wait : Bool) → IsSound kernel → IsReady kernel.dispatcher p → OnTrue wait (WaitsNowhere kernel.units p)
+pub waits_at_none : (kernel : Kernel) (p : ℕ) (wait : Bool) → IsSoundKernel kernel → IsReady kernel.dispatcher p → OnTrue wait (WaitsForNoUnit kernel.units p)
 waits_at_none kernel p true s is_ready = waits_at_no_unit kernel p s is_ready
 waits_at_none kernel p false s is_ready = tt
 
 -- who waits for a unit lives, and so does who owns one
-pub waiter_lives : (kernel : Kernel) (unit : Unit) (p : ℕ) → IsSound kernel → waits_for kernel.units p unit ≡ true → Lives kernel.dispatcher.procs p
+pub waiter_lives : (kernel : Kernel) (unit : Unit) (p : ℕ) → IsSoundKernel kernel → waits_for kernel.units p unit ≡ true → Lives kernel.dispatcher.procs p
 waiter_lives kernel unit p s there = s.live p (omega (arith, waits_one kernel.units p unit s.units there))
 
-pub owner_lives : (kernel : Kernel) (unit : Unit) (p : ℕ) → IsSound kernel → HasUnit kernel.units unit → owner_of kernel.units unit ≡ Some p → Lives kernel.dispatcher.procs p
+pub owner_lives : (kernel : Kernel) (unit : Unit) (p : ℕ) → IsSoundKernel kernel → HasUnit kernel.units unit → owner_of kernel.units unit ≡ Some p → Lives kernel.dispatcher.procs p
 owner_lives kernel unit p s has is = s.owners unit p has (is_own (owner_of kernel.units unit) p is)
 
 lives_if : (procs : Table) (o : Option ℕ) → ((p : ℕ) → o ≡ Some p → Lives procs p) → IfLives procs o
 lives_if procs None h = tt
 lives_if procs (Some p) h = h p refl
 
-pub owner_fits : (kernel : Kernel) (n : ℕ) (owner : Option ℕ) → IsSound kernel → n < length kernel.units.consoles → owner ≡ owner_of kernel.units (ConsoleUnit n)
+pub owner_fits : (kernel : Kernel) (n : ℕ) (owner : Option ℕ) → IsSoundKernel kernel → n < length kernel.units.consoles → owner ≡ owner_of kernel.units (ConsoleUnit n)
     → IfSome owner (λ p. Lives kernel.dispatcher.procs p)
 owner_fits kernel n owner s below is =
     lives_if kernel.dispatcher.procs owner (λ p here. owner_lives kernel (ConsoleUnit n) p s below (sym is ∙ here))
 
-first_lives : (kernel : Kernel) (unit : Unit) → IsSound kernel → IfLives kernel.dispatcher.procs (first_waiter kernel.units unit)
+first_lives : (kernel : Kernel) (unit : Unit) → IsSoundKernel kernel → IfLives kernel.dispatcher.procs (first_waiter kernel.units unit)
 first_lives kernel unit s =
     lives_if kernel.dispatcher.procs (first_waiter kernel.units unit) (λ p is. waiter_lives kernel unit p s (first_is_in (waiters_of kernel.units unit) p is))
 
@@ -67,7 +67,7 @@ only_if : (procs : Table) (b : Bool) (o : Option ℕ) → IfLives procs o → If
 only_if procs true o h = h
 only_if procs false o h = tt
 
-pub heir_lives : (kernel : Kernel) (p : ℕ) (unit : Unit) (heir : Option ℕ) → IsSound kernel → heir ≡ heir_of kernel.units p unit
+pub heir_lives : (kernel : Kernel) (p : ℕ) (unit : Unit) (heir : Option ℕ) → IsSoundKernel kernel → heir ≡ heir_of kernel.units p unit
     → IfSome heir (λ q. Lives kernel.dispatcher.procs q)
 unfolding heir_of
 heir_lives kernel p unit heir s is =
@@ -97,16 +97,16 @@ names_either : (procs : Table) (b : Bool) → KeyNames procs (if b then Stored e
 names_either procs true = tt
 names_either procs false = tt
 
-owner_of_console : (kernel : Kernel) (n : ℕ) → IsSound kernel → HasConsole kernel n → IfLives kernel.dispatcher.procs (console_at kernel.units n).owner
+owner_of_console : (kernel : Kernel) (n : ℕ) → IsSoundKernel kernel → IsConsole kernel n → IfLives kernel.dispatcher.procs (console_at kernel.units n).owner
 owner_of_console kernel n s has = lives_if kernel.dispatcher.procs (console_at kernel.units n).owner (λ p is. owner_lives kernel (ConsoleUnit n) p s has is)
 
-names_typed : (kernel : Kernel) (n : ℕ) → IsSound kernel → HasConsole kernel n → KeyNames kernel.dispatcher.procs (typed_answer (console_at kernel.units n))
+names_typed : (kernel : Kernel) (n : ℕ) → IsSoundKernel kernel → IsConsole kernel n → KeyNames kernel.dispatcher.procs (typed_answer (console_at kernel.units n))
 unfolding typed_answer woken
 names_typed kernel n s has =
     names_wake kernel.dispatcher.procs _ _ (names_either kernel.dispatcher.procs (has_room (console_at kernel.units n)))
     (only_if kernel.dispatcher.procs (is_for (console_at kernel.units n).awaits Key) (console_at kernel.units n).owner (owner_of_console kernel n s has))
 
-names_resumed : (kernel : Kernel) (n : ℕ) → IsSound kernel → HasConsole kernel n
+names_resumed : (kernel : Kernel) (n : ℕ) → IsSoundKernel kernel → IsConsole kernel n
     → KeyNames kernel.dispatcher.procs (wake_answer Nothing (woken Output (console_at kernel.units n)))
 unfolding woken
 names_resumed kernel n s has =
@@ -120,11 +120,11 @@ names_abort : (procs : Table) (o : Option ℕ) → IfLives procs o → KeyNames 
 names_abort procs None h = tt
 names_abort procs (Some p) h = h
 
-names_pass : (kernel : Kernel) (n : ℕ) (o : Option ℕ) → IsSound kernel → IfLives kernel.dispatcher.procs o → KeyNames kernel.dispatcher.procs (pass_answer o kernel.units n)
+names_pass : (kernel : Kernel) (n : ℕ) (o : Option ℕ) → IsSoundKernel kernel → IfLives kernel.dispatcher.procs o → KeyNames kernel.dispatcher.procs (pass_answer o kernel.units n)
 names_pass kernel n None s h = tt
 names_pass kernel n (Some p) s h = (h, first_lives kernel (ConsoleUnit n) s)
 
-names_by : (kernel : Kernel) (control : Option Control) (n : ℕ) (resident : Bool) → IsSound kernel → HasConsole kernel n
+names_by : (kernel : Kernel) (control : Option Control) (n : ℕ) (resident : Bool) → IsSoundKernel kernel → IsConsole kernel n
     → KeyNames kernel.dispatcher.procs (answer_by control kernel.units n resident)
 names_by kernel None n resident s has = names_typed kernel n s has
 names_by kernel (Some Stop) n resident s has = tt
@@ -132,7 +132,7 @@ names_by kernel (Some Resume) n resident s has = names_resumed kernel n s has
 names_by kernel (Some Abort) n resident s has = names_abort kernel.dispatcher.procs _ (subject_lives kernel.dispatcher.procs resident _ (owner_of_console kernel n s has))
 names_by kernel (Some Detach) n resident s has = names_pass kernel n _ s (subject_lives kernel.dispatcher.procs resident _ (owner_of_console kernel n s has))
 
-pub key_names : (kernel : Kernel) (n byte : ℕ) (resident : Bool) (key : KeyDone) → IsSound kernel → HasConsole kernel n
+pub key_names : (kernel : Kernel) (n byte : ℕ) (resident : Bool) (key : KeyDone) → IsSoundKernel kernel → IsConsole kernel n
     → key ≡ key_answer kernel.units n byte resident → KeyNames kernel.dispatcher.procs key
 unfolding key_answer
 key_names kernel n byte resident key s has is =

@@ -6,8 +6,8 @@ use Rattle.std.proofs.lemmas.List.{length-set, length-map, get_or-set_same, get_
 use Rattle.mpm_base.proofs.CountLaws.{one_if, one_if_false}
 use Rattle.mpm_ready.specs.Tables.{list_of}
 use Rattle.mpm_ready.proofs.TableLaws.{list_of_known, list_of_removed, list_of_removed_other}
-use Rattle.mpm_consoles.specs.Console.{Console, new_console, is_owner, passed_to, without_wait_of, IsProper}
-use Rattle.mpm_consoles.specs.Consoles.{Consoles, is_gate_waiter, gate_waits, console_at, HasConsole, HasUnit, owner_of, owns, place_of, waits_for, waits, WaitsNowhere, with_console, IsSound}
+use Rattle.mpm_consoles.specs.Console.{Console, new_console, is_owner, passed_to, without_wait_of, IsProperConsole}
+use Rattle.mpm_consoles.specs.Consoles.{Consoles, is_gate_waiter, gate_waits, console_at, HasConsole, HasUnit, owner_of, owns, place_of, waits_for, waits, WaitsForNoUnit, with_console, AreSoundConsoles}
 use Rattle.mpm_consoles.specs.Handling.{given, unlisted, listed, units_without_waiter}
 use Rattle.mpm_consoles.specs.declared.unit.Unit.{Unit}
 use Rattle.mpm_consoles.specs.declared.unit.Unit.TheVariants.{Console as ConsoleUnit, Printer as PrinterUnit}
@@ -19,11 +19,11 @@ use Rattle.mpm_kernel.specs.Kernel.{waits_at_units}
 use Rattle.mpm_queues.proofs.WaitLaws.{none_of, one_at}
 
 -- a process waits for one unit, or for none
-pub nowhere_waits : (t : Consoles) (p : ℕ) → waits t p ≡ 0 → WaitsNowhere t p
+pub nowhere_waits : (t : Consoles) (p : ℕ) → waits t p ≡ 0 → WaitsForNoUnit t p
 unfolding waits
 nowhere_waits t p is = none_of (list_of t.waiters p) is
 
-pub waits_one : (t : Consoles) (p : ℕ) (unit : Unit) → IsSound t → waits_for t p unit ≡ true → waits t p ≡ 1
+pub waits_one : (t : Consoles) (p : ℕ) (unit : Unit) → AreSoundConsoles t → waits_for t p unit ≡ true → waits t p ≡ 1
 unfolding waits
 waits_one t p unit sound there = ap one_at (list_of_known t.waiters p (place_of unit) sound.table there)
 
@@ -35,7 +35,7 @@ pub waits_unlisted : (t : Consoles) (p : ℕ) → waits (unlisted t p) p ≡ 0
 unfolding waits unlisted
 waits_unlisted t p = ap one_at (list_of_removed t.waiters p)
 
-pub waits_unlisted_other : (t : Consoles) (p q : ℕ) → IsSound t → q ≢ p → waits (unlisted t p) q ≡ waits t q
+pub waits_unlisted_other : (t : Consoles) (p q : ℕ) → AreSoundConsoles t → q ≢ p → waits (unlisted t p) q ≡ waits t q
 unfolding unlisted
 waits_unlisted_other t p q sound other =
     waits_of_lists t (unlisted t p) q (list_of_removed_other t.waiters p q sound.table (ne_eqb p q (λ e. other (sym e))))
@@ -154,7 +154,7 @@ unfolding waits
 waits_console t n console q = refl
 
 -- bytes that come to a console as they are
-pub proper_spoken : (console : Console) (bytes : List ℕ) → IsProper console → IsProper (record console { column = columns_after console.column bytes })
+pub proper_spoken : (console : Console) (bytes : List ℕ) → IsProperConsole console → IsProperConsole (record console { column = columns_after console.column bytes })
 proper_spoken console bytes proper = record {
   keys = proper.keys;
   lost = proper.lost;
@@ -185,7 +185,7 @@ has_units_without t p (PrinterUnit n) there = there
 pub units_without_own : (t : Consoles) (p : ℕ) → waits_at_units (units_without_waiter t p) p ≡ 0
 units_without_own t p = omega (arith, waits_dequeued (Some p) t (units_without_waiter t p) p (waiters_without t p) refl, gate_waits_without t p)
 
-pub units_without_other : (t : Consoles) (p q : ℕ) → IsSound t → q ≢ p → waits_at_units (units_without_waiter t p) q ≡ waits_at_units t q
+pub units_without_other : (t : Consoles) (p q : ℕ) → AreSoundConsoles t → q ≢ p → waits_at_units (units_without_waiter t p) q ≡ waits_at_units t q
 units_without_other t p q sound other =
     let apart : Some p ≢ Some q = λ e. other (let same : p ≡ q = cc in sym same) in
     omega (arith, waits_dequeued_other (Some p) t (units_without_waiter t p) q sound (waiters_without t p) apart, gate_waits_without_other t p q other)

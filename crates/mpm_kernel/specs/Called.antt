@@ -37,19 +37,19 @@ abbrev pub blocked : ℕ → Kernel → Called
 blocked p kernel = record { kernel = dispatched (at_rest p) kernel; outcome = Held; reply = answering 0 }
 
 -- a row: some functions, and what the call of each does, by the call, the process that makes it, and what that process is
-pub record Row : Type 0 where
+pub record CallRow : Type 0 where
   pub functions : List ℕ
   pub does : Taken → ℕ → Process → Kernel → Called
 
-abbrev pub row : List ℕ → (Taken → ℕ → Process → Kernel → Called) → Row
+abbrev pub row : List ℕ → (Taken → ℕ → Process → Kernel → Called) → CallRow
 row functions does = record { functions = functions; does = does }
 
 -- the functions of some rows
-abbrev pub functions_of : List Row → List ℕ
-functions_of rows = flat_map (λ (row : Row). row.functions) rows
+abbrev pub functions_of : List CallRow → List ℕ
+functions_of rows = flat_map (λ (row : CallRow). row.functions) rows
 
 -- what rows make of a call: the first that names its function does it; a function that stands in none answers FFFFh
-abbrev pub done_by : List Row → Taken → ℕ → Process → Kernel → Called
+abbrev pub done_by : List CallRow → Taken → ℕ → Process → Kernel → Called
 done_by [] call p process kernel = valued 65535 kernel
 done_by (row ∷ rows) call p process kernel =
     if is_among call.function row.functions then row.does call p process kernel else (done_by rows call p process kernel)

@@ -16,7 +16,7 @@ use Rattle.mpm_kernel.specs.Consoling.{unit_rows, unit_called}
 use Rattle.mpm_kernel.specs.ConsoleInput.{console_called}
 use Rattle.mpm_kernel.specs.Queueing.{queue_made, queue_opened, queue_deleted, queue_read, queue_written}
 use Rattle.mpm_kernel.specs.Procedures.{procedure_called}
-pub use Rattle.mpm_kernel.specs.Called.{Called, valued, done, low_parameter, failure_code, Row, row, functions_of, done_by}
+pub use Rattle.mpm_kernel.specs.Called.{Called, valued, done, low_parameter, failure_code, CallRow, row, functions_of, done_by}
 pub use Rattle.mpm_base.specs.Calls.{eight_at}
 
 -- the version: MP/M II, whose file system is that of CP/M 3
@@ -33,7 +33,7 @@ for_console =
     ∷ READ_CONSOLE_BUFFER ∷ GET_CONSOLE_STATUS ∷ []
 
 -- the rows of the calls whose process goes on
-abbrev pub going_on : List Row
+abbrev pub going_on : List CallRow
 going_on =
     row for_console (λ call p process kernel. console_called call p kernel)
     ∷ row (functions_of unit_rows) (λ call p process kernel. unit_called call p kernel)
@@ -67,7 +67,7 @@ going_on =
     ∷ []
 
 -- the table
-abbrev pub table : List Row
+abbrev pub table : List CallRow
 table =
     row ending (λ call p process kernel. record { kernel = kernel; outcome = Ended; reply = answering 0 }) ∷ going_on
 

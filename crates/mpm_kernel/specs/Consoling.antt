@@ -19,7 +19,7 @@ use Rattle.mpm_consoles.specs.declared.unit.Unit.TheVariants.{Console as Console
 use Rattle.mpm_kernel.specs.Kernel.{Kernel, is_resident, with_changed, dispatched}
 use Rattle.mpm_dispatcher.specs.Dispatch.{descheduled, made_ready}
 use Rattle.mpm_kernel.specs.Columns.{spoke}
-use Rattle.mpm_kernel.specs.Called.{Called, valued, done, low_parameter, failure_code, Row, row, functions_of, done_by}
+use Rattle.mpm_kernel.specs.Called.{Called, valued, done, low_parameter, failure_code, CallRow, row, functions_of, done_by}
 
 -- a call isn't done: its process is ready no more, and takes the step at its gate again once it is
 unfoldable pub retried : ℕ → Kernel → Called
@@ -106,7 +106,7 @@ assigned call p kernel =
 
 -- the calls on printers: they are attached, also before a byte is written, detached and changed; a machine without printers
 -- refuses them
-abbrev pub printer_rows : List Row
+abbrev pub printer_rows : List CallRow
 printer_rows =
     row (LIST_OUTPUT ∷ ATTACH_LIST ∷ []) (λ call p process kernel. attached p (PrinterUnit process.printer) kernel)
     ∷ row (DETACH_LIST ∷ []) (λ call p process kernel. detached p (PrinterUnit process.printer) kernel)
@@ -119,7 +119,7 @@ printer_called call p kernel =
     if length kernel.units.printers == 0 then valued failure_code kernel else (done_by printer_rows call p (process_in kernel.dispatcher.procs p) kernel)
 
 -- the calls on consoles and printers, and the numbers that are answered
-abbrev pub unit_rows : List Row
+abbrev pub unit_rows : List CallRow
 unit_rows =
     row (ATTACH_CONSOLE ∷ []) (λ call p process kernel. attached p (ConsoleUnit process.console) kernel)
     ∷ row (DETACH_CONSOLE ∷ []) (λ call p process kernel. detached p (ConsoleUnit process.console) kernel)

@@ -10,7 +10,7 @@ use Rattle.mpm_consoles.specs.Handling.{units_without_waiter}
 use Rattle.mpm_consoles.specs.declared.unit.Unit.TheVariants.{Console as ConsoleUnit, Printer as PrinterUnit}
 use Rattle.mpm_service.specs.Places.{without_call}
 use Rattle.mpm_procs.specs.Table.{Lives, without}
-use Rattle.mpm_kernel.specs.Kernel.{Kernel, IsSound, places, dispatched}
+use Rattle.mpm_kernel.specs.Kernel.{Kernel, IsSoundKernel, places, dispatched}
 use Rattle.mpm_dispatcher.specs.Dispatch.{with_procs, descheduled}
 use Rattle.mpm_kernel.specs.Consoling.{unit_left}
 use Rattle.mpm_kernel.specs.Procedures.{given_back_to, given_back}
@@ -64,8 +64,8 @@ unfoldable pub discharged : Kernel → ℕ → Kernel
 discharged kernel p = vacated p (relieved p kernel)
 
 -- what is so of it while it gives these up: it lives and stands nowhere, and only others' held calls are completed
-pub record Leaves (p : ℕ) (kernel : Kernel) : Type 0 where
-  pub sound : IsSound kernel
+pub record IsLeaving (p : ℕ) (kernel : Kernel) : Type 0 where
+  pub sound : IsSoundKernel kernel
   pub lives : Lives kernel.dispatcher.procs p
   pub nowhere : places kernel p ≡ 0
   pub others : AllByRecursion (λ q. Lives kernel.dispatcher.procs q × (q ≢ p)) kernel.dispatcher.completed

@@ -9,8 +9,8 @@ use Rattle.mpm_flags.specs.declared.flags.Flag.TheVariants.{Clear, Set, Waits}
 use Rattle.mpm_clock.specs.Delays.{delays_of}
 use Rattle.mpm_clock.specs.declared.moment.Moment.{Moment}
 use Rattle.mpm_clock.specs.Times.{Clock, new_clock}
-use Rattle.mpm_queues.specs.Queues.{Queues, no_queues, IsMade, width_of, waits, IsSound as AreSound}
-use Rattle.mpm_consoles.specs.Consoles.{Consoles, no_owners, HasUnit, owns, waits as waits_for_unit, gate_waits, IsSound as AreUnitsSound}
+use Rattle.mpm_queues.specs.Queues.{Queues, no_queues, IsMade, width_of, waits, AreSoundQueues as AreSound}
+use Rattle.mpm_consoles.specs.Consoles.{Consoles, no_owners, HasUnit, owns, waits as waits_for_unit, gate_waits, AreSoundConsoles as AreUnitsSound}
 use Rattle.mpm_consoles.specs.declared.unit.Unit.{Unit}
 use Rattle.mpm_procs.specs.Table.{Table, HasSlots, lives, Lives, process_in, with_process}
 use Rattle.mpm_procs.specs.declared.process.Process.{Process}
@@ -120,8 +120,8 @@ pub record IsFit (units : Consoles) (process : Process) : Type 0 where
   pub few : process.multi ≤ 16
 
 -- a console is there
-abbrev pub HasConsole : Kernel → ℕ → Type 0
-HasConsole kernel console = console < length kernel.units.consoles
+abbrev pub IsConsole : Kernel → ℕ → Type 0
+IsConsole kernel console = console < length kernel.units.consoles
 
 -- a queue of messages of two bytes is there, as a resident procedure has one
 abbrev pub IsOfTwo : Queues → ℕ → Type 0
@@ -129,7 +129,7 @@ IsOfTwo queues q = width_of queues q ≡ Some 2
 
 -- what is so of the kernel after each step. The owners of consoles and printers live. A process is in at most one place, and only living
 -- ones are. The system's queues are there, and so are those in whose resident procedures processes are
-pub record IsSound (kernel : Kernel) : Type 0 where
+pub record IsSoundKernel (kernel : Kernel) : Type 0 where
   pub units : AreUnitsSound kernel.units
   pub owners : (unit : Unit) (p : ℕ) → HasUnit kernel.units unit → owns kernel.units p unit ≡ true → Lives kernel.dispatcher.procs p
   pub slots : HasSlots kernel.dispatcher.procs

@@ -15,8 +15,8 @@ use Rattle.mpm_kernel.specs.Kernel.{Kernel, with_changed, dispatched}
 use Rattle.mpm_kernel.specs.contracts.kernel.Kernel.{the_row}
 
 -- a process, to be changed
-abbrev pub LendsProcess : MutBor Kernel → ℕ → MutBor Process → Fml
-LendsProcess kernel p lent = Lends the_row process_row kernel lent (with_changed kernel.now p)
+abbrev pub KernelLendsProcess : MutBor Kernel → ℕ → MutBor Process → Fml
+KernelLendsProcess kernel p lent = Lends the_row process_row kernel lent (with_changed kernel.now p)
 
 -- the registers of a process
 abbrev pub LendsRegs : MutBor Kernel → ℕ → MutBor Regs → Fml
@@ -25,8 +25,8 @@ LendsRegs kernel p lent =
     (λ regs. with_changed kernel.now p (record (process_in kernel.now.dispatcher.procs p) { regs = regs }))
 
 -- the call that a process keeps
-abbrev pub LendsCall : MutBor Kernel → ℕ → MutBor Taken → Fml
-LendsCall kernel p lent =
+abbrev pub KernelLendsCall : MutBor Kernel → ℕ → MutBor Taken → Fml
+KernelLendsCall kernel p lent =
     Lends the_row call_row kernel lent (λ call. dispatched (with_procs (with_call kernel.now.dispatcher.procs p call)) kernel.now)
 
 -- the devices

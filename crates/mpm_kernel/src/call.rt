@@ -18,20 +18,20 @@ pub(crate) const NO_FUNCTION: u16 = 0xFFFF;
 impl Kernel {
     ghost use Rattle.mpm_procs.specs.Table.{Lives, call_of, process_in};
     ghost use Rattle.mpm_dispatcher.specs.Dispatch.{IsReady};
-    ghost use Rattle.mpm_kernel.specs.Kernel.{IsSound, CompletedLive};
+    ghost use Rattle.mpm_kernel.specs.Kernel.{IsSoundKernel, CompletedLive};
     ghost use Rattle.mpm_kernel.specs.Calls.{called, call_done};
 
     /// Does the call that a ready process keeps.
     #[inline(always)]
     #[tactic(auto, using(crate::proofs::SoundLaws::sound_begun))]
     pub fn call(&mut self, p: Pid, reply: &mut Reply) -> Outcome
-        requires sound { IsSound self.old }
+        requires sound { IsSoundKernel self.old }
         requires lives { Lives self.old.dispatcher.procs p }
         requires ready { IsReady self.old.dispatcher p }
         ensures kernel { self.new ≡ (called p self.old).kernel }
         ensures outcome { result ≡ (called p self.old).outcome }
         ensures reply { reply.new ≡ (called p self.old).reply }
-        ensures sound { IsSound self.new }
+        ensures sound { IsSoundKernel self.new }
         ensures live { CompletedLive self.new }
     {
         let call = self.dispatcher.procs.call(p);
@@ -46,7 +46,7 @@ impl Kernel {
     #[inline(always)]
     #[tactic(auto, unfolding(crate::specs::Calls::call_done, crate::specs::Dates::date_answered, crate::specs::Dates::time_answered))]
     fn serve_begun(&mut self, p: Pid, function: u8, word: u16, reply: &mut Reply) -> Outcome
-        requires sound { IsSound self.old }
+        requires sound { IsSoundKernel self.old }
         requires lives { Lives self.old.dispatcher.procs p }
         requires ready { IsReady self.old.dispatcher p }
         requires room { length self.old.dispatcher.completed < 64 }

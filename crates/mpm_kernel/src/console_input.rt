@@ -12,7 +12,7 @@ impl Kernel {
     ghost use Rattle.mpm_consoles.specs.declared.unit.Unit.TheVariants.{Console as ConsoleUnit};
     ghost use Rattle.mpm_line_input.specs.Lines.{ends};
     ghost use Rattle.mpm_dispatcher.specs.Dispatch.{IsReady};
-    ghost use Rattle.mpm_kernel.specs.Kernel.{IsSound, HasConsole};
+    ghost use Rattle.mpm_kernel.specs.Kernel.{IsSoundKernel, IsConsole};
     ghost use Rattle.mpm_kernel.specs.Consoling.{awaited};
     ghost use Rattle.mpm_kernel.specs.ConsoleInput.{raw_if, key_taken, next_key, shown_key, read_key, polled_key, direct, line_of, greatest, line_done, key_joined, line_with, line_read, console_served, unless_stopped, console_called};
 
@@ -22,7 +22,7 @@ impl Kernel {
     #[inline(never)]
     #[tactic(auto, using(crate::proofs::UnitLaws::has_own_console, crate::proofs::InputLaws::has_then_attached, crate::proofs::InputCalls::stays_console_called), unfolding(crate::specs::ConsoleInput::console_called, crate::specs::Consoling::retried))]
     pub(crate) fn console_call(&mut self, p: Pid, reply: &mut Reply) -> Outcome
-        requires sound { IsSound self.old }
+        requires sound { IsSoundKernel self.old }
         requires lives { Lives self.old.dispatcher.procs p }
         requires ready { IsReady self.old.dispatcher p }
         ensures kernel { self.new ≡ (console_called (call_of self.old.dispatcher.procs p) p self.old).kernel }
@@ -42,7 +42,7 @@ impl Kernel {
     #[tactic(auto, unfolding(crate::specs::ConsoleInput::unless_stopped))]
     fn unless_stopped(&mut self, p: Pid, console: u8, reply: &mut Reply) -> Outcome
         requires lives { Lives self.old.dispatcher.procs p }
-        requires has { HasConsole self.old console }
+        requires has { IsConsole self.old console }
         requires owner { owns self.old.units p (ConsoleUnit console) ≡ true }
         ensures kernel { self.new ≡ (unless_stopped (call_of self.old.dispatcher.procs p) p console self.old).kernel }
         ensures outcome { result ≡ (unless_stopped (call_of self.old.dispatcher.procs p) p console self.old).outcome }
@@ -61,7 +61,7 @@ impl Kernel {
     #[tactic(auto, unfolding(crate::specs::ConsoleInput::console_served))]
     fn serve_console(&mut self, p: Pid, console: u8, reply: &mut Reply) -> Outcome
         requires lives { Lives self.old.dispatcher.procs p }
-        requires has { HasConsole self.old console }
+        requires has { IsConsole self.old console }
         requires owner { owns self.old.units p (ConsoleUnit console) ≡ true }
         ensures kernel { self.new ≡ (console_served (call_of self.old.dispatcher.procs p) p console self.old).kernel }
         ensures outcome { result ≡ (console_served (call_of self.old.dispatcher.procs p) p console self.old).outcome }
@@ -80,7 +80,7 @@ impl Kernel {
     /// Function 1: a key is taken and shown. (MP/M II Programmer's Guide, "Function 1: Console Input".)
     #[tactic(auto, unfolding(crate::specs::ConsoleInput::shown_key))]
     fn read_shown(&mut self, p: Pid, console: u8, reply: &mut Reply) -> Outcome
-        requires has { HasConsole self.old console }
+        requires has { IsConsole self.old console }
         requires owner { owns self.old.units p (ConsoleUnit console) ≡ true }
         ensures kernel { self.new ≡ (shown_key (next_key console self.old) p console self.old).kernel }
         ensures outcome { result ≡ (shown_key (next_key console self.old) p console self.old).outcome }
@@ -99,7 +99,7 @@ impl Kernel {
     /// Function 3, and function 6 with FDh: a key is taken. (MP/M II Programmer's Guide, "Function 3: Raw Console Input".)
     #[tactic(auto, unfolding(crate::specs::ConsoleInput::read_key))]
     fn read_key(&mut self, p: Pid, console: u8, reply: &mut Reply) -> Outcome
-        requires has { HasConsole self.old console }
+        requires has { IsConsole self.old console }
         requires owner { owns self.old.units p (ConsoleUnit console) ≡ true }
         ensures kernel { self.new ≡ (read_key (next_key console self.old) p console self.old).kernel }
         ensures outcome { result ≡ (read_key (next_key console self.old) p console self.old).outcome }
@@ -116,7 +116,7 @@ impl Kernel {
     #[tactic(auto, unfolding(crate::specs::ConsoleInput::direct))]
     fn direct(&mut self, p: Pid, console: u8, reply: &mut Reply) -> Outcome
         requires lives { Lives self.old.dispatcher.procs p }
-        requires has { HasConsole self.old console }
+        requires has { IsConsole self.old console }
         requires owner { owns self.old.units p (ConsoleUnit console) ≡ true }
         ensures kernel { self.new ≡ (direct (call_of self.old.dispatcher.procs p) p console self.old).kernel }
         ensures outcome { result ≡ (direct (call_of self.old.dispatcher.procs p) p console self.old).outcome }
@@ -133,7 +133,7 @@ impl Kernel {
     /// The next key, or 0 where there is none.
     #[tactic(auto, unfolding(crate::specs::ConsoleInput::polled_key))]
     fn poll_key(&mut self, console: u8, reply: &mut Reply) -> Outcome
-        requires { HasConsole self.old console }
+        requires { IsConsole self.old console }
         ensures kernel { self.new ≡ (polled_key (next_key console self.old) console self.old).kernel }
         ensures outcome { result ≡ (polled_key (next_key console self.old) console self.old).outcome }
         ensures reply { reply.new ≡ (polled_key (next_key console self.old) console self.old).reply }
@@ -149,7 +149,7 @@ impl Kernel {
     #[tactic(auto, using(crate::proofs::InputLaws::lives_echoed, crate::proofs::InputLaws::procs_echoed), unfolding(crate::specs::ConsoleInput::line_read))]
     fn read_line(&mut self, p: Pid, console: u8, reply: &mut Reply) -> Outcome
         requires lives { Lives self.old.dispatcher.procs p }
-        requires has { HasConsole self.old console }
+        requires has { IsConsole self.old console }
         requires owner { owns self.old.units p (ConsoleUnit console) ≡ true }
         ensures kernel { self.new ≡ (line_read (call_of self.old.dispatcher.procs p) p console self.old).kernel }
         ensures outcome { result ≡ (line_read (call_of self.old.dispatcher.procs p) p console self.old).outcome }
@@ -170,7 +170,7 @@ impl Kernel {
     #[tactic(auto, using(crate::proofs::InputLaws::call_joined, crate::proofs::InputLaws::lives_joined), unfolding(crate::specs::ConsoleInput::line_with))]
     fn join_key(&mut self, p: Pid, console: u8, key: u8, reply: &mut Reply) -> Outcome
         requires lives { Lives self.old.dispatcher.procs p }
-        requires has { HasConsole self.old console }
+        requires has { IsConsole self.old console }
         requires room { (process_in self.old.dispatcher.procs p).line_length < greatest (call_of self.old.dispatcher.procs p) }
         ensures kernel { self.new ≡ (line_with key (call_of self.old.dispatcher.procs p) p console self.old).kernel }
         ensures outcome { result ≡ (line_with key (call_of self.old.dispatcher.procs p) p console self.old).outcome }
@@ -187,7 +187,7 @@ impl Kernel {
     #[tactic(auto, unfolding(crate::specs::ConsoleInput::key_joined))]
     fn edit_line(&mut self, p: Pid, console: u8, key: u8) -> bool
         requires lives { Lives self.old.dispatcher.procs p }
-        requires has { HasConsole self.old console }
+        requires has { IsConsole self.old console }
         requires room { (process_in self.old.dispatcher.procs p).line_length < greatest (call_of self.old.dispatcher.procs p) }
         ensures kernel { self.new ≡ key_joined (call_of self.old.dispatcher.procs p) p console key self.old }
         ensures ends { result ≡ ends (line_of (process_in self.old.dispatcher.procs p)) (greatest (call_of self.old.dispatcher.procs p)) key }
@@ -221,9 +221,9 @@ impl Kernel {
     /// Takes the oldest key of a console, None where there is none.
     #[tactic(auto, using(crate::proofs::UnitLaws::nothing_taken, crate::proofs::InputLaws::has_after_take))]
     fn take_key(&mut self, console: u8) -> Option<u8>
-        requires { HasConsole self.old console }
+        requires { IsConsole self.old console }
         ensures key { result ≡ next_key console self.old }
-        ensures has { HasConsole self.new console }
+        ensures has { IsConsole self.new console }
         ensures kernel { MatchOption result (self.new ≡ self.old) (λ key. self.new ≡ key_taken console self.old) }
     {
         self.units.take(console)
@@ -232,10 +232,10 @@ impl Kernel {
     /// A console is made raw, or not, if it is at all.
     #[tactic(auto, using(crate::proofs::InputLaws::has_made_raw))]
     fn set_raw_if(&mut self, changes: bool, p: Pid, console: u8, raw: bool)
-        requires has { HasConsole self.old console }
+        requires has { IsConsole self.old console }
         requires owner { owns self.old.units p (ConsoleUnit console) ≡ true }
         ensures kernel { self.new ≡ raw_if changes console raw self.old }
-        ensures has { HasConsole self.new console }
+        ensures has { IsConsole self.new console }
         ensures owner { owns self.new.units p (ConsoleUnit console) ≡ true }
     {
         let _owner = p.0;
@@ -247,7 +247,7 @@ impl Kernel {
     /// The owner of a console waits at its gate, for a key or until output goes on.
     #[tactic(auto, unfolding(crate::specs::Consoling::awaited, crate::specs::Consoling::retried))]
     fn wait_at_gate(&mut self, p: Pid, console: u8, key: bool, reply: &mut Reply) -> Outcome
-        requires has { HasConsole self.old console }
+        requires has { IsConsole self.old console }
         requires owner { owns self.old.units p (ConsoleUnit console) ≡ true }
         ensures kernel { self.new ≡ (awaited p console key self.old).kernel }
         ensures outcome { result ≡ (awaited p console key self.old).outcome }

@@ -16,7 +16,7 @@ impl Kernel {
     ghost use Rattle.mpm_consoles.specs.Handling.{may_attach};
     ghost use Rattle.mpm_consoles.specs.declared.unit.Unit.TheVariants.{Console as ConsoleUnit};
     ghost use Rattle.mpm_dispatcher.specs.Dispatch.{IsReady};
-    ghost use Rattle.mpm_kernel.specs.Kernel.{IsSound, HasConsole};
+    ghost use Rattle.mpm_kernel.specs.Kernel.{IsSoundKernel, IsConsole};
     ghost use Rattle.mpm_kernel.specs.Columns.{spoke, wrote, spaces_for};
     ghost use Rattle.mpm_kernel.specs.Consoling.{unit_left, attaching, attached, attached_now, console_changed, printer_changed, console_set, printer_set, owner_made, assigned_to, assigned, printer_called, unit_called, given, handed_over, echoed, key_done, KeyNames, is_of_resident, key_came, abort_taken};
 
@@ -27,7 +27,7 @@ impl Kernel {
         requires { HasUnit self.old.units unit }
         ensures kernel { self.new ≡ wrote self.old unit byte tabs }
         ensures spaces { result ≡ spaces_for self.old unit byte tabs }
-        ensures sound { IsSound self.old → IsSound self.new }
+        ensures sound { IsSoundKernel self.old → IsSoundKernel self.new }
     {
         self.units.output(unit, byte, tabs)
     }
@@ -44,7 +44,7 @@ impl Kernel {
     pub fn take_abort(&mut self) -> Option<Pid>
         ensures process { result ≡ self.old.aborted }
         ensures kernel { self.new ≡ abort_taken self.old }
-        ensures sound { IsSound self.old → IsSound self.new }
+        ensures sound { IsSoundKernel self.old → IsSoundKernel self.new }
     {
         let aborted = self.aborted;
         self.aborted = None;
@@ -53,7 +53,7 @@ impl Kernel {
 
     /// How many keys of a console were lost, as 64 were stored.
     pub fn lost(&self, console: u8) -> u64
-        requires { HasConsole self.now console }
+        requires { IsConsole self.now console }
         ensures { result ≡ (console_at self.now.units console).lost }
     {
         self.units.lost(console)
@@ -63,12 +63,12 @@ impl Kernel {
     /// for it first. Nothing changes where `from` isn't its owner.
     #[tactic(auto, unfolding(crate::specs::Consoling::given))]
     pub fn give(&mut self, console: u8, from: Option<Pid>, to: Option<Pid>)
-        requires sound { IsSound self.old }
+        requires sound { IsSoundKernel self.old }
         requires console { console < length self.old.units.consoles }
         requires from { IfSome from (λ p. Lives self.old.dispatcher.procs p) }
         requires to { IfSome to (λ p. Lives self.old.dispatcher.procs p) }
         ensures kernel { self.new ≡ given console from to self.old }
-        ensures sound { IsSound self.new }
+        ensures sound { IsSoundKernel self.new }
     {
         let owner = self.console_owner(console);
         match from {
@@ -87,7 +87,7 @@ impl Kernel {
 
     /// A console comes to a process, or passes on.
     fn hand_over(&mut self, console: u8, from: Option<Pid>, to: Option<Pid>)
-        requires sound { IsSound self.old }
+        requires sound { IsSoundKernel self.old }
         requires console { console < length self.old.units.consoles }
         requires to { IfSome to (λ p. Lives self.old.dispatcher.procs p) }
         ensures { self.new ≡ handed_over console from to self.old }
@@ -107,7 +107,7 @@ impl Kernel {
     #[inline(never)]
     #[tactic(auto, using(crate::proofs::UnitLaws::has_own_console, crate::proofs::UnitCalls::stays_unit_called), unfolding(crate::specs::Consoling::unit_called))]
     pub(crate) fn unit_call(&mut self, p: Pid, reply: &mut Reply) -> Outcome
-        requires sound { IsSound self.old }
+        requires sound { IsSoundKernel self.old }
         requires lives { Lives self.old.dispatcher.procs p }
         requires ready { IsReady self.old.dispatcher p }
         ensures kernel { self.new ≡ (unit_called (call_of self.old.dispatcher.procs p) p self.old).kernel }
@@ -139,7 +139,7 @@ impl Kernel {
     /// The calls on printers, which a machine without printers refuses.
     #[tactic(auto, using(crate::proofs::UnitLaws::has_own_printer), unfolding(crate::specs::Consoling::printer_called))]
     fn printer_call(&mut self, p: Pid, reply: &mut Reply) -> Outcome
-        requires sound { IsSound self.old }
+        requires sound { IsSoundKernel self.old }
         requires lives { Lives self.old.dispatcher.procs p }
         requires ready { IsReady self.old.dispatcher p }
         ensures kernel { self.new ≡ (printer_called (call_of self.old.dispatcher.procs p) p self.old).kernel }
@@ -164,7 +164,7 @@ impl Kernel {
     /// A process attaches a unit, or waits for it.
     #[tactic(auto, unfolding(crate::specs::Consoling::attached, crate::specs::Consoling::retried))]
     fn attach_unit(&mut self, p: Pid, unit: Unit, reply: &mut Reply) -> Outcome
-        requires sound { IsSound self.old }
+        requires sound { IsSoundKernel self.old }
         requires lives { Lives self.old.dispatcher.procs p }
         requires ready { IsReady self.old.dispatcher p }
         requires unit { HasUnit self.old.units unit }
@@ -182,7 +182,7 @@ impl Kernel {
     /// A process attaches a unit, unless another owns it.
     #[tactic(auto, using(crate::proofs::UnitLaws::attach_refused), unfolding(crate::specs::Consoling::attached_now))]
     fn attach_now(&mut self, p: Pid, unit: Unit, reply: &mut Reply) -> Outcome
-        requires sound { IsSound self.old }
+        requires sound { IsSoundKernel self.old }
         requires lives { Lives self.old.dispatcher.procs p }
         requires ready { IsReady self.old.dispatcher p }
         requires unit { HasUnit self.old.units unit }
@@ -199,7 +199,7 @@ impl Kernel {
 
     /// A process detaches a unit.
     fn detach_unit(&mut self, p: Pid, unit: Unit, reply: &mut Reply) -> Outcome
-        requires sound { IsSound self.old }
+        requires sound { IsSoundKernel self.old }
         requires unit { HasUnit self.old.units unit }
         ensures kernel { self.new ≡ unit_left p unit self.old }
         ensures outcome { result ≡ Done }
@@ -212,7 +212,7 @@ impl Kernel {
     /// A process attaches a unit; false where another owns it, and then the process waits for it if `wait` says so.
     #[tactic(auto, using(crate::proofs::UnitLaws::waits_at_none))]
     pub(crate) fn attach(&mut self, p: Pid, unit: Unit, wait: bool) -> bool
-        requires sound { IsSound self.old }
+        requires sound { IsSoundKernel self.old }
         requires lives { Lives self.old.dispatcher.procs p }
         requires ready { IsReady self.old.dispatcher p }
         requires unit { HasUnit self.old.units unit }
@@ -226,7 +226,7 @@ impl Kernel {
     /// A unit that a process owns passes to the process that waits for it first, who becomes ready.
     #[tactic(auto, using(crate::proofs::UnitLaws::heir_lives), unfolding(crate::specs::Consoling::unit_left))]
     pub(crate) fn leave_unit(&mut self, p: Pid, unit: Unit)
-        requires sound { IsSound self.old }
+        requires sound { IsSoundKernel self.old }
         requires unit { HasUnit self.old.units unit }
         ensures { self.new ≡ unit_left p unit self.old }
     {
@@ -237,7 +237,7 @@ impl Kernel {
     /// A process has another console from now on, and attaches it.
     #[tactic(auto, using(crate::proofs::ChangeLaws::sound_console_changed, crate::proofs::ChangeLaws::lives_console_changed, crate::proofs::ChangeLaws::ready_console_changed, crate::proofs::ChangeLaws::has_console_changed), unfolding(crate::specs::Consoling::console_set))]
     fn set_console(&mut self, p: Pid, reply: &mut Reply) -> Outcome
-        requires sound { IsSound self.old }
+        requires sound { IsSoundKernel self.old }
         requires lives { Lives self.old.dispatcher.procs p }
         requires ready { IsReady self.old.dispatcher p }
         ensures kernel { self.new ≡ (console_set (call_of self.old.dispatcher.procs p) p self.old).kernel }
@@ -255,7 +255,7 @@ impl Kernel {
     /// A process has another printer from now on, and attaches it.
     #[tactic(auto, using(crate::proofs::ChangeLaws::sound_printer_changed, crate::proofs::ChangeLaws::lives_printer_changed, crate::proofs::ChangeLaws::ready_printer_changed, crate::proofs::ChangeLaws::has_printer_changed), unfolding(crate::specs::Consoling::printer_set))]
     fn set_printer(&mut self, p: Pid, reply: &mut Reply) -> Outcome
-        requires sound { IsSound self.old }
+        requires sound { IsSoundKernel self.old }
         requires lives { Lives self.old.dispatcher.procs p }
         requires ready { IsReady self.old.dispatcher p }
         ensures kernel { self.new ≡ (printer_set (call_of self.old.dispatcher.procs p) p self.old).kernel }
@@ -273,7 +273,7 @@ impl Kernel {
     /// A process leaves its console for another one, unless it has that one already.
     #[tactic(auto, using(crate::proofs::UnitLaws::has_own_console), unfolding(crate::specs::Consoling::console_changed, crate::specs::Consoling::unit_left))]
     fn change_console(&mut self, p: Pid, console: u8)
-        requires sound { IsSound self.old }
+        requires sound { IsSoundKernel self.old }
         requires lives { Lives self.old.dispatcher.procs p }
         requires ready { IsReady self.old.dispatcher p }
         requires there { console < length self.old.units.consoles }
@@ -291,7 +291,7 @@ impl Kernel {
     /// A process leaves its printer for another one, unless it has that one already.
     #[tactic(auto, using(crate::proofs::UnitLaws::has_own_printer), unfolding(crate::specs::Consoling::printer_changed, crate::specs::Consoling::unit_left))]
     fn change_printer(&mut self, p: Pid, printer: u8)
-        requires sound { IsSound self.old }
+        requires sound { IsSoundKernel self.old }
         requires lives { Lives self.old.dispatcher.procs p }
         requires ready { IsReady self.old.dispatcher p }
         requires there { printer < length self.old.units.printers }
@@ -309,7 +309,7 @@ impl Kernel {
     /// A process assigns a console to a process that it names. (MP/M II Programmer's Guide, "Function 149: Assign Console".)
     #[tactic(auto, unfolding(crate::specs::Consoling::assigned, crate::specs::Consoling::assigned_to))]
     fn assign(&mut self, p: Pid, reply: &mut Reply) -> Outcome
-        requires sound { IsSound self.old }
+        requires sound { IsSoundKernel self.old }
         requires lives { Lives self.old.dispatcher.procs p }
         ensures kernel { self.new ≡ (assigned (call_of self.old.dispatcher.procs p) p self.old).kernel }
         ensures outcome { result ≡ (assigned (call_of self.old.dispatcher.procs p) p self.old).outcome }
@@ -338,7 +338,7 @@ impl Kernel {
         own_only: bool,
         reply: &mut Reply,
     ) -> Outcome
-        requires sound { IsSound self.old }
+        requires sound { IsSoundKernel self.old }
         requires lives { Lives self.old.dispatcher.procs to }
         requires caller { Lives self.old.dispatcher.procs p }
         requires console { console ≡ byte_in (call_of self.old.dispatcher.procs p) 0 }
@@ -360,7 +360,7 @@ impl Kernel {
     /// A process becomes the owner of a console; where it waited for that one, it becomes ready.
     #[tactic(auto, unfolding(crate::specs::Consoling::owner_made, mpm_dispatcher::specs::Dispatch::lists_ready))]
     fn make_owner(&mut self, console: u8, to: Pid)
-        requires sound { IsSound self.old }
+        requires sound { IsSoundKernel self.old }
         requires lives { Lives self.old.dispatcher.procs to }
         requires console { console < length self.old.units.consoles }
         ensures { self.new ≡ owner_made console to self.old }
@@ -374,7 +374,7 @@ impl Kernel {
     /// console.)
     #[tactic(auto, using(crate::proofs::UnitLaws::key_names, crate::proofs::KeyLaws::has_after_key), unfolding(crate::specs::Consoling::key_came))]
     pub(crate) fn key(&mut self, console: u8, byte: u8)
-        requires { IsSound self.old }
+        requires { IsSoundKernel self.old }
         ensures { self.new ≡ key_came console byte self.old }
     {
         if self.consoles() <= console {
@@ -389,7 +389,7 @@ impl Kernel {
     /// The process that owns a console.
     #[tactic(auto, using(crate::proofs::UnitLaws::owner_fits))]
     fn console_owner(&self, console: u8) -> Option<Pid>
-        requires sound { IsSound self.now }
+        requires sound { IsSoundKernel self.now }
         requires console { console < length self.now.units.consoles }
         ensures owner { result ≡ owner_of self.now.units (ConsoleUnit console) }
         ensures lives { IfSome result (λ p. Lives self.now.dispatcher.procs p) }
@@ -399,7 +399,7 @@ impl Kernel {
 
     /// Whether the owner of a console is a resident process, which lives in no memory segment.
     fn is_resident(&self, console: u8) -> bool
-        requires sound { IsSound self.now }
+        requires sound { IsSoundKernel self.now }
         requires console { console < length self.now.units.consoles }
         ensures { result ≡ is_of_resident self.now.dispatcher.procs (owner_of self.now.units (ConsoleUnit console)) }
     {
@@ -413,7 +413,7 @@ impl Kernel {
     #[tactic(auto, unfolding(crate::specs::Consoling::key_done, mpm_dispatcher::specs::Dispatch::lists_ready))]
     fn finish_key(&mut self, key: KeyDone, console: u8, waited: bool)
         requires names { KeyNames self.old.dispatcher.procs key }
-        requires console { HasConsole self.old console }
+        requires console { IsConsole self.old console }
         ensures { self.new ≡ key_done key console waited self.old }
     {
         match key {
@@ -435,7 +435,7 @@ impl Kernel {
     /// The kernel itself writes bytes to a console.
     #[tactic(auto, unfolding(crate::specs::Consoling::echoed))]
     pub(crate) fn show(&mut self, console: u8, shown: Echo)
-        requires { HasConsole self.old console }
+        requires { IsConsole self.old console }
         ensures { self.new ≡ echoed console shown self.old }
     {
         self.speak(console, shown.written());
@@ -444,7 +444,7 @@ impl Kernel {
 
     /// Bytes come to a console as they are: its column moves.
     fn speak(&mut self, console: u8, bytes: &[u8])
-        requires { HasConsole self.old console }
+        requires { IsConsole self.old console }
         ensures { self.new ≡ spoke self.old console bytes.now }
     {
         for &byte in bytes {

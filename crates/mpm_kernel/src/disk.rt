@@ -10,14 +10,14 @@ use mpm_service::{Service, Turn};
 impl Kernel {
     ghost use Rattle.mpm_procs.specs.Table.{Lives};
     ghost use Rattle.mpm_dispatcher.specs.Dispatch.{IsReady};
-    ghost use Rattle.mpm_kernel.specs.Kernel.{IsSound};
+    ghost use Rattle.mpm_kernel.specs.Kernel.{IsSoundKernel};
     ghost use Rattle.mpm_kernel.specs.Disk.{with_disk, is_served, in_turns, waiting_for_disk, ready_again, IsOver};
 
     /// The disk serves in turns of so many steps, and nobody yet, where `Kernel::new` lets no call wait for it. It is called before
     /// any does.
     pub fn set_disk_turn(&mut self, turn_steps: u32)
         ensures kernel { self.new ≡ in_turns turn_steps self.old }
-        ensures sound { IsSound self.old → IsSound self.new }
+        ensures sound { IsSoundKernel self.old → IsSoundKernel self.new }
     {
         self.disk = Service::new(turn_steps);
     }
@@ -44,12 +44,12 @@ impl Kernel {
     /// more, and stands in no list of the dispatcher.
     #[tactic(auto, using(crate::proofs::DiskLaws::ready_waits_not, crate::proofs::DiskLaws::ready_served_not), unfolding(crate::specs::Disk::waiting_for_disk))]
     pub fn wait_for_disk(&mut self, p: Pid)
-        requires sound { IsSound self.old }
+        requires sound { IsSoundKernel self.old }
         requires lives { Lives self.old.dispatcher.procs p }
         requires ready { IsReady self.old.dispatcher p }
         requires steps { 0 < self.old.disk.turn_steps }
         ensures kernel { self.new ≡ waiting_for_disk p self.old }
-        ensures sound { IsSound self.new }
+        ensures sound { IsSoundKernel self.new }
     {
         let priority = self.dispatcher.procs.get(p).priority;
         self.dispatcher.unlist(p);
@@ -60,11 +60,11 @@ impl Kernel {
     /// A step of the disk. After the `last` turn of a call its process stands nowhere, until `end_disk_call` makes it ready; then
     /// it is made once more, so that the next call enters service. It asks that `begin_disk_call` followed each `Starts`.
     pub fn turn_disk(&mut self) -> Turn
-        requires sound { IsSound self.old }
+        requires sound { IsSoundKernel self.old }
         requires begun { HasBegun self.old.disk }
         ensures kernel { self.new ≡ with_disk turned self.old }
         ensures answer { result ≡ turn_answer self.old.disk }
-        ensures sound { IsSound self.new }
+        ensures sound { IsSoundKernel self.new }
         ensures after { IsAfter result self.new.disk }
         ensures over { (p : ℕ) → result ≡ Turn.Work p true → IsOver p self.new }
         ensures last { (p : ℕ) → result ≡ Turn.Work p true → self.new.disk.served ≡ None }
@@ -74,11 +74,11 @@ impl Kernel {
 
     /// The call that has just entered service takes so many turns, of which the first begins with the disk's next step.
     pub fn begin_disk_call(&mut self, turns: u32)
-        requires sound { IsSound self.old }
+        requires sound { IsSoundKernel self.old }
         requires entered { HasEntered self.old.disk }
         requires some { 0 < turns }
         ensures kernel { self.new ≡ with_disk (λ disk. begun disk turns) self.old }
-        ensures sound { IsSound self.new }
+        ensures sound { IsSoundKernel self.new }
         ensures begun { HasBegun self.new.disk }
         ensures turns { IfSome self.new.disk.served (TakesTurns self.new.disk.turn_steps turns) }
     {
@@ -87,11 +87,11 @@ impl Kernel {
 
     /// So many steps of the disk at once, that only pass.
     pub fn pass_disk(&mut self, steps: u32)
-        requires sound { IsSound self.old }
+        requires sound { IsSoundKernel self.old }
         requires few { IfSome self.old.disk.served (λ call. call.passed + steps < self.old.disk.turn_steps) }
         ensures kernel { self.new ≡ with_disk (passed_by steps) self.old }
         ensures turned { IfSome self.old.disk.served (λ _. self.new.disk ≡ turned_by steps self.old.disk) }
-        ensures sound { IsSound self.new }
+        ensures sound { IsSoundKernel self.new }
         ensures begun { HasBegun self.old.disk → HasBegun self.new.disk }
     {
         self.disk.pass(steps);
@@ -100,10 +100,10 @@ impl Kernel {
     /// The call in service ends without further steps of the disk: how many turns were left to it. Its process stands nowhere then,
     /// until `end_disk_call` makes it ready.
     pub fn finish_disk_call(&mut self) -> u32
-        requires sound { IsSound self.old }
+        requires sound { IsSoundKernel self.old }
         ensures kernel { self.new ≡ with_disk unserved self.old }
         ensures turns { result ≡ turns_left self.old.disk }
-        ensures sound { IsSound self.new }
+        ensures sound { IsSoundKernel self.new }
         ensures begun { HasBegun self.new.disk }
         ensures over { (p : ℕ) → served_process self.old.disk ≡ Some p → IsOver p self.new }
     {
@@ -112,10 +112,10 @@ impl Kernel {
 
     /// The process whose call at the disk is over is ready again.
     pub fn end_disk_call(&mut self, p: Pid)
-        requires sound { IsSound self.old }
+        requires sound { IsSoundKernel self.old }
         requires over { IsOver p self.old }
         ensures kernel { self.new ≡ ready_again p self.old }
-        ensures sound { IsSound self.new }
+        ensures sound { IsSoundKernel self.new }
         ensures ready { IsReady self.new.dispatcher p }
     {
         self.dispatcher.make_one_ready(Some(p));

@@ -8,8 +8,8 @@ use mpm_consoles::Unit;
 impl Kernel {
     ghost use Rattle.mpm_procs.specs.Table.{Lives};
     ghost use Rattle.mpm_queues.specs.Queues.{holds};
-    ghost use Rattle.mpm_kernel.specs.Kernel.{IsSound, CompletedLive};
-    ghost use Rattle.mpm_kernel.specs.Ending.{dropped_out, all_returned, consoles_left, printers_left, discharged, Leaves};
+    ghost use Rattle.mpm_kernel.specs.Kernel.{IsSoundKernel, CompletedLive};
+    ghost use Rattle.mpm_kernel.specs.Ending.{dropped_out, all_returned, consoles_left, printers_left, discharged, IsLeaving};
 
     /// A process ends: it stands in no list and waits for nothing. The message of its resident procedure goes back, and then those of the
     /// mutual exclusion queues that it holds, by rising number. Its consoles and then its printers pass on by number, each to the process
@@ -17,10 +17,10 @@ impl Kernel {
     /// the order in which they were.
     #[tactic(auto, using(crate::proofs::EndingLaws::lives_dropped, crate::proofs::EndingLaws::few_given_back))]
     pub fn discharge(&mut self, p: Pid)
-        requires sound { IsSound self.old }
+        requires sound { IsSoundKernel self.old }
         requires lives { Lives self.old.dispatcher.procs p }
         ensures kernel { self.new ≡ discharged self.old p }
-        ensures sound { IsSound self.new }
+        ensures sound { IsSoundKernel self.new }
         ensures live { CompletedLive self.new }
         ensures nothing { (q : ℕ) → holds self.new.queues p q ≡ false }
     {
@@ -49,7 +49,7 @@ impl Kernel {
     /// The messages of mutual exclusion queues that a process holds go back, by rising number.
     #[tactic(auto, using(crate::proofs::EndingLaws::held_made))]
     fn return_held(&mut self, p: Pid)
-        requires leaves { Leaves p self.old }
+        requires leaves { IsLeaving p self.old }
         requires few { length self.old.dispatcher.completed ≤ 2 }
         ensures { self.new ≡ all_returned (range_with_len 0 32) p self.old }
     {
@@ -62,7 +62,7 @@ impl Kernel {
 
     /// The consoles that a process owns pass on, by number.
     fn leave_consoles(&mut self, p: Pid)
-        requires { IsSound self.old }
+        requires { IsSoundKernel self.old }
         ensures { self.new ≡ consoles_left p (length self.old.units.consoles) self.old }
     {
         for n in 0..self.consoles() {
@@ -72,7 +72,7 @@ impl Kernel {
 
     /// The printers that a process owns pass on, by number.
     fn leave_printers(&mut self, p: Pid)
-        requires { IsSound self.old }
+        requires { IsSoundKernel self.old }
         ensures { self.new ≡ printers_left p (length self.old.units.printers) self.old }
     {
         for n in 0..self.printers() {

@@ -1,5 +1,5 @@
 ghost use Rattle.std.specs.Prelude.{◌≡◌, ◌<◌};
-ghost use Rattle.mpm_kernel.specs.Kernel.{IsSound, CompletedLive};
+ghost use Rattle.mpm_kernel.specs.Kernel.{IsSoundKernel, CompletedLive};
 
 use crate::Kernel;
 use crate::waiting::{FIRST_FLAG, LAST_FLAG, POLLERS};
@@ -11,10 +11,10 @@ impl Kernel {
     /// An event comes: a tick of the clock, a device that is ready, a flag that is set, or a key.
     #[tactic(auto, using(crate::proofs::SoundLaws::sound_afresh), unfolding(crate::specs::Events::happens))]
     pub fn event(&mut self, event: Event)
-        requires sound { IsSound self.old }
+        requires sound { IsSoundKernel self.old }
         requires comes { MayCome event }
         ensures kernel { self.new ≡ happened event self.old }
-        ensures sound { IsSound self.new }
+        ensures sound { IsSoundKernel self.new }
         ensures live { CompletedLive self.new }
     {
         self.begin_event();
@@ -29,7 +29,7 @@ impl Kernel {
     /// A flag is set from outside, as by function 133; that one is set already is reported to nobody.
     #[tactic(auto, unfolding(crate::specs::Events::flag_came))]
     fn flag_came(&mut self, flag: u8)
-        requires sound { IsSound self.old }
+        requires sound { IsSoundKernel self.old }
         ensures { self.new ≡ flag_came flag self.old }
     {
         if FIRST_FLAG <= flag && flag <= LAST_FLAG {
@@ -40,7 +40,7 @@ impl Kernel {
     /// The clock ticks: those whose delays end are woken, and who runs is put after its equals.
     #[tactic(auto, unfolding(crate::specs::Events::clock_ticked))]
     fn tick(&mut self)
-        requires { IsSound self.old }
+        requires { IsSoundKernel self.old }
         ensures { self.new ≡ clock_ticked self.old }
     {
         let woken = self.clock.tick();
@@ -51,7 +51,7 @@ impl Kernel {
     /// A device is ready with a byte: those who poll it are woken.
     #[tactic(auto, unfolding(crate::specs::Events::device_ready, crate::specs::Events::pollers))]
     fn device_ready(&mut self, device: u8, byte: u8)
-        requires sound { IsSound self.old }
+        requires sound { IsSoundKernel self.old }
         requires below { device < 16 }
         ensures { self.new ≡ device_is_ready self.old device byte }
     {

@@ -48,11 +48,11 @@ impl Kernel {
     ghost use Rattle.mpm_ready.specs.Tables.{list_at};
     ghost use Rattle.mpm_queues.specs.Queues.{lowest_held};
     ghost use Rattle.mpm_dispatcher.specs.Dispatch.{ready, in_slot, picked, first_completed};
-    ghost use Rattle.mpm_kernel.specs.Kernel.{IsSound, CompletedLive, call_begun, afresh, new_kernel, dispatched, with_changed};
+    ghost use Rattle.mpm_kernel.specs.Kernel.{IsSoundKernel, CompletedLive, call_begun, afresh, new_kernel, dispatched, with_changed};
     ghost use Rattle.mpm_kernel.specs.Waiting.{completion_reply};
     ghost use Rattle.mpm_kernel.specs.Events.{handed_out};
     ghost use Rattle.mpm_clock.specs.Times.{moment_of};
-    ghost use Rattle.mpm_kernel.specs.Lending.{LendsProcess, LendsRegs, LendsCall, LendsDevices};
+    ghost use Rattle.mpm_kernel.specs.Lending.{KernelLendsProcess, LendsRegs, KernelLendsCall, LendsDevices};
     ghost use Rattle.mpm_banks.specs.Memory.{HasSegment, segment_of};
     ghost use Rattle.mpm_banks.specs.Sides.{with_sides, reach_of};
 
@@ -73,7 +73,7 @@ impl Kernel {
         requires printers { printers ≤ 4 }
         requires time { IsTime now }
         ensures kernel { IfOk result (λ kernel. kernel ≡ new_kernel consoles printers now) }
-        ensures sound { IfOk result (λ kernel. IsSound kernel) }
+        ensures sound { IfOk result (λ kernel. IsSoundKernel kernel) }
     {
         Ok(Kernel {
             dispatcher: Dispatcher::new(alloc)?,
@@ -177,7 +177,7 @@ impl Kernel {
     /// A living process, to be changed.
     pub fn process_mut(&mut self, p: Pid) -> &mut Process
         requires { Lives self.old.dispatcher.procs p }
-        ensures* lends { sem 𝓛 (LendsProcess self.entry p result) }
+        ensures* lends { sem 𝓛 (KernelLendsProcess self.entry p result) }
         ensures value { result.now ≡ process_in self.old.dispatcher.procs p }
     {
         self.dispatcher.procs.get_mut(p)
@@ -204,7 +204,7 @@ impl Kernel {
     /// The call that a living process keeps, to be changed.
     pub fn call_mut(&mut self, p: Pid) -> &mut Call
         requires { Lives self.old.dispatcher.procs p }
-        ensures* lends { sem 𝓛 (LendsCall self.entry p result) }
+        ensures* lends { sem 𝓛 (KernelLendsCall self.entry p result) }
         ensures value { result.now ≡ call_of self.old.dispatcher.procs p }
     {
         self.dispatcher.procs.call_mut(p)
@@ -221,13 +221,13 @@ impl Kernel {
     /// Does a burst of what a living process of a segment does. Its registers and the devices are lent, not copied.
     #[inline(always)]
     pub fn run_burst<B: Burst>(&mut self, p: Pid, burst: &B, seg: Seg, banks: &mut Banks) -> u64
-        requires sound { IsSound self.old }
+        requires sound { IsSoundKernel self.old }
         requires lives { Lives self.old.dispatcher.procs p }
         requires segment { HasSegment banks.old seg }
         ensures ran { B.ran burst.now (process_in self.old.dispatcher.procs p).regs (reach_of banks.old seg) self.old.devices result (process_in self.new.dispatcher.procs p).regs (reach_of banks.new seg) self.new.devices }
         ensures others { banks.new ≡ with_sides banks.old seg (segment_of banks.new seg).bytes banks.new.common }
         ensures kernel { self.new ≡ with_changed (record self.old { devices = self.new.devices }) p (record (process_in self.old.dispatcher.procs p) { regs = (process_in self.new.dispatcher.procs p).regs }) }
-        ensures sound { IsSound self.new }
+        ensures sound { IsSoundKernel self.new }
     {
         let process = self.dispatcher.procs.get_mut(p);
         banks.run(burst, seg, &mut process.regs, &mut self.devices)
@@ -239,11 +239,11 @@ impl Kernel {
     /// `NoSlot` where 32 processes live; then nothing changes.
     #[tactic(auto, using(crate::proofs::SoundLaws::free_is_unlisted))]
     pub fn admit(&mut self, new: NewProcess) -> Result<Pid, NoSlot>
-        requires { IsSound self.old }
+        requires { IsSoundKernel self.old }
         ensures slot { IfOk result (λ p. lowest_free self.old.dispatcher.procs ≡ Some p) }
         ensures refused { OnErr result (lowest_free self.old.dispatcher.procs ≡ None) }
         ensures kernel { self.new ≡ dispatched (in_slot new (lowest_free self.old.dispatcher.procs)) self.old }
-        ensures sound { new.console < length self.old.units.consoles → IsSound self.new }
+        ensures sound { new.console < length self.old.units.consoles → IsSoundKernel self.new }
     {
         self.dispatcher.admit(new)
     }
@@ -292,8 +292,8 @@ impl Kernel {
         ensures process { result ≡ first_completed self.old.dispatcher.completed }
         ensures kernel { self.new ≡ handed_out self.old }
         ensures reply { MatchOption result (reply.new ≡ reply.old) (λ p. reply.new ≡ completion_reply self.old p) }
-        ensures sound { IsSound self.old → IsSound self.new }
-        ensures live { IsSound self.old → CompletedLive self.new }
+        ensures sound { IsSoundKernel self.old → IsSoundKernel self.new }
+        ensures live { IsSoundKernel self.old → CompletedLive self.new }
     {
         let p = self.dispatcher.hand_out()?;
         complete(self.dispatcher.procs.call(p), reply);
@@ -304,9 +304,9 @@ impl Kernel {
     /// Picks the process that runs after a step: the first that is ready. After an instruction the running process keeps
     /// the processor while it is ready and no interrupt may come.
     pub fn pick(&mut self, instruction: bool)
-        requires { IsSound self.old }
+        requires { IsSoundKernel self.old }
         ensures kernel { self.new ≡ dispatched (picked instruction) self.old }
-        ensures sound { IsSound self.new }
+        ensures sound { IsSoundKernel self.new }
     {
         self.dispatcher.pick(instruction);
     }

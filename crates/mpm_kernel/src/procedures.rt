@@ -13,7 +13,7 @@ impl Kernel {
     ghost use Rattle.mpm_procs.specs.Table.{Lives, process_in, call_of};
     ghost use Rattle.mpm_queues.specs.Queues.{IsMade};
     ghost use Rattle.mpm_dispatcher.specs.Dispatch.{IsReady, first_completed, with_completed};
-    ghost use Rattle.mpm_kernel.specs.Kernel.{IsSound, CompletedLive, dispatched};
+    ghost use Rattle.mpm_kernel.specs.Kernel.{IsSoundKernel, CompletedLive, dispatched};
     ghost use Rattle.mpm_kernel.specs.Events.{with_procedure};
     ghost use Rattle.mpm_kernel.specs.Procedures.{procedure_called, procedure_queue, still_completed, outside, given_back_to, given_back};
 
@@ -24,7 +24,7 @@ impl Kernel {
     #[inline(never)]
     #[tactic(auto, using(crate::proofs::ProcedureLaws::lives_other, crate::proofs::ProcedureLaws::procedure_made), unfolding(crate::specs::Procedures::procedure_called, crate::specs::Procedures::procedure_at, crate::specs::Procedures::procedure_read, crate::specs::Procedures::inside))]
     pub(crate) fn call_procedure(&mut self, p: Pid, reply: &mut Reply) -> Outcome
-        requires sound { IsSound self.old }
+        requires sound { IsSoundKernel self.old }
         requires lives { Lives self.old.dispatcher.procs p }
         requires ready { IsReady self.old.dispatcher p }
         requires room { length self.old.dispatcher.completed < 64 }
@@ -87,10 +87,10 @@ impl Kernel {
     /// it is full; the process is in no procedure then.
     #[tactic(auto, using(crate::proofs::ProcedureLaws::sound_outside, crate::proofs::ProcedureLaws::lives_outside), unfolding(crate::specs::Procedures::given_back, crate::specs::Procedures::given_back_to))]
     pub fn put_back(&mut self, p: Pid)
-        requires sound { IsSound self.old }
+        requires sound { IsSoundKernel self.old }
         requires lives { Lives self.old.dispatcher.procs p }
         ensures kernel { self.new ≡ given_back p self.old }
-        ensures sound { IsSound self.new }
+        ensures sound { IsSoundKernel self.new }
         ensures live { CompletedLive self.new }
     {
         let queue = self.leave_procedure(p);
@@ -137,7 +137,7 @@ impl Kernel {
     /// A process writes the message of its call to a queue that is there, where there is room.
     #[tactic(auto, unfolding(crate::specs::Procedures::given_back_to, mpm_dispatcher::specs::Dispatch::lists_ready, mpm_dispatcher::specs::Dispatch::also_completed))]
     pub(crate) fn write_back(&mut self, p: Pid, q: u8)
-        requires sound { IsSound self.old }
+        requires sound { IsSoundKernel self.old }
         requires lives { Lives self.old.dispatcher.procs p }
         requires queue { IsMade self.old.queues q }
         requires room { length self.old.dispatcher.completed < 64 }

@@ -10,18 +10,18 @@ impl Kernel {
     ghost use Rattle.mpm_queues.specs.Queues.{IsMade, make_error};
     ghost use Rattle.mpm_queues.specs.Handling.{woken_by, may_wait, read_outcome, read_reply, write_outcome};
     ghost use Rattle.mpm_dispatcher.specs.Dispatch.{IsReady};
-    ghost use Rattle.mpm_kernel.specs.Kernel.{IsSound};
+    ghost use Rattle.mpm_kernel.specs.Kernel.{IsSoundKernel};
     ghost use Rattle.mpm_kernel.specs.Queueing.{with_system_queue, OnlySystems, IfNotNow, queue_made, queue_opened, queue_deleted, pointed, blocked_or_refused, taken_from, queue_read, given_to, queue_written};
 
     /// Makes a queue of the system, which no process deletes, for `count` messages of `message_length` bytes. It is made at
     /// boot, before any other.
     #[tactic(auto, using(crate::proofs::QueueingLaws::system_is_lowest, crate::proofs::QueueingLaws::number_below), unfolding(crate::specs::Queueing::with_system_queue, crate::specs::Queueing::with_queue))]
     pub fn system_queue(&mut self, name: Name8, message_length: u16, count: u16)
-        requires sound { IsSound self.old }
+        requires sound { IsSoundKernel self.old }
         requires boot { OnlySystems self.old }
         requires room { make_error self.old.queues name message_length count ≡ None }
         ensures kernel { self.new ≡ with_system_queue self.old name message_length count }
-        ensures sound { IsSound self.new }
+        ensures sound { IsSoundKernel self.new }
     {
         if let Ok(number) = self.queues.make(name, message_length, count) {
             self.system_queues = number + 1;
@@ -98,7 +98,7 @@ impl Kernel {
     #[inline(never)]
     #[tactic(auto, unfolding(crate::specs::Queueing::read_at, crate::specs::Queueing::was_read))]
     pub(crate) fn read_queue(&mut self, p: Pid, waits: bool, reply: &mut Reply) -> Outcome
-        requires sound { IsSound self.old }
+        requires sound { IsSoundKernel self.old }
         requires lives { Lives self.old.dispatcher.procs p }
         requires ready { IsReady self.old.dispatcher p }
         requires room { length self.old.dispatcher.completed < 64 }
@@ -128,7 +128,7 @@ impl Kernel {
     #[inline(never)]
     #[tactic(auto, unfolding(crate::specs::Queueing::write_at, crate::specs::Queueing::was_written))]
     pub(crate) fn write_queue(&mut self, p: Pid, waits: bool, reply: &mut Reply) -> Outcome
-        requires sound { IsSound self.old }
+        requires sound { IsSoundKernel self.old }
         requires lives { Lives self.old.dispatcher.procs p }
         requires ready { IsReady self.old.dispatcher p }
         requires room { length self.old.dispatcher.completed < 64 }
@@ -152,7 +152,7 @@ impl Kernel {
     /// A process reads the first message of a queue into a reply.
     #[tactic(auto, using(crate::proofs::QueueingLaws::waiters_live))]
     pub(crate) fn take_from(&mut self, p: Pid, q: u8, reply: &mut Reply) -> QueueOutcome
-        requires sound { IsSound self.old }
+        requires sound { IsSoundKernel self.old }
         requires queue { IsMade self.old.queues q }
         ensures kernel { self.new ≡ taken_from self.old p q }
         ensures outcome { result ≡ read_outcome self.old.queues q }
@@ -166,7 +166,7 @@ impl Kernel {
     /// A process writes the message of its call to a queue.
     #[tactic(auto, using(crate::proofs::QueueingLaws::waiters_live, crate::proofs::QueueingLaws::lives_by_write))]
     pub(crate) fn give_to(&mut self, p: Pid, q: u8) -> QueueOutcome
-        requires sound { IsSound self.old }
+        requires sound { IsSoundKernel self.old }
         requires lives { Lives self.old.dispatcher.procs p }
         requires queue { IsMade self.old.queues q }
         ensures kernel { self.new ≡ given_to self.old p q }
@@ -188,7 +188,7 @@ impl Kernel {
         waits: bool,
         reply: &mut Reply,
     ) -> Outcome
-        requires sound { IsSound self.old }
+        requires sound { IsSoundKernel self.old }
         requires lives { Lives self.old.dispatcher.procs p }
         requires ready { IsReady self.old.dispatcher p }
         requires queue { IsMade self.old.queues q }

@@ -20,7 +20,7 @@ impl Kernel {
     ghost use Rattle.mpm_procs.specs.Table.{Lives, call_of};
     ghost use Rattle.mpm_flags.specs.States.{flag_at, set_answer};
     ghost use Rattle.mpm_dispatcher.specs.Dispatch.{IsReady};
-    ghost use Rattle.mpm_kernel.specs.Kernel.{IsSound};
+    ghost use Rattle.mpm_kernel.specs.Kernel.{IsSoundKernel};
     ghost use Rattle.mpm_kernel.specs.Called.{low_parameter};
     ghost use Rattle.mpm_kernel.specs.Waiting.{polled, flag_waited, flag_set as flag_set_by, process_delayed, signalled};
 
@@ -73,7 +73,7 @@ impl Kernel {
     #[inline(never)]
     #[tactic(auto, unfolding(crate::specs::Waiting::flag_set))]
     pub(crate) fn set_flag(&mut self, p: Pid, flag: u8, reply: &mut Reply) -> Outcome
-        requires sound { IsSound self.old }
+        requires sound { IsSoundKernel self.old }
         requires flag { flag ≡ low_parameter (call_of self.old.dispatcher.procs p) }
         ensures kernel { self.new ≡ (flag_set_by (call_of self.old.dispatcher.procs p) self.old).kernel }
         ensures outcome { result ≡ (flag_set_by (call_of self.old.dispatcher.procs p) self.old).outcome }
@@ -94,7 +94,7 @@ impl Kernel {
     #[inline(never)]
     #[tactic(auto, using(crate::proofs::SoundLaws::not_delayed), unfolding(crate::specs::Waiting::process_delayed))]
     pub(crate) fn delay(&mut self, p: Pid, ticks: u16, reply: &mut Reply) -> Outcome
-        requires sound { IsSound self.old }
+        requires sound { IsSoundKernel self.old }
         requires lives { Lives self.old.dispatcher.procs p }
         requires ready { IsReady self.old.dispatcher p }
         requires ticks { ticks ≡ (call_of self.old.dispatcher.procs p).word }
@@ -114,7 +114,7 @@ impl Kernel {
     /// A flag is set; who waits for it is woken.
     #[tactic(auto, using(crate::proofs::SoundLaws::waiter_lives), unfolding(crate::specs::Waiting::signalled, crate::specs::Waiting::with_woken))]
     pub(crate) fn signal(&mut self, flag: u8) -> FlagSet
-        requires sound { IsSound self.old }
+        requires sound { IsSoundKernel self.old }
         requires below { flag < 32 }
         ensures kernel { self.new ≡ signalled flag self.old }
         ensures answer { result ≡ set_answer (flag_at self.old.flags flag) }

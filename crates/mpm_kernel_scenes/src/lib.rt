@@ -5,4 +5,4 @@
 pub mod disk;
 mod scene;
 
-pub use crate::scene::{Answer, BLOCK, Line, kernel_with_system_queue, play, play_on};
+pub use crate::scene::{BLOCK, Completion, Line, kernel_with_system_queue, play, play_on};

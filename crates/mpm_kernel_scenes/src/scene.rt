@@ -1,7 +1,7 @@
 //! Scenes: what happens to a kernel, line by line, and what is seen of it.
 ghost use Rattle.std.specs.Prelude.{◌≡◌, ◌≤◌, length, IfOk, IfSome};
 ghost use Rattle.std.specs.Bool.{OnTrue};
-ghost use Rattle.mpm_kernel.specs.Kernel.{IsSound, CompletedLive};
+ghost use Rattle.mpm_kernel.specs.Kernel.{IsSoundKernel, CompletedLive};
 ghost use Rattle.mpm_kernel.specs.Events.{MayCome};
 
 use mpm_base::{Name8, Outcome, Pid, Reply, Seg, functions};
@@ -18,7 +18,7 @@ pub const BLOCK: u16 = 0x0200;
 
 /// What a call comes to.
 #[derive(Clone, Copy)]
-pub enum Answer {
+pub enum Completion {
     /// It is done, with that value.
     Done(u16),
     /// It is held.
@@ -48,17 +48,17 @@ pub enum Line<'a> {
     /// A process ends.
     End(u8),
     /// A call of a function with a word.
-    Ask(u8, u16, Answer),
+    Ask(u8, u16, Completion),
     /// A call of a function with a word, which reads those bytes.
-    AskWith(u8, u16, &'a [u8], Answer),
+    AskWith(u8, u16, &'a [u8], Completion),
     /// Function 134 makes a queue for messages of a length and so many of them.
-    Make(&'a [u8; 8], u16, u16, Answer),
+    Make(&'a [u8; 8], u16, u16, Completion),
     /// Function 136 deletes a queue.
-    Delete(&'a [u8; 8], Answer),
+    Delete(&'a [u8; 8], Completion),
     /// Function 135 opens a queue, function 151 calls its procedure.
-    Name(u8, &'a [u8; 8], Answer),
+    Name(u8, &'a [u8; 8], Completion),
     /// Function 137, 138, 139 or 140 passes a message by a pointer; one that it writes begins with that byte.
-    Pass(u8, u8, u8, Answer),
+    Pass(u8, u8, u8, Completion),
     /// A tick of the clock.
     Tick,
     /// An interrupt that sets a flag.
@@ -128,7 +128,7 @@ struct Seen {
 /// A kernel of two consoles and a printer with one process of priority 200, which runs, at 23:59:58 of day 300.
 #[tactic(auto, using(mpm_kernel::proofs::SoundLaws::sound_new))]
 pub(crate) fn kernel_of_one(alloc: Global) -> Result<Kernel, OutOfMemory>
-    ensures { IfOk result (λ kernel. IsSound kernel) }
+    ensures { IfOk result (λ kernel. IsSoundKernel kernel) }
 {
     let now = Moment {
         date: 300,
@@ -148,7 +148,7 @@ pub(crate) fn kernel_of_one(alloc: Global) -> Result<Kernel, OutOfMemory>
 /// There isn't enough memory for it.
 #[tactic(auto, using(mpm_kernel::proofs::SoundLaws::sound_new))]
 pub fn kernel_with_system_queue(alloc: Global) -> Result<Kernel, OutOfMemory>
-    ensures { IfOk result (λ kernel. IsSound kernel) }
+    ensures { IfOk result (λ kernel. IsSoundKernel kernel) }
 {
     let now = Moment {
         date: 300,
@@ -166,8 +166,8 @@ pub fn kernel_with_system_queue(alloc: Global) -> Result<Kernel, OutOfMemory>
 /// A process begins, where a slot is free.
 #[tactic(auto, using(mpm_kernel::proofs::SoundLaws::sound_in_slot))]
 pub(crate) fn begin(kernel: &mut Kernel, name: &[u8; 8], priority: u8, seg: Option<Seg>) -> bool
-    requires { IsSound kernel.old }
-    ensures sound { IsSound kernel.new }
+    requires { IsSoundKernel kernel.old }
+    ensures sound { IsSoundKernel kernel.new }
     ensures disk { kernel.new.disk ≡ kernel.old.disk }
 {
     let p = kernel.admit(NewProcess {
@@ -194,8 +194,8 @@ pub(crate) fn slot(p: Option<Pid>) -> Option<u8> {
 
 /// Who runs after a step, which was an instruction or not.
 fn next(kernel: &mut Kernel, instruction: bool) -> Option<u8>
-    requires { IsSound kernel.old }
-    ensures { IsSound kernel.new }
+    requires { IsSoundKernel kernel.old }
+    ensures { IsSoundKernel kernel.new }
 {
     kernel.pick(instruction);
     slot(kernel.running())
@@ -203,8 +203,8 @@ fn next(kernel: &mut Kernel, instruction: bool) -> Option<u8>
 
 /// Who runs, if anybody does, has its interrupts on or off, and an EI that has not taken effect or not.
 fn set_interrupts(kernel: &mut Kernel, on: bool, shadow: bool) -> bool
-    requires { IsSound kernel.old }
-    ensures { IsSound kernel.new }
+    requires { IsSoundKernel kernel.old }
+    ensures { IsSoundKernel kernel.new }
 {
     let Some(p) = kernel.running() else {
         return false;
@@ -218,9 +218,9 @@ fn set_interrupts(kernel: &mut Kernel, on: bool, shadow: bool) -> bool
 /// Hands out a process whose held call was completed.
 #[tactic(auto, using(mpm_kernel::proofs::SoundLaws::sound_completed, mpm_kernel::proofs::SoundLaws::live_handed_out))]
 fn hand_out(kernel: &mut Kernel) -> Option<Handed>
-    requires sound { IsSound kernel.old }
+    requires sound { IsSoundKernel kernel.old }
     requires live { CompletedLive kernel.old }
-    ensures sound { IsSound kernel.new }
+    ensures sound { IsSoundKernel kernel.new }
     ensures live { CompletedLive kernel.new }
 {
     let mut reply = Reply::new();
@@ -242,9 +242,9 @@ fn hand_out(kernel: &mut Kernel) -> Option<Handed>
 
 /// Hands out the first two processes whose held calls were completed.
 fn hand_out_two(kernel: &mut Kernel, seen: &mut Seen)
-    requires sound { IsSound kernel.old }
+    requires sound { IsSoundKernel kernel.old }
     requires live { CompletedLive kernel.old }
-    ensures { IsSound kernel.new }
+    ensures { IsSoundKernel kernel.new }
 {
     seen.first = hand_out(kernel);
     seen.second = hand_out(kernel);
@@ -253,8 +253,8 @@ fn hand_out_two(kernel: &mut Kernel, seen: &mut Seen)
 /// A process ends, if it lives.
 #[tactic(auto, using(mpm_kernel::proofs::EndingLaws::sound_discharged, mpm_kernel::proofs::EndingLaws::live_discharged))]
 fn end(kernel: &mut Kernel, seen: &mut Seen, p: u8) -> bool
-    requires { IsSound kernel.old }
-    ensures { IsSound kernel.new }
+    requires { IsSoundKernel kernel.old }
+    ensures { IsSoundKernel kernel.new }
 {
     if 32 <= p || !kernel.lives(Pid(p)) {
         return false;
@@ -278,8 +278,8 @@ fn may_come(event: Event) -> bool
 /// An event comes, if its device or its flag is there.
 #[tactic(auto, using(mpm_kernel::proofs::SoundLaws::sound_happened, mpm_kernel::proofs::SoundLaws::live_happened))]
 fn happen(kernel: &mut Kernel, seen: &mut Seen, event: Event) -> bool
-    requires { IsSound kernel.old }
-    ensures { IsSound kernel.new }
+    requires { IsSoundKernel kernel.old }
+    ensures { IsSoundKernel kernel.new }
 {
     if !may_come(event) {
         return false;
@@ -291,8 +291,8 @@ fn happen(kernel: &mut Kernel, seen: &mut Seen, event: Event) -> bool
 
 /// A key comes to console 0 so many times.
 fn press(kernel: &mut Kernel, seen: &mut Seen, byte: u8, count: u8) -> bool
-    requires { IsSound kernel.old }
-    ensures { IsSound kernel.new }
+    requires { IsSoundKernel kernel.old }
+    ensures { IsSoundKernel kernel.new }
 {
     for _time in 0..count {
         let _came = happen(kernel, seen, Event::Key { console: 0, byte });
@@ -308,9 +308,9 @@ fn serve(
     bytes: &[u8],
     reply: &mut Reply,
 ) -> Option<Outcome>
-    requires sound { IsSound kernel.old }
+    requires sound { IsSoundKernel kernel.old }
     requires few { length bytes.now ≤ 16 }
-    ensures sound { IsSound kernel.new }
+    ensures sound { IsSoundKernel kernel.new }
     ensures live { IfSome result (λ outcome. CompletedLive kernel.new) }
 {
     let p = match kernel.running() {
@@ -324,12 +324,12 @@ fn serve(
 }
 
 /// The outcome and the value of an answer.
-fn expected(answer: Answer) -> (Outcome, u16) {
+fn expected(answer: Completion) -> (Outcome, u16) {
     match answer {
-        Answer::Done(value) => (Outcome::Done, value),
-        Answer::Held => (Outcome::Held, 0),
-        Answer::Again => (Outcome::Retry, 0),
-        Answer::Ended => (Outcome::Ended, 0),
+        Completion::Done(value) => (Outcome::Done, value),
+        Completion::Held => (Outcome::Held, 0),
+        Completion::Again => (Outcome::Retry, 0),
+        Completion::Ended => (Outcome::Ended, 0),
     }
 }
 
@@ -340,10 +340,10 @@ fn ask(
     function: u8,
     word: u16,
     bytes: &[u8],
-    answer: Answer,
+    answer: Completion,
 ) -> bool
-    requires { IsSound kernel.old }
-    ensures { IsSound kernel.new }
+    requires { IsSoundKernel kernel.old }
+    ensures { IsSoundKernel kernel.new }
 {
     if bytes.len() > 16 {
         return false;
@@ -365,10 +365,10 @@ fn ask_by_name(
     name: &[u8; 8],
     length: u16,
     count: u16,
-    answer: Answer,
+    answer: Completion,
 ) -> bool
-    requires { IsSound kernel.old }
-    ensures { IsSound kernel.new }
+    requires { IsSoundKernel kernel.old }
+    ensures { IsSoundKernel kernel.new }
 {
     let [a, b, c, d, e, f, g, h] = *name;
     let [length_low, length_high] = length.to_le_bytes();
@@ -400,10 +400,10 @@ fn ask_by_pointer(
     pointer: u8,
     name: &[u8; 8],
     byte: u8,
-    answer: Answer,
+    answer: Completion,
 ) -> bool
-    requires { IsSound kernel.old }
-    ensures { IsSound kernel.new }
+    requires { IsSoundKernel kernel.old }
+    ensures { IsSoundKernel kernel.new }
 {
     let [a, b, c, d, e, f, g, h] = *name;
     let block = [pointer, 0, 0x00, 0x03, a, b, c, d, e, f, g, h, byte];
@@ -413,8 +413,8 @@ fn ask_by_pointer(
 /// A byte is written to a console: the number of spaces that stand for it, None where the console isn't there.
 #[tactic(auto, using(mpm_kernel::proofs::SoundLaws::sound_wrote))]
 fn write(kernel: &mut Kernel, console: u8, byte: u8, tabs: bool) -> Option<u8>
-    requires { IsSound kernel.old }
-    ensures { IsSound kernel.new }
+    requires { IsSoundKernel kernel.old }
+    ensures { IsSoundKernel kernel.new }
 {
     if kernel.consoles() <= console {
         return None;
@@ -425,8 +425,8 @@ fn write(kernel: &mut Kernel, console: u8, byte: u8, tabs: bool) -> Option<u8>
 /// The byte that a device sent last, None where there is no such device.
 #[tactic(auto, using(mpm_kernel::proofs::SoundLaws::sound_devices))]
 fn last(kernel: &mut Kernel, device: u8) -> Option<u8>
-    requires { IsSound kernel.old }
-    ensures { IsSound kernel.new }
+    requires { IsSoundKernel kernel.old }
+    ensures { IsSoundKernel kernel.new }
 {
     if device < 16 {
         Some(kernel.devices_mut().last[usize::from(device)])
@@ -437,8 +437,8 @@ fn last(kernel: &mut Kernel, device: u8) -> Option<u8>
 
 /// A line comes to pass, and all is so that it says.
 fn passes(kernel: &mut Kernel, seen: &mut Seen, line: Line) -> bool
-    requires { IsSound kernel.old }
-    ensures { IsSound kernel.new }
+    requires { IsSoundKernel kernel.old }
+    ensures { IsSoundKernel kernel.new }
 {
     match line {
         Line::Begin(priority) => begin(kernel, b"PROGRAM ", priority, Some(Seg(0))),
@@ -456,8 +456,8 @@ fn passes(kernel: &mut Kernel, seen: &mut Seen, line: Line) -> bool
 
 /// A call, a dispatch or what is answered once comes to what the line says; so does what changes nothing.
 fn answers(kernel: &mut Kernel, seen: &mut Seen, line: Line) -> bool
-    requires { IsSound kernel.old }
-    ensures { IsSound kernel.new }
+    requires { IsSoundKernel kernel.old }
+    ensures { IsSoundKernel kernel.new }
 {
     match line {
         Line::Next(p) => next(kernel, false) == p,
@@ -522,7 +522,7 @@ fn answered(p: u8, at: u16, byte: u8) -> Option<Handed> {
 /// What a line says of the kernel as it is is so.
 #[tactic(auto, using(mpm_kernel::proofs::UnitLaws::has_first_console))]
 fn shows(kernel: &Kernel, line: Line) -> bool
-    requires { IsSound kernel.now }
+    requires { IsSoundKernel kernel.now }
 {
     match line {
         Line::Echoes(bytes) => kernel.echo().written() == bytes,
@@ -575,7 +575,7 @@ pub fn play(alloc: Global, lines: &[Line]) -> Result<(), Fail> {
 /// # Errors
 /// The number of the first line that isn't so.
 pub fn play_on(kernel: &mut Kernel, lines: &[Line]) -> Result<(), Fail>
-    requires { IsSound kernel.old }
+    requires { IsSoundKernel kernel.old }
 {
     let mut seen = Seen {
         reply: Reply::new(),

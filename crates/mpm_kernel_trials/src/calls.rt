@@ -1,6 +1,6 @@
 //! What calls, events and ends come to, as the guides tell it.
 use mpm_base::functions;
-use mpm_kernel_scenes::Answer::{Done, Ended, Held};
+use mpm_kernel_scenes::Completion::{Done, Ended, Held};
 use mpm_kernel_scenes::Line::{
     Ask, AskWith, Begin, Completes, CompletesNone, CompletesTwo, End, Flag, FreeSlots, Interrupts,
     Keeps, Last, Lives, Multi, Next, NextAfterInstruction, Places, Priority, Ready, Runs, Second,

@@ -1,6 +1,6 @@
 //! Consoles, their keys and lines, and printers.
 use mpm_base::functions;
-use mpm_kernel_scenes::Answer::{Again, Done};
+use mpm_kernel_scenes::Completion::{Again, Done};
 use mpm_kernel_scenes::Line::{
     Aborts, Ask, AskWith, Begin, BeginOther, BeginResident, CompletesNone, Echoes, End, Keys, Lost,
     Next, NextAfterInstruction, Places, Write,

@@ -1,6 +1,6 @@
 //! Messages that ends give back, and resident procedures.
 use mpm_base::functions;
-use mpm_kernel_scenes::Answer::{Done, Held};
+use mpm_kernel_scenes::Completion::{Done, Held};
 use mpm_kernel_scenes::Line::{
     Ask, Begin, Completes, Delete, Delivers, End, Holds, Inside, Make, Name, Next, Pass,
 };

@@ -1,6 +1,6 @@
 //! Messages between processes.
 use mpm_base::functions;
-use mpm_kernel_scenes::Answer::{Done, Held};
+use mpm_kernel_scenes::Completion::{Done, Held};
 use mpm_kernel_scenes::Line::{
     Begin, Completes, CompletesNone, Delete, Delivers, End, Holds, Make, Name, Next, Pass, Places,
 };

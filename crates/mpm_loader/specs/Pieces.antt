@@ -40,8 +40,8 @@ unfoldable pub with_piece : List ℕ → Loading → Loading
 with_piece piece l = record l { before = l.before + length l.piece; piece = piece }
 
 -- some bytes of code from a place on are bytes of code
-abbrev pub IsWithin : Plan → ℕ → ℕ → Type 0
-IsWithin plan place count = 0 < count → place + count ≤ plan.length
+abbrev pub IsWithinCode : Plan → ℕ → ℕ → Type 0
+IsWithinCode plan place count = 0 < count → place + count ≤ plan.length
 
 -- a page relocatable program by its first piece
 abbrev pub with_first : List ℕ → Option Plan → Option Loading

@@ -28,7 +28,7 @@ impl Model for Load {
 impl Load {
     ghost use Rattle.std.specs.Prelude.{◌≡◌, ◌≤◌, ◌<◌, ◌+◌, [], false, Some, None, length, IfOk, OnErr};
     ghost use Rattle.mpm_loader.specs.Plans.{IsPlan, absolute_plan};
-    ghost use Rattle.mpm_loader.specs.Pieces.{nothing, code_in, code_place as place_of_code, marks_in, marked_place as place_of_marked, marked_length as length_of_marked, has_all as has_all_of, with_piece, begun, IsWithin};
+    ghost use Rattle.mpm_loader.specs.Pieces.{nothing, code_in, code_place as place_of_code, marks_in, marked_place as place_of_marked, marked_length as length_of_marked, has_all as has_all_of, with_piece, begun, IsWithinCode};
 
     /// Nothing is loaded.
     #[tactic(auto, unfolding(crate::specs::Pieces::nothing, crate::specs::Plans::absolute_plan))]
@@ -122,7 +122,7 @@ impl Load {
     pub fn code(&self) -> &[u8]
         ensures code { result.now ≡ code_in self.now }
         ensures few { length result.now ≤ 2048 }
-        ensures within { IsWithin self.now.plan (place_of_code self.now) (length result.now) }
+        ensures within { IsWithinCode self.now.plan (place_of_code self.now) (length result.now) }
     {
         let plan = &self.plan;
         part(
@@ -165,7 +165,7 @@ impl Load {
     #[tactic(auto, using(crate::proofs::Parts::some_marked))]
     pub fn marked_length(&self) -> u32
         ensures length { result ≡ length_of_marked self.now }
-        ensures within { IsWithin self.now.plan (place_of_marked self.now) result }
+        ensures within { IsWithinCode self.now.plan (place_of_marked self.now) result }
         ensures few { result ≤ 16384 }
         ensures some { 0 < length (marks_in self.now) → 0 < result }
     {

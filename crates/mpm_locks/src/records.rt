@@ -4,7 +4,7 @@ ghost use Rattle.mpm_opens.specs.Opens.{IsLive, process_of, file_of, locked};
 ghost use Rattle.mpm_locks.specs.Locks as spec;
 
 use mpm_base::Pid;
-use mpm_functions::{RecordEnd, RecordError};
+use mpm_file_functions::{RecordEnd, RecordError};
 use mpm_opens::{FileKey, LockDone, Opens};
 
 /// Whether another process has locked a record of a file.

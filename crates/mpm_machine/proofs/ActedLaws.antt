@@ -16,7 +16,7 @@ use Rattle.mpm_kernel.specs.Called.{low_parameter}
 use Rattle.mpm_gate.specs.declared.gate.Gate.{Gate}
 use Rattle.mpm_gate.specs.declared.gate.Gate.TheVariants.{End, Call, Return}
 use Rattle.mpm_system.specs.declared.system.System.{System}
-use Rattle.mpm_system.specs.Whole.{Change, IsWhole}
+use Rattle.mpm_system.specs.Whole.{SystemChange, IsWhole}
 use Rattle.mpm_system.specs.Calling.{Served, asking}
 use Rattle.mpm_system.specs.Sending.{has_interpreter}
 use Rattle.mpm_system.specs.Taking.{asked, keeping}
@@ -97,7 +97,7 @@ whole_native_call call p system keeps w h ready =
 
 whole_text : (call : Taken) (p : ℕ) (system : System) → IsWhole system → Lives system.kernel.dispatcher.procs p → IsWhole (text_told call system).system
 whole_text call p system w h =
-    either (λ (change : Change). IsWhole change.system) (is_console (low_parameter call) system.kernel) _ _
+    either (λ (change : SystemChange). IsWhole change.system) (is_console (low_parameter call) system.kernel) _ _
     (λ _. (whole_speaking (low_parameter call) p _ system w h).whole) (λ _. w)
 
 whole_telling : (call : Taken) (p : ℕ) (system : System) → IsWhole system → Lives system.kernel.dispatcher.procs p → IsWhole (telling_step call p system).system
@@ -120,7 +120,7 @@ whole_handing act call p system w h = whole_residents _ _ (whole_handed act call
 whole_native_step : (act : Act) (call : Taken) (p : ℕ) (system : System) → call_of system.kernel.dispatcher.procs p ≡ call → IsWhole system
     → Lives system.kernel.dispatcher.procs p → IsReady system.kernel.dispatcher p → IsWhole (native_step act call p system).system
 whole_native_step Ask call p system keeps w h ready =
-    either (λ (change : Change). IsWhole change.system) (tells (native_in system.residents p) call) _ _ (λ _. whole_telling call p system w h)
+    either (λ (change : SystemChange). IsWhole change.system) (tells (native_in system.residents p) call) _ _ (λ _. whole_telling call p system w h)
     (λ _. whole_native_call call p system keeps w h ready)
 whole_native_step (Place seg address count) call p system keeps w h ready = whole_handing (Place seg address count) call p system w h
 whole_native_step (Patch seg address count page) call p system keeps w h ready = whole_handing (Patch seg address count page) call p system w h

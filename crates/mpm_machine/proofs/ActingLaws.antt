@@ -2,20 +2,20 @@
 -- none does.
 use Rattle.std.proofs.Common.{◌≡◌, ◌∙◌, ℕ, true, false, Option, Some, None, is_some, refl, sym, ap}
 use Rattle.std.proofs.lemmas.Bool.{false≢true}
-use Rattle.z80_regs.specs.Outcome.{Outcome}
+use Rattle.z80_regs.specs.Outcome.{StepOutcome}
 use Rattle.mpm_procs.specs.Table.{process_in}
 use Rattle.mpm_system.specs.declared.system.System.{System}
 use Rattle.mpm_system.specs.Whole.{silent}
 use Rattle.mpm_machine.specs.Step.{illegal, executed, instructed, acted, acted_by, acted_at, at_instruction, instruction_by, running_segment, gate_before, is_no_gate}
 use Rattle.mpm_machine.proofs.WholeLaws.{ran_nothing}
 
-pub executed_listed : (outcome : Option Outcome) (p seg : ℕ) (old new : System) → is_some outcome ≡ true → new ≡ instructed outcome p seg old
+pub executed_listed : (outcome : Option StepOutcome) (p seg : ℕ) (old new : System) → is_some outcome ≡ true → new ≡ instructed outcome p seg old
     → executed outcome p seg old ≡ silent new
 unfolding executed
 executed_listed None p seg old new listed is = absurd (false≢true listed)
 executed_listed (Some outcome) p seg old new listed is = ap silent (sym is)
 
-pub executed_unlisted : (outcome : Option Outcome) (p seg : ℕ) (old new : System) → is_some outcome ≡ false → new ≡ instructed outcome p seg old
+pub executed_unlisted : (outcome : Option StepOutcome) (p seg : ℕ) (old new : System) → is_some outcome ≡ false → new ≡ instructed outcome p seg old
     → executed outcome p seg old ≡ illegal p new
 unfolding executed
 executed_unlisted None p seg old new unlisted is = ap (illegal p) (sym (is ∙ ran_nothing None p seg old refl))

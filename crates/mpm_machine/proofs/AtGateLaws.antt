@@ -11,32 +11,32 @@ use Rattle.mpm_procs.specs.Table.{call_of}
 use Rattle.mpm_service.specs.Disk.{is_last_step}
 use Rattle.mpm_service.specs.declared.service.Served.{Served}
 use Rattle.mpm_dispatcher.specs.Dispatch.{IsReady}
-use Rattle.mpm_kernel.specs.Kernel.{Kernel, IsSound}
+use Rattle.mpm_kernel.specs.Kernel.{Kernel, IsSoundKernel}
 use Rattle.mpm_kernel.specs.Disk.{waiting_for_disk}
 use Rattle.mpm_mount.specs.Directories.{Directory}
 use Rattle.mpm_render.specs.Outputs.{Output}
-use Rattle.mpm_output.specs.Outside.{Faults, Outside}
-use Rattle.mpm_output.specs.Writing.{Wrote, Stopped}
+use Rattle.mpm_output.specs.Outside.{DeviceFaults, Outside}
+use Rattle.mpm_output.specs.Writing.{CameOut, Stopped}
 use Rattle.mpm_output.proofs.WritingLaws.{wrote_nothing}
-use Rattle.mpm_functions.specs.declared.functions.FileFunction.{FileFunction}
-use Rattle.mpm_functions.specs.declared.refusals.Extended.{Extended}
+use Rattle.mpm_file_functions.specs.declared.functions.FileFunction.{FileFunction}
+use Rattle.mpm_file_functions.specs.declared.refusals.Extended.{Extended}
 use Rattle.mpm_directories.specs.Direct.{Directly}
-use Rattle.mpm_requests.specs.Filing.{Filing, Situation}
-use Rattle.mpm_functions.specs.Functions.{function_of}
+use Rattle.mpm_refusals.specs.Filing.{Filing, Situation}
+use Rattle.mpm_file_functions.specs.Functions.{function_of}
 use Rattle.mpm_bdos.specs.Serving.{Kept, InService, Serves}
 use Rattle.mpm_directories.specs.Places.{directory_at}
 use Rattle.mpm_bdos.specs.Turns.{FitsDrives, has_work, labelled, images_of}
 use Rattle.mpm_bdos.proofs.ServedLaws.{none_before}
 use Rattle.mpm_system.specs.declared.system.System.{System}
-use Rattle.mpm_system.specs.Whole.{Change, silent}
+use Rattle.mpm_system.specs.Whole.{SystemChange, silent}
 use Rattle.mpm_machine.specs.declared.machine.StepFault.{StepFault}
 use Rattle.mpm_machine.specs.declared.machine.StepFault.TheVariants.{DiskFault, WriteFault}
-use Rattle.mpm_machine.specs.Faults.{Counts, HasFailed, HaveCause, itself, OnDiskFault, OnWriteFault}
-use Rattle.mpm_machine.specs.Files.{Files, Between, Within, one_more, StandsBetween, StandsWorkedBy, StandsWorked}
+use Rattle.mpm_machine.specs.Faults.{FailureCounts, HasFailed, HaveCause, itself, OnDiskFault, OnWriteFault}
+use Rattle.mpm_machine.specs.Files.{FilesInService, Between, Within, one_more, StandsBetween, StandsWorkedBy, StandsWorked}
 use Rattle.mpm_machine.specs.Filed.{IsOutcome}
 use Rattle.mpm_machine.specs.FileCalls.{outcome_in, told_of, concluded}
 use Rattle.mpm_machine.specs.DiskStep.{is_done_at_once, with_kernel, file_called, done_at_once, files_called, told_at_gate}
-use Rattle.mpm_machine.specs.Holding.{IsOwn, HoldsKept}
+use Rattle.mpm_machine.specs.Holding.{IsOwnCall, HoldsKept}
 use Rattle.mpm_machine.specs.Failing.{HaveImagesOf, FailsWithin, working_if, turns_done}
 use Rattle.mpm_machine.specs.After.{IsOfSome, StopsBy, HasCalled}
 use Rattle.mpm_machine.specs.Stepping.{nothing_told}
@@ -53,11 +53,11 @@ waits_is : (told : Directly) (p : ℕ) (system : System) → is_done_at_once p s
 unfolding file_called
 waits_is told p system waits = ap (λ b. if b then concluded told p system else silent (with_kernel (waiting_for_disk p) system)) waits
 
-files_once : (p : ℕ) (system : System) (files : Files) → is_done_at_once p system ≡ true → files_called p system files ≡ done_at_once p system files
+files_once : (p : ℕ) (system : System) (files : FilesInService) → is_done_at_once p system ≡ true → files_called p system files ≡ done_at_once p system files
 unfolding files_called
 files_once p system files done = ap (λ b. if b then done_at_once p system files else files) done
 
-files_wait : (p : ℕ) (system : System) (files : Files) → is_done_at_once p system ≡ false → files_called p system files ≡ files
+files_wait : (p : ℕ) (system : System) (files : FilesInService) → is_done_at_once p system ≡ false → files_called p system files ≡ files
 unfolding files_called
 files_wait p system files waits = ap (λ b. if b then done_at_once p system files else files) waits
 
@@ -77,9 +77,9 @@ waits_called : (told : Directly) (p : ℕ) (o : Outside) (old new : System) → 
     → HasCalled told p o o old new
 waits_called told p o old new waits is =
     let so = sym (waits_is told p old waits) in
-    record { system = is ∙ ap (λ (c : Change). c.system) so; wrote = subst (λ (c : Change). Wrote o o c.emitted) so (wrote_nothing o) }
+    record { system = is ∙ ap (λ (c : SystemChange). c.system) so; wrote = subst (λ (c : SystemChange). CameOut o o c.emitted) so (wrote_nothing o) }
 
-waits_stands : (p : ℕ) (old new : System) (kept : Kept) (disks : Disks) (files : Files) → is_done_at_once p old ≡ false → new ≡ with_kernel (waiting_for_disk p) old
+waits_stands : (p : ℕ) (old new : System) (kept : Kept) (disks : Disks) (files : FilesInService) → is_done_at_once p old ≡ false → new ≡ with_kernel (waiting_for_disk p) old
     → StandsWorked old.kernel.disk kept disks files → StandsWorked new.kernel.disk kept disks (files_called p old files)
 waits_stands p old new kept disks files waits is stands =
     let serves = waiting_serves p old.kernel in
@@ -87,7 +87,7 @@ waits_stands p old new kept disks files waits is stands =
     (worked_on old.kernel.disk new.kernel.disk kept disks files
     (ap (λ (s : System). s.kernel.disk.served) is ∙ serves.served) (ap (λ (s : System). s.kernel.disk.turn_steps) is ∙ serves.steps) stands)
 
-pub waits_ok : (p : ℕ) (o : Outside) (old new : System) (kept : Kept) (disks : Disks) (files : Files) → is_done_at_once p old ≡ false
+pub waits_ok : (p : ℕ) (o : Outside) (old new : System) (kept : Kept) (disks : Disks) (files : FilesInService) → is_done_at_once p old ≡ false
     → new ≡ with_kernel (waiting_for_disk p) old → StandsWorked old.kernel.disk kept disks files
     → HasCalled (told_at_gate p old files) p o o old new × StandsWorked new.kernel.disk kept disks (files_called p old files)
 waits_ok p o old new kept disks files waits is stands =
@@ -95,11 +95,11 @@ waits_ok p o old new kept disks files waits is stands =
 
 -- what one comes to that is done at once: where a call is in service, one that no disk serves, which leaves files
 
-record Comes (p : ℕ) (old : System) (served : Option Served) (kept : Kept) (disks : Disks) (files : Files) (reply : Answer) (extended : Option Extended) : Type 0 where
+record Comes (p : ℕ) (old : System) (served : Option Served) (kept : Kept) (disks : Disks) (files : FilesInService) (reply : Answer) (extended : Option Extended) : Type 0 where
   pub told : told_at_gate p old files ≡ told_of (call_of old.kernel.dispatcher.procs p) reply extended
   pub stands : StandsWorkedBy old.kernel.disk.turn_steps served kept disks (done_at_once p old files)
 
-told_so : (p : ℕ) (old : System) (files : Files) (filing : Filing) (reply : Answer) (extended : Option Extended)
+told_so : (p : ℕ) (old : System) (files : FilesInService) (filing : Filing) (reply : Answer) (extended : Option Extended)
     → told_at_gate p old files
     ≡ told_of (call_of old.kernel.dispatcher.procs p) (outcome_in filing p old).answer (outcome_in filing p old).extended
     → reply ≡ (outcome_in filing p old).answer → extended ≡ (outcome_in filing p old).extended
@@ -115,7 +115,7 @@ pub record IsCalled (p : ℕ) (old : System) (kept kept' : Kept) (disks disks' :
       → (reply ≡ (outcome_in s.filing p old).answer) × (extended ≡ (outcome_in s.filing p old).extended)
   pub direct : function_of (call_of old.kernel.dispatcher.procs p).function ≡ None → (kept' ≡ kept) × (disks' ≡ disks)
 
-comes_by : (p : ℕ) (old : System) (served : Option Served) (kept kept' : Kept) (disks disks' : Disks) (files : Files) (reply : Answer) (extended : Option Extended)
+comes_by : (p : ℕ) (old : System) (served : Option Served) (kept kept' : Kept) (disks disks' : Disks) (files : FilesInService) (reply : Answer) (extended : Option Extended)
     → (is_some served ≡ true → function_of (call_of old.kernel.dispatcher.procs p).function ≡ None)
     → IsCalled p old kept kept' disks disks' reply extended → StandsWorkedBy old.kernel.disk.turn_steps served kept disks files
     → Comes p old served kept' disks' files reply extended
@@ -135,30 +135,30 @@ comes_by p old (Some call) kept kept' disks disks' (Within s) reply extended apa
           (subst (λ (d : Disks). StandsWorkedBy steps (Some call) kept d (Within s)) (sym same.1) stands);
     }
 
-comes : (p : ℕ) (old : System) (kept kept' : Kept) (disks disks' : Disks) (files : Files) (reply : Answer) (extended : Option Extended)
+comes : (p : ℕ) (old : System) (kept kept' : Kept) (disks disks' : Disks) (files : FilesInService) (reply : Answer) (extended : Option Extended)
     → (is_some old.kernel.disk.served ≡ true → function_of (call_of old.kernel.dispatcher.procs p).function ≡ None)
     → IsCalled p old kept kept' disks disks' reply extended → StandsWorked old.kernel.disk kept disks files
     → Comes p old old.kernel.disk.served kept' disks' files reply extended
 comes p old kept kept' disks disks' files reply extended apart c stands =
     comes_by p old old.kernel.disk.served kept kept' disks disks' files reply extended apart c stands.stands
 
-once_stands : (p : ℕ) (old : System) (kept : Kept) (disks : Disks) (files : Files) (reply : Answer) (extended : Option Extended) → is_done_at_once p old ≡ true
+once_stands : (p : ℕ) (old : System) (kept : Kept) (disks : Disks) (files : FilesInService) (reply : Answer) (extended : Option Extended) → is_done_at_once p old ≡ true
     → Comes p old old.kernel.disk.served kept disks files reply extended → StandsWorked old.kernel.disk kept disks (files_called p old files)
 once_stands p old kept disks files reply extended done c =
     subst (StandsWorked old.kernel.disk kept disks) (sym (files_once p old files done)) (record { stands = c.stands })
 
 called_so : (told : Directly) (p : ℕ) (o n : Outside) (old new : System) → is_done_at_once p old ≡ true → new ≡ (concluded told p old).system
-    → Wrote o n (concluded told p old).emitted → HasCalled told p o n old new
+    → CameOut o n (concluded told p old).emitted → HasCalled told p o n old new
 called_so told p o n old new done is wrote =
     let so = sym (once_is told p old done) in
-    record { system = is ∙ ap (λ (c : Change). c.system) so; wrote = subst (λ (c : Change). Wrote o n c.emitted) so wrote }
+    record { system = is ∙ ap (λ (c : SystemChange). c.system) so; wrote = subst (λ (c : SystemChange). CameOut o n c.emitted) so wrote }
 
-pub once_ok : {A E : Type 0} (r : Result A E) (p : ℕ) (o n : Outside) (old new : System) (kept kept' : Kept) (disks disks' : Disks) (files : Files) (reply : Answer) (extended : Option Extended)
-    → IsSound old.kernel → IsReady old.kernel.dispatcher p → is_done_at_once p old ≡ true
+pub once_ok : {A E : Type 0} (r : Result A E) (p : ℕ) (o n : Outside) (old new : System) (kept kept' : Kept) (disks disks' : Disks) (files : FilesInService) (reply : Answer) (extended : Option Extended)
+    → IsSoundKernel old.kernel → IsReady old.kernel.dispatcher p → is_done_at_once p old ≡ true
     → (is_some old.kernel.disk.served ≡ true → function_of (call_of old.kernel.dispatcher.procs p).function ≡ None)
     → IsCalled p old kept kept' disks disks' reply extended
     → OnOk r (new ≡ (concluded (told_of (call_of old.kernel.dispatcher.procs p) reply extended) p old).system)
-    → OnOk r (Wrote o n (concluded (told_of (call_of old.kernel.dispatcher.procs p) reply extended) p old).emitted)
+    → OnOk r (CameOut o n (concluded (told_of (call_of old.kernel.dispatcher.procs p) reply extended) p old).emitted)
     → StandsWorked old.kernel.disk kept disks files
     → OnOk r (HasCalled (told_at_gate p old files) p o n old new × StandsWorked new.kernel.disk kept' disks' (files_called p old files))
 once_ok (Err e) p o n old new kept kept' disks disks' files reply extended s is_ready done apart c is wrote stands = tt
@@ -175,12 +175,12 @@ once_ok (Ok a) p o n old new kept kept' disks disks' files reply extended s is_r
 -- whatever it comes to
 pub waits_made : (p : ℕ) (old new : System) → is_done_at_once p old ≡ false → new ≡ with_kernel (waiting_for_disk p) old
     → IsOfSome (λ (told : Directly). (file_called told p old).system) new
-waits_made p old new waits is = (nothing_told, is ∙ ap (λ (c : Change). c.system) (sym (waits_is nothing_told p old waits)))
+waits_made p old new waits is = (nothing_told, is ∙ ap (λ (c : SystemChange). c.system) (sym (waits_is nothing_told p old waits)))
 
 pub once_made : {A E : Type 0} (r : Result A E) (told : Directly) (p : ℕ) (old new : System) → is_done_at_once p old ≡ true
     → OnOk r (new ≡ (concluded told p old).system) → OnOk r (IsOfSome (λ (told : Directly). (file_called told p old).system) new)
 once_made r told p old new done =
-    on_ok_weaker r (λ (is : new ≡ (concluded told p old).system). (told, is ∙ ap (λ (c : Change). c.system) (sym (once_is told p old done))))
+    on_ok_weaker r (λ (is : new ≡ (concluded told p old).system). (told, is ∙ ap (λ (c : SystemChange). c.system) (sym (once_is told p old done))))
 
 -- the sink failed in its answer
 
@@ -191,9 +191,9 @@ stops_so : (fault : StepFault) (told : Directly) (p : ℕ) (o n : Outside) (old 
     → Stopped o n (concluded told p old).emitted → StopsBy fault o n (file_called told p old).emitted
 stops_so fault told p o n old done is stopped =
     subst (λ (f : StepFault). StopsBy f o n (file_called told p old).emitted) (sym is)
-    (subst (λ (c : Change). Stopped o n c.emitted) (sym (once_is told p old done)) stopped)
+    (subst (λ (c : SystemChange). Stopped o n c.emitted) (sym (once_is told p old done)) stopped)
 
-pub once_err : {A : Type 0} (r : Result A StepFault) (p : ℕ) (o n : Outside) (old : System) (kept kept' : Kept) (disks disks' : Disks) (files : Files) (reply : Answer) (extended : Option Extended)
+pub once_err : {A : Type 0} (r : Result A StepFault) (p : ℕ) (o n : Outside) (old : System) (kept kept' : Kept) (disks disks' : Disks) (files : FilesInService) (reply : Answer) (extended : Option Extended)
     → is_done_at_once p old ≡ true
     → (is_some old.kernel.disk.served ≡ true → function_of (call_of old.kernel.dispatcher.procs p).function ≡ None)
     → IsCalled p old kept kept' disks disks' reply extended
@@ -210,7 +210,7 @@ on_write : (fault : StepFault) (P : Type 0) → P → OnWriteFault fault P
 on_write WriteFault P p = p
 on_write DiskFault P p = tt
 
-pub once_still : {A : Type 0} (r : Result A StepFault) (p : ℕ) (old : System) (kept kept' : Kept) (disks disks' : Disks) (files : Files) (reply : Answer) (extended : Option Extended)
+pub once_still : {A : Type 0} (r : Result A StepFault) (p : ℕ) (old : System) (kept kept' : Kept) (disks disks' : Disks) (files : FilesInService) (reply : Answer) (extended : Option Extended)
     → is_done_at_once p old ≡ true
     → (is_some old.kernel.disk.served ≡ true → function_of (call_of old.kernel.dispatcher.procs p).function ≡ None)
     → IsCalled p old kept kept' disks disks' reply extended → StandsWorked old.kernel.disk kept disks files
@@ -233,15 +233,15 @@ once_fault (Err fault) o n emitted failed = failed.0
 
 -- whether records are asked for stays, and what failed is the sink
 
-pub once_trace : {A : Type 0} (r : Result A StepFault) (o n : Outside) (emitted : List Output) → OnOk r (Wrote o n emitted) → SinkFailed r o n emitted → n.kept.trace ≡ o.kept.trace
+pub once_trace : {A : Type 0} (r : Result A StepFault) (o n : Outside) (emitted : List Output) → OnOk r (CameOut o n emitted) → SinkFailed r o n emitted → n.kept.trace ≡ o.kept.trace
 once_trace (Ok a) o n emitted wrote failed = wrote.trace
 once_trace (Err fault) o n emitted wrote failed = failed.1.trace
 
-pub once_cause : {A : Type 0} (r : Result A StepFault) (o n : Outside) (emitted : List Output) (before behind : ℕ) → behind ≡ before → OnOk r (Wrote o n emitted) → SinkFailed r o n emitted
+pub once_cause : {A : Type 0} (r : Result A StepFault) (o n : Outside) (emitted : List Output) (before behind : ℕ) → behind ≡ before → OnOk r (CameOut o n emitted) → SinkFailed r o n emitted
     → HaveCause itself (record { sink = o.faults.sink; drives = before }) (record { sink = n.faults.sink; drives = behind }) r
 once_cause (Ok a) o n emitted before behind same wrote failed = record {
-  stays = ap (λ (d : ℕ). let c : Counts = record { sink = n.faults.sink; drives = d } in c) same
-      ∙ ap (λ (f : Faults). let c : Counts = record { sink = f.sink; drives = before } in c) wrote.faults;
+  stays = ap (λ (d : ℕ). let c : FailureCounts = record { sink = n.faults.sink; drives = d } in c) same
+      ∙ ap (λ (f : DeviceFaults). let c : FailureCounts = record { sink = f.sink; drives = before } in c) wrote.faults;
   failed = tt;
 }
 once_cause (Err fault) o n emitted before behind same wrote failed = record {
@@ -282,9 +282,9 @@ served_directly p old off done = and_none (function_of (call_of old.kernel.dispa
 -- what holds of drives and of what is kept does so after its work
 
 own_filed : (served : Option Served) (kernel : Kernel) (old new : Option InService) → (is_some served ≡ true → new ≡ old)
-    → IfSome served (λ (call : Served). IsOwn kernel.dispatcher.procs call.p old) → IfSome served (λ (call : Served). IsOwn kernel.dispatcher.procs call.p new)
+    → IfSome served (λ (call : Served). IsOwnCall kernel.dispatcher.procs call.p old) → IfSome served (λ (call : Served). IsOwnCall kernel.dispatcher.procs call.p new)
 own_filed None kernel old new same own = tt
-own_filed (Some call) kernel old new same own = subst (IsOwn kernel.dispatcher.procs call.p) (sym (same refl)) own
+own_filed (Some call) kernel old new same own = subst (IsOwnCall kernel.dispatcher.procs call.p) (sym (same refl)) own
 
 workless_by : (found : Option FileFunction) (old new : Kept) → (found ≡ None → new ≡ old) → (is_some found ≡ true → new.service ≡ None) → has_work old.service ≡ false
     → has_work new.service ≡ false

@@ -11,15 +11,15 @@ use Rattle.mpm_service.specs.Disk.{DiskService, entered}
 use Rattle.mpm_service.specs.Places.{at_disk, is_call_of}
 use Rattle.mpm_service.specs.declared.service.Served.{Served}
 use Rattle.mpm_dispatcher.specs.Dispatch.{IsReady}
-use Rattle.mpm_kernel.specs.Kernel.{Kernel, IsSound}
+use Rattle.mpm_kernel.specs.Kernel.{Kernel, IsSoundKernel}
 use Rattle.mpm_kernel.specs.Disk.{waiting_for_disk}
 use Rattle.mpm_residents.specs.declared.native.Native.{Native}
 use Rattle.mpm_residents.specs.Natives.{native_in}
 use Rattle.mpm_directories.specs.Direct.{Directly}
-use Rattle.mpm_functions.specs.Functions.{function_of}
+use Rattle.mpm_file_functions.specs.Functions.{function_of}
 use Rattle.mpm_bdos.specs.Serving.{Kept}
 use Rattle.mpm_system.specs.declared.system.System.{System}
-use Rattle.mpm_system.specs.Whole.{Change, IsWhole}
+use Rattle.mpm_system.specs.Whole.{SystemChange, IsWhole}
 use Rattle.mpm_system.specs.Sending.{chains}
 use Rattle.mpm_system.specs.Taking.{keeping}
 use Rattle.mpm_system.specs.Answering.{popped}
@@ -94,7 +94,7 @@ keeps_answered system w filed = record {
 
 -- no file call is made
 
-begun_serves : (event : Option Event) (system : System) → IsSound system.kernel → ServesSame system (begun_by event system).system
+begun_serves : (event : Option Event) (system : System) → IsSoundKernel system.kernel → ServesSame system (begun_by event system).system
 begun_serves None system s = acted_serves system s
 begun_serves (Some event) system s = event_serves event system
 
@@ -125,7 +125,7 @@ pub made_serves : (p : ℕ) (system : System) → ServesSame system (call_made p
 unfolding call_made
 made_serves p system = same_service system.kernel.disk _ (made_disk (process_in system.kernel.dispatcher.procs p).seg _ p (counted system) refl)
 
-pub keeps_made : (p : ℕ) (system made : System) → IsSound system.kernel → IsReady system.kernel.dispatcher p → made ≡ call_made p system → KeepsDisk system made
+pub keeps_made : (p : ℕ) (system made : System) → IsSoundKernel system.kernel → IsReady system.kernel.dispatcher p → made ≡ call_made p system → KeepsDisk system made
 keeps_made p system made s is_ready is =
     subst (KeepsDisk system) (sym is) (record { calls = calls_made p system s is_ready; serves = made_serves p system })
 
@@ -155,14 +155,14 @@ pub filed_called : (told : Directly) (p : ℕ) (system : System) → IsWhole sys
     → AreFiled (file_called told p system).system.kernel
 unfolding file_called
 filed_called told p system w h filed =
-    either (λ (c : Change). AreFiled c.system.kernel) (is_done_at_once p system) _ _
+    either (λ (c : SystemChange). AreFiled c.system.kernel) (is_done_at_once p system) _ _
     (λ _. filed_still system.kernel (concluded told p system).system.kernel (calls_concluded told p system w h) filed)
     (λ waits. filed_waiting p system waits filed)
 
-pub called_serves : (told : Directly) (p : ℕ) (system : System) → IsSound system.kernel → IsReady system.kernel.dispatcher p → ServesSame system (file_called told p system).system
+pub called_serves : (told : Directly) (p : ℕ) (system : System) → IsSoundKernel system.kernel → IsReady system.kernel.dispatcher p → ServesSame system (file_called told p system).system
 unfolding file_called
 called_serves told p system s is_ready =
-    either (λ (c : Change). ServesSame system c.system) (is_done_at_once p system) _ _
+    either (λ (c : SystemChange). ServesSame system c.system) (is_done_at_once p system) _ _
     (λ _. concluded_serves told p system (ready_unserved system p s is_ready)) (λ _. waiting_serves p system.kernel)
 
 pub holds_called : {D : Type 0} (disks : D → Disks) (told : Directly) (p : ℕ) (system : System) (kept : Kept) (drives : D) → IsWhole system
@@ -170,7 +170,7 @@ pub holds_called : {D : Type 0} (disks : D → Disks) (told : Directly) (p : ℕ
     → HoldsKept disks (file_called told p system).system.kernel kept drives
 unfolding file_called
 holds_called disks told p system kept drives w h is_ready holds =
-    either (λ (c : Change). HoldsKept disks c.system.kernel kept drives) (is_done_at_once p system) _ _
+    either (λ (c : SystemChange). HoldsKept disks c.system.kernel kept drives) (is_done_at_once p system) _ _
     (λ _. holds_kept disks system (concluded told p system).system kept drives (keeps_concluded told p system w h is_ready) holds)
     (λ waits. holds_waiting disks p system kept drives waits holds)
 

@@ -15,21 +15,21 @@ use Rattle.mpm_service.specs.declared.service.Turn.{Turn}
 use Rattle.mpm_service.specs.declared.service.Turn.TheVariants.{Idle, Passing, Work, Starts}
 use Rattle.mpm_jobs.specs.declared.jobs.Job.{Job}
 use Rattle.mpm_files.proofs.TurnLaws.{no_turn}
-use Rattle.mpm_functions.specs.declared.functions.FileFunction.{FileFunction}
+use Rattle.mpm_file_functions.specs.declared.functions.FileFunction.{FileFunction}
 use Rattle.mpm_directories.specs.Direct.{Directly}
-use Rattle.mpm_requests.specs.Filing.{Filing, Situation}
-use Rattle.mpm_functions.specs.Functions.{function_of}
+use Rattle.mpm_refusals.specs.Filing.{Filing, Situation}
+use Rattle.mpm_file_functions.specs.Functions.{function_of}
 use Rattle.mpm_bdos.specs.Jobs.{call_turns, job_of}
 use Rattle.mpm_bdos.specs.Outcomes.{file_call, drives_after}
 use Rattle.mpm_bdos.specs.Serving.{Kept, StandEach}
-use Rattle.mpm_requests.specs.Subjects.{drive_number, blank_drive, drive_at}
+use Rattle.mpm_refusals.specs.Subjects.{drive_number, blank_drive, drive_at}
 use Rattle.mpm_bdos.specs.Turns.{images_of}
 use Rattle.mpm_bdos.proofs.NextTurns.{job_drives, idle_drives}
 use Rattle.mpm_bdos.proofs.ServedLaws.{job_mounted}
 use Rattle.mpm_bdos.proofs.ServingLaws.{stand_at_last}
 use Rattle.mpm_system.specs.declared.system.System.{System}
-use Rattle.mpm_system.specs.Whole.{Change, silent}
-use Rattle.mpm_machine.specs.Files.{Files, Between, Within, AreWithin, drives_in, turns_ended, StandsServed, StandsWorked, given_back}
+use Rattle.mpm_system.specs.Whole.{SystemChange, silent}
+use Rattle.mpm_machine.specs.Files.{FilesInService, Between, Within, AreWithin, drives_in, turns_ended, StandsServed, StandsWorked, given_back}
 use Rattle.mpm_machine.specs.DiskStep.{step_passed, disk_served, files_served, all_paid, entered_by, call_entered, within_call, files_entered_by, files_entered, turns_within}
 use Rattle.mpm_machine.specs.FileCalls.{situation_of}
 use Rattle.mpm_machine.specs.Failing.{HaveImages}
@@ -42,7 +42,7 @@ use Rattle.mpm_machine.proofs.EnterLaws.{none_served, files_kept, worked_between
 use Rattle.mpm_machine.proofs.StandingLaws.{within_by}
 
 -- the drives that files say stand, where files do
-stand_in : (served : Option Served) (kept : Kept) (disks : Disks) (files : Files) → StandsServed served kept disks files
+stand_in : (served : Option Served) (kept : Kept) (disks : Disks) (files : FilesInService) → StandsServed served kept disks files
     → StandEach (images_of disks) kept.mounted (drives_in served files)
 unfolding drives_in
 stand_in None kept disks (Between filing) stands = stands.stand
@@ -54,11 +54,11 @@ stand_in (Some call) kept disks (Within s) stands =
 
 -- after the step of the disk
 
-record StandIn (kept : Kept) (disks : Disks) (served : Option Served) (files : Files) : Type 0 where
+record StandIn (kept : Kept) (disks : Disks) (served : Option Served) (files : FilesInService) : Type 0 where
   pub within : AreWithin served files
   pub stand : StandEach (images_of disks) kept.mounted (drives_in served files)
 
-stands_so : (served : Option Served) (kept : Kept) (disks : Disks) (files : Files) → StandsServed served kept disks files → StandIn kept disks served files
+stands_so : (served : Option Served) (kept : Kept) (disks : Disks) (files : FilesInService) → StandsServed served kept disks files → StandIn kept disks served files
 stands_so served kept disks files stands = record { within = within_by served kept disks files stands; stand = stand_in served kept disks files stands }
 
 last_or_not : (turn : Turn) → ((p : ℕ) × (turn ≡ Work p true)) ⊎ IsNotLast turn
@@ -69,39 +69,39 @@ last_or_not (Starts q) = inr (λ p is. absurd (cc))
 last_or_not (Work q true) = inl (q, refl)
 last_or_not (Work q false) = inr (λ p is. absurd (cc))
 
-last_stands : (told : Directly) (old : System) (kept : Kept) (disks : Disks) (files : Files) (p : ℕ) → turn_answer old.kernel.disk ≡ Work p true
+last_stands : (told : Directly) (old : System) (kept : Kept) (disks : Disks) (files : FilesInService) (p : ℕ) → turn_answer old.kernel.disk ≡ Work p true
     → StandsWorked old.kernel.disk kept disks files → StandIn kept disks (disk_served told old).system.kernel.disk.served (files_served old files)
 unfolding turn_answer drives_in
 last_stands told old kept disks (Between filing) p works stands =
     let disk = old.kernel.disk in absurd (works_within disk.turn_steps disk.served (first_of disk.waiting) p true kept disks filing works stands.stands)
 last_stands told old kept disks (Within s) p works stands =
     let nobody : (disk_served told old).system.kernel.disk.served ≡ None =
-    ap (λ (c : Change). c.system.kernel.disk.served) (over_served told old p works)
+    ap (λ (c : SystemChange). c.system.kernel.disk.served) (over_served told old p works)
     ∙ (over_serves told p (step_passed old) (none_behind old.kernel.disk p works)).served ∙ none_behind old.kernel.disk p works in
-    subst (λ (files : Files). StandIn kept disks (disk_served told old).system.kernel.disk.served files) (sym (over_files old (Within s) p works))
+    subst (λ (files : FilesInService). StandIn kept disks (disk_served told old).system.kernel.disk.served files) (sym (over_files old (Within s) p works))
     (subst (λ (served : Option Served). StandIn kept disks served (Between (file_call s).filing)) (sym nobody)
     (record { within = tt; stand = stand_at_last (images_of disks) kept s (last_turn_serves old.kernel.disk kept disks s p works stands) }))
 
-more_stands : (told : Directly) (old : System) (kept : Kept) (disks : Disks) (files : Files) → is_some old.kernel.disk.served ≡ true → IsNotLast (turn_answer old.kernel.disk)
+more_stands : (told : Directly) (old : System) (kept : Kept) (disks : Disks) (files : FilesInService) → is_some old.kernel.disk.served ≡ true → IsNotLast (turn_answer old.kernel.disk)
     → StandsWorked old.kernel.disk kept disks files → StandIn kept disks (disk_served told old).system.kernel.disk.served (files_served old files)
 more_stands told old kept disks (Between filing) some more stands = absurd (not_between old.kernel.disk.turn_steps old.kernel.disk.served kept disks filing some stands.stands)
 more_stands told old kept disks (Within s) some more stands =
-    subst (λ (files : Files). StandIn kept disks (disk_served told old).system.kernel.disk.served files) (sym (same_served old s some more))
-    (subst (λ (c : Change). StandIn kept disks c.system.kernel.disk.served (Within s)) (sym (silent_served told old some more))
+    subst (λ (files : FilesInService). StandIn kept disks (disk_served told old).system.kernel.disk.served files) (sym (same_served old s some more))
+    (subst (λ (c : SystemChange). StandIn kept disks c.system.kernel.disk.served (Within s)) (sym (silent_served told old some more))
     (stands_so (turned old.kernel.disk).served kept disks (Within s) (turn_goes_on old.kernel.disk kept disks s some more stands).stands))
 
-none_stands : (told : Directly) (old : System) (kept : Kept) (disks : Disks) (files : Files) → old.kernel.disk.served ≡ None
+none_stands : (told : Directly) (old : System) (kept : Kept) (disks : Disks) (files : FilesInService) → old.kernel.disk.served ≡ None
     → StandsWorked old.kernel.disk kept disks files → StandIn kept disks (disk_served told old).system.kernel.disk.served (files_served old files)
 none_stands told old kept disks files none stands =
-    subst (λ (f : Files). StandIn kept disks (disk_served told old).system.kernel.disk.served f) (sym (files_kept old files none))
-    (subst (λ (c : Change). StandIn kept disks c.system.kernel.disk.served files) (sym (none_served told old none))
+    subst (λ (f : FilesInService). StandIn kept disks (disk_served told old).system.kernel.disk.served f) (sym (files_kept old files none))
+    (subst (λ (c : SystemChange). StandIn kept disks c.system.kernel.disk.served files) (sym (none_served told old none))
     (stands_so old.kernel.disk.served kept disks files (worked_between old.kernel.disk.turn_steps old.kernel.disk.served kept disks files none stands.stands)))
 
 none_or : (served : Option Served) → (served ≡ None) ⊎ (is_some served ≡ true)
 none_or None = inl refl
 none_or (Some call) = inr refl
 
-served_stands : (told : Directly) (old : System) (kept : Kept) (disks : Disks) (files : Files) → StandsWorked old.kernel.disk kept disks files
+served_stands : (told : Directly) (old : System) (kept : Kept) (disks : Disks) (files : FilesInService) → StandsWorked old.kernel.disk kept disks files
     → StandIn kept disks (disk_served told old).system.kernel.disk.served (files_served old files)
 served_stands told old kept disks files stands = elim (none_or old.kernel.disk.served) [
   | inl none ↦ none_stands told old kept disks files none stands
@@ -111,7 +111,7 @@ served_stands told old kept disks files stands = elim (none_or old.kernel.disk.s
   ]
 ]
 
-drives_given : (owed : List Bool) (served : Option Served) (files : Files) → drives_in served (given_back owed files) ≡ drives_in served files
+drives_given : (owed : List Bool) (served : Option Served) (files : FilesInService) → drives_in served (given_back owed files) ≡ drives_in served files
 unfolding drives_in
 drives_given owed served (Between filing) = drives_left owed filing
 drives_given owed served (Within s) = refl
@@ -154,47 +154,47 @@ entry_drives (Work p last) system filing answer none = refl
 entry_drives (Starts p) system filing answer none =
     entered_drives (turned system.kernel.disk).served filing (function_of (call_of system.kernel.dispatcher.procs p).function) p system
 
-abbrev Drives : Kept → Disks → Option Served → Files → Type 0
+abbrev Drives : Kept → Disks → Option Served → FilesInService → Type 0
 Drives kept disks served files = StandEach (images_of disks) kept.mounted (drives_in served files)
 
-entry_stands_in : (system : System) (kept : Kept) (disks : Disks) (files : Files) → system.kernel.disk.served ≡ None → StandIn kept disks system.kernel.disk.served files
+entry_stands_in : (system : System) (kept : Kept) (disks : Disks) (files : FilesInService) → system.kernel.disk.served ≡ None → StandIn kept disks system.kernel.disk.served files
     → Drives kept disks (call_entered (turns_within (files_entered system files)) system).kernel.disk.served (files_entered system files)
 unfolding drives_in
 entry_stands_in system kept disks (Between filing) none stands =
     let turn = turn_answer system.kernel.disk in
     let files : files_entered system (Between filing) ≡ files_entered_by turn system (Between filing) = files_so system (Between filing) turn none refl in
-    let P : Files → Type 0 = λ f. Drives kept disks (call_entered (turns_within f) system).kernel.disk.served f in
+    let P : FilesInService → Type 0 = λ f. Drives kept disks (call_entered (turns_within f) system).kernel.disk.served f in
     subst P (sym files)
     (subst (λ (s : System). Drives kept disks s.kernel.disk.served (files_entered_by turn system (Between filing)))
     (sym (entered_so (turns_within (files_entered_by turn system (Between filing))) system turn none refl))
     (subst (λ (drives : List (Option Drive)). StandEach (images_of disks) kept.mounted drives) (sym (entry_drives turn system filing refl none)) stands.stand))
 entry_stands_in system kept disks (Within s) none stands = absurd (subst (λ (served : Option Served). AreWithin served (Within s)) none stands.within)
 
-entered_stands : (system : System) (kept : Kept) (disks : Disks) (files : Files) → StandIn kept disks system.kernel.disk.served files
+entered_stands : (system : System) (kept : Kept) (disks : Disks) (files : FilesInService) → StandIn kept disks system.kernel.disk.served files
     → Drives kept disks (call_entered (turns_within (files_entered system files)) system).kernel.disk.served (files_entered system files)
 entered_stands system kept disks files stands = elim (none_or system.kernel.disk.served) [
   | inl none ↦ entry_stands_in system kept disks files none stands
   | inr some ↦
-      let P : Files → Type 0 = λ f. Drives kept disks (call_entered (turns_within f) system).kernel.disk.served f in
+      let P : FilesInService → Type 0 = λ f. Drives kept disks (call_entered (turns_within f) system).kernel.disk.served f in
       subst P (sym (files_stay system files some))
       (subst (λ (s : System). Drives kept disks s.kernel.disk.served files) (sym (nobody_enters (turns_within files) system some)) stands.stand)
 ]
 
 -- after the disk's step, and after the whole rest of the step
 
-given_within : (owed : List Bool) (served : Option Served) (files : Files) → AreWithin served files → AreWithin served (given_back owed files)
+given_within : (owed : List Bool) (served : Option Served) (files : FilesInService) → AreWithin served files → AreWithin served (given_back owed files)
 given_within owed None (Between filing) within = tt
 given_within owed None (Within s) within = within
 given_within owed (Some call) (Between filing) within = within
 given_within owed (Some call) (Within s) within = tt
 
-given_stands : (owed : List Bool) (served : Option Served) (kept : Kept) (disks : Disks) (files : Files) → StandIn kept disks served files → StandIn kept disks served (given_back owed files)
+given_stands : (owed : List Bool) (served : Option Served) (kept : Kept) (disks : Disks) (files : FilesInService) → StandIn kept disks served files → StandIn kept disks served (given_back owed files)
 given_stands owed served kept disks files stands = record {
   within = given_within owed served files stands.within;
   stand = subst (λ (drives : List (Option Drive)). StandEach (images_of disks) kept.mounted drives) (sym (drives_given owed served files)) stands.stand;
 }
 
-then_stands : (old : System) (kept : Kept) (disks : Disks) (files : Files) → StandsWorked old.kernel.disk kept disks files
+then_stands : (old : System) (kept : Kept) (disks : Disks) (files : FilesInService) → StandsWorked old.kernel.disk kept disks files
     → Drives kept disks (entered_after (telling_then nothing_told old files) old).kernel.disk.served (files_then old files)
 unfolding files_then files_paid entered_after telling_then all_paid
 then_stands old kept disks files stands =
@@ -207,7 +207,7 @@ rest_serves : (instruction : Bool) (telling : Telling) (old : System) → (rest_
 unfolding rest_of ended_after all_paid
 rest_serves instruction telling old = (ends_serve (entered_after telling old)).served
 
-rest_stands : (instruction : Bool) (old : System) (kept : Kept) (disks : Disks) (files : Files) → StandsWorked old.kernel.disk kept disks files
+rest_stands : (instruction : Bool) (old : System) (kept : Kept) (disks : Disks) (files : FilesInService) → StandsWorked old.kernel.disk kept disks files
     → Drives kept disks (rest_of instruction (telling_then nothing_told old files) (silent old)).system.kernel.disk.served (files_rest old files)
 unfolding files_rest
 rest_stands instruction old kept disks files stands =
@@ -218,7 +218,7 @@ rest_stands instruction old kept disks files stands =
     (subst P (sym (drives_given owed (entered_after telling old).kernel.disk.served (files_then old files))) (then_stands old kept disks files stands))
 
 -- so the images do where the sink failed in it, which leaves the directories
-pub rest_images : (instruction : Bool) (old : System) (kept new : Kept) (disks : Disks) (files : Files) → EndKeeps kept new
+pub rest_images : (instruction : Bool) (old : System) (kept new : Kept) (disks : Disks) (files : FilesInService) → EndKeeps kept new
     → StandsWorked old.kernel.disk kept disks files
     → HaveImages disks new.mounted (drives_in (rest_of instruction (telling_then nothing_told old files) (silent old)).system.kernel.disk.served (files_rest old files))
 rest_images instruction old kept new disks files keeps stands =

@@ -8,7 +8,7 @@ use Rattle.mpm_procs.specs.Table.{Lives, process_in, call_of}
 use Rattle.mpm_dispatcher.specs.Dispatch.{IsReady}
 use Rattle.mpm_kernel.specs.ConsoleInput.{writes}
 use Rattle.mpm_output.specs.Outside.{Outside, Device}
-use Rattle.mpm_output.specs.Writing.{Wrote, Fails}
+use Rattle.mpm_output.specs.Writing.{CameOut, DeviceFails}
 use Rattle.mpm_system.specs.declared.system.System.{System}
 use Rattle.mpm_system.specs.Whole.{IsWhole, HasRoom, speaking}
 use Rattle.mpm_system.specs.Calling.{Served}
@@ -71,15 +71,15 @@ unfolding completing
 completed_system reply p seg old afterwards new so is = is ∙ answers_call reply p seg old afterwards so
 
 pub wrote_text : (o n : Outside) (reply : Answer) (p seg : ℕ) (old : System)
-    → Wrote o n (said_by (call_of old.kernel.dispatcher.procs p) (string_of (call_of old.kernel.dispatcher.procs p) seg old.memory) p old).emitted
-    → Wrote o n (completing reply (call_of old.kernel.dispatcher.procs p) p seg old).emitted
+    → CameOut o n (said_by (call_of old.kernel.dispatcher.procs p) (string_of (call_of old.kernel.dispatcher.procs p) seg old.memory) p old).emitted
+    → CameOut o n (completing reply (call_of old.kernel.dispatcher.procs p) p seg old).emitted
 unfolding completing
 wrote_text o n reply p seg old wrote = wrote
 
 -- a failure in the text
 pub text_fails : (device : Device) (o n : Outside) (reply : Answer) (p seg : ℕ) (old : System)
-    → Fails device o n (said_by (call_of old.kernel.dispatcher.procs p) (string_of (call_of old.kernel.dispatcher.procs p) seg old.memory) p old).emitted
-    → Fails device o n (completing reply (call_of old.kernel.dispatcher.procs p) p seg old).emitted
+    → DeviceFails device o n (said_by (call_of old.kernel.dispatcher.procs p) (string_of (call_of old.kernel.dispatcher.procs p) seg old.memory) p old).emitted
+    → DeviceFails device o n (completing reply (call_of old.kernel.dispatcher.procs p) p seg old).emitted
 unfolding completing
 text_fails device o n reply p seg old failed = failed
 

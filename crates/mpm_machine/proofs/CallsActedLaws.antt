@@ -2,7 +2,7 @@
 -- answers of the held calls that were completed.
 use Rattle.std.proofs.Common.{◌≡◌, ◌≢◌, ◌∙◌, ℕ, ◌<◌, List, Option, Some, None, IfSome, refl, sym, ap, subst}
 use Rattle.std.proofs.lemmas.Bool.{false≢true}
-use Rattle.z80_regs.specs.Outcome.{Outcome as Instructed}
+use Rattle.z80_regs.specs.Outcome.{StepOutcome as Instructed}
 use Rattle.z80_ext.specs.Instruction.{actions_of}
 use Rattle.mpm_base.specs.Calls.{Taken, Answer}
 use Rattle.mpm_base.specs.declared.call.Outcome.{Outcome}
@@ -18,7 +18,7 @@ use Rattle.mpm_dispatcher.specs.Dispatch.{IsReady, admitted, first_completed}
 use Rattle.mpm_gate.specs.declared.gate.Gate.{Gate}
 use Rattle.mpm_gate.specs.declared.gate.Gate.TheVariants.{End, Call, Return}
 use Rattle.mpm_banks.specs.Actions.{devices_after}
-use Rattle.mpm_kernel.specs.Kernel.{Kernel, IsSound, dispatched as with_dispatcher}
+use Rattle.mpm_kernel.specs.Kernel.{Kernel, IsSoundKernel, dispatched as with_dispatcher}
 use Rattle.mpm_kernel.specs.Called.{low_parameter}
 use Rattle.mpm_kernel.specs.Columns.{expanded, column_of}
 use Rattle.mpm_kernel.specs.Consoling.{given}
@@ -35,7 +35,7 @@ use Rattle.mpm_residents.specs.declared.cli.act.Act.TheVariants.{Ask, Place, Pat
 use Rattle.mpm_residents.specs.declared.native.Native.{Native}
 use Rattle.mpm_residents.specs.Natives.{native_in, native_call, native_act}
 use Rattle.mpm_system.specs.declared.system.System.{System}
-use Rattle.mpm_system.specs.Whole.{Change, IsWhole, speaking}
+use Rattle.mpm_system.specs.Whole.{SystemChange, IsWhole, speaking}
 use Rattle.mpm_system.specs.Calling.{asking}
 use Rattle.mpm_system.specs.Sending.{chains}
 use Rattle.mpm_system.specs.Taking.{asked, keeping}
@@ -60,12 +60,12 @@ use Rattle.mpm_machine.proofs.CallsLaws.{KeepsCalls, SystemKeepsCalls, calls_sta
 use Rattle.mpm_machine.proofs.CallsStepLaws.{IsApart, ready_apart, calls_kept, calls_keeping, calls_to_all, calls_event, calls_gate_step}
 
 -- it leaves its resident procedure
-calls_gave_back : (p : ℕ) (kernel : Kernel) → IsSound kernel → Lives kernel.dispatcher.procs p → IsApart p kernel → KeepsCalls kernel (given_back p kernel)
+calls_gave_back : (p : ℕ) (kernel : Kernel) → IsSoundKernel kernel → Lives kernel.dispatcher.procs p → IsApart p kernel → KeepsCalls kernel (given_back p kernel)
 calls_gave_back p kernel s h apart =
     calls_stay kernel (given_back p kernel) (disk_given_back p kernel) (λ q at. call_given_back p q kernel s h (apart q at) (waits_not kernel q s at))
     (λ q at. (beside_given_back p q kernel s h (apart q at)).multi)
 
-calls_returning : (p : ℕ) (system : System) → IsSound system.kernel → Lives system.kernel.dispatcher.procs p → IsApart p system.kernel → SystemKeepsCalls system (returning p system)
+calls_returning : (p : ℕ) (system : System) → IsSoundKernel system.kernel → Lives system.kernel.dispatcher.procs p → IsApart p system.kernel → SystemKeepsCalls system (returning p system)
 unfolding returning returned_from_procedure leaving
 calls_returning p system s h apart =
     let back = given_back p system.kernel in
@@ -114,14 +114,14 @@ calls_calling call p system keeps w h is_ready =
 calls_telling : (call : Taken) (p : ℕ) (system : System) → SystemKeepsCalls system (telling_step call p system).system
 unfolding telling_step speaking
 calls_telling call p system =
-    either (λ (c : Change). SystemKeepsCalls system c.system) (is_console (low_parameter call) system.kernel) _ _
+    either (λ (c : SystemChange). SystemKeepsCalls system c.system) (is_console (low_parameter call) system.kernel) _ _
     (λ _. calls_spoke system.kernel (low_parameter call) (expanded (column_of system.kernel (low_parameter call)) call.bytes)) (λ _. calls_nothing system.kernel)
 
 -- or hands something over
 calls_given : (console : ℕ) (from to : Option ℕ) (kernel : Kernel) → KeepsCalls kernel (given console from to kernel)
 calls_given console from to kernel = calls_same kernel (given console from to kernel) (given_disk console from to kernel) (procs_gave console from to kernel)
 
-calls_begun_for : (slot : Option ℕ) (p : ℕ) (new : NewProcess) (kernel : Kernel) → IsSound kernel → lowest_free kernel.dispatcher.procs ≡ slot
+calls_begun_for : (slot : Option ℕ) (p : ℕ) (new : NewProcess) (kernel : Kernel) → IsSoundKernel kernel → lowest_free kernel.dispatcher.procs ≡ slot
     → KeepsCalls kernel (begun_for p new slot kernel)
 calls_begun_for None p new kernel s free = calls_nothing kernel
 calls_begun_for (Some q) p new kernel s free =
@@ -134,7 +134,7 @@ calls_begun_for (Some q) p new kernel s free =
     (λ r at _. ap (λ (x : Process). x.multi) (process_added_other procs q r new (apart r at))) in
     calls_then kernel begun _ first (calls_given new.console (Some p) (Some q) begun)
 
-calls_handed : (act : Act) (bytes : List ℕ) (p : ℕ) (system : System) → IsSound system.kernel → SystemKeepsCalls system (handed_over act bytes p system)
+calls_handed : (act : Act) (bytes : List ℕ) (p : ℕ) (system : System) → IsSoundKernel system.kernel → SystemKeepsCalls system (handed_over act bytes p system)
 calls_handed Ask bytes p system s = calls_nothing system.kernel
 calls_handed (Place seg address count) bytes p system s = calls_nothing system.kernel
 calls_handed (Patch seg address count page) bytes p system s = calls_nothing system.kernel
@@ -145,14 +145,14 @@ calls_handed (Give console) bytes p system s =
     either (λ (k : Kernel). KeepsCalls system.kernel k) (is_console console system.kernel) _ _
     (λ _. calls_given console (Some p) None system.kernel) (λ _. calls_nothing system.kernel)
 
-calls_handing : (act : Act) (call : Taken) (p : ℕ) (system : System) → IsSound system.kernel → SystemKeepsCalls system (handing_step act call p system)
+calls_handing : (act : Act) (call : Taken) (p : ℕ) (system : System) → IsSoundKernel system.kernel → SystemKeepsCalls system (handing_step act call p system)
 unfolding handing_step
 calls_handing act call p system s = calls_handed act call.bytes p system s
 
 calls_native_step : (act : Act) (call : Taken) (p : ℕ) (system : System) → call_of system.kernel.dispatcher.procs p ≡ call → IsWhole system
     → Lives system.kernel.dispatcher.procs p → IsReady system.kernel.dispatcher p → SystemKeepsCalls system (native_step act call p system).system
 calls_native_step Ask call p system keeps w h is_ready =
-    either (λ (c : Change). SystemKeepsCalls system c.system) (tells (native_in system.residents p) call) _ _
+    either (λ (c : SystemChange). SystemKeepsCalls system c.system) (tells (native_in system.residents p) call) _ _
     (λ _. calls_telling call p system) (λ _. calls_calling call p system keeps w h is_ready)
 calls_native_step (Place seg address count) call p system keeps w h is_ready = calls_handing (Place seg address count) call p system w.sound
 calls_native_step (Patch seg address count page) call p system keeps w h is_ready = calls_handing (Patch seg address count page) call p system w.sound
@@ -187,7 +187,7 @@ calls_begun_by None system may w = calls_acted system w
 calls_begun_by (Some event) system may w = calls_event event system may w
 
 -- a file call is made
-calls_made_by : (seg : Option ℕ) (native : Option Native) (p : ℕ) (system : System) → IsSound system.kernel → IsReady system.kernel.dispatcher p → native_in system.residents p ≡ native
+calls_made_by : (seg : Option ℕ) (native : Option Native) (p : ℕ) (system : System) → IsSoundKernel system.kernel → IsReady system.kernel.dispatcher p → native_in system.residents p ≡ native
     → SystemKeepsCalls system (made_by seg p system)
 unfolding popped
 calls_made_by (Some seg) native p system s is_ready here =
@@ -197,7 +197,7 @@ calls_made_by None None p system s is_ready here = subst (λ o. SystemKeepsCalls
 calls_made_by None (Some native) p system s is_ready here =
     subst (λ o. SystemKeepsCalls system (asked_by o p system)) (sym here) (calls_kept p (native_call native) system.kernel (ready_apart p system.kernel s is_ready))
 
-pub calls_made : (p : ℕ) (system : System) → IsSound system.kernel → IsReady system.kernel.dispatcher p → SystemKeepsCalls system (call_made p system)
+pub calls_made : (p : ℕ) (system : System) → IsSoundKernel system.kernel → IsReady system.kernel.dispatcher p → SystemKeepsCalls system (call_made p system)
 unfolding call_made
 calls_made p system s is_ready = calls_made_by (process_in system.kernel.dispatcher.procs p).seg _ p (counted system) s is_ready refl
 

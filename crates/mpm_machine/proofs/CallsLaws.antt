@@ -15,7 +15,7 @@ use Rattle.mpm_service.specs.declared.service.Turn.{Turn}
 use Rattle.mpm_service.specs.declared.service.Turn.TheVariants.{Idle, Passing, Work, Starts}
 use Rattle.mpm_service.specs.Places.{at_disk, without_call}
 use Rattle.mpm_service.proofs.PlaceLaws.{at_turned, at_begun, at_without, at_without_other}
-use Rattle.mpm_kernel.specs.Kernel.{Kernel, IsSound, with_changed}
+use Rattle.mpm_kernel.specs.Kernel.{Kernel, IsSoundKernel, with_changed}
 use Rattle.mpm_kernel.specs.Calls.{called}
 use Rattle.mpm_kernel.specs.Ending.{discharged}
 use Rattle.mpm_kernel.proofs.DiskLaws.{ready_not_at_disk, over_turned}
@@ -28,10 +28,10 @@ use Rattle.mpm_kernel.specs.Waiting.{completion_reply}
 use Rattle.mpm_kernel.specs.Columns.{spoke}
 use Rattle.mpm_xdos.specs.Procedures.{entered, entering}
 use Rattle.mpm_output.specs.Texts.{error_text}
-use Rattle.mpm_functions.specs.declared.refusals.Extended.{Extended}
+use Rattle.mpm_file_functions.specs.declared.refusals.Extended.{Extended}
 use Rattle.mpm_directories.specs.Direct.{Directly, CallerChange, Stays, Selects, Resets}
 use Rattle.mpm_system.specs.declared.system.System.{System}
-use Rattle.mpm_system.specs.Whole.{Change, IsWhole, speaking}
+use Rattle.mpm_system.specs.Whole.{SystemChange, IsWhole, speaking}
 use Rattle.mpm_system.specs.Answering.{answering_call, recorded, replied}
 use Rattle.mpm_system.specs.FileCalling.{with_caller, reply_by, file_replied, error_told}
 use Rattle.mpm_machine.specs.Ending.{ended}
@@ -80,13 +80,13 @@ calls_then old middle new first second = record {
 }
 
 -- he waits at no queue, isn't ready, and lives
-pub waits_not : (kernel : Kernel) (q : ℕ) → IsSound kernel → 0 < at_disk kernel.disk q → waits kernel.queues q ≡ 0
+pub waits_not : (kernel : Kernel) (q : ℕ) → IsSoundKernel kernel → 0 < at_disk kernel.disk q → waits kernel.queues q ≡ 0
 waits_not kernel q s at = omega (arith, s.once q, at)
 
-pub at_disk_lives : (kernel : Kernel) (q : ℕ) → IsSound kernel → 0 < at_disk kernel.disk q → Lives kernel.dispatcher.procs q
+pub at_disk_lives : (kernel : Kernel) (q : ℕ) → IsSoundKernel kernel → 0 < at_disk kernel.disk q → Lives kernel.dispatcher.procs q
 at_disk_lives kernel q s at = s.live q (omega (arith, at))
 
-pub not_ready : (kernel : Kernel) (p q : ℕ) → IsSound kernel → IsReady kernel.dispatcher p → 0 < at_disk kernel.disk q → q ≢ p
+pub not_ready : (kernel : Kernel) (p q : ℕ) → IsSoundKernel kernel → IsReady kernel.dispatcher p → 0 < at_disk kernel.disk q → q ≢ p
 not_ready kernel p q s is_ready at = λ same. omega (arith, at, ap (at_disk kernel.disk) same, ready_not_at_disk kernel p s is_ready)
 
 -- another process changes, or keeps another call
@@ -97,7 +97,7 @@ calls_changed kernel p process same =
     (λ q at _. field_kept (λ (x : Process). x.multi) kernel.dispatcher.procs p q process same)
 
 -- a ready process's call
-pub calls_of_called : (p : ℕ) (kernel : Kernel) → IsSound kernel → Lives kernel.dispatcher.procs p → KeepsCalls kernel (called p kernel).kernel
+pub calls_of_called : (p : ℕ) (kernel : Kernel) → IsSoundKernel kernel → Lives kernel.dispatcher.procs p → KeepsCalls kernel (called p kernel).kernel
 calls_of_called p kernel s h =
     calls_stay kernel (called p kernel).kernel (disk_called p kernel) (λ q at. calls_called p kernel s h q (waits_not kernel q s at)) (λ q at. (beside_called p q kernel s h).multi)
 
@@ -111,7 +111,7 @@ still_at kernel p q left = omega (arith, left, at_without_other kernel.disk p q 
 left_at : (kernel : Kernel) (p q : ℕ) → 0 < at_disk (discharged kernel p).disk q → 0 < at_disk (without_call kernel.disk p) q
 left_at kernel p q at = at_same (without_call kernel.disk p) (discharged kernel p).disk q (disk_discharged kernel p) at
 
-pub calls_discharged : (kernel : Kernel) (p : ℕ) → IsSound kernel → Lives kernel.dispatcher.procs p → KeepsCalls kernel (discharged kernel p)
+pub calls_discharged : (kernel : Kernel) (p : ℕ) → IsSoundKernel kernel → Lives kernel.dispatcher.procs p → KeepsCalls kernel (discharged kernel p)
 calls_discharged kernel p s h = record {
   was = λ q at. still_at kernel p q (left_at kernel p q at);
   call = λ q at. call_discharged kernel p q s h (apart_from kernel p q (left_at kernel p q at)) (waits_not kernel q s (still_at kernel p q (left_at kernel p q at)));
@@ -211,7 +211,7 @@ calls_met : (error : Extended) (reply : Answer) (p : ℕ) (system : System) → 
 unfolding error_met
 calls_met error reply p system w h =
     let mode = (process_in system.kernel.dispatcher.procs p).error_mode in
-    either (λ (c : Change). SystemKeepsCalls system c.system) (mode == 255) _ _ (λ _. calls_replied reply p system) (λ _. calls_told (mode == 254) error reply p system w h)
+    either (λ (c : SystemChange). SystemKeepsCalls system c.system) (mode == 255) _ _ (λ _. calls_replied reply p system) (λ _. calls_told (mode == 254) error reply p system w h)
 
 calls_answered : (error : Option Extended) (reply : Answer) (p : ℕ) (system : System) → IsWhole system → Lives system.kernel.dispatcher.procs p
     → SystemKeepsCalls system (answered_by error reply p system).system

@@ -12,7 +12,7 @@ use Rattle.mpm_procs.proofs.MapLaws.{lives_after, process_after}
 use Rattle.mpm_script.specs.declared.event.Event.{Event}
 use Rattle.mpm_service.specs.Places.{at_disk}
 use Rattle.mpm_dispatcher.specs.Dispatch.{IsReady}
-use Rattle.mpm_kernel.specs.Kernel.{Kernel, IsSound, is_resident}
+use Rattle.mpm_kernel.specs.Kernel.{Kernel, IsSoundKernel, is_resident}
 use Rattle.mpm_kernel.specs.Called.{Called}
 use Rattle.mpm_kernel.specs.Calls.{called}
 use Rattle.mpm_kernel.specs.Consoling.{abort_taken}
@@ -51,7 +51,7 @@ use Rattle.mpm_machine.proofs.CallsLaws.{KeepsCalls, SystemKeepsCalls, calls_sta
 abbrev pub IsApart : ℕ → Kernel → Type 0
 IsApart p kernel = (q : ℕ) → 0 < at_disk kernel.disk q → q ≢ p
 
-pub ready_apart : (p : ℕ) (kernel : Kernel) → IsSound kernel → IsReady kernel.dispatcher p → IsApart p kernel
+pub ready_apart : (p : ℕ) (kernel : Kernel) → IsSoundKernel kernel → IsReady kernel.dispatcher p → IsApart p kernel
 ready_apart p kernel s is_ready = λ q at. not_ready kernel p q s is_ready at
 
 pub apart_still : (p : ℕ) (old new : Kernel) → KeepsCalls old new → IsApart p old → IsApart p new
@@ -64,7 +64,7 @@ calls_kept p call kernel apart =
     (λ q at _. ap (λ (x : Process). x.multi) (process_after kernel.dispatcher.procs p q call))
 
 -- a command is sent
-calls_sent : (function : ℕ) (message : List ℕ) (p : ℕ) (kernel : Kernel) → IsSound kernel → Lives kernel.dispatcher.procs p → IsApart p kernel
+calls_sent : (function : ℕ) (message : List ℕ) (p : ℕ) (kernel : Kernel) → IsSoundKernel kernel → Lives kernel.dispatcher.procs p → IsApart p kernel
     → KeepsCalls kernel (sent function message p kernel).kernel
 unfolding sent
 calls_sent function message p kernel s h apart =
@@ -83,14 +83,14 @@ called_by : (old : Kernel) (b : Bool) (x y : Called) → KeepsCalls old x.kernel
 called_by old true x y one other = one
 called_by old false x y one other = other
 
-calls_sending : (interprets : Bool) (p : ℕ) (kernel : Kernel) → IsSound kernel → Lives kernel.dispatcher.procs p → IsApart p kernel
+calls_sending : (interprets : Bool) (p : ℕ) (kernel : Kernel) → IsSoundKernel kernel → Lives kernel.dispatcher.procs p → IsApart p kernel
     → KeepsCalls kernel (sending interprets p kernel).kernel
 unfolding sending
 calls_sending interprets p kernel s h apart =
     let call = call_of kernel.dispatcher.procs p in
     called_by kernel (may_send interprets call kernel) _ _ (calls_sent SEND_CLI_COMMAND (in_width 130 call.bytes) p kernel s h apart) (calls_nothing kernel)
 
-calls_chaining : (interprets : Bool) (p : ℕ) (kernel : Kernel) → IsSound kernel → Lives kernel.dispatcher.procs p → IsApart p kernel
+calls_chaining : (interprets : Bool) (p : ℕ) (kernel : Kernel) → IsSoundKernel kernel → Lives kernel.dispatcher.procs p → IsApart p kernel
     → KeepsCalls kernel (chaining interprets p kernel).kernel
 unfolding chaining
 calls_chaining interprets p kernel s h apart =
@@ -98,35 +98,35 @@ calls_chaining interprets p kernel s h apart =
     (calls_sent CHAIN_TO_PROGRAM (chained (process_in kernel.dispatcher.procs p) (call_of kernel.dispatcher.procs p).bytes) p kernel s h apart) (calls_nothing kernel)
 
 -- processes are created, or one is aborted
-calls_created : (p base : ℕ) (kernel : Kernel) → IsSound kernel → Lives kernel.dispatcher.procs p → KeepsCalls kernel (created kernel p base)
+calls_created : (p base : ℕ) (kernel : Kernel) → IsSoundKernel kernel → Lives kernel.dispatcher.procs p → KeepsCalls kernel (created kernel p base)
 calls_created p base kernel s h =
     calls_stay kernel (created kernel p base) (created_disk kernel p base) (λ q at. (made_created kernel p base s h).call q (at_disk_lives kernel q s at))
     (λ q at _. ap (λ (x : Process). x.multi) ((made_created kernel p base s h).process q (at_disk_lives kernel q s at)))
 
-abort_calls : (p : ℕ) (kernel : Kernel) (stays waits : Bool) → IsSound kernel → Lives kernel.dispatcher.procs p
+abort_calls : (p : ℕ) (kernel : Kernel) (stays waits : Bool) → IsSoundKernel kernel → Lives kernel.dispatcher.procs p
     → KeepsCalls kernel (if stays then kernel else (if waits then with_abort_due kernel p else (discharged kernel p)))
 abort_calls p kernel true waits s h = calls_nothing kernel
 abort_calls p kernel false true s h = calls_changed kernel p _ refl
 abort_calls p kernel false false s h = calls_discharged kernel p s h
 
-pub calls_aborted : (p : ℕ) (system : System) → IsSound system.kernel → Lives system.kernel.dispatcher.procs p → SystemKeepsCalls system (aborted p system)
+pub calls_aborted : (p : ℕ) (system : System) → IsSoundKernel system.kernel → Lives system.kernel.dispatcher.procs p → SystemKeepsCalls system (aborted p system)
 unfolding aborted abort_done
 calls_aborted p system s h = abort_calls p system.kernel (is_resident system.kernel.dispatcher.procs p) (waits_to_end system.kernel p) s h
 
-calls_aborting_this : (named : Option ℕ) (p : ℕ) (system : System) → IsSound system.kernel → ((q : ℕ) → named ≡ Some q → Lives system.kernel.dispatcher.procs q)
+calls_aborting_this : (named : Option ℕ) (p : ℕ) (system : System) → IsSoundKernel system.kernel → ((q : ℕ) → named ≡ Some q → Lives system.kernel.dispatcher.procs q)
     → SystemKeepsCalls system (aborting_this named p system).system
 calls_aborting_this None p system s living = calls_nothing system.kernel
 calls_aborting_this (Some other) p system s living =
     either (λ (d : Attended). SystemKeepsCalls system d.system) (other == p && not (waits_to_end system.kernel p)) _ _
     (λ _. calls_nothing system.kernel) (λ _. calls_aborted other system s (living other refl))
 
-calls_aborting : (p : ℕ) (system : System) → IsSound system.kernel → SystemKeepsCalls system (aborting p system).system
+calls_aborting : (p : ℕ) (system : System) → IsSoundKernel system.kernel → SystemKeepsCalls system (aborting p system).system
 unfolding aborting
 calls_aborting p system s =
     calls_aborting_this (target system.kernel.dispatcher.procs p) p system s (λ q named. target_lives system.kernel.dispatcher.procs p q named)
 
 -- a call is served
-pub calls_to_all : (call : Taken) (p : ℕ) (system : System) → IsSound system.kernel → Lives system.kernel.dispatcher.procs p → IsApart p system.kernel
+pub calls_to_all : (call : Taken) (p : ℕ) (system : System) → IsSoundKernel system.kernel → Lives system.kernel.dispatcher.procs p → IsApart p system.kernel
     → SystemKeepsCalls system (served_to_all call p system).system
 unfolding served_to_all reserving releasing
 calls_to_all call p system s h apart =
@@ -138,7 +138,7 @@ calls_to_all call p system s h apart =
     (λ _. either P (call.function == SEND_CLI_COMMAND) _ _ (λ _. calls_sending (has_interpreter system) p system.kernel s h apart)
     (λ _. calls_of_called p system.kernel s h))))
 
-pub calls_served : (call : Taken) (p : ℕ) (system : System) → IsSound system.kernel → Lives system.kernel.dispatcher.procs p → IsApart p system.kernel
+pub calls_served : (call : Taken) (p : ℕ) (system : System) → IsSoundKernel system.kernel → Lives system.kernel.dispatcher.procs p → IsApart p system.kernel
     → SystemKeepsCalls system (served call p system).system
 unfolding served creating parsing
 calls_served call p system s h apart =
@@ -164,7 +164,7 @@ calls_happened event system =
     calls_then system.kernel afterwards _ (calls_unhalted system.kernel.dispatcher.running system.kernel)
     (calls_same afterwards (happened event afterwards) (disk_happened event afterwards) (procs_happened event afterwards))
 
-calls_key : (aborts : Option ℕ) (system : System) → IsSound system.kernel → IfSome aborts (λ p. Lives system.kernel.dispatcher.procs p) → SystemKeepsCalls system (key_aborted aborts system)
+calls_key : (aborts : Option ℕ) (system : System) → IsSoundKernel system.kernel → IfSome aborts (λ p. Lives system.kernel.dispatcher.procs p) → SystemKeepsCalls system (key_aborted aborts system)
 calls_key None system s lives = calls_nothing system.kernel
 calls_key (Some p) system s lives =
     let taken = record system { kernel = abort_taken system.kernel } in

@@ -10,27 +10,27 @@ use Rattle.mpm_service.specs.Ahead.{left_to, turns_left, unserved}
 use Rattle.mpm_service.specs.Disk.{DiskService, served_process}
 use Rattle.mpm_service.specs.Places.{is_call_of}
 use Rattle.mpm_service.specs.declared.service.Served.{Served}
-use Rattle.mpm_kernel.specs.Kernel.{Kernel, IsSound, CompletedLive}
+use Rattle.mpm_kernel.specs.Kernel.{Kernel, IsSoundKernel, CompletedLive}
 use Rattle.mpm_kernel.specs.Disk.{with_disk}
 use Rattle.mpm_kernel.proofs.HomeLaws.{SameHomes, homes_stay}
 use Rattle.mpm_render.specs.Outputs.{Output}
 use Rattle.mpm_output.specs.Outside.{Outside, TheSink}
-use Rattle.mpm_output.specs.Writing.{Wrote, Stopped}
+use Rattle.mpm_output.specs.Writing.{CameOut, Stopped}
 use Rattle.mpm_output.proofs.WritingLaws.{wrote_after, fails_within, fails_before, stopped_cause}
 use Rattle.mpm_directories.specs.Direct.{Directly}
-use Rattle.mpm_requests.specs.Filing.{Situation}
+use Rattle.mpm_refusals.specs.Filing.{Situation}
 use Rattle.mpm_bdos.specs.Jobs.{call_turns}
 use Rattle.mpm_bdos.specs.Outcomes.{file_call}
 use Rattle.mpm_bdos.specs.Serving.{Kept as Filed, StandEach, Serves, filing_of}
 use Rattle.mpm_bdos.specs.Turns.{images_of}
 use Rattle.mpm_bdos.proofs.ServingLaws.{stand_at_last}
 use Rattle.mpm_system.specs.declared.system.System.{System}
-use Rattle.mpm_system.specs.Whole.{Change, IsWhole}
+use Rattle.mpm_system.specs.Whole.{SystemChange, IsWhole}
 use Rattle.mpm_system.specs.Written.{recorded_behind, records_out}
 use Rattle.mpm_system.proofs.WholeLaws.{whole_kernel}
 use Rattle.mpm_system.proofs.WrittenLaws.{recorded_after}
 use Rattle.mpm_machine.specs.After.{EndKeeps}
-use Rattle.mpm_machine.specs.Files.{Files, Between, Within, StandsBetween, StandsServed, StandsForFiles, filing_in, all_left, given_back}
+use Rattle.mpm_machine.specs.Files.{FilesInService, Between, Within, StandsBetween, StandsServed, StandsForFiles, filing_in, all_left, given_back}
 use Rattle.mpm_machine.specs.FileCalls.{concluded}
 use Rattle.mpm_machine.specs.Due.{with_ends}
 use Rattle.mpm_machine.specs.DiskStep.{ready_again, call_over, told_of_call, all_paid}
@@ -43,7 +43,7 @@ use Rattle.mpm_machine.proofs.KeepingLaws.{finishing_disk, concluded_serves, end
 use Rattle.mpm_machine.proofs.TurnLaws.{stands_idle, paid_stands, drives_left}
 
 -- the call in service, with the turns that are left to it
-pub record InCall (files : Files) (served : Option Served) (p : ℕ) (kept : Filed) (disks : Disks) : Type 0 where
+pub record InCall (files : FilesInService) (served : Option Served) (p : ℕ) (kept : Filed) (disks : Disks) : Type 0 where
   pub call : Situation
   pub is : files ≡ Within call
   pub turns : ℕ
@@ -52,7 +52,7 @@ pub record InCall (files : Files) (served : Option Served) (p : ℕ) (kept : Fil
   pub serves : Serves (images_of disks) kept call turns
   pub left_is : left_of files served ≡ Some (record { call = call; ended = turns; most = left_to served })
 
-in_call_of : (files : Files) (served : Option Served) (p : ℕ) (kept : Filed) (disks : Disks) → option_map (λ (call : Served). call.p) served ≡ Some p
+in_call_of : (files : FilesInService) (served : Option Served) (p : ℕ) (kept : Filed) (disks : Disks) → option_map (λ (call : Served). call.p) served ≡ Some p
     → StandsServed served kept disks files → InCall files served p kept disks
 in_call_of files None p kept disks some stands = absurd (cc)
 in_call_of (Between filing) (Some call) p kept disks some stands = absurd stands
@@ -68,7 +68,7 @@ in_call_of (Within s) (Some call) p kept disks some stands =
       left_is = ap working (omega (arith, stands.left));
     }
 
-pub in_call : (files : Files) (disk : DiskService) (p : ℕ) (kept : Filed) (disks : Disks) → served_process disk ≡ Some p → StandsForFiles disk kept disks files
+pub in_call : (files : FilesInService) (disk : DiskService) (p : ℕ) (kept : Filed) (disks : Disks) → served_process disk ≡ Some p → StandsForFiles disk kept disks files
     → InCall files disk.served p kept disks
 unfolding served_process
 in_call files disk p kept disks some stands = in_call_of files disk.served p kept disks some stands.stands
@@ -77,7 +77,7 @@ pub all_left_turns : (disk : DiskService) → turns_left disk ≡ left_to disk.s
 unfolding turns_left
 all_left_turns disk = refl
 
-pub whole_unserved : (system : System) (kernel : Kernel) → IsWhole system → kernel ≡ with_disk unserved system.kernel → IsSound kernel → IsWhole (record system { kernel = kernel })
+pub whole_unserved : (system : System) (kernel : Kernel) → IsWhole system → kernel ≡ with_disk unserved system.kernel → IsSoundKernel kernel → IsWhole (record system { kernel = kernel })
 whole_unserved system kernel w is sound =
     whole_kernel system kernel w sound (subst (λ (k : Kernel). CompletedLive k) (sym is) w.live) (subst (λ (k : Kernel). SameHomes system.kernel k) (sym is) (homes_stay system.kernel _ refl))
 
@@ -114,13 +114,13 @@ whole_at_end one two three four w b c d =
     subst IsWhole (sym d) (whole_all_paid three ended)
 
 pub ended_wrote : (told : Directly) (p : ℕ) (before one two : System) (o m n : Outside) → one ≡ (over_at_end told p before).system → two ≡ all_paid one
-    → Wrote o m (over_at_end told p before).emitted → Wrote m n (records_out (with_ends two)).emitted → Wrote o n (ended_with told p before).emitted
+    → CameOut o m (over_at_end told p before).emitted → CameOut m n (records_out (with_ends two)).emitted → CameOut o n (ended_with told p before).emitted
 unfolding ended_at_end
 ended_wrote told p before one two o m n a b first last =
     let two_is = b ∙ ap (λ (s : System). all_paid s) a in
-    subst (Wrote o n) (sym (ended_records told p before))
+    subst (CameOut o n) (sym (ended_records told p before))
     (wrote_after o m n (over_at_end told p before).emitted (recorded_behind (ended_at_end told p before).records []) first
-    (subst (λ (s : System). Wrote m n (records_out (with_ends s)).emitted) two_is last))
+    (subst (λ (s : System). CameOut m n (records_out (with_ends s)).emitted) two_is last))
 
 pub stopped_first : (told : Directly) (p : ℕ) (before : System) (o n : Outside) → Stopped o n (over_at_end told p before).emitted → Stopped o n (ended_with told p before).emitted
 stopped_first told p before o n stopped =
@@ -128,7 +128,7 @@ stopped_first told p before o n stopped =
     (fails_before TheSink o n (over_at_end told p before).emitted (recorded_behind (ended_at_end told p before).records []) stopped)
 
 pub stopped_last : (told : Directly) (p : ℕ) (before one two : System) (o m n : Outside) → one ≡ (over_at_end told p before).system → two ≡ all_paid one
-    → Wrote o m (over_at_end told p before).emitted → Stopped m n (records_out (with_ends two)).emitted → Stopped o n (ended_with told p before).emitted
+    → CameOut o m (over_at_end told p before).emitted → Stopped m n (records_out (with_ends two)).emitted → Stopped o n (ended_with told p before).emitted
 unfolding ended_at_end
 stopped_last told p before one two o m n a b first last =
     let two_is = b ∙ ap (λ (s : System). all_paid s) a in
@@ -156,12 +156,12 @@ pub record Pays (system : System) (old new : Filed) : Type 0 where
   pub rest : new ≡ record old { opens = new.opens; marks = new.marks; searches = new.searches }
   pub filing : system.kernel.disk.served ≡ None → (drives : List (Option Drive)) → filing_of new drives ≡ all_left system.owed (filing_of old drives)
 
-paid_in : (system : System) (old new : Filed) (disks : Disks) (files : Files) → Pays system old new → system.kernel.disk.served ≡ None
+paid_in : (system : System) (old new : Filed) (disks : Disks) (files : FilesInService) → Pays system old new → system.kernel.disk.served ≡ None
     → StandsForFiles system.kernel.disk old disks files → StandsForFiles (all_paid system).kernel.disk new disks (given_back system.owed files)
 paid_in system old new disks files pays none stands =
     paid_stands system old new disks files stands none pays.rest (λ filing is. pays.filing none filing.drives ∙ ap (all_left system.owed) is)
 
-still_stand : (one other : DiskService) (kept : Filed) (disks : Disks) (files : Files) → one.served ≡ None → other.served ≡ None → StandsForFiles one kept disks files
+still_stand : (one other : DiskService) (kept : Filed) (disks : Disks) (files : FilesInService) → one.served ≡ None → other.served ≡ None → StandsForFiles one kept disks files
     → StandsForFiles other kept disks files
 still_stand one other kept disks files none same stands =
     record { stands = subst (λ (o : Option Served). StandsServed o kept disks files) (none ∙ sym same) stands.stands }
@@ -204,34 +204,34 @@ pub carried_stopped_first : (o n : Outside) (disks : Disks) (kept new : Filed) (
 unfolding carried_out
 carried_stopped_first o n disks kept new s p system before whose is serves keeps stopped =
     let told = told_last s before in (
-      stopped_first told s.caller.process before o n (subst (λ (c : Change). Stopped o n c.emitted) (over_is s p system before whose is) stopped),
+      stopped_first told s.caller.process before o n (subst (λ (c : SystemChange). Stopped o n c.emitted) (over_is s p system before whose is) stopped),
       end_images disks kept new.mounted s told before serves (ap (λ (k : Filed). k.mounted) keeps),
     )
 
 pub carried_stopped_last : (o m n : Outside) (disks : Disks) (kept new : Filed) (s : Situation) (p : ℕ) (system before one two : System) → s.caller.process ≡ p → system ≡ turns_passed before
     → Serves (images_of disks) kept s (call_turns s) → new.mounted ≡ kept.mounted → one ≡ (call_over (told_of_call s p system) p system).system → two ≡ all_paid one
-    → Wrote o m (call_over (told_of_call s p system) p system).emitted → Stopped m n (records_out (with_ends two)).emitted
+    → CameOut o m (call_over (told_of_call s p system) p system).emitted → Stopped m n (records_out (with_ends two)).emitted
     → Stopped o n (carried_out s before).change.emitted × HaveImages disks new.mounted (filing_in (carried_out s before).files).drives
 unfolding carried_out
 carried_stopped_last o m n disks kept new s p system before one two whose is serves same a b wrote stopped =
     let told = told_last s before in
     let over = over_is s p system before whose is in (
-      stopped_last told s.caller.process before one two o m n (a ∙ ap (λ (c : Change). c.system) over) b (subst (λ (c : Change). Wrote o m c.emitted) over wrote) stopped,
+      stopped_last told s.caller.process before one two o m n (a ∙ ap (λ (c : SystemChange). c.system) over) b (subst (λ (c : SystemChange). CameOut o m c.emitted) over wrote) stopped,
       end_images disks kept new.mounted s told before serves same,
     )
 
 pub carried_all : (o m n : Outside) (disks : Disks) (first second third : Filed) (s : Situation) (p : ℕ) (system before one two three four : System) → s.caller.process ≡ p
     → system ≡ turns_passed before → one ≡ (call_over (told_of_call s p system) p system).system → two ≡ all_paid one → three ≡ (records_out (with_ends two)).system → four ≡ all_paid three
-    → Wrote o m (call_over (told_of_call s p system) p system).emitted → Wrote m n (records_out (with_ends two)).emitted
+    → CameOut o m (call_over (told_of_call s p system) p system).emitted → CameOut m n (records_out (with_ends two)).emitted
     → StandsBetween first disks (file_call s).filing → Pays one first second → Pays three second third → HasCarried (Within s) o n before four third disks
 unfolding carried_out
 carried_all o m n disks first second third s p system before one two three four whose is a b c d wrote records stands paid_first paid_last =
     let told = told_last s before in
     let over = over_is s p system before whose is in
-    let one_is = a ∙ ap (λ (x : Change). x.system) over in
+    let one_is = a ∙ ap (λ (x : SystemChange). x.system) over in
     record {
       system = ended_system told s.caller.process before one two three four one_is b c d;
-      wrote = ended_wrote told s.caller.process before one two o m n one_is b (subst (λ (x : Change). Wrote o m x.emitted) over wrote) records;
+      wrote = ended_wrote told s.caller.process before one two o m n one_is b (subst (λ (x : SystemChange). CameOut o m x.emitted) over wrote) records;
       stands = end_stands told s before one two three four first second third disks one_is b c d stands paid_first paid_last;
     }
 

@@ -3,7 +3,7 @@
 use Rattle.std.proofs.Common.{◌≡◌, ◌≢◌, ◌∙◌, ℕ, ◌<◌, ◌≤◌, true, false, not, ◌&&◌, List, [], ◌∷◌, length, Option, Some, None, ◌==◌, inl, inr, refl, sym, ap, subst, ◌||◌}
 use Rattle.std.specs.List.{range_with_len}
 use Rattle.std.proofs.lemmas.Bool.{cases_eq, false_from_ne_true}
-use Rattle.z80_regs.specs.Outcome.{Outcome}
+use Rattle.z80_regs.specs.Outcome.{StepOutcome}
 use Rattle.z80_ext.specs.Instruction.{actions_of}
 use Rattle.mpm_base.specs.Calls.{Taken, Answer}
 use Rattle.mpm_base.specs.declared.call.Outcome.{Outcome as CallOutcome}
@@ -37,7 +37,7 @@ use Rattle.mpm_kernel.specs.Consoling.{abort_taken}
 use Rattle.mpm_interrupts.specs.Interrupts.{due_taken}
 use Rattle.mpm_kernel.specs.Kernel.{is_resident}
 use Rattle.mpm_system.specs.declared.system.System.{System}
-use Rattle.mpm_system.specs.Whole.{Change, IsWhole, speaking}
+use Rattle.mpm_system.specs.Whole.{SystemChange, IsWhole, speaking}
 use Rattle.mpm_system.specs.Calling.{Served, asking}
 use Rattle.mpm_system.specs.Sending.{chains}
 use Rattle.mpm_system.specs.Loading.{is_console, ChangesOnly}
@@ -129,12 +129,12 @@ call_alike call p system =
 text_alike : (call : Taken) (p : ℕ) (system : System) → SameBytes system.memory (telling_step call p system).system.memory
 unfolding telling_step speaking
 text_alike call p system =
-    either (λ (change : Change). SameBytes system.memory change.system.memory) (is_console (low_parameter call) system.kernel) _ _
+    either (λ (change : SystemChange). SameBytes system.memory change.system.memory) (is_console (low_parameter call) system.kernel) _ _
     (λ _. same_bytes_itself system.memory) (λ _. same_bytes_itself system.memory)
 
 asked_alike : (call : Taken) (p : ℕ) (system : System) → SameBytes system.memory (native_step Ask call p system).system.memory
 asked_alike call p system =
-    either (λ (change : Change). SameBytes system.memory change.system.memory) (tells (native_in system.residents p) call) _ _
+    either (λ (change : SystemChange). SameBytes system.memory change.system.memory) (tells (native_in system.residents p) call) _ _
     (λ _. text_alike call p system) (λ _. call_alike call p system)
 
 -- what it hands over changes the bytes that it writes
@@ -224,7 +224,7 @@ call_leaves p seg system other at leaves =
     outcome_leaves done.outcome done.reply call p seg done.system other at leaves
     ∙ reads_alike system.memory done.system.memory (served_alike call p (keeping p call system)) other at
 
-instruction_leaves : (outcome : Option Outcome) (p seg : ℕ) (system : System) (other at : ℕ)
+instruction_leaves : (outcome : Option StepOutcome) (p seg : ℕ) (system : System) (other at : ℕ)
     → byte_at (memory_after (actions_of outcome) seg system.memory) other at ≡ byte_at system.memory other at
     → byte_at (executed outcome p seg system).system.memory other at ≡ byte_at system.memory other at
 unfolding executed instructed

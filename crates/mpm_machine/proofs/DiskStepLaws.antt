@@ -12,7 +12,7 @@ use Rattle.mpm_kernel.proofs.DiskLaws.{sound_waiting_for_disk, sound_turned, sou
 use Rattle.mpm_kernel.proofs.HomeLaws.{homes_stay}
 use Rattle.mpm_directories.specs.Direct.{Directly}
 use Rattle.mpm_system.specs.declared.system.System.{System}
-use Rattle.mpm_system.specs.Whole.{Change, IsWhole}
+use Rattle.mpm_system.specs.Whole.{SystemChange, IsWhole}
 use Rattle.mpm_system.proofs.WholeLaws.{whole_kernel}
 use Rattle.mpm_machine.specs.FileCalls.{concluded}
 use Rattle.mpm_machine.specs.DiskStep.{is_done_at_once, file_called, ready_again, call_over, step_passed, over_after, served_by, disk_served, owed_then, all_paid, entered_by, entered_unless, call_entered}
@@ -32,7 +32,7 @@ pub whole_file_called : (told : Directly) (p : ℕ) (system : System) → IsWhol
     → IsWhole (file_called told p system).system
 unfolding file_called
 whole_file_called told p system w h ready =
-    either (λ (c : Change). IsWhole c.system) (is_done_at_once p system) _ _ (λ _. whole_concluded told p system w h) (λ _. whole_waiting p system w h ready)
+    either (λ (c : SystemChange). IsWhole c.system) (is_done_at_once p system) _ _ (λ _. whole_concluded told p system w h) (λ _. whole_waiting p system w h ready)
 
 -- the disk's step
 pub whole_passed : (system : System) → IsWhole system → IsWhole (step_passed system)

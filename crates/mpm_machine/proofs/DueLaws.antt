@@ -9,10 +9,10 @@ use Rattle.mpm_render.specs.Outputs.{Output}
 use Rattle.mpm_xdos.specs.Aborting.{waits_to_end}
 use Rattle.mpm_dispatcher.specs.Dispatch.{first_completed}
 use Rattle.mpm_output.specs.Outside.{Outside, Device}
-use Rattle.mpm_output.specs.Writing.{Wrote, Fails, Emits}
+use Rattle.mpm_output.specs.Writing.{CameOut, DeviceFails, Emits}
 use Rattle.mpm_output.proofs.WritingLaws.{wrote_nothing, wrote_after, fails_before, fails_within, fails_same, emits_same, emits_after}
 use Rattle.mpm_system.specs.declared.system.System.{System}
-use Rattle.mpm_system.specs.Whole.{Change, silent, HasRoomForAll, NobodyAborted}
+use Rattle.mpm_system.specs.Whole.{SystemChange, silent, HasRoomForAll, NobodyAborted}
 use Rattle.mpm_system.specs.Deferring.{is_any_aborted, noted}
 use Rattle.mpm_system.specs.Written.{recorded_behind, records_out}
 use Rattle.mpm_machine.specs.Ending.{ended}
@@ -46,7 +46,7 @@ no_ends system none off =
 pub nothing_out : (system : System) → system.records ≡ [] → records_out system ≡ silent system
 unfolding recorded_behind
 nothing_out system none =
-    ap (λ (calls : List Completion). let c : Change = record { system = cleared system; emitted = recorded_behind calls [] } in c) none
+    ap (λ (calls : List Completion). let c : SystemChange = record { system = cleared system; emitted = recorded_behind calls [] } in c) none
     ∙ ap (λ (calls : List Completion). silent (record system { records = calls })) (sym none)
 
 pub no_end_out : (p : ℕ) (system : System) → is_due system.kernel p ≡ false → system.records ≡ [] → records_out (ended_if_due p system) ≡ silent system
@@ -68,7 +68,7 @@ end_out p system now due is = ap records_out is ∙ ap (λ (b : Bool). records_o
 -- the slots so far: what is left of all ends, after what came out so far
 pub record DueSo (start now : System) (slot : ℕ) (o m : Outside) : Type 0 where
   pub emitted : List Output
-  pub wrote : Wrote o m emitted
+  pub wrote : CameOut o m emitted
   pub none : now.records ≡ []
   pub so : (rest : ℕ) → slot + rest ≡ 32
       → records_out (all_due_terminated start) ≡ followed (record { system = now; emitted = emitted }) (records_out (due_terminated (range_with_len slot rest) now))
@@ -93,22 +93,22 @@ one_more : (p : ℕ) (ps : List ℕ) (system : System)
 unfolding due_terminated
 one_more p ps system = out_apart (due_terminated ps) (ended_if_due p system) (terminated_beside ps)
 
-followed_all : (one two three : Change) → followed one (followed two three) ≡ followed (record { system = two.system; emitted = two.emitted ++ one.emitted }) three
+followed_all : (one two three : SystemChange) → followed one (followed two three) ≡ followed (record { system = two.system; emitted = two.emitted ++ one.emitted }) three
 followed_all one two three =
-    ap (λ (emitted : List Output). let c : Change = record { system = three.system; emitted = emitted } in c) (append_assoc three.emitted two.emitted one.emitted)
+    ap (λ (emitted : List Output). let c : SystemChange = record { system = three.system; emitted = emitted } in c) (append_assoc three.emitted two.emitted one.emitted)
 
 due_behind : (start now : System) (slot rest : ℕ) (o m : Outside) (so : DueSo start now slot o m) → slot + suc rest ≡ 32
     → records_out (all_due_terminated start)
     ≡ followed (record { system = (records_out (ended_if_due slot now)).system; emitted = (records_out (ended_if_due slot now)).emitted ++ so.emitted })
     (records_out (due_terminated (range_with_len (slot + 1) rest) (records_out (ended_if_due slot now)).system))
 due_behind start now slot rest o m so all =
-    let first : Change = record { system = now; emitted = so.emitted } in
+    let first : SystemChange = record { system = now; emitted = so.emitted } in
     so.so (suc rest) all
     ∙ ap (followed first) (one_more slot (range_with_len (slot + 1) rest) now)
     ∙ followed_all first (records_out (ended_if_due slot now)) (records_out (due_terminated (range_with_len (slot + 1) rest) (records_out (ended_if_due slot now)).system))
 
 pub due_more : (start now next : System) (slot : ℕ) (o m n : Outside) → DueSo start now slot o m → next ≡ (records_out (ended_if_due slot now)).system
-    → Wrote m n (records_out (ended_if_due slot now)).emitted → DueSo start next (slot + 1) o n
+    → CameOut m n (records_out (ended_if_due slot now)).emitted → DueSo start next (slot + 1) o n
 due_more start now next slot o m n so is wrote =
     let one = (records_out (ended_if_due slot now)).emitted in
     record {
@@ -122,12 +122,12 @@ due_more start now next slot o m n so is wrote =
 
 -- a failure at the end of one of them
 pub due_fails : (device : Device) (start now : System) (slot : ℕ) (o m n : Outside) → slot < 32 → DueSo start now slot o m
-    → Fails device m n (records_out (ended_if_due slot now)).emitted → Fails device o n (records_out (all_due_terminated start)).emitted
+    → DeviceFails device m n (records_out (ended_if_due slot now)).emitted → DeviceFails device o n (records_out (all_due_terminated start)).emitted
 due_fails device start now slot o m n below so failed =
     let rest : ℕ = 31 - slot in
     let one = (records_out (ended_if_due slot now)).emitted in
     let others = (records_out (due_terminated (range_with_len (slot + 1) rest) (records_out (ended_if_due slot now)).system)).emitted in
-    fails_same device o n _ _ (ap (λ (c : Change). c.emitted) (sym (due_behind start now slot rest o m so (omega (arith, below)))))
+    fails_same device o n _ _ (ap (λ (c : SystemChange). c.emitted) (sym (due_behind start now slot rest o m so (omega (arith, below)))))
     (fails_within device o m n so.emitted one others so.wrote failed)
 
 -- all slots
@@ -139,12 +139,12 @@ due_over start now slot o m so end =
     so.so 0 (omega arith) ∙ ap (followed (record { system = now; emitted = so.emitted })) (nothing_out now so.none)
 
 pub due_system : (start now : System) (slot : ℕ) (o m : Outside) → 32 ≡ slot → DueSo start now slot o m → now ≡ (records_out (all_due_terminated start)).system
-due_system start now slot o m end so = ap (λ (c : Change). c.system) (sym (due_over start now slot o m so end))
+due_system start now slot o m end so = ap (λ (c : SystemChange). c.system) (sym (due_over start now slot o m so end))
 
 pub due_wrote : (start now : System) (slot : ℕ) (o m : Outside) → 32 ≡ slot → DueSo start now slot o m
-    → Wrote o m (records_out (all_due_terminated start)).emitted
+    → CameOut o m (records_out (all_due_terminated start)).emitted
 due_wrote start now slot o m end so =
-    let P : Change → Type 0 = λ c. Wrote o m c.emitted in subst P (sym (due_over start now slot o m so end)) so.wrote
+    let P : SystemChange → Type 0 = λ c. CameOut o m c.emitted in subst P (sym (due_over start now slot o m so end)) so.wrote
 
 -- nobody is left to be handed out
 
@@ -178,17 +178,17 @@ ends_behind : (system written : System) → written ≡ (records_out system).sys
 ends_behind system written was =
     out_apart with_ends system ends_beside ∙ ap (λ (s : System). followed (records_out system) (records_out (with_ends s))) (sym was)
 
-pub records_fail : (device : Device) (system : System) (o n : Outside) → Fails device o n (records_out system).emitted
-    → Fails device o n (records_out (with_ends system)).emitted
+pub records_fail : (device : Device) (system : System) (o n : Outside) → DeviceFails device o n (records_out system).emitted
+    → DeviceFails device o n (records_out (with_ends system)).emitted
 records_fail device system o n failed =
-    fails_same device o n _ _ (ap (λ (c : Change). c.emitted) (sym (ends_behind system (records_out system).system refl)))
+    fails_same device o n _ _ (ap (λ (c : SystemChange). c.emitted) (sym (ends_behind system (records_out system).system refl)))
     (fails_before device o n (records_out system).emitted (records_out (with_ends (records_out system).system)).emitted failed)
 
 pub emits_ends : {A E : Type 0} (device : E → Device) (r : Result A E) (system written : System) (o m n : Outside)
-    → written ≡ (records_out system).system → Wrote o m (records_out system).emitted
+    → written ≡ (records_out system).system → CameOut o m (records_out system).emitted
     → Emits device m n (records_out (with_ends written)).emitted r → Emits device o n (records_out (with_ends system)).emitted r
 emits_ends device r system written o m n was wrote emits =
-    emits_same device o n _ _ r (ap (λ (c : Change). c.emitted) (sym (ends_behind system written was))) (emits_after device o m n _ _ r wrote emits)
+    emits_same device o n _ _ r (ap (λ (c : SystemChange). c.emitted) (sym (ends_behind system written was))) (emits_after device o m n _ _ r wrote emits)
 
 pub none_written : (answered written : System) → written ≡ (records_out answered).system → written.records ≡ []
 none_written answered written is = ap (λ (s : System). s.records) is
@@ -196,5 +196,5 @@ none_written answered written is = ap (λ (s : System). s.records) is
 pub ends_system : {A E : Type 0} (r : Result A E) (system written new : System) → written ≡ (records_out system).system
     → OnOk r (new ≡ (records_out (with_ends written)).system) → OnOk r (new ≡ (records_out (with_ends system)).system)
 ends_system r system written new was ends =
-    let P : Change → Type 0 = λ c. OnOk r (new ≡ c.system) in
+    let P : SystemChange → Type 0 = λ c. OnOk r (new ≡ c.system) in
     subst P (sym (ends_behind system written was)) ends

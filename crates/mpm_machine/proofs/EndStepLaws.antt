@@ -8,8 +8,8 @@ use Rattle.mpm_service.specs.Disk.{served_process, turned, turn_answer, begun, H
 use Rattle.mpm_service.specs.declared.service.Served.{Served}
 use Rattle.mpm_service.specs.declared.service.Turn.{Turn}
 use Rattle.mpm_service.specs.declared.service.Turn.TheVariants.{Idle, Passing, Work, Starts}
-use Rattle.mpm_kernel.specs.Kernel.{IsSound, dispatched as with_dispatcher}
-use Rattle.mpm_output.specs.Writing.{Wrote, Stopped}
+use Rattle.mpm_kernel.specs.Kernel.{IsSoundKernel, dispatched as with_dispatcher}
+use Rattle.mpm_output.specs.Writing.{CameOut, Stopped}
 use Rattle.mpm_output.proofs.WritingLaws.{wrote_after, fails_before, fails_within}
 use Rattle.mpm_output.specs.Outside.{Outside, TheSink}
 use Rattle.mpm_render.specs.Outputs.{Output}
@@ -21,7 +21,7 @@ use Rattle.mpm_system.specs.declared.system.System.{System}
 use Rattle.mpm_system.specs.Whole.{IsWhole, NoCompletions, silent}
 use Rattle.mpm_system.specs.Written.{records_out}
 use Rattle.mpm_system.proofs.WrittenLaws.{recorded_after}
-use Rattle.mpm_machine.specs.Files.{Files, StandsServed, StandsForFiles, all_left, given_back}
+use Rattle.mpm_machine.specs.Files.{FilesInService, StandsServed, StandsForFiles, all_left, given_back}
 use Rattle.mpm_machine.specs.Due.{NobodyDue, with_ends}
 use Rattle.mpm_machine.specs.Mounting.{HasNoDrive}
 use Rattle.mpm_machine.specs.Holding.{OwnsService, AreFiled}
@@ -57,14 +57,14 @@ rest_says instruction telling old =
 
 -- so the rest of a step was done
 rest_done : (instruction : Bool) (telling : Telling) (o m n : Outside) (old served new : System) → served ≡ entered_after telling old
-    → Wrote o m (disk_served telling.at_disk old).emitted → Wrote m n (records_out (with_ends served)).emitted → new ≡ ended_by instruction served
-    → (new ≡ (rest_of instruction telling (silent old)).system) × Wrote o n (rest_of instruction telling (silent old)).emitted
+    → CameOut o m (disk_served telling.at_disk old).emitted → CameOut m n (records_out (with_ends served)).emitted → new ≡ ended_by instruction served
+    → (new ≡ (rest_of instruction telling (silent old)).system) × CameOut o n (rest_of instruction telling (silent old)).emitted
 rest_done instruction telling o m n old served new is first last ends =
     let behind = (records_out (with_ends (entered_after telling old))).emitted in
     let said = (disk_served telling.at_disk old).emitted in (
       ends ∙ ap (ended_by instruction) is ∙ sym (rest_is instruction telling old),
-      subst (λ (emitted : List Output). Wrote o n emitted) (sym (rest_says instruction telling old))
-          (wrote_after o m n said behind first (subst (λ (system : System). Wrote m n (records_out (with_ends system)).emitted) is last)),
+      subst (λ (emitted : List Output). CameOut o n emitted) (sym (rest_says instruction telling old))
+          (wrote_after o m n said behind first (subst (λ (system : System). CameOut m n (records_out (with_ends system)).emitted) is last)),
     )
 
 ended_so : (instruction : Bool) (served ended paid new : System) → ended ≡ (records_out (with_ends served)).system → paid ≡ all_paid ended
@@ -86,25 +86,25 @@ ended_made instruction old served ended paid new made ends pays picks =
 
 -- by what is on the drives
 
-served_so : (files : Files) (o m : Outside) (old served : System) (kept : Kept) (disks : Disks) → HasServedTo files o m old served kept disks
+served_so : (files : FilesInService) (o m : Outside) (old served : System) (kept : Kept) (disks : Disks) → HasServedTo files o m old served kept disks
     → served ≡ entered_after (telling_then nothing_told old files) old
 unfolding telling_then entered_after
 served_so files o m old served kept disks has = has.system
 
-said_so : (files : Files) (o m : Outside) (old served : System) (kept : Kept) (disks : Disks) → HasServedTo files o m old served kept disks
-    → Wrote o m (disk_served (telling_then nothing_told old files).at_disk old).emitted
+said_so : (files : FilesInService) (o m : Outside) (old served : System) (kept : Kept) (disks : Disks) → HasServedTo files o m old served kept disks
+    → CameOut o m (disk_served (telling_then nothing_told old files).at_disk old).emitted
 unfolding telling_then
 said_so files o m old served kept disks has = has.wrote
 
-ends_stand : (served ended : System) (kept : Kept) (disks : Disks) (files : Files) → ended ≡ (records_out (with_ends served)).system → StandsForFiles served.kernel.disk kept disks files
+ends_stand : (served ended : System) (kept : Kept) (disks : Disks) (files : FilesInService) → ended ≡ (records_out (with_ends served)).system → StandsForFiles served.kernel.disk kept disks files
     → StandsForFiles ended.kernel.disk kept disks files
 ends_stand served ended kept disks files is stands = record {
   stands = subst (λ (call : Option Served). StandsServed call kept disks files)
       (sym (ap (λ (system : System). system.kernel.disk.served) is ∙ (ends_serve served).served)) stands.stands;
 }
 
-pub has_ended_to : (instruction : Bool) (files : Files) (o m n : Outside) (old served ended paid new : System) (kept kept' : Kept) (disks : Disks)
-    → HasServedTo files o m old served kept disks → ended ≡ (records_out (with_ends served)).system → Wrote m n (records_out (with_ends served)).emitted → paid ≡ all_paid ended
+pub has_ended_to : (instruction : Bool) (files : FilesInService) (o m n : Outside) (old served ended paid new : System) (kept kept' : Kept) (disks : Disks)
+    → HasServedTo files o m old served kept disks → ended ≡ (records_out (with_ends served)).system → CameOut m n (records_out (with_ends served)).emitted → paid ≡ all_paid ended
     → new ≡ record paid { kernel = with_dispatcher (picked instruction) paid.kernel }
     → kept' ≡ record kept { opens = kept'.opens; marks = kept'.marks; searches = kept'.searches }
     → (is_some ended.kernel.disk.served ≡ true → kept' ≡ kept)
@@ -160,9 +160,9 @@ pub ended_own : (instruction : Bool) (served new : System) (kept kept' : Kept) �
 ended_own instruction served new kept kept' so rest own =
     subst (λ (service : Option InService). OwnsService new.kernel service) (sym (ap (λ (k : Kept). k.service) rest)) (own_still served.kernel new.kernel kept.service so.calls so.serves.served own)
 
-pub ended_sound : (served ended paid : System) → IsWhole served → ended ≡ (records_out (with_ends served)).system → paid ≡ all_paid ended → IsSound paid.kernel
+pub ended_sound : (served ended paid : System) → IsWhole served → ended ≡ (records_out (with_ends served)).system → paid ≡ all_paid ended → IsSoundKernel paid.kernel
 ended_sound served ended paid w ends pays =
-    subst IsSound (sym (paid_kernel ended paid pays ∙ ap (λ (system : System). system.kernel) ends)) (whole_with_ends served w).sound
+    subst IsSoundKernel (sym (paid_kernel ended paid pays ∙ ap (λ (system : System). system.kernel) ends)) (whole_with_ends served w).sound
 
 -- turns have as many steps as before
 
@@ -210,19 +210,19 @@ served_stops instruction telling o n old stopped =
     subst (λ (emitted : List Output). Stopped o n emitted) (sym (rest_says instruction telling old))
     (fails_before TheSink o n (disk_served telling.at_disk old).emitted (records_out (with_ends (entered_after telling old))).emitted stopped)
 
-ends_stop : (instruction : Bool) (telling : Telling) (o m n : Outside) (old served : System) → served ≡ entered_after telling old → Wrote o m (disk_served telling.at_disk old).emitted
+ends_stop : (instruction : Bool) (telling : Telling) (o m n : Outside) (old served : System) → served ≡ entered_after telling old → CameOut o m (disk_served telling.at_disk old).emitted
     → Stopped m n (records_out (with_ends served)).emitted → Stopped o n (rest_of instruction telling (silent old)).emitted
 ends_stop instruction telling o m n old served is first stopped =
     let behind = (records_out (with_ends (entered_after telling old))).emitted in
     subst (λ (emitted : List Output). Stopped o n emitted) (sym (rest_says instruction telling old))
     (fails_within TheSink o m n (disk_served telling.at_disk old).emitted behind [] first (subst (λ (system : System). Stopped m n (records_out (with_ends system)).emitted) is stopped))
 
-pub serving_stopped : (instruction : Bool) (files : Files) (o n : Outside) (old : System) → Stopped o n (disk_served (told_within files old) old).emitted
+pub serving_stopped : (instruction : Bool) (files : FilesInService) (o n : Outside) (old : System) → Stopped o n (disk_served (told_within files old) old).emitted
     → Stopped o n (rest_of instruction (telling_then nothing_told old files) (silent old)).emitted
 unfolding telling_then
 serving_stopped instruction files o n old stopped = served_stops instruction (telling_then nothing_told old files) o n old stopped
 
-pub ending_stopped : (instruction : Bool) (files : Files) (o m n : Outside) (old served : System) (kept : Kept) (disks : Disks) → HasServedTo files o m old served kept disks
+pub ending_stopped : (instruction : Bool) (files : FilesInService) (o m n : Outside) (old served : System) (kept : Kept) (disks : Disks) → HasServedTo files o m old served kept disks
     → Stopped m n (records_out (with_ends served)).emitted → Stopped o n (rest_of instruction (telling_then nothing_told old files) (silent old)).emitted
 ending_stopped instruction files o m n old served kept disks has stopped =
     ends_stop instruction (telling_then nothing_told old files) o m n old served (served_so files o m old served kept disks has) (said_so files o m old served kept disks has) stopped

@@ -14,24 +14,24 @@ use Rattle.mpm_service.specs.declared.service.Served.{Served}
 use Rattle.mpm_service.specs.declared.service.Turn.{Turn}
 use Rattle.mpm_service.specs.declared.service.Turn.TheVariants.{Idle, Passing, Work, Starts}
 use Rattle.mpm_mount.specs.Drives.{Drive}
-use Rattle.mpm_kernel.specs.Kernel.{Kernel, IsSound}
+use Rattle.mpm_kernel.specs.Kernel.{Kernel, IsSoundKernel}
 use Rattle.mpm_kernel.specs.Disk.{with_disk}
 use Rattle.mpm_output.specs.Outside.{Outside}
-use Rattle.mpm_output.specs.Writing.{Wrote}
+use Rattle.mpm_output.specs.Writing.{CameOut}
 use Rattle.mpm_output.proofs.WritingLaws.{wrote_nothing}
 use Rattle.mpm_directories.specs.Direct.{Directly}
-use Rattle.mpm_functions.specs.declared.functions.FileFunction.{FileFunction}
-use Rattle.mpm_bdos.specs.Starting.{HasEntered}
-use Rattle.mpm_requests.specs.Filing.{Filing}
-use Rattle.mpm_functions.specs.Functions.{function_of}
+use Rattle.mpm_file_functions.specs.declared.functions.FileFunction.{FileFunction}
+use Rattle.mpm_bdos.specs.Starting.{HasBegunService}
+use Rattle.mpm_refusals.specs.Filing.{Filing}
+use Rattle.mpm_file_functions.specs.Functions.{function_of}
 use Rattle.mpm_bdos.specs.Jobs.{call_turns}
 use Rattle.mpm_bdos.specs.Serving.{Kept, InService, StandEach, Serves, filing_of}
 use Rattle.mpm_bdos.specs.Starting.{caller_of}
 use Rattle.mpm_bdos.specs.Turns.{images_of}
 use Rattle.mpm_system.specs.declared.system.System.{System}
-use Rattle.mpm_system.specs.Whole.{Change, IsWhole, silent}
-use Rattle.mpm_machine.specs.Files.{Files, Between, Within, StandsBetween, StandsServed, StandsForFiles, StandsWorkedBy, StandsWorked, all_left, given_back}
-use Rattle.mpm_machine.specs.Holding.{IsOwn, OwnsService, AreFiled}
+use Rattle.mpm_system.specs.Whole.{SystemChange, IsWhole, silent}
+use Rattle.mpm_machine.specs.Files.{FilesInService, Between, Within, StandsBetween, StandsServed, StandsForFiles, StandsWorkedBy, StandsWorked, all_left, given_back}
+use Rattle.mpm_machine.specs.Holding.{IsOwnCall, OwnsService, AreFiled}
 use Rattle.mpm_machine.specs.FileCalls.{looked_at, situation_of}
 use Rattle.mpm_machine.specs.DiskStep.{with_kernel, step_passed, served_by, disk_served, files_served_by, files_served, all_paid, entered_by, entered_unless, call_entered, within_call, entering_call, files_entered_by, files_entered_unless, files_entered, turns_within}
 use Rattle.mpm_machine.specs.Stepping.{Telling, nothing_told, told_within, entered_after, files_paid, files_then}
@@ -54,7 +54,7 @@ unfolding call_entered
 entered_so turns system turn none answer =
     ap (λ (served : Option ℕ). entered_unless served turns system) (nobody_served system.kernel.disk none) ∙ ap (λ (t : Turn). entered_by t turns (step_passed system)) answer
 
-pub files_so : (system : System) (files : Files) (turn : Turn) → system.kernel.disk.served ≡ None → turn_answer system.kernel.disk ≡ turn
+pub files_so : (system : System) (files : FilesInService) (turn : Turn) → system.kernel.disk.served ≡ None → turn_answer system.kernel.disk ≡ turn
     → files_entered system files ≡ files_entered_by turn system files
 unfolding files_entered
 files_so system files turn none answer =
@@ -80,16 +80,16 @@ enters_ok old filing function p turns kept kept' disks starts none calls stands 
     let here : StandsForFiles (begun (turned old.kernel.disk) turns) kept' disks (entering_call p old (Between filing)) =
     entry_stands old kept kept' disks filing function p turns starts (stands_idle old.kernel.disk kept disks filing none stands) calls many some serves in (
       sym (entered_so turns old (Starts p) none starts) ∙ ap (λ (n : ℕ). call_entered n old) (sym count),
-      subst (λ (f : Files). StandsForFiles (begun (turned old.kernel.disk) turns) kept' disks f) (sym files) here,
+      subst (λ (f : FilesInService). StandsForFiles (begun (turned old.kernel.disk) turns) kept' disks f) (sym files) here,
     )
 
 -- the next call enters where nobody is in service
 
-abbrev Entered : System → System → Kept → Disks → Files → Type 0
+abbrev Entered : System → System → Kept → Disks → FilesInService → Type 0
 Entered old new kept disks files =
     (new ≡ call_entered (turns_within (files_entered old files)) old) × StandsForFiles new.kernel.disk kept disks (files_entered old files)
 
-pub enters_by : (system new : System) (kept kept' : Kept) (disks : Disks) (files : Files) → system.kernel.disk.served ≡ None → StandsForFiles system.kernel.disk kept disks files
+pub enters_by : (system new : System) (kept kept' : Kept) (disks : Disks) (files : FilesInService) → system.kernel.disk.served ≡ None → StandsForFiles system.kernel.disk kept disks files
     → ((filing : Filing) → StandsBetween kept disks filing → Entered system new kept' disks (Between filing))
     → Entered system new kept' disks files
 enters_by system new kept kept' disks (Between filing) none stands enters =
@@ -120,7 +120,7 @@ starts_at disk p starts = waits_at disk p (first_is_in disk.waiting p (starts_fi
 pub starts_whole : (old : System) (kernel : Kernel) → kernel ≡ with_disk turned old.kernel → IsWhole old → IsWhole (record old { kernel = kernel })
 starts_whole old kernel is w = subst (λ (k : Kernel). IsWhole (record old { kernel = k })) (sym is) (whole_passed old w)
 
-pub starts_lives : (old kernel : Kernel) (p : ℕ) → kernel ≡ with_disk turned old → turn_answer old.disk ≡ Starts p → IsSound old → Lives kernel.dispatcher.procs p
+pub starts_lives : (old kernel : Kernel) (p : ℕ) → kernel ≡ with_disk turned old → turn_answer old.disk ≡ Starts p → IsSoundKernel old → Lives kernel.dispatcher.procs p
 starts_lives old kernel p is starts sound = subst (λ (k : Kernel). Lives k.dispatcher.procs p) (sym is) (at_disk_lives old p sound (starts_at old.disk p starts))
 
 pub starts_filed : (old kernel : Kernel) (p : ℕ) → kernel ≡ with_disk turned old → turn_answer old.disk ≡ Starts p → AreFiled old
@@ -136,7 +136,7 @@ pub record Begins (p turns : ℕ) (old : System) (kept kept' : Kept) : Type 0 wh
   pub serves : (images : ℕ → List ℕ) (drives : List (Option Drive)) (function : FileFunction) → function_of (call_of old.kernel.dispatcher.procs p).function ≡ Some function
       → StandEach images kept.mounted drives → Serves images kept' (situation_of (filing_of kept drives) function p old) 0
   pub entered : (function : FileFunction) → function_of (call_of old.kernel.dispatcher.procs p).function ≡ Some function
-      → HasEntered (caller_of p (looked_at (process_in old.kernel.dispatcher.procs p))) function (call_of old.kernel.dispatcher.procs p) kept'.service
+      → HasBegunService (caller_of p (looked_at (process_in old.kernel.dispatcher.procs p))) function (call_of old.kernel.dispatcher.procs p) kept'.service
   pub some : 0 < turns
 
 pub begins_so : (p turns : ℕ) (old : System) (kernel : Kernel) (kept kept' : Kept) → kernel ≡ with_disk turned old.kernel → Begins p turns (record old { kernel = kernel }) kept kept'
@@ -148,7 +148,7 @@ pub begun_is : (turns : ℕ) (old : System) (kernel behind : Kernel) → kernel 
 begun_is turns old kernel behind is begins =
     ap (λ (k : Kernel). record old { kernel = k }) (begins ∙ ap (with_disk (λ disk. begun disk turns)) is)
 
-pub enters_so : (old new : System) (p turns : ℕ) (kept kept' : Kept) (disks : Disks) (files : Files) → new ≡ with_kernel (with_disk (λ disk. begun disk turns)) (step_passed old)
+pub enters_so : (old new : System) (p turns : ℕ) (kept kept' : Kept) (disks : Disks) (files : FilesInService) → new ≡ with_kernel (with_disk (λ disk. begun disk turns)) (step_passed old)
     → turn_answer old.kernel.disk ≡ Starts p → old.kernel.disk.served ≡ None → AreFiled old.kernel → Begins p turns (step_passed old) kept kept'
     → StandsForFiles old.kernel.disk kept disks files → Entered old new kept' disks files
 enters_so old new p turns kept kept' disks files is starts none filed begins stands =
@@ -182,7 +182,7 @@ owns_entered old new p turns kept kept' is starts none filed begins =
     let procs = old.kernel.dispatcher.procs in
     let its = named_by (function_of (call_of procs p).function) (filed p (starts_at disk p starts)) in
     subst (λ (system : System). OwnsService system.kernel kept'.service) (sym is)
-    (subst (λ (served : Option Served). IfSome served (λ (call : Served). IsOwn procs call.p kept'.service))
+    (subst (λ (served : Option Served). IfSome served (λ (call : Served). IsOwnCall procs call.p kept'.service))
     (sym (entered_first disk.turn_steps disk.served (first_of disk.waiting) p turns none starts))
     (record {
       function = its.0;
@@ -224,7 +224,7 @@ none_enters old filing kept disks none nobody stands =
     let idle = stays_idle old.kernel.disk none nobody in
     let files : files_entered old (Between filing) ≡ Between filing = files_so old (Between filing) Idle none idle in (
       sym (entered_so (turns_within (files_entered old (Between filing))) old Idle none idle),
-      subst (λ (f : Files). StandsForFiles (turned old.kernel.disk) kept disks f) (sym files)
+      subst (λ (f : FilesInService). StandsForFiles (turned old.kernel.disk) kept disks f) (sym files)
           (stands_idle (turned old.kernel.disk) kept disks filing (nobody_turned old.kernel.disk none idle) stands),
     )
 
@@ -232,7 +232,7 @@ pub nobody_starts : (disk : DiskService) (answer : Turn) → answer ≡ turn_ans
 unfolding StartsNobody
 nobody_starts disk answer is never = λ p starts. never p (is ∙ starts)
 
-pub none_enters_so : (old : System) (kernel : Kernel) (kept : Kept) (disks : Disks) (files : Files) → kernel ≡ with_disk turned old.kernel → old.kernel.disk.served ≡ None
+pub none_enters_so : (old : System) (kernel : Kernel) (kept : Kept) (disks : Disks) (files : FilesInService) → kernel ≡ with_disk turned old.kernel → old.kernel.disk.served ≡ None
     → StartsNobody (turn_answer old.kernel.disk) → StandsForFiles old.kernel.disk kept disks files → Entered old (record old { kernel = kernel }) kept disks files
 none_enters_so old kernel kept disks files is none nobody stands =
     enters_by old (record old { kernel = kernel }) kept kept disks files none stands
@@ -245,7 +245,7 @@ pub unserved_begun : (kernel : Kernel) → kernel.disk.served ≡ None → HasBe
 unserved_begun kernel none = subst (λ (served : Option Served). IfSome served (λ (call : Served). 0 < call.left)) (sym none) tt
 
 pub unserved_own : (kernel : Kernel) (service : Option InService) → kernel.disk.served ≡ None → OwnsService kernel service
-unserved_own kernel service none = subst (λ (served : Option Served). IfSome served (λ (call : Served). IsOwn kernel.dispatcher.procs call.p service)) (sym none) tt
+unserved_own kernel service none = subst (λ (served : Option Served). IfSome served (λ (call : Served). IsOwnCall kernel.dispatcher.procs call.p service)) (sym none) tt
 
 pub nobody_made : (old : System) (kernel : Kernel) → kernel ≡ with_disk turned old.kernel → old.kernel.disk.served ≡ None → StartsNobody (turn_answer old.kernel.disk)
     → IsEnteredFrom old (record old { kernel = kernel })
@@ -254,13 +254,13 @@ nobody_made old kernel is none nobody =
 
 -- those who ended give back where nobody is in service
 
-given_within : (served : Option Served) (kept : Kept) (disks : Disks) (owed : List Bool) (files : Files) → is_some served ≡ true → StandsServed served kept disks files
+given_within : (served : Option Served) (kept : Kept) (disks : Disks) (owed : List Bool) (files : FilesInService) → is_some served ≡ true → StandsServed served kept disks files
     → StandsServed served kept disks (given_back owed files)
 given_within None kept disks owed files some stands = absurd (false≢true some)
 given_within (Some call) kept disks owed (Between filing) some stands = absurd stands
 given_within (Some call) kept disks owed (Within s) some stands = stands
 
-pub pays : (system : System) (kept kept' : Kept) (disks : Disks) (files : Files) → StandsForFiles system.kernel.disk kept disks files
+pub pays : (system : System) (kept kept' : Kept) (disks : Disks) (files : FilesInService) → StandsForFiles system.kernel.disk kept disks files
     → kept' ≡ record kept { opens = kept'.opens; marks = kept'.marks; searches = kept'.searches }
     → (is_some system.kernel.disk.served ≡ true → kept' ≡ kept)
     → (system.kernel.disk.served ≡ None → (drives : List (Option Drive)) → filing_of kept' drives ≡ all_left system.owed (filing_of kept drives))
@@ -304,15 +304,15 @@ pub nobody_enters : (turns : ℕ) (system : System) → is_some system.kernel.di
 unfolding call_entered
 nobody_enters turns system some = ap (λ (served : Option ℕ). entered_unless served turns system) (somebody system.kernel.disk some).1
 
-pub files_stay : (system : System) (files : Files) → is_some system.kernel.disk.served ≡ true → files_entered system files ≡ files
+pub files_stay : (system : System) (files : FilesInService) → is_some system.kernel.disk.served ≡ true → files_entered system files ≡ files
 unfolding files_entered
 files_stay system files some = ap (λ (served : Option ℕ). files_entered_unless served system files) (somebody system.kernel.disk some).1
 
-pub goes_on : (system : System) (kept : Kept) (disks : Disks) (files : Files) → is_some system.kernel.disk.served ≡ true → StandsForFiles system.kernel.disk kept disks files
+pub goes_on : (system : System) (kept : Kept) (disks : Disks) (files : FilesInService) → is_some system.kernel.disk.served ≡ true → StandsForFiles system.kernel.disk kept disks files
     → Entered system system kept disks files
 goes_on system kept disks files some stands = (
   sym (nobody_enters (turns_within (files_entered system files)) system some),
-  subst (λ (f : Files). StandsForFiles system.kernel.disk kept disks f) (sym (files_stay system files some)) stands,
+  subst (λ (f : FilesInService). StandsForFiles system.kernel.disk kept disks f) (sym (files_stay system files some)) stands,
 )
 
 pub still_made : (old : System) → is_some old.kernel.disk.served ≡ true → IsEnteredFrom old old
@@ -328,8 +328,8 @@ served_made old passed paid new first pays last = (
   last.1 ∙ ap (λ (s : System). call_entered last.0 s) (pays ∙ ap all_paid first.1),
 )
 
-pub has_served_to : (files : Files) (o n : Outside) (old passed new : System) (kept : Kept) (disks : Disks)
-    → passed ≡ (disk_served (told_within files old) old).system → Wrote o n (disk_served (told_within files old) old).emitted
+pub has_served_to : (files : FilesInService) (o n : Outside) (old passed new : System) (kept : Kept) (disks : Disks)
+    → passed ≡ (disk_served (told_within files old) old).system → CameOut o n (disk_served (told_within files old) old).emitted
     → Entered (all_paid passed) new kept disks (given_back passed.owed (files_served old files))
     → HasServedTo files o n old new kept disks
 unfolding files_then files_paid
@@ -338,11 +338,11 @@ has_served_to files o n old passed new kept disks is wrote entered =
     let so = subst P is entered in
     record { system = so.0; wrote = wrote; stands = so.1 }
 
-pub entered_behind : (passed paid new : System) (kept kept' kept'' : Kept) (disks : Disks) (files : Files) → paid ≡ all_paid passed → StandsForFiles passed.kernel.disk kept disks files
+pub entered_behind : (passed paid new : System) (kept kept' kept'' : Kept) (disks : Disks) (files : FilesInService) → paid ≡ all_paid passed → StandsForFiles passed.kernel.disk kept disks files
     → kept' ≡ record kept { opens = kept'.opens; marks = kept'.marks; searches = kept'.searches }
     → (is_some passed.kernel.disk.served ≡ true → kept' ≡ kept)
     → (passed.kernel.disk.served ≡ None → (drives : List (Option Drive)) → filing_of kept' drives ≡ all_left passed.owed (filing_of kept drives))
-    → ((found : Files) → StandsForFiles paid.kernel.disk kept' disks found → Entered paid new kept'' disks found)
+    → ((found : FilesInService) → StandsForFiles paid.kernel.disk kept' disks found → Entered paid new kept'' disks found)
     → Entered (all_paid passed) new kept'' disks (given_back passed.owed files)
 entered_behind passed paid new kept kept' kept'' disks files is stands rest same left enters =
     subst (λ (system : System). Entered system new kept'' disks (given_back passed.owed files)) is
@@ -355,28 +355,28 @@ pub none_served : (told : Directly) (system : System) → system.kernel.disk.ser
 unfolding disk_served
 none_served told system none = ap (λ (served : Option ℕ). served_by served told system) (nobody_served system.kernel.disk none)
 
-pub files_kept : (system : System) (files : Files) → system.kernel.disk.served ≡ None → files_served system files ≡ files
+pub files_kept : (system : System) (files : FilesInService) → system.kernel.disk.served ≡ None → files_served system files ≡ files
 unfolding files_served
 files_kept system files none = ap (λ (served : Option ℕ). files_served_by served system files) (nobody_served system.kernel.disk none)
 
-pub worked_between : (turn_steps : ℕ) (served : Option Served) (kept : Kept) (disks : Disks) (files : Files) → served ≡ None → StandsWorkedBy turn_steps served kept disks files
+pub worked_between : (turn_steps : ℕ) (served : Option Served) (kept : Kept) (disks : Disks) (files : FilesInService) → served ≡ None → StandsWorkedBy turn_steps served kept disks files
     → StandsServed served kept disks files
 worked_between turn_steps None kept disks (Between filing) none stands = stands
 worked_between turn_steps None kept disks (Within s) none stands = absurd stands
 worked_between turn_steps (Some call) kept disks files none stands = absurd (cc)
 
-pub nothing_passes : (files : Files) (o : Outside) (old : System) (kept : Kept) (disks : Disks) → old.kernel.disk.served ≡ None → StandsWorked old.kernel.disk kept disks files
-    → (old ≡ (disk_served (told_within files old) old).system) × Wrote o o (disk_served (told_within files old) old).emitted × StandsForFiles old.kernel.disk kept disks (files_served old files)
+pub nothing_passes : (files : FilesInService) (o : Outside) (old : System) (kept : Kept) (disks : Disks) → old.kernel.disk.served ≡ None → StandsWorked old.kernel.disk kept disks files
+    → (old ≡ (disk_served (told_within files old) old).system) × CameOut o o (disk_served (told_within files old) old).emitted × StandsForFiles old.kernel.disk kept disks (files_served old files)
 nothing_passes files o old kept disks none stands =
     let is = none_served (told_within files old) old none in (
-      sym (ap (λ (c : Change). c.system) is),
-      subst (λ (c : Change). Wrote o o c.emitted) (sym is) (wrote_nothing o),
-      subst (λ (f : Files). StandsForFiles old.kernel.disk kept disks f) (sym (files_kept old files none))
+      sym (ap (λ (c : SystemChange). c.system) is),
+      subst (λ (c : SystemChange). CameOut o o c.emitted) (sym is) (wrote_nothing o),
+      subst (λ (f : FilesInService). StandsForFiles old.kernel.disk kept disks f) (sym (files_kept old files none))
           (record { stands = worked_between old.kernel.disk.turn_steps old.kernel.disk.served kept disks files none stands.stands }),
     )
 
 pub none_made : (old : System) → old.kernel.disk.served ≡ None → IsServedBy old old
-none_made old none = (nothing_told, sym (ap (λ (c : Change). c.system) (none_served nothing_told old none)))
+none_made old none = (nothing_told, sym (ap (λ (c : SystemChange). c.system) (none_served nothing_told old none)))
 
 -- who is at the disk keeps a call that it serves
 

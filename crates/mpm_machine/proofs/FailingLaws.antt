@@ -20,35 +20,35 @@ use Rattle.mpm_files.specs.Serving.{units_done}
 use Rattle.mpm_files.specs.Containment.{IsContained}
 use Rattle.mpm_files.proofs.Contained.{turn_contained}
 use Rattle.mpm_files.proofs.StandingLaws.{among_all}
-use Rattle.mpm_functions.specs.declared.functions.FileFunction.{FileFunction}
-use Rattle.mpm_functions.specs.Functions.{function_of}
-use Rattle.mpm_requests.specs.Filing.{Filing, Situation}
-use Rattle.mpm_requests.specs.Subjects.{drive_number, blank_drive, drive_at}
+use Rattle.mpm_file_functions.specs.declared.functions.FileFunction.{FileFunction}
+use Rattle.mpm_file_functions.specs.Functions.{function_of}
+use Rattle.mpm_refusals.specs.Filing.{Filing, Situation}
+use Rattle.mpm_refusals.specs.Subjects.{drive_number, blank_drive, drive_at}
 use Rattle.mpm_bdos.specs.Jobs.{call_turns, job_of}
 use Rattle.mpm_bdos.specs.Outcomes.{drives_after}
 use Rattle.mpm_bdos.specs.Serving.{Kept, Serves, StandEach}
 use Rattle.mpm_directories.specs.Places.{directory_at}
-use Rattle.mpm_requests.specs.Asking.{StandsWhere}
+use Rattle.mpm_refusals.specs.Asking.{StandsWhere}
 use Rattle.mpm_bdos.specs.Starting.{caller_of, entering as entering_here}
 use Rattle.mpm_bdos.specs.Turns.{KeepsImages, StopsWithin, drive_served, labelled, images_of, has_directory}
 use Rattle.mpm_bdos.specs.AtOnce.{FailsSince, FailsIn, ChangesAlone}
 use Rattle.mpm_bdos.proofs.ServedLaws.{job_mounted, kinds_within, set_within}
 use Rattle.mpm_bdos.proofs.Fitting.{there_label}
 use Rattle.mpm_bdos.proofs.NextTurns.{stands_still, same_images, told_is}
-use Rattle.mpm_render.specs.Shown.{Kept as Lines}
+use Rattle.mpm_render.specs.Shown.{KeptLines as Lines}
 use Rattle.mpm_mount.proofs.LookedUp.{kind_of}
 use Rattle.mpm_system.specs.declared.system.System.{System}
 use Rattle.mpm_machine.specs.declared.machine.Machine.{Machine}
 use Rattle.mpm_machine.specs.declared.machine.StepFault.{StepFault}
-use Rattle.mpm_machine.specs.Files.{Files, StandsBetween, StandsForFiles}
+use Rattle.mpm_machine.specs.Files.{FilesInService, StandsBetween, StandsForFiles}
 use Rattle.mpm_machine.specs.State.{State, StandsWithDrives}
 use Rattle.mpm_machine.specs.FileCalls.{looked_at, situation_of}
-use Rattle.mpm_machine.specs.Failing.{working_at_once, working_if, turns_done, HaveImages, HaveImagesOf, IsWithin, FailsWithin, StopsOn, StopsWithImages}
+use Rattle.mpm_machine.specs.Failing.{working_at_once, working_if, turns_done, HaveImages, HaveImagesOf, IsWithinTurns, FailsWithin, StopsOn, StopsWithImages}
 use Rattle.mpm_machine.proofs.FilingLaws.{named_by, situation_is}
 
 -- the call's drive within a turn: what the call doesn't name is as before it, and records are seen as some number of its units leaves them,
 -- no fewer than had ended
-pub within_contained : (call : Situation) (ended most : ℕ) (files : Drive) (within : IsWithin call ended most files) → IsContained (drive_at call) within.job ended files
+pub within_contained : (call : Situation) (ended most : ℕ) (files : Drive) (within : IsWithinTurns call ended most files) → IsContained (drive_at call) within.job ended files
 within_contained call ended most files within =
     among_all (IsContained (drive_at call) within.job ended) (units_done (drive_at call) within.job within.turn)
     (stages (unit_at (drive_at call) within.job within.turn) (units_done (drive_at call) within.job within.turn)) files
@@ -155,7 +155,7 @@ fails_stand disks now old new call drives ended most behind fails before images 
     let found = stops.contained.within in
     let number = drive_number call in
     let d = found.directory in
-    let within : IsWithin call ended most found.files =
+    let within : IsWithinTurns call ended most found.files =
     record { job = stops.job; its = stops.its; turn = fails.turn; since = fails.since; before = before; among = found.among } in
     let kind : (drive_at call).kind ≡ d.kind = sym (within_contained call ended most found.files within).keeps.kind ∙ kind_of found.stands.image d found.files found.stands.stands in
     let told : now.image number ≡ Some found.stands.image = ap (now.image) (sym found.here) ∙ found.stands.told in
@@ -246,7 +246,7 @@ disk_calls disks filing p system kept caller process call moment before behind l
 -- the step of a state
 
 pub step_leaves : (old : Machine) (disks now : Disks) (mounted : List (Option Directory)) (fault : StepFault) (kept : Lines) (written : List ℕ) (s : State) (first : List ℕ)
-    → ((files : Files) → StandsForFiles old.system.kernel.disk old.bdos disks files → HaveImagesOf (StopsOn fault old.system files) now mounted)
+    → ((files : FilesInService) → StandsForFiles old.system.kernel.disk old.bdos disks files → HaveImagesOf (StopsOn fault old.system files) now mounted)
     → StandsWithDrives old kept written disks s first → StopsWithImages fault now mounted s
 step_leaves old disks now mounted fault kept written s first leaves stands =
     subst (λ system. HaveImagesOf (StopsOn fault system s.files) now mounted) stands.system.parts (leaves s.files stands.files)

@@ -14,12 +14,12 @@ use Rattle.mpm_kernel.specs.Kernel.{with_changed}
 use Rattle.mpm_residents.specs.declared.native.Native.{Native}
 use Rattle.mpm_residents.specs.Natives.{native_call, native_in}
 use Rattle.mpm_output.specs.Outside.{Outside, Device}
-use Rattle.mpm_output.specs.Writing.{Wrote, Fails}
+use Rattle.mpm_output.specs.Writing.{CameOut, DeviceFails}
 use Rattle.mpm_output.specs.Texts.{error_text}
-use Rattle.mpm_functions.specs.declared.refusals.Extended.{Extended}
+use Rattle.mpm_file_functions.specs.declared.refusals.Extended.{Extended}
 use Rattle.mpm_directories.specs.Direct.{CallerChange, Stays, Selects, Resets, Directly}
 use Rattle.mpm_system.specs.declared.system.System.{System}
-use Rattle.mpm_system.specs.Whole.{Change, IsWhole, HasRoom, speaking}
+use Rattle.mpm_system.specs.Whole.{SystemChange, IsWhole, HasRoom, speaking}
 use Rattle.mpm_system.specs.Taking.{asked, keeping}
 use Rattle.mpm_system.specs.Answering.{popped}
 use Rattle.mpm_system.specs.Residents.{asked_by}
@@ -137,7 +137,7 @@ whole_met : (error : Extended) (reply : Answer) (p : ℕ) (system : System) → 
 unfolding error_met
 whole_met error reply p system w h =
     let mode = (process_in system.kernel.dispatcher.procs p).error_mode in
-    either (λ (c : Change). IsWhole c.system) (mode == 255) _ _ (λ _. whole_file_replied reply p system w h)
+    either (λ (c : SystemChange). IsWhole c.system) (mode == 255) _ _ (λ _. whole_file_replied reply p system w h)
     (λ _. whole_told_then (mode == 254) error reply p system w h)
 
 whole_answered_by : (error : Option Extended) (reply : Answer) (p : ℕ) (system : System) → IsWhole system → Lives system.kernel.dispatcher.procs p
@@ -155,12 +155,12 @@ whole_concluded told p system w h =
 -- what is said: where a part fails, and what comes after it
 
 pub told_fails : (device : Device) (answers : Bool) (error : Extended) (reply : Answer) (p : ℕ) (system : System) (o n : Outside)
-    → Fails device o n (error_told error p system).emitted → Fails device o n (told_then answers error reply p system).emitted
+    → DeviceFails device o n (error_told error p system).emitted → DeviceFails device o n (told_then answers error reply p system).emitted
 unfolding told_then
 told_fails device answers error reply p system o n failed = failed
 
 pub wrote_told : (answers : Bool) (error : Extended) (reply : Answer) (p : ℕ) (system : System) (o n : Outside)
-    → Wrote o n (error_told error p system).emitted → Wrote o n (told_then answers error reply p system).emitted
+    → CameOut o n (error_told error p system).emitted → CameOut o n (told_then answers error reply p system).emitted
 unfolding told_then
 wrote_told answers error reply p system o n wrote = wrote
 

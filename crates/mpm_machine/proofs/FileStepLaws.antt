@@ -10,10 +10,10 @@ use Rattle.mpm_gate.specs.declared.gate.Gate.{Gate}
 use Rattle.mpm_gate.specs.declared.gate.Gate.TheVariants.{End, Call, Return}
 use Rattle.mpm_residents.specs.declared.native.Native.{Native}
 use Rattle.mpm_residents.specs.Natives.{native_in}
-use Rattle.mpm_functions.specs.declared.refusals.Extended.{Extended}
+use Rattle.mpm_file_functions.specs.declared.refusals.Extended.{Extended}
 use Rattle.mpm_directories.specs.Direct.{CallerChange, Stays, Selects, Resets, Directly}
 use Rattle.mpm_system.specs.declared.system.System.{System}
-use Rattle.mpm_system.specs.Whole.{Change, HasRoomForAll, speaking}
+use Rattle.mpm_system.specs.Whole.{SystemChange, HasRoomForAll, speaking}
 use Rattle.mpm_system.specs.Taking.{keeping}
 use Rattle.mpm_system.specs.Answering.{popped}
 use Rattle.mpm_system.specs.Residents.{asked_by}
@@ -82,7 +82,7 @@ met_more : (error : Extended) (reply : Answer) (p : ℕ) (system : System) → O
 unfolding error_met
 met_more error reply p system =
     let mode = (process_in system.kernel.dispatcher.procs p).error_mode in
-    either (λ (c : Change). OneMore system c.system) (mode == 255) _ _ (λ _. replied_more reply p system)
+    either (λ (c : SystemChange). OneMore system c.system) (mode == 255) _ _ (λ _. replied_more reply p system)
     (λ _. told_more (mode == 254) error reply p system)
 
 answered_more : (error : Option Extended) (reply : Answer) (p : ℕ) (system : System) → OneMore system (answered_by error reply p system).system
@@ -112,7 +112,7 @@ call_records p old made none is = ap (λ (s : System). s.records) is ∙ ap (λ 
 called_more : (told : Directly) (p : ℕ) (system : System) → OneMore system (file_called told p system).system
 unfolding file_called
 called_more told p system =
-    either (λ (c : Change). OneMore system c.system) (is_done_at_once p system) _ _ (λ _. concluded_more told p system) (λ _. none_more system _ refl)
+    either (λ (c : SystemChange). OneMore system c.system) (is_done_at_once p system) _ _ (λ _. concluded_more told p system) (λ _. none_more system _ refl)
 
 pub called_few : (told : Directly) (p : ℕ) (made called : System) → made.records ≡ [] → called ≡ (file_called told p made).system → length called.records ≤ 1
 called_few told p made called none is =
@@ -157,7 +157,7 @@ entered_unless_steps : (served : Option ℕ) (turns : ℕ) (system : System) →
 entered_unless_steps (Some p) turns system = refl
 entered_unless_steps None turns system = entered_by_steps (turn_answer system.kernel.disk) turns (step_passed system)
 
-pub rest_steps : (instruction : Bool) (telling : Telling) (begun : Change) → (rest_of instruction telling begun).system.steps ≡ begun.system.steps
+pub rest_steps : (instruction : Bool) (telling : Telling) (begun : SystemChange) → (rest_of instruction telling begun).system.steps ≡ begun.system.steps
 unfolding rest_of ended_after entered_after call_entered all_paid disk_served
 rest_steps instruction telling begun =
     let paid = paid_after telling.at_disk begun.system in

@@ -23,10 +23,10 @@ use Rattle.mpm_kernel.proofs.SoundLaws.{runner_lives}
 use Rattle.mpm_residents.specs.declared.native.Native.{Native}
 use Rattle.mpm_residents.specs.Natives.{native_in}
 use Rattle.mpm_output.specs.Texts.{error_text}
-use Rattle.mpm_functions.specs.declared.refusals.Extended.{Extended}
+use Rattle.mpm_file_functions.specs.declared.refusals.Extended.{Extended}
 use Rattle.mpm_directories.specs.Direct.{CallerChange, Stays, Selects, Resets, Directly}
 use Rattle.mpm_system.specs.declared.system.System.{System}
-use Rattle.mpm_system.specs.Whole.{Change, IsWhole, speaking}
+use Rattle.mpm_system.specs.Whole.{SystemChange, IsWhole, speaking}
 use Rattle.mpm_system.specs.Taking.{keeping}
 use Rattle.mpm_system.specs.Answering.{popped, answering_call, recorded, replied}
 use Rattle.mpm_system.specs.Residents.{asked_by}
@@ -136,7 +136,7 @@ met_leaves : (error : Extended) (reply : Answer) (p : ℕ) (system : System) (se
 unfolding error_met
 met_leaves error reply p system seg at left =
     let mode = (process_in system.kernel.dispatcher.procs p).error_mode in
-    either (λ (c : Change). byte_at c.system.memory seg at ≡ byte_at system.memory seg at) (mode == 255) _ _
+    either (λ (c : SystemChange). byte_at c.system.memory seg at ≡ byte_at system.memory seg at) (mode == 255) _ _
     (λ answers. replied_leaves reply p system seg at (left (ap (λ b. b || (mode == 254)) answers)))
     (λ _. told_then_leaves (mode == 254) error reply p system seg at (λ tells. left (or_right (mode == 255) (mode == 254) tells)))
 
@@ -232,7 +232,7 @@ called_segments : (told : Directly) (p : ℕ) (made : System) (seg at : ℕ) →
     → ((is_done_at_once p made ≡ true) × IsFiled told p made seg at → ⊥) → byte_at (file_called told p made).system.memory seg at ≡ byte_at made.memory seg at
 unfolding file_called
 called_segments told p made seg at w h below none =
-    either (λ (c : Change). byte_at c.system.memory seg at ≡ byte_at made.memory seg at) (is_done_at_once p made) _ _
+    either (λ (c : SystemChange). byte_at c.system.memory seg at ≡ byte_at made.memory seg at) (is_done_at_once p made) _ _
     (λ once. concluded_leaves told p made seg at w h (left_of_segment told p made seg at below (λ filed. none (once, filed))))
     (λ _. refl)
 
@@ -240,7 +240,7 @@ called_common : (told : Directly) (p : ℕ) (made : System) (seg at : ℕ) → I
     → ((home : ℕ) → (is_done_at_once p made ≡ true) × IsFiled told p made home at → ⊥) → byte_at (file_called told p made).system.memory seg at ≡ byte_at made.memory seg at
 unfolding file_called
 called_common told p made seg at w h above none =
-    either (λ (c : Change). byte_at c.system.memory seg at ≡ byte_at made.memory seg at) (is_done_at_once p made) _ _
+    either (λ (c : SystemChange). byte_at c.system.memory seg at ≡ byte_at made.memory seg at) (is_done_at_once p made) _ _
     (λ once. concluded_leaves told p made seg at w h (left_of_common told p made seg at above (λ home filed. none home (once, filed))))
     (λ _. refl)
 

@@ -2,10 +2,10 @@
 use Rattle.std.proofs.Common.{◌≡◌, ◌∙◌, ℕ, Option, Some, None, refl, ap}
 use Rattle.mpm_procs.specs.Table.{call_of}
 use Rattle.mpm_kernel.specs.Kernel.{Kernel}
-use Rattle.mpm_functions.specs.declared.functions.FileFunction.{FileFunction}
-use Rattle.mpm_functions.specs.declared.functions.DirectFunction.{DirectFunction}
-use Rattle.mpm_functions.specs.Functions.{function_of, direct_of}
-use Rattle.mpm_requests.specs.Filing.{Filing}
+use Rattle.mpm_file_functions.specs.declared.functions.FileFunction.{FileFunction}
+use Rattle.mpm_file_functions.specs.declared.functions.DirectFunction.{DirectFunction}
+use Rattle.mpm_file_functions.specs.Functions.{function_of, direct_of}
+use Rattle.mpm_refusals.specs.Filing.{Filing}
 use Rattle.mpm_system.specs.declared.system.System.{System}
 use Rattle.mpm_machine.specs.FileCalls.{situation_of, outcome_by, outcome_in}
 use Rattle.mpm_machine.specs.DiskStep.{told_of_call}

@@ -11,23 +11,23 @@ use Rattle.mpm_clock.specs.Times.{moment_of}
 use Rattle.mpm_clock.specs.PackedDecimal.{stamp}
 use Rattle.mpm_kernel.specs.Called.{low_parameter}
 use Rattle.mpm_mount.specs.Drives.{Drive}
-use Rattle.mpm_functions.specs.declared.functions.FileFunction.{FileFunction}
-use Rattle.mpm_functions.specs.declared.functions.FileFunction.TheVariants.{ResetDisks}
-use Rattle.mpm_functions.specs.declared.functions.DirectFunction.{DirectFunction}
-use Rattle.mpm_functions.specs.declared.functions.DirectFunction.TheVariants.{SelectDisk, LoginVector, ReadOnlyVector, DiskParameters, SetRandomRecord}
-use Rattle.mpm_functions.specs.declared.refusals.Refusal.{Refusal}
-use Rattle.mpm_functions.specs.declared.refusals.Extended.{Extended}
-use Rattle.mpm_functions.specs.Functions.{numbers, function_of, direct_numbers, direct_of}
-use Rattle.mpm_requests.specs.Filing.{Filing, Situation}
+use Rattle.mpm_file_functions.specs.declared.functions.FileFunction.{FileFunction}
+use Rattle.mpm_file_functions.specs.declared.functions.FileFunction.TheVariants.{ResetDisks}
+use Rattle.mpm_file_functions.specs.declared.functions.DirectFunction.{DirectFunction}
+use Rattle.mpm_file_functions.specs.declared.functions.DirectFunction.TheVariants.{SelectDisk, LoginVector, ReadOnlyVector, DiskParameters, SetRandomRecord}
+use Rattle.mpm_file_functions.specs.declared.refusals.Refusal.{Refusal}
+use Rattle.mpm_file_functions.specs.declared.refusals.Extended.{Extended}
+use Rattle.mpm_file_functions.specs.Functions.{numbers, function_of, direct_numbers, direct_of}
+use Rattle.mpm_refusals.specs.Filing.{Filing, Situation}
 use Rattle.mpm_bdos.specs.Finishing.{ComesTo}
 use Rattle.mpm_bdos.specs.Jobs.{turned, call_turns}
 use Rattle.mpm_directories.specs.Direct.{CallerChange, Stays, Selects, Resets, Directly, parameters_told, direct_by, is_protected, where_mounted, selected}
 use Rattle.mpm_bdos.specs.Outcomes.{caller_by, file_call, outcome_by as served_by}
-use Rattle.mpm_requests.specs.Refusals.{refusal_of}
+use Rattle.mpm_refusals.specs.Refusals.{refusal_of}
 use Rattle.mpm_bdos.specs.Direct.{direct, kind_of}
 use Rattle.mpm_bdos.specs.Serving.{Kept, InService, StandEach, Serves, filing_of}
 use Rattle.mpm_directories.specs.Places.{directory_at}
-use Rattle.mpm_bdos.specs.Starting.{HasEntered}
+use Rattle.mpm_bdos.specs.Starting.{HasBegunService}
 use Rattle.mpm_bdos.specs.Starting.{caller_of, entering as entering_here}
 use Rattle.mpm_bdos.specs.Turns.{KeepsUnsynced, labelled, images_of}
 use Rattle.mpm_base.specs.declared.kind.Kind.{Kind}
@@ -328,11 +328,11 @@ serves_at_entry images drives p system kept new function caller process call mom
 pub entered_as : (p : ℕ) (caller process : Process) (call : Taken) (system : System) (service : Option InService) (function : FileFunction)
     → caller ≡ looked_at process → process ≡ process_in system.kernel.dispatcher.procs p → call ≡ call_of system.kernel.dispatcher.procs p
     → function_of (call_of system.kernel.dispatcher.procs p).function ≡ Some function
-    → ((named : FileFunction) → function_of call.function ≡ Some named → HasEntered (caller_of p caller) named call service)
-    → HasEntered (caller_of p (looked_at (process_in system.kernel.dispatcher.procs p))) function (call_of system.kernel.dispatcher.procs p) service
+    → ((named : FileFunction) → function_of call.function ≡ Some named → HasBegunService (caller_of p caller) named call service)
+    → HasBegunService (caller_of p (looked_at (process_in system.kernel.dispatcher.procs p))) function (call_of system.kernel.dispatcher.procs p) service
 entered_as p caller process call system service function looks lives calls is entered =
-    subst (λ (x : Process). HasEntered (caller_of p x) function (call_of system.kernel.dispatcher.procs p) service) (looks ∙ ap looked_at lives)
-    (subst (λ (c : Taken). HasEntered (caller_of p caller) function c service) calls (entered function (ap (λ (c : Taken). function_of c.function) calls ∙ is)))
+    subst (λ (x : Process). HasBegunService (caller_of p x) function (call_of system.kernel.dispatcher.procs p) service) (looks ∙ ap looked_at lives)
+    (subst (λ (c : Taken). HasBegunService (caller_of p caller) function c service) calls (entered function (ap (λ (c : Taken). function_of c.function) calls ∙ is)))
 
 -- and who left
 

@@ -13,7 +13,7 @@ use Rattle.mpm_drives.proofs.Opening.{drives_are}
 use Rattle.mpm_service.specs.Disk.{DiskService}
 use Rattle.mpm_bdos.specs.Serving.{Kept, StandEach, nothing_kept}
 use Rattle.mpm_directories.specs.Places.{directory_at, all_put, in_places}
-use Rattle.mpm_requests.specs.Asking.{StandsWhere}
+use Rattle.mpm_refusals.specs.Asking.{StandsWhere}
 use Rattle.mpm_bdos.specs.Turns.{images_of}
 use Rattle.mpm_machine.specs.Files.{Between, StandsBetween, StandsForFiles}
 use Rattle.mpm_machine.specs.Mounting.{HasMounted, OpensOn, untouched}

@@ -7,7 +7,7 @@ use Rattle.mpm_base.proofs.Choices.{either}
 use Rattle.mpm_base.proofs.CountLaws.{one_if_true}
 use Rattle.mpm_base.specs.Calls.{Answer}
 use Rattle.mpm_directories.specs.Direct.{Directly, CallerChange, Resets, Selects, Stays}
-use Rattle.mpm_functions.specs.declared.refusals.Extended.{Extended}
+use Rattle.mpm_file_functions.specs.declared.refusals.Extended.{Extended}
 use Rattle.mpm_residents.specs.Interpreters.{Interpreter, call_at, next_call}
 use Rattle.mpm_residents.specs.declared.cli.table.Row.{Row}
 use Rattle.mpm_residents.specs.declared.cli.table.Row.TheVariants.{ReadCommand, OpenQueue, WriteQueue, SetUser, OpenRelocatable, OpenAbsolute, ReadHeader, ComputeSize, SetUserZero, Reserve, Place, Patch, ReadOn, Free, CloseAfter, Close, Tell, Give, PlaceBasePage, Begin}
@@ -31,7 +31,7 @@ use Rattle.mpm_kernel.specs.Columns.{spoke}
 use Rattle.mpm_system.specs.FileCalling.{call_made, error_told, file_replied, first_dma, made_by, reply_by, with_caller}
 use Rattle.mpm_system.specs.Residents.{asked_by}
 use Rattle.mpm_system.specs.Taking.{asked, keeping}
-use Rattle.mpm_system.specs.Whole.{Change, IsWhole, speaking}
+use Rattle.mpm_system.specs.Whole.{SystemChange, IsWhole, speaking}
 use Rattle.mpm_system.specs.Coming.{counted}
 use Rattle.mpm_system.specs.declared.system.System.{System}
 use Rattle.mpm_machine.proofs.FileLaws.{whole_caller, whole_told}
@@ -46,7 +46,7 @@ use Rattle.mpm_machine.specs.Interpreting.{Interprets, IsActing, is_reading, awa
 
 -- a row that makes a call on files neither reserves nor reads a command
 no_files_there : (row : Row) (cli : Interpreter) → is_of_files (call_at row cli).function ≡ true → (is_reserving row ≡ false) × (is_reading row ≡ false)
-unfolding is_of_files Rattle.mpm_functions.specs.Functions.function_of Rattle.mpm_functions.specs.Functions.direct_of
+unfolding is_of_files Rattle.mpm_file_functions.specs.Functions.function_of Rattle.mpm_file_functions.specs.Functions.direct_of
 no_files_there ReadCommand cli is = absurd (cc)
 no_files_there (Reserve true pages) cli is = absurd (cc)
 no_files_there (Reserve false pages) cli is = absurd (cc)
@@ -129,7 +129,7 @@ goes_met : (error : Extended) (reply : Answer) (p : ℕ) (system : System) → I
 unfolding error_met
 goes_met error reply p system w h f =
     let mode = (process_in system.kernel.dispatcher.procs p).error_mode in
-    either (λ (c : Change). Interprets c.system) (mode == 255) _ _ (λ _. goes_file_replied reply p system f)
+    either (λ (c : SystemChange). Interprets c.system) (mode == 255) _ _ (λ _. goes_file_replied reply p system f)
     (λ not. goes_told_then (mode == 254) error reply p system w h (not_answered p system f.interprets.acting not) f)
 
 goes_answered_by : (error : Option Extended) (reply : Answer) (p : ℕ) (system : System) → IsWhole system → Lives system.kernel.dispatcher.procs p → FilesAt p system
@@ -245,7 +245,7 @@ pub goes_file_called : (told : Directly) (p : ℕ) (system : System) → IsWhole
     → Interprets (file_called told p system).system
 unfolding file_called
 goes_file_called told p system w h f =
-    either (λ (c : Change). Interprets c.system) (is_done_at_once p system) _ _ (λ _. goes_concluded told p system w h f) (λ _. goes_waiting p system f)
+    either (λ (c : SystemChange). Interprets c.system) (is_done_at_once p system) _ _ (λ _. goes_concluded told p system w h f) (λ _. goes_waiting p system f)
 
 -- its call is over: it awaited no other answer
 

@@ -22,7 +22,7 @@ use Rattle.mpm_kernel.specs.Called.{Called, low_parameter, failure_code}
 use Rattle.mpm_kernel.specs.Calls.{called, call_done, does_echo}
 use Rattle.mpm_kernel.specs.Columns.{spoke}
 use Rattle.mpm_kernel.specs.Consoling.{given}
-use Rattle.mpm_kernel.specs.Kernel.{Kernel, dispatched as with_dispatcher, IsSound, call_begun}
+use Rattle.mpm_kernel.specs.Kernel.{Kernel, dispatched as with_dispatcher, IsSoundKernel, call_begun}
 use Rattle.mpm_procs.proofs.MapLaws.{free_is_dead, lives_added_other, process_added_other, call_added_other, free_below, lives_added}
 use Rattle.mpm_procs.specs.Table.{lives, Lives, process_in, call_of, lowest_free, added}
 use Rattle.mpm_procs.specs.declared.process.NewProcess.{NewProcess}
@@ -59,7 +59,7 @@ use Rattle.mpm_system.specs.Loading.{may_move, moved, is_console, may_live, begi
 use Rattle.mpm_system.specs.Residents.{taking, handing_step, telling_step, tells, text_told}
 use Rattle.mpm_system.specs.Segments.{reserve_reply, releasing, reserving}
 use Rattle.mpm_system.specs.Saying.{said_by}
-use Rattle.mpm_system.specs.Whole.{Change, IsWhole, speaking}
+use Rattle.mpm_system.specs.Whole.{SystemChange, IsWhole, speaking}
 use Rattle.mpm_system.specs.declared.system.System.{System}
 use Rattle.mpm_system.proofs.SizeLaws.{sizes_with_bytes}
 use Rattle.mpm_system.proofs.HomeLaws.{keeps_same, keeps_both, keeps_released, keeps_occupied}
@@ -161,7 +161,7 @@ unfolding write_at
 write_done None p kernel = refl
 write_done (Some q) p kernel = written_done (write_outcome kernel.queues q) p q kernel
 
-written_once : (slot : Option ℕ) (kernel : Kernel) → IsSound kernel → AwaitsIn 0 0 kernel → IsAtOnce (write_at slot false 0 kernel)
+written_once : (slot : Option ℕ) (kernel : Kernel) → IsSoundKernel kernel → AwaitsIn 0 0 kernel → IsAtOnce (write_at slot false 0 kernel)
 written_once slot kernel s a =
     record { outcome = write_done slot 0 kernel; none = awaits_write_at 0 0 slot false 0 kernel s (λ waits. absurd (false≢true waits)) a }
 
@@ -169,7 +169,7 @@ own_opens : (bytes : List ℕ) (kernel : Kernel) → AwaitsIn 0 0 kernel → cal
 unfolding call_done
 own_opens bytes kernel a is = by_call IsAtOnce (asking_call OPEN_QUEUE 0 bytes) kernel is (opened_once _ (asking_call OPEN_QUEUE 0 bytes) _ (begun_none false kernel a))
 
-own_writes : (bytes : List ℕ) (kernel : Kernel) → IsSound kernel → AwaitsIn 0 0 kernel → call_of kernel.dispatcher.procs 0 ≡ asking_call CONDITIONAL_WRITE_QUEUE 0 bytes
+own_writes : (bytes : List ℕ) (kernel : Kernel) → IsSoundKernel kernel → AwaitsIn 0 0 kernel → call_of kernel.dispatcher.procs 0 ≡ asking_call CONDITIONAL_WRITE_QUEUE 0 bytes
     → IsAtOnce (called 0 kernel)
 unfolding call_done
 own_writes bytes kernel s a is =
@@ -210,7 +210,7 @@ own_ask : (call : Taken) (system : System) → (call.function == PRINT_STRING) �
     → Interprets (native_step Ask call 0 system).system
 unfolding calling_step
 own_ask call system not answered =
-    either (λ (c : Change). Interprets c.system) (tells (native_in system.residents 0) call) _ _ (λ text. absurd (no_text (native_in system.residents 0) call not text)) (λ _. answered)
+    either (λ (c : SystemChange). Interprets c.system) (tells (native_in system.residents 0) call) _ _ (λ text. absurd (no_text (native_in system.residents 0) call not text)) (λ _. answered)
 
 abbrev asked_now : Taken → System → System
 asked_now call system = asking 0 call system
@@ -218,7 +218,7 @@ asked_now call system = asking 0 call system
 own_step : (call : Taken) (system : System) (i : Interprets system) → IsWhole system → Lives system.kernel.dispatcher.procs 0 → sets_or_chains call.function ≡ false
     → is_reserving i.acting.cli.row ≡ false → at_disk system.kernel.disk 0 ≡ 0 → (call.function == PRINT_STRING) ≡ false
     → served_to_all call 0 (asked_now call system) ≡ calling 0 (asked_now call system)
-    → ((IsSound (asked_now call system).kernel × (call_of (asked_now call system).kernel.dispatcher.procs 0 ≡ call)) → IsAtOnce (called 0 (asked_now call system).kernel))
+    → ((IsSoundKernel (asked_now call system).kernel × (call_of (asked_now call system).kernel.dispatcher.procs 0 ≡ call)) → IsAtOnce (called 0 (asked_now call system).kernel))
     → Interprets (native_step Ask call 0 (asked_now call system)).system
 unfolding own_asked own_call
 own_step call system i w h mild other gone not is done =
@@ -387,9 +387,9 @@ told_own : (call : Taken) (system : System) (i : Interprets system) → (call.fu
 unfolding telling_step speaking spoke
 told_own call system i text other none =
     let tells_it : tells (native_in system.residents 0) call ≡ true = ap (λ b. b && (call.function == PRINT_STRING)) (ap interprets_if_there i.acting.acts) ∙ text in
-    either (λ (c : Change). Interprets c.system) (tells (native_in system.residents 0) call) _ _
+    either (λ (c : SystemChange). Interprets c.system) (tells (native_in system.residents 0) call) _ _
     (λ _.
-    either (λ (c : Change). Interprets (taking (answering 0) 0 c.system)) (is_console (low_parameter call) system.kernel) _ _
+    either (λ (c : SystemChange). Interprets (taking (answering 0) 0 c.system)) (is_console (low_parameter call) system.kernel) _ _
     (λ _.
     let behind = goes_spoke (low_parameter call) _ system i in
     interprets_taken _ (answering 0) behind (reserves_not system _ i behind refl other) none)
@@ -555,14 +555,14 @@ goes_native Retry reply call p system w h other a = a
 
 goes_text : (call : Taken) (system : System) → Interprets system → Interprets (text_told call system).system
 goes_text call system a =
-    either (λ (change : Change). Interprets change.system) (is_console (low_parameter call) system.kernel) _ _ (λ _. goes_spoke (low_parameter call) _ system a) (λ _. a)
+    either (λ (change : SystemChange). Interprets change.system) (is_console (low_parameter call) system.kernel) _ _ (λ _. goes_spoke (low_parameter call) _ system a) (λ _. a)
 
 goes_asks : (call : Taken) (p : ℕ) (system : System) → call_of system.kernel.dispatcher.procs p ≡ call → IsWhole system → Lives system.kernel.dispatcher.procs p
     → IsReady system.kernel.dispatcher p → 0 ≢ p → Interprets system → Interprets (native_step Ask call p system).system
 unfolding calling_step telling_step
 goes_asks call p system keeps w h ready other a =
     let done = whole_to_all call p system keeps w h ready in
-    either (λ (change : Change). Interprets change.system) (tells (native_in system.residents p) call) _ _ (λ _. goes_taking _ p _ other (goes_text call system a))
+    either (λ (change : SystemChange). Interprets change.system) (tells (native_in system.residents p) call) _ _ (λ _. goes_taking _ p _ other (goes_text call system a))
     (λ _. goes_native _ _ call p _ done.whole done.lives other (goes_to_all call p system w h ready other a))
 
 its_own : (p : ℕ) (cli : Interpreter) (system : System) (i : Interprets system) → native_in system.residents p ≡ Some (Cli cli) → (0 ≡ p) × (cli ≡ i.acting.cli)

@@ -32,7 +32,7 @@ use Rattle.mpm_xdos.specs.Aborting.{waits_to_end, target}
 use Rattle.mpm_xdos.specs.Creating.{home_base, created}
 use Rattle.mpm_xdos.specs.Procedures.{entered, entering, leaving, returned_from_procedure}
 use Rattle.z80_ext.specs.Instruction.{registers_after, actions_of}
-use Rattle.z80_regs.specs.Outcome.{Outcome}
+use Rattle.z80_regs.specs.Outcome.{StepOutcome}
 use Rattle.z80_regs.specs.declared.regs.Regs.{Regs}
 use Rattle.mpm_banks.proofs.ActionLaws.{same_segments_after}
 use Rattle.mpm_gate.proofs.ReplyLaws.{placed_segments}
@@ -349,7 +349,7 @@ goes_returning p system w h other a =
     (λ k x. awaits_given_back k 0 p system.kernel w.sound h x) a in
     goes_regs p _ _ back
 
-goes_instructed : (outcome : Option Outcome) (p seg : ℕ) (system : System) → Interprets system → Interprets (instructed outcome p seg system)
+goes_instructed : (outcome : Option StepOutcome) (p seg : ℕ) (system : System) → Interprets system → Interprets (instructed outcome p seg system)
 unfolding instructed
 goes_instructed outcome p seg system a =
     interprets_with system _ refl
@@ -364,7 +364,7 @@ goes_illegal p system w h other a =
     let spoke = whole_speaking process.console p (illegal_text process.regs.pc) system w h in
     goes_ended p _ spoke.whole spoke.lives other (goes_spoke process.console (illegal_text process.regs.pc) system a)
 
-goes_executed : (outcome : Option Outcome) (p seg : ℕ) (system : System) → IsWhole system → Lives system.kernel.dispatcher.procs p → 0 ≢ p → Interprets system
+goes_executed : (outcome : Option StepOutcome) (p seg : ℕ) (system : System) → IsWhole system → Lives system.kernel.dispatcher.procs p → 0 ≢ p → Interprets system
     → Interprets (executed outcome p seg system).system
 unfolding executed
 goes_executed None p seg system w h other a = goes_illegal p system w h other a

@@ -7,7 +7,7 @@ use Rattle.mpm_directories.specs.Direct.{Directly}
 use Rattle.mpm_dispatcher.specs.Dispatch.{IsReady}
 use Rattle.mpm_procs.specs.Table.{Lives}
 use Rattle.mpm_system.specs.FileCalling.{call_made}
-use Rattle.mpm_system.specs.Whole.{Change, IsWhole}
+use Rattle.mpm_system.specs.Whole.{SystemChange, IsWhole}
 use Rattle.mpm_system.specs.Coming.{coming, counted}
 use Rattle.mpm_system.specs.declared.system.System.{System}
 use Rattle.mpm_machine.proofs.FileLaws.{makes}
@@ -59,7 +59,7 @@ unfolding ended_after
 goes_ended_after telling system w i =
     goes_with_ends (entered_after telling system) (whole_entered_after telling system w) (goes_entered_after telling system w i)
 
-goes_rest : (instruction : Bool) (telling : Telling) (begun : Change) → IsWhole begun.system → Interprets begun.system → Interprets (rest_of instruction telling begun).system
+goes_rest : (instruction : Bool) (telling : Telling) (begun : SystemChange) → IsWhole begun.system → Interprets begun.system → Interprets (rest_of instruction telling begun).system
 unfolding rest_of
 goes_rest instruction telling begun w i =
     goes_same (all_paid (ended_after telling begun.system)) _ refl refl refl refl refl refl refl

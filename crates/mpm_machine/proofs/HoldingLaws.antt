@@ -10,12 +10,12 @@ use Rattle.mpm_service.specs.Places.{at_disk}
 use Rattle.mpm_service.proofs.PlaceLaws.{at_entered_other, served_not}
 use Rattle.mpm_kernel.specs.Kernel.{Kernel}
 use Rattle.mpm_kernel.specs.Disk.{waiting_for_disk}
-use Rattle.mpm_functions.specs.declared.functions.FileFunction.{FileFunction}
-use Rattle.mpm_functions.specs.Functions.{function_of}
-use Rattle.mpm_bdos.specs.Starting.{HasEntered}
+use Rattle.mpm_file_functions.specs.declared.functions.FileFunction.{FileFunction}
+use Rattle.mpm_file_functions.specs.Functions.{function_of}
+use Rattle.mpm_bdos.specs.Starting.{HasBegunService}
 use Rattle.mpm_bdos.specs.Serving.{InService}
 use Rattle.mpm_system.specs.declared.system.System.{System}
-use Rattle.mpm_machine.specs.Holding.{IsOwn, OwnsService, AreFiled}
+use Rattle.mpm_machine.specs.Holding.{IsOwnCall, OwnsService, AreFiled}
 use Rattle.mpm_machine.specs.DiskStep.{is_done_at_once}
 use Rattle.mpm_machine.proofs.CallsLaws.{KeepsMulti, KeepsCalls}
 
@@ -54,17 +54,17 @@ sets_no_count : (number : ℕ) (function : FileFunction) → function_of number 
 unfolding function_of
 sets_no_count number function is = λ same. false≢true (sym (ap is_some (sym is ∙ ap function_of same)))
 
-stays_own : (p : ℕ) (old new : Table) (service : Option InService) → call_of new p ≡ call_of old p → KeepsMulti p old new → IsOwn old p service → IsOwn new p service
+stays_own : (p : ℕ) (old new : Table) (service : Option InService) → call_of new p ≡ call_of old p → KeepsMulti p old new → IsOwnCall old p service → IsOwnCall new p service
 stays_own p old new service call multi own = record {
   function = own.function;
   its = ap (λ (c : Taken). function_of c.function) call ∙ own.its;
   caller = own.caller;
   multi = own.multi ∙ sym (multi (sets_no_count (call_of old p).function own.function own.its));
-  entered = subst (λ (c : Taken). HasEntered own.caller own.function c service) (sym call) own.entered;
+  entered = subst (λ (c : Taken). HasBegunService own.caller own.function c service) (sym call) own.entered;
 }
 
 own_by : (served : Option Served) (old new : Kernel) (service : Option InService) → KeepsCalls old new → IfSome served (λ (call : Served). 0 < at_disk new.disk call.p)
-    → IfSome served (λ (call : Served). IsOwn old.dispatcher.procs call.p service) → IfSome served (λ (call : Served). IsOwn new.dispatcher.procs call.p service)
+    → IfSome served (λ (call : Served). IsOwnCall old.dispatcher.procs call.p service) → IfSome served (λ (call : Served). IsOwnCall new.dispatcher.procs call.p service)
 own_by None old new service keeps at own = tt
 own_by (Some call) old new service keeps at own =
     stays_own call.p old.dispatcher.procs new.dispatcher.procs service (keeps.call call.p at) (keeps.multi call.p at) own
@@ -72,4 +72,4 @@ own_by (Some call) old new service keeps at own =
 pub own_still : (old new : Kernel) (service : Option InService) → KeepsCalls old new → new.disk.served ≡ old.disk.served → OwnsService old service → OwnsService new service
 own_still old new service keeps same own =
     own_by new.disk.served old new service keeps (served_stands new.disk new.disk.served refl)
-    (subst (λ (o : Option Served). IfSome o (λ (call : Served). IsOwn old.dispatcher.procs call.p service)) (sym same) own)
+    (subst (λ (o : Option Served). IfSome o (λ (call : Served). IsOwnCall old.dispatcher.procs call.p service)) (sym same) own)

@@ -12,7 +12,7 @@ use Rattle.mpm_system.specs.Coming.{counted}
 use Rattle.mpm_system.specs.Idling.{IsIdle, later, CanPass}
 use Rattle.mpm_system.proofs.WholeLaws.{whole_kernel}
 use Rattle.mpm_machine.specs.State.{State}
-use Rattle.mpm_machine.specs.Files.{Files, AreWithin}
+use Rattle.mpm_machine.specs.Files.{FilesInService, AreWithin}
 use Rattle.mpm_machine.specs.Step.{acted_by, acted, running_segment, at_instruction, dispatched}
 use Rattle.mpm_machine.specs.Stepping.{Telling, step_with}
 use Rattle.mpm_machine.specs.After.{next, after}
@@ -54,7 +54,7 @@ idle_step telling system n on =
     ∙ ap (λ (kernel : Kernel). silent (record begun { kernel = kernel })) (picked_same instruction passed (idle.nobody ∙ sym idle.running))
     ∙ ap (λ (steps : ℕ). silent (record system { steps = steps; kernel = passed })) (omega arith)
 
-idle_within : (system : System) (files : Files) (n : ℕ) → AreWithin system.kernel.disk.served files → AreWithin (passed_by n system.kernel.disk).served files
+idle_within : (system : System) (files : FilesInService) (n : ℕ) → AreWithin system.kernel.disk.served files → AreWithin (passed_by n system.kernel.disk).served files
 unfolding passed_by
 idle_within system files n within = within_on system.kernel.disk.served files n within
 

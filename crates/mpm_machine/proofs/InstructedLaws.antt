@@ -1,7 +1,7 @@
 -- What a listed instruction changes besides memory: its process's registers, and the readiness of devices that it reads.
 use Rattle.std.proofs.Common.{◌≡◌, ◌∙◌, ℕ, zero, suc, ◌-◌, Bool, true, false, ◌&&◌, nat_le, List, [], ◌∷◌, Option, Some, None, IsSome, get_or, set, refl, ap}
 use Rattle.mpm_base.proofs.Choices.{either}
-use Rattle.z80_regs.specs.Outcome.{Outcome, Action, Write, Input}
+use Rattle.z80_regs.specs.Outcome.{StepOutcome, Action, Write, Input}
 use Rattle.z80_ext.specs.Instruction.{registers_after, actions_of}
 use Rattle.mpm_base.specs.declared.devices.Devices.{Devices}
 use Rattle.mpm_banks.specs.Ports.{port_read}
@@ -10,7 +10,7 @@ use Rattle.mpm_banks.proofs.ActionLaws.{same_segments_after, last_bytes_stay}
 use Rattle.mpm_procs.specs.Table.{process_in}
 use Rattle.mpm_gate.specs.declared.gate.Gate.{Gate}
 use Rattle.mpm_system.specs.declared.system.System.{System}
-use Rattle.mpm_system.specs.Whole.{Change, silent}
+use Rattle.mpm_system.specs.Whole.{SystemChange, silent}
 use Rattle.mpm_system.specs.Taking.{with_regs}
 use Rattle.mpm_system.specs.Coming.{counted}
 use Rattle.mpm_machine.specs.Step.{instructed, executed, instruction_at, acted_at, acted_by, acted, running_segment, is_no_gate, instruction_by, at_instruction}
@@ -46,7 +46,7 @@ only_ready actions devices =
 
 -- a step that is an instruction does that alone
 
-pub runs_listed : (outcome : Option Outcome) (p seg : ℕ) (system : System) → IsSome outcome → executed outcome p seg system ≡ silent (instructed outcome p seg system)
+pub runs_listed : (outcome : Option StepOutcome) (p seg : ℕ) (system : System) → IsSome outcome → executed outcome p seg system ≡ silent (instructed outcome p seg system)
 unfolding executed
 runs_listed None p seg system some = absurd (cc)
 runs_listed (Some outcome) p seg system some = refl
@@ -84,7 +84,7 @@ instructs_only telling system p seg none i no_completions =
       memory = memory_after actions seg system.memory;
       clears = λ device h. clears_all actions system.kernel.devices device h;
       bytes = same_segments_after actions seg system.memory;
-      is = ap (λ (change : Change). change.system) (step_quiet telling system afterwards none i.quiet (acts system p seg i) no_completions)
+      is = ap (λ (change : SystemChange). change.system) (step_quiet telling system afterwards none i.quiet (acts system p seg i) no_completions)
           ∙ ap (λ b. (rest_of b telling (silent afterwards)).system) (by_instruction system p seg i)
           ∙ ap (λ (d : Devices). (rest_of true telling (silent (record begun {
             kernel = with_regs (record system.kernel { devices = d }) p regs;

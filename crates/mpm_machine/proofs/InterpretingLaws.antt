@@ -22,7 +22,7 @@ use Rattle.mpm_kernel.specs.Columns.{column_of, expanded}
 use Rattle.mpm_kernel.specs.Consoling.{given}
 use Rattle.mpm_loader.specs.Pieces.{marks_in, marked_length}
 use Rattle.mpm_loader.proofs.Parts.{some_marked}
-use Rattle.mpm_residents.specs.Interpreters.{Interpreter, asking, act_at, call_at, next_act, next_call, process_of, reserved, row_for_piece, Counts}
+use Rattle.mpm_residents.specs.Interpreters.{Interpreter, asking, act_at, call_at, next_act, next_call, process_of, reserved, row_for_piece, CountsBytes}
 use Rattle.mpm_residents.specs.Standing.{is_loading, StandsIn, AreInPages, HandsIn}
 use Rattle.mpm_residents.specs.declared.cli.act.Act.{Act}
 use Rattle.mpm_residents.specs.declared.cli.act.Act.TheVariants.{Ask, Place as PlaceBytes, Patch as MoveCode, Begin as BeginProcess, Give as GiveConsole}
@@ -41,7 +41,7 @@ use Rattle.mpm_system.specs.Sending.{has_interpreter, passed, console_sent}
 use Rattle.mpm_system.specs.Loading.{may_move, is_console, giving, may_live, is_slot, begins}
 use Rattle.mpm_system.specs.Residents.{text_told}
 use Rattle.mpm_machine.specs.Contained.{IsIn, HandsAt, IsHanded}
-use Rattle.mpm_machine.specs.Interpreting.{HasReserved, IsActing, Interprets, IsOwn}
+use Rattle.mpm_machine.specs.Interpreting.{HasReserved, IsActing, Interprets, IsOwnAddress}
 
 -- commands can be sent
 pub interpreter_acts : (system : System) → IsActing system → has_interpreter system ≡ true
@@ -137,19 +137,19 @@ moves_always cli s =
 -- what it hands over comes into its segment
 
 own_place : (memory : Memory) (cli : Interpreter) (seg at address count : ℕ) → HasReserved cli memory → cli.spec.base + cli.spec.pages ≤ 192 → AreInPages cli.spec address count
-    → cli.seg ≡ seg → IsIn address count at → IsOwn memory seg at
+    → cli.seg ≡ seg → IsIn address count at → IsOwnAddress memory seg at
 own_place memory cli seg at address count has below inside here written =
     let small : onward address written.0 ≡ address + written.0 = mod-eq_of_lt (omega (arith, below, inside.end, written.1)) in
     let base : (segment_of memory cli.seg).base ≡ cli.spec.base = ap (λ (s : SegmentSpec). s.base) has.spec in
     let pages : (segment_of memory cli.seg).pages ≡ cli.spec.pages = ap (λ (s : SegmentSpec). s.pages) has.spec in
-    subst (λ s. IsOwn memory s at) here (record {
+    subst (λ s. IsOwnAddress memory s at) here (record {
       reserved = has.reserved;
       first = omega (arith, base, inside.first, written.2, small);
       below = omega (arith, base, pages, inside.end, written.2, small, written.1);
     })
 
 own_act : (act : Act) (bytes : List ℕ) (memory : Memory) (cli : Interpreter) (seg at : ℕ) → HasReserved cli memory → cli.spec.base + cli.spec.pages ≤ 192
-    → HandsIn cli.seg cli.spec act → Counts bytes act → HandsAt act (length bytes) seg at → IsOwn memory seg at
+    → HandsIn cli.seg cli.spec act → CountsBytes bytes act → HandsAt act (length bytes) seg at → IsOwnAddress memory seg at
 own_act Ask bytes memory cli seg at has below into counts hands = absurd hands
 own_act (PlaceBytes to address count) bytes memory cli seg at has below into counts hands =
     own_place memory cli seg at address (length bytes) has below (subst (AreInPages cli.spec address) counts into.1) (sym into.0 ∙ hands.0) hands.1
@@ -160,7 +160,7 @@ own_act (BeginProcess to new) bytes memory cli seg at has below into counts hand
 own_act (GiveConsole console) bytes memory cli seg at has below into counts hands = absurd hands
 
 own_at : (row : Row) (memory : Memory) (cli : Interpreter) (seg at : ℕ) → StandsIn row cli → (is_loading row ≡ true → HasReserved cli memory)
-    → HandsAt (act_at row cli) (length (call_at row cli).bytes) seg at → IsOwn memory seg at
+    → HandsAt (act_at row cli) (length (call_at row cli).bytes) seg at → IsOwnAddress memory seg at
 own_at Place memory cli seg at s has hands =
     own_act (act_at Place cli) (call_at Place cli).bytes memory cli seg at (has refl) (s.lies refl).below (hands_at Place cli s) (counts_at Place cli s) hands
 own_at Patch memory cli seg at s has hands =
@@ -193,7 +193,7 @@ pub no_interpreter : (native : Native) (cli : Interpreter) → interprets native
 no_interpreter native cli not is = false≢true (sym not ∙ ap interprets_if_there is)
 
 own_by : (native : Native) (who : ℕ) (system : System) (i : Interprets system) (seg at : ℕ) → native_in system.residents who ≡ Some native
-    → HandsAt (native_act native) (length (native_call native).bytes) seg at → IsOwn system.memory seg at
+    → HandsAt (native_act native) (length (native_call native).bytes) seg at → IsOwnAddress system.memory seg at
 unfolding next_act next_call
 own_by (Tmp tmp) who system i seg at acts hands = absurd hands
 own_by (Spool spool) who system i seg at acts hands = absurd hands
@@ -204,7 +204,7 @@ own_by (Cli cli) who system i seg at acts hands =
     let P : Interpreter → Type 0 = λ c. HandsAt (act_at c.row c) (length (call_at c.row c).bytes) seg at in
     own_at i.acting.cli.row system.memory i.acting.cli seg at i.acting.stands i.has (subst P same hands)
 
-pub handed_is_own : (system : System) (seg at : ℕ) → Interprets system → IsHanded system seg at → IsOwn system.memory seg at
+pub handed_is_own : (system : System) (seg at : ℕ) → Interprets system → IsHanded system seg at → IsOwnAddress system.memory seg at
 handed_is_own system seg at i h = own_by h.native h.who system i seg at h.acts h.hands
 
 -- where no process lives

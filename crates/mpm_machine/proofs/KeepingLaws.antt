@@ -3,7 +3,7 @@
 use Rattle.std.proofs.Common.{◌≡◌, ◌∙◌, ℕ, ◌+◌, ◌==◌, ◌&&◌, ◌||◌, not, Bool, true, false, if◌then◌else◌, List, [], ◌∷◌, Option, Some, None, refl, ap, arith}
 use Rattle.std.proofs.lemmas.Bool.{false≢true, or_parts}
 use Rattle.std.specs.List.{range_with_len}
-use Rattle.z80_regs.specs.Outcome.{Outcome as Instructed}
+use Rattle.z80_regs.specs.Outcome.{StepOutcome as Instructed}
 use Rattle.mpm_base.specs.Lists.{in_width}
 use Rattle.mpm_base.specs.Calls.{Taken, Answer}
 use Rattle.mpm_base.specs.declared.call.Outcome.{Outcome}
@@ -19,7 +19,7 @@ use Rattle.mpm_service.proofs.PlaceLaws.{served_stays_without}
 use Rattle.mpm_gate.specs.declared.gate.Gate.{Gate}
 use Rattle.mpm_gate.specs.declared.gate.Gate.TheVariants.{End, Call, Return}
 use Rattle.mpm_dispatcher.specs.Dispatch.{IsReady, first_completed, in_slot, admitted}
-use Rattle.mpm_kernel.specs.Kernel.{Kernel, IsSound, is_resident, dispatched}
+use Rattle.mpm_kernel.specs.Kernel.{Kernel, IsSoundKernel, is_resident, dispatched}
 use Rattle.mpm_kernel.specs.Consoling.{abort_taken}
 use Rattle.mpm_kernel.specs.Ending.{discharged}
 use Rattle.mpm_kernel.specs.Columns.{spoke}
@@ -35,12 +35,12 @@ use Rattle.mpm_residents.specs.declared.cli.act.Act.{Act}
 use Rattle.mpm_residents.specs.declared.cli.act.Act.TheVariants.{Ask, Place, Patch, Begin, Give}
 use Rattle.mpm_interrupts.specs.Interrupts.{due_taken}
 use Rattle.mpm_output.specs.Texts.{illegal_text}
-use Rattle.mpm_functions.specs.declared.refusals.Extended.{Extended}
+use Rattle.mpm_file_functions.specs.declared.refusals.Extended.{Extended}
 use Rattle.mpm_directories.specs.Direct.{Directly, CallerChange, Stays, Selects, Resets}
 use Rattle.mpm_kernel.specs.Called.{Called, low_parameter}
 use Rattle.mpm_kernel.specs.Waiting.{completion_reply}
 use Rattle.mpm_system.specs.declared.system.System.{System}
-use Rattle.mpm_system.specs.Whole.{Change, speaking}
+use Rattle.mpm_system.specs.Whole.{SystemChange, speaking}
 use Rattle.mpm_system.specs.Calling.{Served as Attended, with_kept, asking}
 use Rattle.mpm_system.specs.Sending.{chains, may_pass, passed, passed_after, sent, sending, chaining, is_command, let_in, has_interpreter, framed, renamed, console_sent, may_send, chained}
 use Rattle.mpm_system.specs.Taking.{asked, keeping}
@@ -90,7 +90,7 @@ second_none a false none = refl
 second_none true true none = absurd (omega (arith, none))
 second_none false true none = absurd (omega (arith, none))
 
-pub ready_unserved : (system : System) (p : ℕ) → IsSound system.kernel → IsReady system.kernel.dispatcher p → Unserved system p
+pub ready_unserved : (system : System) (p : ℕ) → IsSoundKernel system.kernel → IsReady system.kernel.dispatcher p → Unserved system p
 unfolding at_disk
 ready_unserved system p s ready = second_none _ (is_call_of p system.kernel.disk.served) (ready_not_at_disk system.kernel p s ready)
 
@@ -258,7 +258,7 @@ met_serves : (error : Extended) (reply : Answer) (p : ℕ) (system : System) →
 unfolding error_met
 met_serves error reply p system none =
     let mode = (process_in system.kernel.dispatcher.procs p).error_mode in
-    either (λ (c : Change). ServesSame system c.system) (mode == 255) _ _
+    either (λ (c : SystemChange). ServesSame system c.system) (mode == 255) _ _
     (λ _. replied_serves reply p system) (λ _. told_serves (mode == 254) error reply p system none)
 
 answer_serves : (error : Option Extended) (reply : Answer) (p : ℕ) (system : System) → Unserved system p → ServesSame system (answered_by error reply p system).system
@@ -383,7 +383,7 @@ calling_serves call p system none =
     same_then system.kernel.disk done.system.kernel.disk _ same
     (native_serves done.outcome done.reply call p done.system (unserved_still system done.system p same none))
 
-change_if : (system : System) (b : Bool) (x y : Change) → ServesSame system x.system → ServesSame system y.system → ServesSame system (if b then x else y).system
+change_if : (system : System) (b : Bool) (x y : SystemChange) → ServesSame system x.system → ServesSame system y.system → ServesSame system (if b then x else y).system
 change_if system true x y one other = one
 change_if system false x y one other = other
 
@@ -428,11 +428,11 @@ resided_serves None p system none = same_service system.kernel.disk system.kerne
 resided_serves (Some native) p system none = native_step_serves (native_act native) (native_call native) p (asking p (native_call native) system) none
 
 -- what the running process does, who isn't served
-acted_by_serves : (running seg : Option ℕ) (system : System) → IsSound system.kernel → system.kernel.dispatcher.running ≡ running → ServesSame system (acted_by running seg system).system
+acted_by_serves : (running seg : Option ℕ) (system : System) → IsSoundKernel system.kernel → system.kernel.dispatcher.running ≡ running → ServesSame system (acted_by running seg system).system
 acted_by_serves None seg system s runs = same_service system.kernel.disk system.kernel.disk refl
 acted_by_serves (Some p) None system s runs = resided_serves (native_in system.residents p) p system (ready_unserved system p s (s.runs p runs))
 acted_by_serves (Some p) (Some seg) system s runs = gate_serves (gate_before p seg system) p seg system (ready_unserved system p s (s.runs p runs))
 
-pub acted_serves : (system : System) → IsSound system.kernel → ServesSame system (acted system).system
+pub acted_serves : (system : System) → IsSoundKernel system.kernel → ServesSame system (acted system).system
 unfolding acted
 acted_serves system s = acted_by_serves system.kernel.dispatcher.running (running_segment system.kernel.dispatcher.running system) system s refl

@@ -25,7 +25,7 @@ use Rattle.mpm_residents.specs.declared.native.Native.{Native}
 use Rattle.mpm_residents.specs.declared.native.Native.TheVariants.{Tmp, Cli, Spool, Sched}
 use Rattle.mpm_script.specs.declared.event.Event.{Event}
 use Rattle.mpm_xdos.specs.Aborting.{waits_to_end, target}
-use Rattle.z80_regs.specs.Outcome.{Outcome}
+use Rattle.z80_regs.specs.Outcome.{StepOutcome}
 use Rattle.mpm_interrupts.specs.Interrupts.{due_taken}
 use Rattle.mpm_system.specs.Calling.{Served, asking}
 use Rattle.mpm_system.specs.Loading.{begins, giving, handed_answer, handed_over, is_console}
@@ -34,7 +34,7 @@ use Rattle.mpm_system.specs.Answering.{answering_call, popped, recorded, replied
 use Rattle.mpm_system.specs.Taking.{asked, keeping}
 use Rattle.mpm_system.specs.Parsing.{parsing}
 use Rattle.mpm_system.specs.Saying.{said_by}
-use Rattle.mpm_system.specs.Whole.{Change, IsWhole, speaking}
+use Rattle.mpm_system.specs.Whole.{SystemChange, IsWhole, speaking}
 use Rattle.mpm_system.specs.declared.system.System.{System}
 use Rattle.mpm_machine.proofs.Containment.{ended_alike, to_all_alike, event_alike, elsewhere_at}
 use Rattle.mpm_machine.proofs.GoingOn.{taken_first, first_stays}
@@ -141,7 +141,7 @@ gate_residents p seg system =
     let done = served call p (keeping p call system) in
     outcome_residents done.outcome done.reply call p seg done.system ∙ served_residents call p (keeping p call system)
 
-executed_residents : (outcome : Option Outcome) (p seg : ℕ) (system : System) → (executed outcome p seg system).system.residents ≡ system.residents
+executed_residents : (outcome : Option StepOutcome) (p seg : ℕ) (system : System) → (executed outcome p seg system).system.residents ≡ system.residents
 unfolding executed instructed illegal speaking ended
 executed_residents None p seg system = refl
 executed_residents (Some outcome) p seg system = refl
@@ -185,7 +185,7 @@ rests_native Retry reply call p system other = rests_alike system system refl (s
 rests_text : (call : Taken) (system : System) → Rests system (text_told call system).system
 unfolding speaking
 rests_text call system =
-    either (λ (change : Change). Rests system change.system) (is_console (low_parameter call) system.kernel) _ _ (λ _. rests_alike system _ refl (same_bytes_itself system.memory))
+    either (λ (change : SystemChange). Rests system change.system) (is_console (low_parameter call) system.kernel) _ _ (λ _. rests_alike system _ refl (same_bytes_itself system.memory))
     (λ _. rests_alike system system refl (same_bytes_itself system.memory))
 
 rests_asks : (call : Taken) (p : ℕ) (system : System) → 0 ≢ p → Rests system (native_step Ask call p system).system
@@ -193,7 +193,7 @@ unfolding calling_step telling_step
 rests_asks call p system other =
     let done = served_to_all call p system in
     let told = (text_told call system).system in
-    either (λ (change : Change). Rests system change.system) (tells (native_in system.residents p) call) _ _
+    either (λ (change : SystemChange). Rests system change.system) (tells (native_in system.residents p) call) _ _
     (λ _. rests_both system told (taking (answering 0) p told) (rests_text call system) (rests_took (answering 0) p told other))
     (λ _. rests_both system done.system (native_outcome done.outcome done.reply call p done.system).system
     (rests_alike system done.system (residents_stay call p system) (to_all_alike call p system)) (rests_native done.outcome done.reply call p done.system other))
@@ -234,7 +234,7 @@ unfolding speaking
 loads_text call cli file system acts h =
     let console = low_parameter call in
     let spoke = (speaking console (expanded (column_of system.kernel console) call.bytes) system).system in
-    either (λ (change : Change). IsLoading file (taking (answering 0) 0 change.system)) (is_console console system.kernel) _ _
+    either (λ (change : SystemChange). IsLoading file (taking (answering 0) 0 change.system)) (is_console console system.kernel) _ _
     (λ _. loads_taking file (answering 0) cli spoke acts h) (λ _. loads_taking file (answering 0) cli system acts h)
 
 loads_asks : (call : Taken) (cli : Interpreter) (file : List ℕ) (system : System) → native_in system.residents 0 ≡ Some (Cli cli) → hands cli.row ≡ false → IsLoadedAs file system.memory cli
@@ -242,7 +242,7 @@ loads_asks : (call : Taken) (cli : Interpreter) (file : List ℕ) (system : Syst
 unfolding calling_step telling_step
 loads_asks call cli file system acts asks h =
     let done = served_to_all call 0 system in
-    either (λ (change : Change). IsLoading file change.system) (tells (native_in system.residents 0) call) _ _
+    either (λ (change : SystemChange). IsLoading file change.system) (tells (native_in system.residents 0) call) _ _
     (λ _. loads_text call cli file system acts (took_so cli (answering 0) file system.memory asks h))
     (λ _. loads_native done.outcome done.reply call cli file done.system (first_resident system done.system (residents_stay call 0 system) ∙ acts) asks
     (loaded_alike cli file system.memory done.system.memory (to_all_alike call 0 system) h))

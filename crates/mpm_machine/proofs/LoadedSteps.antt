@@ -7,7 +7,7 @@ use Rattle.mpm_base.proofs.Choices.{either}
 use Rattle.mpm_base.specs.Calls.{Answer}
 use Rattle.mpm_banks.specs.Memory.{Memory, byte_at}
 use Rattle.mpm_directories.specs.Direct.{Directly, CallerChange, Resets, Selects, Stays}
-use Rattle.mpm_functions.specs.declared.refusals.Extended.{Extended}
+use Rattle.mpm_file_functions.specs.declared.refusals.Extended.{Extended}
 use Rattle.mpm_residents.specs.Interpreters.{Interpreter, call_at, next_call}
 use Rattle.mpm_residents.specs.Standing.{is_loading}
 use Rattle.mpm_residents.specs.declared.cli.table.Row.{Row}
@@ -32,7 +32,7 @@ use Rattle.mpm_system.specs.Residents.{asked_by, taking}
 use Rattle.mpm_system.specs.Sending.{chains}
 use Rattle.mpm_system.specs.Answering.{answering_call, popped, recorded, replied}
 use Rattle.mpm_system.specs.Taking.{keeping}
-use Rattle.mpm_system.specs.Whole.{Change, IsWhole, speaking}
+use Rattle.mpm_system.specs.Whole.{SystemChange, IsWhole, speaking}
 use Rattle.mpm_system.specs.Coming.{coming, counted}
 use Rattle.mpm_system.specs.declared.system.System.{System}
 use Rattle.mpm_machine.proofs.Containment.{ended_alike}
@@ -68,7 +68,7 @@ use Rattle.mpm_machine.specs.Stepping.{Telling, begun_as, begun_with, ended_afte
 
 -- in a row that makes a call on files, or reads a command, nothing is handed over
 files_ask : (row : Row) (cli : Interpreter) → is_of_files (call_at row cli).function ≡ true → hands row ≡ false
-unfolding is_of_files Rattle.mpm_functions.specs.Functions.function_of Rattle.mpm_functions.specs.Functions.direct_of
+unfolding is_of_files Rattle.mpm_file_functions.specs.Functions.function_of Rattle.mpm_file_functions.specs.Functions.direct_of
 files_ask ReadCommand cli is = refl
 files_ask OpenQueue cli is = refl
 files_ask WriteQueue cli is = refl
@@ -161,7 +161,7 @@ loads_met : (error : Extended) (reply : Answer) (p : ℕ) (file : List ℕ) (sys
 unfolding error_met
 loads_met error reply p file system w living f h =
     let mode = (process_in system.kernel.dispatcher.procs p).error_mode in
-    either (λ (c : Change). IsLoading file c.system) (mode == 255) _ _ (λ _. loads_replied reply p file system w living f h)
+    either (λ (c : SystemChange). IsLoading file c.system) (mode == 255) _ _ (λ _. loads_replied reply p file system w living f h)
     (λ _. loads_told_then (mode == 254) error reply p file system w living f h)
 
 loads_answered_by : (error : Option Extended) (reply : Answer) (p : ℕ) (file : List ℕ) (system : System) → IsWhole system → Lives system.kernel.dispatcher.procs p → FilesAt p system
@@ -187,7 +187,7 @@ loads_called : (told : Directly) (p : ℕ) (file : List ℕ) (system : System) �
     → IsLoading file (file_called told p system).system
 unfolding file_called
 loads_called told p file system w living f h =
-    either (λ (c : Change). IsLoading file c.system) (is_done_at_once p system) _ _ (λ _. loads_concluded told p file system w living f h) (λ _. h)
+    either (λ (c : SystemChange). IsLoading file c.system) (is_done_at_once p system) _ _ (λ _. loads_concluded told p file system w living f h) (λ _. h)
 
 -- the call is made
 
@@ -376,7 +376,7 @@ loads_begun_as told file system w i reads h =
     loads_all_answered file (begun_with caller told system).system (whole_begun told system w) (goes_begun_with caller told system w living ready files i)
     (loads_begun_with caller told file system w living ready files i reads h)
 
-loads_rest : (instruction : Bool) (telling : Telling) (file : List ℕ) (begun : Change) → IsWhole begun.system → Interprets begun.system → IsLoading file begun.system
+loads_rest : (instruction : Bool) (telling : Telling) (file : List ℕ) (begun : SystemChange) → IsWhole begun.system → Interprets begun.system → IsLoading file begun.system
     → IsLoading file (rest_of instruction telling begun).system
 unfolding rest_of ended_after all_paid
 loads_rest instruction telling file begun w i h =

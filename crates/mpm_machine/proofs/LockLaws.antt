@@ -9,17 +9,17 @@ use Rattle.mpm_service.specs.declared.service.Turn.TheVariants.{Idle, Passing, W
 use Rattle.mpm_opens.specs.Opens.{AreOpen, none_open}
 use Rattle.mpm_opens.proofs.OpenLaws.{none_are_open}
 use Rattle.mpm_procs.specs.Table.{call_of}
-use Rattle.mpm_functions.specs.declared.functions.FileFunction.{FileFunction}
-use Rattle.mpm_functions.specs.declared.functions.DirectFunction.{DirectFunction}
-use Rattle.mpm_functions.specs.Functions.{function_of, direct_of}
-use Rattle.mpm_requests.specs.Filing.{Filing}
+use Rattle.mpm_file_functions.specs.declared.functions.FileFunction.{FileFunction}
+use Rattle.mpm_file_functions.specs.declared.functions.DirectFunction.{DirectFunction}
+use Rattle.mpm_file_functions.specs.Functions.{function_of, direct_of}
+use Rattle.mpm_refusals.specs.Filing.{Filing}
 use Rattle.mpm_bdos.specs.Outcomes.{left_by, without_search}
 use Rattle.mpm_bdos.proofs.SoundLaws.{call_keeps_sound, end_keeps_sound}
 use Rattle.mpm_system.specs.declared.system.System.{System}
 use Rattle.mpm_system.specs.FileCalling.{call_made}
 use Rattle.mpm_machine.specs.State.{State}
 use Rattle.mpm_machine.specs.Mounting.{untouched}
-use Rattle.mpm_machine.specs.Files.{Files, Between, Within, filing_in, left_each, owes, all_left, given_back}
+use Rattle.mpm_machine.specs.Files.{FilesInService, Between, Within, filing_in, left_each, owes, all_left, given_back}
 use Rattle.mpm_machine.specs.FileCalls.{file_caller, situation_of, outcome_by, outcome_in}
 use Rattle.mpm_machine.specs.DiskStep.{is_done_at_once, disk_served, done_at_once, files_called, files_over, files_served_by, files_served, within_call, entering_call, files_entered_by, files_entered_unless, files_entered}
 use Rattle.mpm_machine.specs.Stepping.{nothing_told, files_begun_by, files_begun, before_disk, told_within, paid_after, ended_after, telling_then, files_paid, files_then, files_rest, stepped}
@@ -38,27 +38,27 @@ sound_call filing p system sound =
     sound_outcome (function_of (call_of system.kernel.dispatcher.procs p).function) (direct_of (call_of system.kernel.dispatcher.procs p).function) filing p system sound
 
 -- of files, between two calls of the disk or within one
-abbrev AreSound : Files → Type 0
+abbrev AreSound : FilesInService → Type 0
 AreSound files = AreOpen (filing_in files).opens
 
-sound_at_once : (p : ℕ) (system : System) (files : Files) → AreSound files → AreSound (done_at_once p system files)
+sound_at_once : (p : ℕ) (system : System) (files : FilesInService) → AreSound files → AreSound (done_at_once p system files)
 sound_at_once p system (Between filing) sound = sound_call filing p system sound
 sound_at_once p system (Within s) sound = sound
 
-sound_called : (p : ℕ) (system : System) (files : Files) → AreSound files → AreSound (files_called p system files)
+sound_called : (p : ℕ) (system : System) (files : FilesInService) → AreSound files → AreSound (files_called p system files)
 unfolding files_called
 sound_called p system files sound = either AreSound (is_done_at_once p system) _ _ (λ _. sound_at_once p system files sound) (λ _. sound)
 
-sound_begun_by : (caller : Option ℕ) (system : System) (files : Files) → AreSound files → AreSound (files_begun_by caller system files)
+sound_begun_by : (caller : Option ℕ) (system : System) (files : FilesInService) → AreSound files → AreSound (files_begun_by caller system files)
 sound_begun_by None system files sound = sound
 sound_begun_by (Some p) system files sound = sound_called p (call_made p system) files sound
 
-sound_begun : (system : System) (files : Files) → AreSound files → AreSound (files_begun system files)
+sound_begun : (system : System) (files : FilesInService) → AreSound files → AreSound (files_begun system files)
 unfolding files_begun
 sound_begun system files sound = sound_begun_by (file_caller system) system files sound
 
 -- the call that is over
-sound_over : (turn : Turn) (files : Files) → AreSound files → AreSound (files_over turn files)
+sound_over : (turn : Turn) (files : FilesInService) → AreSound files → AreSound (files_over turn files)
 sound_over Idle files sound = sound
 sound_over Passing files sound = sound
 sound_over (Starts p) files sound = sound
@@ -66,11 +66,11 @@ sound_over (Work p last) (Between filing) sound = sound
 sound_over (Work p true) (Within s) sound = call_keeps_sound s sound
 sound_over (Work p false) (Within s) sound = sound
 
-sound_served_by : (served : Option ℕ) (system : System) (files : Files) → AreSound files → AreSound (files_served_by served system files)
+sound_served_by : (served : Option ℕ) (system : System) (files : FilesInService) → AreSound files → AreSound (files_served_by served system files)
 sound_served_by None system files sound = sound
 sound_served_by (Some p) system files sound = sound_over (turn_answer system.kernel.disk) files sound
 
-sound_served : (system : System) (files : Files) → AreSound files → AreSound (files_served system files)
+sound_served : (system : System) (files : FilesInService) → AreSound files → AreSound (files_served system files)
 unfolding files_served
 sound_served system files sound = sound_served_by (served_process system.kernel.disk) system files sound
 
@@ -88,7 +88,7 @@ sound_behind : (owed : List Bool) (filing : Filing) → AreOpen filing.opens →
 unfolding all_left
 sound_behind owed filing sound = sound_each (owes owed) (range_with_len 0 32) filing sound
 
-sound_given : (owed : List Bool) (files : Files) → AreSound files → AreSound (given_back owed files)
+sound_given : (owed : List Bool) (files : FilesInService) → AreSound files → AreSound (given_back owed files)
 sound_given owed (Between filing) sound = sound_behind owed filing sound
 sound_given owed (Within s) sound = sound
 
@@ -97,26 +97,26 @@ sound_within : (function : Option FileFunction) (filing : Filing) (p : ℕ) (sys
 sound_within None filing p system sound = sound
 sound_within (Some function) filing p system sound = sound
 
-sound_entering : (p : ℕ) (system : System) (files : Files) → AreSound files → AreSound (entering_call p system files)
+sound_entering : (p : ℕ) (system : System) (files : FilesInService) → AreSound files → AreSound (entering_call p system files)
 sound_entering p system (Within s) sound = sound
 sound_entering p system (Between filing) sound = sound_within (function_of (call_of system.kernel.dispatcher.procs p).function) filing p system sound
 
-sound_entered_by : (turn : Turn) (system : System) (files : Files) → AreSound files → AreSound (files_entered_by turn system files)
+sound_entered_by : (turn : Turn) (system : System) (files : FilesInService) → AreSound files → AreSound (files_entered_by turn system files)
 sound_entered_by Idle system files sound = sound
 sound_entered_by Passing system files sound = sound
 sound_entered_by (Work p last) system files sound = sound
 sound_entered_by (Starts p) system files sound = sound_entering p system files sound
 
-sound_entered_unless : (served : Option ℕ) (system : System) (files : Files) → AreSound files → AreSound (files_entered_unless served system files)
+sound_entered_unless : (served : Option ℕ) (system : System) (files : FilesInService) → AreSound files → AreSound (files_entered_unless served system files)
 sound_entered_unless (Some p) system files sound = sound
 sound_entered_unless None system files sound = sound_entered_by (turn_answer system.kernel.disk) system files sound
 
-sound_entered : (system : System) (files : Files) → AreSound files → AreSound (files_entered system files)
+sound_entered : (system : System) (files : FilesInService) → AreSound files → AreSound (files_entered system files)
 unfolding files_entered
 sound_entered system files sound = sound_entered_unless (served_process system.kernel.disk) system files sound
 
 -- a step, and n steps
-sound_rest : (system : System) (files : Files) → AreSound files → AreSound (files_rest system files)
+sound_rest : (system : System) (files : FilesInService) → AreSound files → AreSound (files_rest system files)
 unfolding files_rest files_then files_paid
 sound_rest system files sound =
     let told = told_within files system in

@@ -20,7 +20,7 @@ use Rattle.mpm_drives.proofs.Opening.{are_sized}
 use Rattle.mpm_drives.specs.Mounted.{number_of, placed, AreMounted, AreSynced as FreshOf}
 use Rattle.mpm_bdos.specs.Serving.{Kept, nothing_kept}
 use Rattle.mpm_directories.specs.Places.{directory_at, all_put, in_places}
-use Rattle.mpm_bdos.specs.Syncing.{AreSynced}
+use Rattle.mpm_bdos.specs.Syncing.{AreMountedSynced}
 use Rattle.mpm_bdos.specs.Turns.{FitsDrives, has_directory, has_work}
 use Rattle.mpm_directories.proofs.Placed.{set_each, no_place}
 use Rattle.mpm_service.specs.Disk.{DiskService, no_service}
@@ -28,7 +28,7 @@ use Rattle.mpm_service.specs.Places.{at_disk}
 use Rattle.mpm_service.specs.declared.service.Served.{Served}
 use Rattle.mpm_service.proofs.PlaceLaws.{at_none}
 use Rattle.mpm_kernel.specs.Kernel.{Kernel}
-use Rattle.mpm_machine.specs.Holding.{IsOwn, HoldsKept, HoldsDrives}
+use Rattle.mpm_machine.specs.Holding.{IsOwnCall, HoldsKept, HoldsDrives}
 use Rattle.mpm_machine.specs.Files.{Between, StandsForFiles}
 use Rattle.mpm_machine.proofs.FirstFiles.{opens_on_none}
 use Rattle.mpm_machine.specs.Mounting.{HasMounted, HasNoDrive, untouched}
@@ -106,7 +106,7 @@ holds_idle disks kernel turn_steps kept drives idle fits workless =
     let none : kernel.disk.served ≡ None = ap (λ (d : DiskService). d.served) idle in
     record {
       filed = λ p some. absurd (omega (arith, some, ap (λ (d : DiskService). at_disk d p) idle, at_none turn_steps p));
-      own = subst (λ (o : Option Served). IfSome o (λ call. IsOwn kernel.dispatcher.procs call.p kept.service)) (sym none) tt;
+      own = subst (λ (o : Option Served). IfSome o (λ call. IsOwnCall kernel.dispatcher.procs call.p kept.service)) (sym none) tt;
       begun = subst (λ (o : Option Served). IfSome o (λ call. 0 < call.left)) (sym none) tt;
       fits = fits;
       workless = workless;
@@ -153,9 +153,9 @@ mounted_here x images specs ds items kept same mounted is kept_is = record {
 -- what is mounted is synced
 
 pub fresh_here : (unsynced : ℕ → Bool) (ds items : List Directory) (kept : Kept) → FreshOf unsynced ds → items ≡ ds → kept ≡ nothing_kept (in_places items)
-    → AreSynced unsynced kept.mounted
+    → AreMountedSynced unsynced kept.mounted
 fresh_here unsynced ds items kept fresh is kept_is =
-    subst (λ (k : Kept). AreSynced unsynced k.mounted) (sym (kept_is ∙ ap (λ l. nothing_kept (in_places l)) is))
+    subst (λ (k : Kept). AreMountedSynced unsynced k.mounted) (sym (kept_is ∙ ap (λ l. nothing_kept (in_places l)) is))
     (each_placed (λ number d. unsynced number ≡ false) ds (recursion_from_All (λ (d : Directory). unsynced d.drive ≡ false) ds fresh))
 
 -- nothing is in a place at first

@@ -11,7 +11,7 @@ use Rattle.mpm_procs.specs.declared.process.Process.{Process}
 use Rattle.mpm_procs.proofs.MapLaws.{lives_below}
 use Rattle.mpm_queues.specs.Queues.{Queues, holds, lowest_held}
 use Rattle.mpm_queues.proofs.Finding.{lowest_passes, lowest_none}
-use Rattle.mpm_kernel.specs.Kernel.{Kernel, IsSound, is_aborted, with_changed, dispatched}
+use Rattle.mpm_kernel.specs.Kernel.{Kernel, IsSoundKernel, is_aborted, with_changed, dispatched}
 use Rattle.mpm_dispatcher.specs.Dispatch.{picked}
 use Rattle.mpm_kernel.specs.Waiting.{completion_reply}
 use Rattle.mpm_service.specs.Disk.{DiskService}
@@ -171,7 +171,7 @@ nobody_below (suc n) slot system w none = λ p below.
 
 -- there are no more slots
 
-nobody_at_all : (kernel : Kernel) → IsSound kernel → NobodyBelow 32 kernel → NobodyDue kernel
+nobody_at_all : (kernel : Kernel) → IsSoundKernel kernel → NobodyBelow 32 kernel → NobodyDue kernel
 unfolding NobodyDue
 nobody_at_all kernel s none = λ p. elim (cases_lt p 32) [
   | inl below ↦ none p below

@@ -7,7 +7,7 @@ use Rattle.mpm_base.specs.declared.functions.TheConstants.{CONSOLE_OUTPUT, RAW_C
 use Rattle.mpm_banks.specs.Memory.{byte_at}
 use Rattle.z80_regs.specs.Words.{word_of}
 use Rattle.mpm_gate.specs.Replies.{returned}
-use Rattle.mpm_functions.specs.Functions.{function_of, direct_of}
+use Rattle.mpm_file_functions.specs.Functions.{function_of, direct_of}
 use Rattle.mpm_procs.specs.Table.{Lives, process_in, call_of}
 use Rattle.mpm_procs.specs.Settings.{user_value, with_user, multi_value, with_multi}
 use Rattle.mpm_procs.specs.declared.process.Process.{Process}
@@ -22,7 +22,7 @@ use Rattle.mpm_xdos.specs.Procedures.{entered, entry_reply}
 use Rattle.mpm_output.specs.Writing.{spoken}
 use Rattle.mpm_output.proofs.WritingLaws.{spoken_nil}
 use Rattle.mpm_system.specs.declared.system.System.{System}
-use Rattle.mpm_system.specs.Whole.{Change, IsWhole, silent}
+use Rattle.mpm_system.specs.Whole.{SystemChange, IsWhole, silent}
 use Rattle.mpm_system.specs.Calling.{Served, served_by, calling}
 use Rattle.mpm_system.specs.Taking.{asked, keeping}
 use Rattle.mpm_system.specs.Saying.{string_of}
@@ -112,7 +112,7 @@ completes_own : (call : Taken) (value p seg : ℕ) (system : System) → is_own 
 unfolding completing
 completes_own call value p seg system is =
     let f = call.function in
-    ap (λ (spoke : Change). record spoke { system = fulfilling (answering value) call p seg (popped p seg spoke.system) })
+    ap (λ (spoke : SystemChange). record spoke { system = fulfilling (answering value) call p seg (popped p seg spoke.system) })
     (says_nothing call (string_of call seg system.memory) p system (record {
       two = another f CONSOLE_OUTPUT is refl;
       four = another f RAW_CONSOLE_OUTPUT is refl;
@@ -126,8 +126,8 @@ echoes_nothing_own : (call : Taken) (p : ℕ) (system afterwards : System) → i
     → after_echo call p system (silent afterwards) ≡ silent afterwards
 echoes_nothing_own call p system afterwards is =
     let console = (process_in system.kernel.dispatcher.procs p).console in
-    ap (λ (b : Bool). let c : Change = record { system = afterwards; emitted = spoken console (if b then system.kernel.echo else []) } in c) (own_echoes call.function is)
-    ∙ ap (λ (emitted : List Output). let c : Change = record { system = afterwards; emitted = emitted } in c) (spoken_nil console)
+    ap (λ (b : Bool). let c : SystemChange = record { system = afterwards; emitted = spoken console (if b then system.kernel.echo else []) } in c) (own_echoes call.function is)
+    ∙ ap (λ (emitted : List Output). let c : SystemChange = record { system = afterwards; emitted = emitted } in c) (spoken_nil console)
 
 -- so its gate step is
 

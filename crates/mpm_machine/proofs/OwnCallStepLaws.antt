@@ -24,14 +24,14 @@ use Rattle.mpm_render.specs.Completions.{Completion}
 use Rattle.mpm_render.specs.Outputs.{Output, Completed}
 use Rattle.mpm_render.proofs.Laws.{pending_completed, rendered_unasked}
 use Rattle.mpm_output.specs.Outside.{Outside}
-use Rattle.mpm_output.specs.Writing.{Wrote}
+use Rattle.mpm_output.specs.Writing.{CameOut}
 use Rattle.mpm_directories.specs.Direct.{Directly}
 use Rattle.mpm_bdos.specs.Serving.{Kept}
 use Rattle.mpm_procs.specs.declared.process.Process.{Process}
 use Rattle.mpm_procs.proofs.MapLaws.{lives_changed}
 use Rattle.mpm_system.specs.Procedures.{is_inside}
 use Rattle.mpm_system.specs.declared.system.System.{System}
-use Rattle.mpm_system.specs.Whole.{Change, IsWhole, NobodyAborted, silent}
+use Rattle.mpm_system.specs.Whole.{SystemChange, IsWhole, NobodyAborted, silent}
 use Rattle.mpm_system.specs.Taking.{asked, keeping}
 use Rattle.mpm_system.specs.Answering.{popped, replied, recorded, completion, answering_call}
 use Rattle.mpm_system.specs.Coming.{coming, counted}
@@ -42,7 +42,7 @@ use Rattle.mpm_system.proofs.WholeLaws.{keeps_call}
 use Rattle.mpm_system.proofs.IdlingLaws.{fewer_can}
 use Rattle.mpm_system.proofs.OwnCallLaws.{placed_in_memory}
 use Rattle.mpm_machine.specs.declared.ahead.Ahead.{Ahead}
-use Rattle.mpm_machine.specs.Files.{Files, AreWithin, StandsForFiles}
+use Rattle.mpm_machine.specs.Files.{FilesInService, AreWithin, StandsForFiles}
 use Rattle.mpm_machine.specs.Holding.{HoldsKept}
 use Rattle.mpm_machine.specs.Serving.{gate_step}
 use Rattle.mpm_machine.specs.Finishing.{all_answered}
@@ -50,7 +50,7 @@ use Rattle.mpm_machine.specs.FileCalls.{is_file_number, at_gate, called_next, ca
 use Rattle.mpm_machine.specs.Step.{acted, begun_by, instruction_unless, then_also, dispatched as step_dispatched}
 use Rattle.mpm_machine.specs.DiskStep.{step_passed}
 use Rattle.mpm_machine.specs.Stepping.{Telling, nothing_told, begun_with, begun_alone, begun_as, is_instruction, rest_of, step_with, told_first, telling_of, before_disk, files_begun_by, files_begun, files_rest, stepped}
-use Rattle.mpm_machine.specs.Contained.{Calls}
+use Rattle.mpm_machine.specs.Contained.{CallsAtGate}
 use Rattle.mpm_machine.specs.Moving.{RunsAhead, is_still}
 use Rattle.mpm_machine.specs.OwnCalls.{MakesOwnCall, IsRecord, with_own_call}
 use Rattle.mpm_machine.specs.After.{HasSteppedTo}
@@ -96,7 +96,7 @@ own_alone p seg system makes =
     ∙ ap (λ (gate : Option Gate). if is_file_number (at_gate gate process.regs.c) && not comes then Some p else None) makes.gate
     ∙ ap (λ (b : Bool). if b && not comes then Some p else None) (no_file_function process.regs.c makes.function)
 
-own_calls : (p seg : ℕ) (system : System) → MakesOwnCall p seg system → Calls system p seg
+own_calls : (p seg : ℕ) (system : System) → MakesOwnCall p seg system → CallsAtGate system p seg
 own_calls p seg system makes =
     record { quiet = none_comes (counted system) makes.quiet; runs = makes.on.running; home = makes.on.home; gate = makes.gate }
 
@@ -143,7 +143,7 @@ own_begun : (told : Directly) (p seg : ℕ) (system : System) → IsWhole system
 unfolding begun_as
 own_begun told p seg system w makes =
     ap (λ caller. then_also (begun_with caller told system) all_answered) (own_alone p seg system makes)
-    ∙ ap (λ (c : Change). then_also c all_answered) (own_begins p seg system w makes)
+    ∙ ap (λ (c : SystemChange). then_also c all_answered) (own_begins p seg system w makes)
     ∙ ap silent (own_answered p seg system makes)
 
 own_no_instruction : (p seg : ℕ) (system : System) → MakesOwnCall p seg system → is_instruction (file_caller system) system ≡ false
@@ -157,7 +157,7 @@ own_no_instruction p seg system makes =
 
 whole_behind : (p seg : ℕ) (system : System) → IsWhole system → (makes : MakesOwnCall p seg system) → IsWhole (behind_gate p seg system makes)
 whole_behind p seg system w makes =
-    subst (λ (c : Change). IsWhole c.system) (own_steps_gate p seg system w makes)
+    subst (λ (c : SystemChange). IsWhole c.system) (own_steps_gate p seg system w makes)
     (whole_gate_step p seg (counted system) (whole_counted system w) (runner_lives system.kernel p w.sound makes.on.running) (w.sound.runs p makes.on.running))
 
 record Passes (system : System) : Type 0 where
@@ -184,7 +184,7 @@ out_so value changed p seg system makes =
     let behind = behind_so value changed p seg (counted system) in
     ap (λ (disk : DiskService). step_dispatched false (records_out (record behind { kernel = record behind.kernel { disk = disk } })))
     (idle_turned system.kernel.disk makes.idle makes.nobody)
-    ∙ ap (λ (kernel : Kernel). let c : Change = record { system = record behind { kernel = kernel; records = [] }; emitted = recorded_behind behind.records [] } in c)
+    ∙ ap (λ (kernel : Kernel). let c : SystemChange = record { system = record behind { kernel = kernel; records = [] }; emitted = recorded_behind behind.records [] } in c)
     (picked_same false behind.kernel (makes.on.first ∙ sym makes.on.running))
 
 gate_out : (p seg : ℕ) (system : System) → IsWhole system → (makes : MakesOwnCall p seg system) → with_own_call p seg system ≡ records_out (behind_gate p seg system makes)
@@ -211,14 +211,14 @@ own_step telling p seg system w makes =
 pub own_made : (p seg : ℕ) (old new : System) → IsWhole old → MakesOwnCall p seg old → new ≡ (with_own_call p seg old).system → IsMade old new
 own_made p seg old new w makes is =
     let telling : Telling = record { at_gate = nothing_told; at_disk = nothing_told; turns = 1 } in
-    (telling, is ∙ ap (λ (c : Change). c.system) (sym (own_step telling p seg old w makes)))
+    (telling, is ∙ ap (λ (c : SystemChange). c.system) (sym (own_step telling p seg old w makes)))
 
 -- where no record is asked for, that of a call comes out as nothing is written
 
-pub own_wrote : (o : Outside) (emitted : List Output) → o.kept.trace ≡ false → IsRecord emitted → Wrote o o emitted
+pub own_wrote : (o : Outside) (emitted : List Output) → o.kept.trace ≡ false → IsRecord emitted → CameOut o o emitted
 own_wrote o emitted off is =
     let call = is.0 in
-    subst (Wrote o o) (sym is.1) (record {
+    subst (CameOut o o) (sym is.1) (record {
       shown = λ outputs first shows. record {
         lines = λ place there. shows.lines place there ∙ sym (pending_completed place call outputs);
         written_is = shows.written_is ∙ ap (λ (text : List ℕ). first ++ text) (sym (rendered_unasked o.kept.trace call outputs off));
@@ -229,28 +229,28 @@ own_wrote o emitted off is =
 
 -- by what is on the drives, which it leaves
 
-change_is : (p seg : ℕ) (old : System) (files : Files) → IsWhole old → (makes : MakesOwnCall p seg old) → (stepped old files).change ≡ with_own_call p seg old
+change_is : (p seg : ℕ) (old : System) (files : FilesInService) → IsWhole old → (makes : MakesOwnCall p seg old) → (stepped old files).change ≡ with_own_call p seg old
 unfolding stepped
 change_is p seg old files w makes = own_step (telling_of old files) p seg old w makes
 
-before_is : (p seg : ℕ) (old : System) (files : Files) → IsWhole old → (makes : MakesOwnCall p seg old) → before_disk old files ≡ silent (behind_gate p seg old makes)
+before_is : (p seg : ℕ) (old : System) (files : FilesInService) → IsWhole old → (makes : MakesOwnCall p seg old) → before_disk old files ≡ silent (behind_gate p seg old makes)
 unfolding before_disk
 before_is p seg old files w makes = own_begun (told_first old files) p seg old w makes
 
-begun_files : (p seg : ℕ) (old : System) (files : Files) → MakesOwnCall p seg old → files_begun old files ≡ files
+begun_files : (p seg : ℕ) (old : System) (files : FilesInService) → MakesOwnCall p seg old → files_begun old files ≡ files
 unfolding files_begun
 begun_files p seg old files makes = ap (λ caller. files_begun_by caller old files) (own_alone p seg old makes)
 
-within_still : (p seg : ℕ) (old : System) (files : Files) (makes : MakesOwnCall p seg old) → AreWithin old.kernel.disk.served files
+within_still : (p seg : ℕ) (old : System) (files : FilesInService) (makes : MakesOwnCall p seg old) → AreWithin old.kernel.disk.served files
     → AreWithin (behind_gate p seg old makes).kernel.disk.served files
 unfolding answering_call recorded replied popped keeping
 within_still p seg old files makes within = within
 
-files_are : (p seg : ℕ) (old : System) (files : Files) → IsWhole old → (makes : MakesOwnCall p seg old) → AreWithin old.kernel.disk.served files → (stepped old files).files ≡ files
+files_are : (p seg : ℕ) (old : System) (files : FilesInService) → IsWhole old → (makes : MakesOwnCall p seg old) → AreWithin old.kernel.disk.served files → (stepped old files).files ≡ files
 unfolding stepped
 files_are p seg old files w makes within =
     let here = own_passes p seg old w makes in
-    ap (λ (c : Change). files_rest c.system (files_begun old files)) (before_is p seg old files w makes)
+    ap (λ (c : SystemChange). files_rest c.system (files_begun old files)) (before_is p seg old files w makes)
     ∙ ap (files_rest (behind_gate p seg old makes)) (begun_files p seg old files makes)
     ∙ rest_leaves (behind_gate p seg old makes) files here.paid here.nobody here.off here.still (within_still p seg old files makes within)
 
@@ -260,31 +260,31 @@ disk_so value changed p seg old = refl
 
 disk_still : (p seg : ℕ) (old : System) → IsWhole old → (makes : MakesOwnCall p seg old) → (with_own_call p seg old).system.kernel.disk ≡ old.kernel.disk
 disk_still p seg old w makes =
-    ap (λ (c : Change). c.system.kernel.disk) (gate_out p seg old w makes) ∙ disk_so (row_of p seg old makes).value (row_of p seg old makes).changed p seg old
+    ap (λ (c : SystemChange). c.system.kernel.disk) (gate_out p seg old w makes) ∙ disk_so (row_of p seg old makes).value (row_of p seg old makes).changed p seg old
 
-pub own_stepped_to : (files : Files) (o n : Outside) (p seg : ℕ) (old new : System) (kept : Kept) (disks : Disks) → IsWhole old → MakesOwnCall p seg old
-    → new ≡ (with_own_call p seg old).system → Wrote o n (with_own_call p seg old).emitted → StandsForFiles old.kernel.disk kept disks files
+pub own_stepped_to : (files : FilesInService) (o n : Outside) (p seg : ℕ) (old new : System) (kept : Kept) (disks : Disks) → IsWhole old → MakesOwnCall p seg old
+    → new ≡ (with_own_call p seg old).system → CameOut o n (with_own_call p seg old).emitted → StandsForFiles old.kernel.disk kept disks files
     → HasSteppedTo files o n old new kept disks
 own_stepped_to files o n p seg old new kept disks w makes is wrote stands =
     let change = change_is p seg old files w makes in
     let same : new.kernel.disk ≡ old.kernel.disk = ap (λ (s : System). s.kernel.disk) is ∙ disk_still p seg old w makes in
     let behind : StandsForFiles new.kernel.disk kept disks files = subst (λ (disk : DiskService). StandsForFiles disk kept disks files) (sym same) stands in
     record {
-      system = is ∙ sym (ap (λ (c : Change). c.system) change);
-      wrote = subst (λ (c : Change). Wrote o n c.emitted) (sym change) wrote;
+      system = is ∙ sym (ap (λ (c : SystemChange). c.system) change);
+      wrote = subst (λ (c : SystemChange). CameOut o n c.emitted) (sym change) wrote;
       stands = subst (StandsForFiles new.kernel.disk kept disks) (sym (files_are p seg old files w makes (stands_within old.kernel.disk kept disks files stands))) behind;
     }
 
 -- what holds of drives holds after it
 
 kernel_still : (p seg : ℕ) (old : System) → IsWhole old → (makes : MakesOwnCall p seg old) → (behind_gate p seg old makes).kernel ≡ (with_own_call p seg old).system.kernel
-kernel_still p seg old w makes = sym (ap (λ (c : Change). c.system.kernel) (gate_out p seg old w makes))
+kernel_still p seg old w makes = sym (ap (λ (c : SystemChange). c.system.kernel) (gate_out p seg old w makes))
 
 pub own_holds : {D : Type 0} (disks : D → Disks) (p seg : ℕ) (old new : System) (kept : Kept) (drives : D) → IsWhole old
     → (makes : MakesOwnCall p seg old) → new ≡ (with_own_call p seg old).system → HoldsKept disks old.kernel kept drives → HoldsKept disks new.kernel kept drives
 own_holds disks p seg old new kept drives w makes is holds =
     let begins : behind_gate p seg old makes ≡ all_answered (begun_alone old).system =
-    sym (own_answered p seg old makes) ∙ sym (ap (λ (c : Change). all_answered c.system) (own_begins p seg old w makes)) in
+    sym (own_answered p seg old makes) ∙ sym (ap (λ (c : SystemChange). all_answered c.system) (own_begins p seg old w makes)) in
     subst (λ (s : System). HoldsKept disks s.kernel kept drives) (sym is)
     (subst (λ (kernel : Kernel). HoldsKept disks kernel kept drives) (kernel_still p seg old w makes)
     (holds_kept disks old (behind_gate p seg old makes) kept drives (keeps_alone old (behind_gate p seg old makes) w holds.filed begins) holds))
@@ -351,7 +351,7 @@ pub own_call_made : (value p seg : ℕ) (old kept done gone told : System) → I
 own_call_made value p seg old kept done gone told w makes so =
     told_here value p seg old kept done gone told w makes so
     ∙ unrecorded (row_of p seg old makes).value (row_of p seg old makes).changed p seg old makes.on.no_completions.written
-    ∙ sym (ap (λ (c : Change). c.system) (gate_out p seg old w makes))
+    ∙ sym (ap (λ (c : SystemChange). c.system) (gate_out p seg old w makes))
 
 -- and its record
 
@@ -381,7 +381,7 @@ own_call_written value p seg old kept done gone told w makes so =
     ∙ ap (λ (c : Taken). Completed (completion c p here) ∷ [])
     (call_still row.value row.changed p seg (counted old) (whole_counted old w) (runner_lives old.kernel p w.sound makes.on.running))
     ∙ sym (record_so row.value row.changed p seg old makes.on.no_completions.written)
-    ∙ sym (ap (λ (c : Change). c.emitted) (gate_out p seg old w makes))
+    ∙ sym (ap (λ (c : SystemChange). c.emitted) (gate_out p seg old w makes))
 
 -- the steps aren't counted yet, and its process lives on
 
@@ -479,7 +479,7 @@ ahead_called ahead old new w makes is here =
     let p = ahead.p in
     let seg = ahead.seg in
     let row = row_of p seg old makes in
-    let out : new ≡ (records_out (behind_gate p seg old makes)).system = is ∙ ap (λ (c : Change). c.system) (gate_out p seg old w makes) in
+    let out : new ≡ (records_out (behind_gate p seg old makes)).system = is ∙ ap (λ (c : SystemChange). c.system) (gate_out p seg old w makes) in
     let leaves = leaves_so row.value row.changed p seg old in
     let disk : new.kernel.disk ≡ old.kernel.disk = ap (λ (s : System). s.kernel.disk) out ∙ leaves.disk in
     let count : new.steps ≡ old.steps + 1 = ap (λ (s : System). s.steps) out ∙ leaves.steps in

@@ -14,13 +14,13 @@ use Rattle.mpm_service.proofs.PlaceLaws.{at_passed}
 use Rattle.mpm_kernel.specs.Kernel.{Kernel}
 use Rattle.mpm_kernel.specs.Disk.{with_disk}
 use Rattle.mpm_kernel.proofs.Beside.{field_kept}
-use Rattle.mpm_bdos.specs.Starting.{HasEntered}
-use Rattle.mpm_functions.specs.Functions.{function_of}
+use Rattle.mpm_bdos.specs.Starting.{HasBegunService}
+use Rattle.mpm_file_functions.specs.Functions.{function_of}
 use Rattle.mpm_bdos.specs.Serving.{Kept, InService}
 use Rattle.mpm_system.specs.declared.system.System.{System}
 use Rattle.mpm_system.specs.Idling.{later}
 use Rattle.mpm_machine.proofs.PassingLaws.{passes_nothing}
-use Rattle.mpm_machine.specs.Holding.{IsOwn, HoldsKept, CallsAlike}
+use Rattle.mpm_machine.specs.Holding.{IsOwnCall, HoldsKept, CallsAlike}
 use Rattle.mpm_machine.specs.Moving.{Moved, with_view}
 
 -- how many steps a turn has stays
@@ -57,17 +57,17 @@ calls_idle n old new is =
 
 -- so what holds of drives, of what is kept and of those at the disk holds after them
 
-own_alike : (old new : Table) (p : ℕ) (service : Option InService) → CallsAlike old new → IsOwn old p service → IsOwn new p service
+own_alike : (old new : Table) (p : ℕ) (service : Option InService) → CallsAlike old new → IsOwnCall old p service → IsOwnCall new p service
 own_alike old new p service alike own = record {
   function = own.function;
   its = ap (λ (call : Taken). function_of call.function) (alike.calls p) ∙ own.its;
   caller = own.caller;
   multi = own.multi ∙ sym (alike.multi p);
-  entered = subst (λ (call : Taken). HasEntered own.caller own.function call service) (sym (alike.calls p)) own.entered;
+  entered = subst (λ (call : Taken). HasBegunService own.caller own.function call service) (sym (alike.calls p)) own.entered;
 }
 
 own_passed : (n : ℕ) (served : Option Served) (old new : Table) (service : Option InService) → CallsAlike old new
-    → IfSome served (λ call. IsOwn old call.p service) → IfSome (option_map (passed_on n) served) (λ call. IsOwn new call.p service)
+    → IfSome served (λ call. IsOwnCall old call.p service) → IfSome (option_map (passed_on n) served) (λ call. IsOwnCall new call.p service)
 own_passed n None old new service alike own = tt
 own_passed n (Some call) old new service alike own = own_alike old new call.p service alike own
 
@@ -87,7 +87,7 @@ holds_by disks n old kept drives h = record {
 }
 
 own_by : (served : Option Served) (old new : Table) (service : Option InService) → CallsAlike old new
-    → IfSome served (λ call. IsOwn old call.p service) → IfSome served (λ call. IsOwn new call.p service)
+    → IfSome served (λ call. IsOwnCall old call.p service) → IfSome served (λ call. IsOwnCall new call.p service)
 own_by None old new service alike own = tt
 own_by (Some call) old new service alike own = own_alike old new call.p service alike own
 
@@ -101,7 +101,7 @@ holds_passed disks n old new before kept drives is alike same h =
           ap (λ (call : Taken). is_some (function_of call.function)) (alike.calls p)
           ∙ passed.filed p (subst (λ (disk : DiskService). 0 < at_disk disk p) is some);
       own = own_by new.disk.served old.dispatcher.procs new.dispatcher.procs before.service alike
-          (subst (λ (disk : DiskService). IfSome disk.served (λ call. IsOwn old.dispatcher.procs call.p before.service)) (sym is) passed.own);
+          (subst (λ (disk : DiskService). IfSome disk.served (λ call. IsOwnCall old.dispatcher.procs call.p before.service)) (sym is) passed.own);
       begun = subst HasBegun (sym is) passed.begun;
       fits = passed.fits;
       workless = passed.workless;

@@ -11,11 +11,11 @@ use Rattle.mpm_render.specs.Outputs.{Output}
 use Rattle.mpm_directories.specs.Direct.{Directly}
 use Rattle.mpm_system.specs.declared.system.System.{System}
 use Rattle.mpm_system.specs.Owing.{nobody_owes}
-use Rattle.mpm_system.specs.Whole.{Change, silent, NoCompletions, NobodyAborted}
+use Rattle.mpm_system.specs.Whole.{SystemChange, silent, NoCompletions, NobodyAborted}
 use Rattle.mpm_system.specs.Written.{with_records, records_out}
 use Rattle.mpm_system.specs.Idling.{CanPass}
 use Rattle.mpm_machine.specs.Due.{with_ends}
-use Rattle.mpm_machine.specs.Files.{Files, Between, Within, AreWithin}
+use Rattle.mpm_machine.specs.Files.{FilesInService, Between, Within, AreWithin}
 use Rattle.mpm_machine.specs.Step.{dispatched}
 use Rattle.mpm_machine.specs.DiskStep.{step_passed, disk_served, owed_then, all_paid, call_entered}
 use Rattle.mpm_machine.specs.Stepping.{Telling, entered_after, ended_after, rest_of}
@@ -159,7 +159,7 @@ pub rest_recorded : (instruction : Bool) (telling : Telling) (system : System) �
 unfolding rest_of
 rest_recorded instruction telling system paid nobody off still =
     let passed = step_passed system in
-    let F : System → List Output → Change = λ ended said. dispatched instruction (with_records (record { system = ended; emitted = said ++ [] })) in
+    let F : System → List Output → SystemChange = λ ended said. dispatched instruction (with_records (record { system = ended; emitted = said ++ [] })) in
     let ended : all_paid (ended_after telling system) ≡ passed = ap all_paid (ended_still telling system paid nobody off still) ∙ paid_passed system paid still in
     ap (λ (s : System). F s (disk_served telling.at_disk system).emitted) ended
     ∙ ap (F passed) (says_by_whom (served_process system.kernel.disk) telling.at_disk system refl still)
@@ -189,7 +189,7 @@ can_pass_on n m disk can = record {
     rest None turn_steps n m within = tt
     rest (Some call) turn_steps n m within = omega (arith, within)
 
-pub within_on : (served : Option Served) (files : Files) (n : ℕ) → AreWithin served files → AreWithin (option_map (passed_on n) served) files
+pub within_on : (served : Option Served) (files : FilesInService) (n : ℕ) → AreWithin served files → AreWithin (option_map (passed_on n) served) files
 within_on None (Between filing) n within = tt
 within_on None (Within s) n within = absurd within
 within_on (Some call) (Between filing) n within = absurd within

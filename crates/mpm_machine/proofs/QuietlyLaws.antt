@@ -2,15 +2,15 @@
 use Rattle.std.proofs.Common.{◌≡◌, ◌∙◌, ℕ, zero, suc, ◌+◌, ◌<◌, [], Option, Some, None, refl, ap, sym, subst, arith}
 use Rattle.mpm_port.specs.Disks.{Disks}
 use Rattle.mpm_output.specs.Outside.{Outside}
-use Rattle.mpm_output.specs.Writing.{Wrote}
+use Rattle.mpm_output.specs.Writing.{CameOut}
 use Rattle.mpm_system.specs.declared.system.System.{System}
 use Rattle.mpm_system.specs.Whole.{IsWhole, NoCompletions}
 use Rattle.mpm_machine.specs.declared.machine.Machine.{Machine}
 use Rattle.mpm_machine.specs.State.{State, IsAt, StandsWithDrives}
-use Rattle.mpm_functions.specs.declared.functions.FileFunction.TheVariants.{OpenFile}
+use Rattle.mpm_file_functions.specs.declared.functions.FileFunction.TheVariants.{OpenFile}
 use Rattle.mpm_service.specs.declared.service.Served.{Served}
 use Rattle.mpm_machine.specs.Due.{NobodyDue}
-use Rattle.mpm_machine.specs.Files.{Files, Between, Within, AreWithin, StandsForFiles}
+use Rattle.mpm_machine.specs.Files.{FilesInService, Between, Within, AreWithin, StandsForFiles}
 use Rattle.mpm_machine.specs.Stepping.{stepped}
 use Rattle.mpm_service.specs.Disk.{DiskService}
 use Rattle.mpm_machine.specs.FileCalls.{situation_of}
@@ -28,10 +28,10 @@ use Rattle.mpm_machine.proofs.MadeLaws.{made_whole, made_no_completions, made_no
 use Rattle.mpm_machine.proofs.OwnCallStepLaws.{own_made, own_stepped_to, own_holds, own_turn_steps}
 
 -- files may be within a call where the disk serves one, and else between two
-some_files : (system : System) → (files : Files) × AreWithin system.kernel.disk.served files
+some_files : (system : System) → (files : FilesInService) × AreWithin system.kernel.disk.served files
 some_files system = by_served system.kernel.disk.served
   where
-    by_served : (served : Option Served) → (files : Files) × AreWithin served files
+    by_served : (served : Option Served) → (files : FilesInService) × AreWithin served files
     by_served None = (Between (untouched []), tt)
     by_served (Some call) = (Within (situation_of (untouched []) OpenFile 0 system), tt)
 
@@ -72,7 +72,7 @@ went_silent disks drives o n old new went w holds = record {
 
 -- a call that concerns its caller alone, whose record isn't asked for
 pub went_alone : {D : Type 0} (disks : D → Disks) (drives : D) (o : Outside) (p seg : ℕ) (old : Machine) (new : System)
-    → IsWhole old.system → MakesOwnCall p seg old.system → new ≡ (with_own_call p seg old.system).system → Wrote o o (with_own_call p seg old.system).emitted
+    → IsWhole old.system → MakesOwnCall p seg old.system → new ≡ (with_own_call p seg old.system).system → CameOut o o (with_own_call p seg old.system).emitted
     → HoldsDrives disks old.system.kernel old.bdos drives → WentOn disks drives o 1 old (record old { system = new })
 went_alone disks drives o p seg old new w makes is wrote holds =
     let made = own_made p seg old.system new w makes is in

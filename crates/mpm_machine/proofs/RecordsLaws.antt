@@ -8,7 +8,7 @@ use Rattle.mpm_base.specs.Calls.{Taken}
 use Rattle.mpm_render.specs.Completions.{Completion}
 use Rattle.mpm_render.specs.Outputs.{Output, Completed}
 use Rattle.mpm_system.specs.declared.system.System.{System}
-use Rattle.mpm_system.specs.Whole.{Change}
+use Rattle.mpm_system.specs.Whole.{SystemChange}
 use Rattle.mpm_system.specs.Answering.{completion, recorded, replied, answering_call}
 use Rattle.mpm_system.specs.Deferring.{noted}
 use Rattle.mpm_system.specs.Written.{recorded_behind, records_out}
@@ -58,7 +58,7 @@ out_apart part system keeps =
     let rest = part (cleared system) in
     ap (λ (s : System). records_out (part s)) (beside_itself system)
     ∙ ap records_out (keeps system.records (cleared system))
-    ∙ ap (λ (emitted : List Output). let change : Change = record { system = cleared rest; emitted = emitted } in change) (recorded_apart system.records rest.records)
+    ∙ ap (λ (emitted : List Output). let change : SystemChange = record { system = cleared rest; emitted = emitted } in change) (recorded_apart system.records rest.records)
 
 -- such are the answers to held calls, and ends
 

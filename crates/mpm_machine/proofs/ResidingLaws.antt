@@ -17,7 +17,7 @@ use Rattle.mpm_residents.specs.declared.native.Native.{Native}
 use Rattle.mpm_render.specs.declared.unit.Unit2.TheVariants.{Printer}
 use Rattle.mpm_render.specs.Outputs.{said}
 use Rattle.mpm_system.specs.declared.system.System.{System}
-use Rattle.mpm_system.specs.Whole.{Change, IsWhole, silent, speaking}
+use Rattle.mpm_system.specs.Whole.{SystemChange, IsWhole, silent, speaking}
 use Rattle.mpm_system.specs.Calling.{Served}
 use Rattle.mpm_system.specs.Segments.{reserving, releasing}
 use Rattle.mpm_system.specs.Saying.{call_text, printed, said_by}
@@ -101,7 +101,7 @@ same_said one other p system function word text =
 same_native : (outcome : Outcome) (reply : Answer) (one other : Taken) (p : ℕ) (system : System) → other.function ≡ one.function → other.word ≡ one.word
     → (one.function ≡ PRINT_STRING → other.bytes ≡ one.bytes) → native_outcome outcome reply other p system ≡ native_outcome outcome reply one p system
 same_native Done reply one other p system function word text =
-    ap (λ (spoke : Change). record spoke { system = taking reply p spoke.system }) (same_said one other p system function word text)
+    ap (λ (spoke : SystemChange). record spoke { system = taking reply p spoke.system }) (same_said one other p system function word text)
 same_native Ended reply one other p system function word text = refl
 same_native Held reply one other p system function word text = refl
 same_native Retry reply one other p system function word text = refl

@@ -5,7 +5,7 @@ use Rattle.mpm_dispatcher.specs.declared.dispatcher.Dispatcher.{Dispatcher}
 use Rattle.mpm_service.specs.declared.service.Served.{Served}
 use Rattle.mpm_system.specs.declared.system.System.{System}
 use Rattle.mpm_system.specs.Owing.{nobody_owes}
-use Rattle.mpm_system.specs.Whole.{Change, IsWhole, NoCompletions, silent}
+use Rattle.mpm_system.specs.Whole.{SystemChange, IsWhole, NoCompletions, silent}
 use Rattle.mpm_machine.specs.Due.{NobodyDue, with_ends}
 use Rattle.mpm_machine.specs.DiskStep.{disk_served, owed_then, all_paid}
 use Rattle.mpm_machine.specs.Stepping.{Telling, paid_after, entered_after, ended_after, rest_of}
@@ -27,7 +27,7 @@ pub whole_ended_after : (telling : Telling) (system : System) → IsWhole system
 unfolding ended_after
 whole_ended_after telling system w = whole_with_ends (entered_after telling system) (whole_entered_after telling system w)
 
-pub whole_rest : (instruction : Bool) (telling : Telling) (begun : Change) → IsWhole begun.system → IsWhole (rest_of instruction telling begun).system
+pub whole_rest : (instruction : Bool) (telling : Telling) (begun : SystemChange) → IsWhole begun.system → IsWhole (rest_of instruction telling begun).system
 unfolding rest_of
 whole_rest instruction telling begun w =
     let paid = all_paid (ended_after telling begun.system) in
@@ -44,7 +44,7 @@ none_owed : (served : Option Served) (owed : List Bool) → served ≡ None → 
 none_owed None owed none = refl
 none_owed (Some call) owed none = absurd (cc)
 
-pub no_completions_rest : (instruction : Bool) (telling : Telling) (begun : Change) → begun.system.kernel.dispatcher.completed ≡ []
+pub no_completions_rest : (instruction : Bool) (telling : Telling) (begun : SystemChange) → begun.system.kernel.dispatcher.completed ≡ []
     → NoCompletions (rest_of instruction telling begun).system
 unfolding rest_of ended_after all_paid
 no_completions_rest instruction telling begun none = record {
@@ -54,14 +54,14 @@ no_completions_rest instruction telling begun none = record {
 }
 
 -- nobody's end is due
-pub nobody_due_rest : (instruction : Bool) (telling : Telling) (begun : Change) → IsWhole begun.system → NobodyDue (rest_of instruction telling begun).system.kernel
+pub nobody_due_rest : (instruction : Bool) (telling : Telling) (begun : SystemChange) → IsWhole begun.system → NobodyDue (rest_of instruction telling begun).system.kernel
 unfolding rest_of ended_after all_paid
 nobody_due_rest instruction telling begun w =
     due_picked instruction (with_ends (entered_after telling begun.system)).kernel
     (due_with_ends (entered_after telling begun.system) (whole_entered_after telling begun.system w))
 
 -- what it says comes after what was said before
-pub rest_emitted : (instruction : Bool) (telling : Telling) (begun : Change)
+pub rest_emitted : (instruction : Bool) (telling : Telling) (begun : SystemChange)
     → (rest_of instruction telling begun).emitted ≡ (rest_of instruction telling (silent begun.system)).emitted ++ begun.emitted
 unfolding rest_of
 rest_emitted instruction telling begun =

@@ -17,25 +17,25 @@ use Rattle.mpm_service.proofs.SoundLaws.{last_ends}
 use Rattle.mpm_kernel.specs.Kernel.{Kernel}
 use Rattle.mpm_kernel.specs.Disk.{with_disk, ready_again as made_ready_again, IsOver}
 use Rattle.mpm_output.specs.Outside.{Outside, by_sink}
-use Rattle.mpm_output.specs.Writing.{Wrote, Stopped, Fails, Emits}
+use Rattle.mpm_output.specs.Writing.{CameOut, Stopped, DeviceFails, Emits}
 use Rattle.mpm_output.proofs.WritingLaws.{wrote_nothing, wrote_cause, stopped_cause}
 use Rattle.mpm_port.specs.Causes.{HasCause}
 use Rattle.mpm_render.specs.Outputs.{Output}
-use Rattle.mpm_functions.specs.declared.refusals.Extended.{Extended}
+use Rattle.mpm_file_functions.specs.declared.refusals.Extended.{Extended}
 use Rattle.mpm_directories.specs.Direct.{Directly}
-use Rattle.mpm_requests.specs.Filing.{Filing, Situation}
+use Rattle.mpm_refusals.specs.Filing.{Filing, Situation}
 use Rattle.mpm_bdos.specs.Finishing.{ComesTo}
 use Rattle.mpm_bdos.specs.Jobs.{call_turns}
 use Rattle.mpm_bdos.specs.Outcomes.{file_call}
 use Rattle.mpm_bdos.specs.Serving.{Kept, InService, Serves}
 use Rattle.mpm_bdos.specs.Turns.{images_of}
 use Rattle.mpm_system.specs.declared.system.System.{System}
-use Rattle.mpm_system.specs.Whole.{Change, HasRoomForAll, IsWhole, silent}
-use Rattle.mpm_machine.specs.Files.{Files, Between, Within, StandsBetween, StandsServed, StandsForFiles, StandsWorkedBy, StandsWorked}
+use Rattle.mpm_system.specs.Whole.{SystemChange, HasRoomForAll, IsWhole, silent}
+use Rattle.mpm_machine.specs.Files.{FilesInService, Between, Within, StandsBetween, StandsServed, StandsForFiles, StandsWorkedBy, StandsWorked}
 use Rattle.mpm_machine.specs.FileCalls.{told_of, concluded}
 use Rattle.mpm_machine.specs.DiskStep.{ready_again, step_passed, call_over, over_after, served_by, disk_served, over_by, process_over, files_over, files_served_by, files_served, told_of_call}
 use Rattle.mpm_machine.specs.Stepping.{nothing_told, told_by_process, told_within}
-use Rattle.mpm_machine.specs.Holding.{IsOwn}
+use Rattle.mpm_machine.specs.Holding.{IsOwnCall}
 use Rattle.mpm_machine.specs.After.{IsOfSome}
 use Rattle.mpm_machine.proofs.FinishLaws.{no_completions_finished}
 use Rattle.mpm_machine.proofs.FileLaws.{whole_concluded}
@@ -56,19 +56,19 @@ told_is_its images s p system kept answer extended comes =
 
 pub answered_ok : {A E : Type 0} (r : Result A E) (p : ℕ) (old new : System) (o n : Outside) (s : Situation) (kept : Kept) (disks : Disks) (answer : Answer) (extended : Option Extended)
     → ComesTo (images_of disks) s kept answer extended → kept.service ≡ None
-    → OnOk r (new ≡ (call_over (told_here p old answer extended) p old).system) → OnOk r (Wrote o n (call_over (told_here p old answer extended) p old).emitted)
-    → OnOk r ((new ≡ (call_over (told_of_call s p old) p old).system) × Wrote o n (call_over (told_of_call s p old) p old).emitted × StandsBetween kept disks (file_call s).filing)
+    → OnOk r (new ≡ (call_over (told_here p old answer extended) p old).system) → OnOk r (CameOut o n (call_over (told_here p old answer extended) p old).emitted)
+    → OnOk r ((new ≡ (call_over (told_of_call s p old) p old).system) × CameOut o n (call_over (told_of_call s p old) p old).emitted × StandsBetween kept disks (file_call s).filing)
 answered_ok (Ok a) p old new o n s kept disks answer extended comes idle system wrote =
     let same = told_is_its (images_of disks) s p old kept answer extended comes in (
       subst (λ (told : Directly). new ≡ (call_over told p old).system) same system,
-      subst (λ (told : Directly). Wrote o n (call_over told p old).emitted) same wrote,
+      subst (λ (told : Directly). CameOut o n (call_over told p old).emitted) same wrote,
       record { idle = idle; filing_is = comes.filing_is; stand = comes.stand },
     )
 answered_ok (Err e) p old new o n s kept disks answer extended comes idle system wrote = tt
 
 pub answered_err : {A : Type 0} (r : Result A Failed) (p : ℕ) (old : System) (o n : Outside) (s : Situation) (kept : Kept) (disks : Disks) (answer : Answer) (extended : Option Extended)
     → ComesTo (images_of disks) s kept answer extended
-    → IfErr r (λ error. Fails (by_sink error) o n (call_over (told_here p old answer extended) p old).emitted)
+    → IfErr r (λ error. DeviceFails (by_sink error) o n (call_over (told_here p old answer extended) p old).emitted)
     → OnErr r (Stopped o n (call_over (told_of_call s p old) p old).emitted)
 answered_err (Ok a) p old o n s kept disks answer extended comes failed = tt
 answered_err (Err e) p old o n s kept disks answer extended comes failed =
@@ -134,7 +134,7 @@ unfolding disk_served
 over_served told system p works =
     ap (λ (served : Option ℕ). served_by served told system) (working_process system.kernel.disk p true works) ∙ ap (λ (turn : Turn). over_after turn told (step_passed system)) works
 
-pub over_files : (system : System) (files : Files) (p : ℕ) → turn_answer system.kernel.disk ≡ Work p true → files_served system files ≡ files_over (Work p true) files
+pub over_files : (system : System) (files : FilesInService) (p : ℕ) → turn_answer system.kernel.disk ≡ Work p true → files_served system files ≡ files_over (Work p true) files
 unfolding files_served
 over_files system files p works =
     ap (λ (served : Option ℕ). files_served_by served system files) (working_process system.kernel.disk p true works) ∙ ap (λ (turn : Turn). files_over turn files) works
@@ -149,9 +149,9 @@ works_within turn_steps None None p last kept disks filing works stands = absurd
 works_within turn_steps None (Some q) p last kept disks filing works stands = absurd (cc)
 works_within turn_steps (Some call) first p last kept disks filing works stands = stands
 
-abbrev Passed : Files → Outside → Outside → System → System → Kept → Disks → Type 0
+abbrev Passed : FilesInService → Outside → Outside → System → System → Kept → Disks → Type 0
 Passed files o n old new kept disks =
-    (new ≡ (disk_served (told_within files old) old).system) × Wrote o n (disk_served (told_within files old) old).emitted × StandsForFiles new.kernel.disk kept disks (files_served old files)
+    (new ≡ (disk_served (told_within files old) old).system) × CameOut o n (disk_served (told_within files old) old).emitted × StandsForFiles new.kernel.disk kept disks (files_served old files)
 
 over_so : (system : System) (s : Situation) (p : ℕ) → turn_answer system.kernel.disk ≡ Work p true
     → disk_served (told_within (Within s) system) system ≡ call_over (told_of_call s p (step_passed system)) p (step_passed system)
@@ -160,7 +160,7 @@ over_so system s p works =
 
 over_stands : (s : Situation) (p : ℕ) (o n : Outside) (old new : System) (kept : Kept) (disks : Disks) → turn_answer old.kernel.disk ≡ Work p true → (turned old.kernel.disk).served ≡ None
     → (new ≡ (call_over (told_of_call s p (step_passed old)) p (step_passed old)).system)
-    × Wrote o n (call_over (told_of_call s p (step_passed old)) p (step_passed old)).emitted × StandsBetween kept disks (file_call s).filing
+    × CameOut o n (call_over (told_of_call s p (step_passed old)) p (step_passed old)).emitted × StandsBetween kept disks (file_call s).filing
     → Passed (Within s) o n old new kept disks
 over_stands s p o n old new kept disks works none so =
     let told = told_of_call s p (step_passed old) in
@@ -168,18 +168,18 @@ over_stands s p o n old new kept disks works none so =
     let nobody : new.kernel.disk.served ≡ None =
     ap (λ (system : System). system.kernel.disk.served) so.0 ∙ (over_serves told p (step_passed old) none).served ∙ none in (
       so.0 ∙ sym (ap (λ c. c.system) is),
-      subst (λ c. Wrote o n c.emitted) (sym is) so.1,
+      subst (λ c. CameOut o n c.emitted) (sym is) so.1,
       record {
-        stands = subst (λ (files : Files). StandsServed new.kernel.disk.served kept disks files) (sym (over_files old (Within s) p works))
+        stands = subst (λ (files : FilesInService). StandsServed new.kernel.disk.served kept disks files) (sym (over_files old (Within s) p works))
             (subst (λ (served : Option Served). StandsServed served kept disks (Between (file_call s).filing)) (sym nobody) so.2);
       },
     )
 
-pub pass_over : {A E : Type 0} (r : Result A E) (files : Files) (p : ℕ) (o n : Outside) (old new : System) (before kept : Kept) (disks : Disks)
+pub pass_over : {A E : Type 0} (r : Result A E) (files : FilesInService) (p : ℕ) (o n : Outside) (old new : System) (before kept : Kept) (disks : Disks)
     → turn_answer old.kernel.disk ≡ Work p true → (turned old.kernel.disk).served ≡ None → StandsWorked old.kernel.disk before disks files
     → ((s : Situation) → Serves (images_of disks) before s (call_turns s) → s.caller.process ≡ p
     → OnOk r ((new ≡ (call_over (told_of_call s p (step_passed old)) p (step_passed old)).system)
-    × Wrote o n (call_over (told_of_call s p (step_passed old)) p (step_passed old)).emitted × StandsBetween kept disks (file_call s).filing))
+    × CameOut o n (call_over (told_of_call s p (step_passed old)) p (step_passed old)).emitted × StandsBetween kept disks (file_call s).filing))
     → OnOk r (Passed files o n old new kept disks)
 unfolding turn_answer
 pass_over r (Between filing) p o n old new before kept disks works none stands over =
@@ -189,7 +189,7 @@ pass_over r (Within s) p o n old new before kept disks works none stands over =
     (over s (last_turn_serves old.kernel.disk before disks s p works stands) (whose_turn old.kernel.disk before disks s p true works stands))
 
 -- or the sink failed in it
-pub pass_stops : {A E : Type 0} (r : Result A E) (files : Files) (p : ℕ) (o n : Outside) (old : System) (before : Kept) (disks : Disks)
+pub pass_stops : {A E : Type 0} (r : Result A E) (files : FilesInService) (p : ℕ) (o n : Outside) (old : System) (before : Kept) (disks : Disks)
     → turn_answer old.kernel.disk ≡ Work p true → StandsWorked old.kernel.disk before disks files
     → ((s : Situation) → Serves (images_of disks) before s (call_turns s) → s.caller.process ≡ p
     → OnErr r (Stopped o n (call_over (told_of_call s p (step_passed old)) p (step_passed old)).emitted))
@@ -198,7 +198,7 @@ unfolding turn_answer
 pass_stops r (Between filing) p o n old before disks works stands over =
     let disk = old.kernel.disk in absurd (works_within disk.turn_steps disk.served (first_of disk.waiting) p true before disks filing works stands.stands)
 pass_stops r (Within s) p o n old before disks works stands over =
-    subst (λ (c : Change). OnErr r (Stopped o n c.emitted)) (sym (over_so old s p works))
+    subst (λ (c : SystemChange). OnErr r (Stopped o n c.emitted)) (sym (over_so old s p works))
     (over s (last_turn_serves old.kernel.disk before disks s p works stands) (whose_turn old.kernel.disk before disks s p true works stands))
 
 -- whatever it comes to
@@ -211,7 +211,7 @@ IsOverFrom p old new = IsOfSome (λ (told : Directly). (call_over told p old).sy
 pub over_made : {A E : Type 0} (r : Result A E) (p : ℕ) (old new : System) → turn_answer old.kernel.disk ≡ Work p true
     → OnOk r (IsOverFrom p (step_passed old) new) → OnOk r (IsServedBy old new)
 over_made r p old new works =
-    on_ok_weaker r (λ (over : IsOverFrom p (step_passed old) new). (over.0, over.1 ∙ sym (ap (λ (c : Change). c.system) (over_served over.0 old p works))))
+    on_ok_weaker r (λ (over : IsOverFrom p (step_passed old) new). (over.0, over.1 ∙ sym (ap (λ (c : SystemChange). c.system) (over_served over.0 old p works))))
 
 -- of one that isn't a call's last
 
@@ -285,20 +285,20 @@ pub not_between : (turn_steps : ℕ) (served : Option Served) (kept : Kept) (dis
 not_between turn_steps None kept disks filing some stands = false≢true some
 not_between turn_steps (Some call) kept disks filing some stands = stands
 
-pub pass_on : (files : Files) (o : Outside) (old : System) (kept : Kept) (disks : Disks) → is_some old.kernel.disk.served ≡ true → IsNotLast (turn_answer old.kernel.disk)
+pub pass_on : (files : FilesInService) (o : Outside) (old : System) (kept : Kept) (disks : Disks) → is_some old.kernel.disk.served ≡ true → IsNotLast (turn_answer old.kernel.disk)
     → StandsWorked old.kernel.disk kept disks files → Passed files o o old (step_passed old) kept disks
 pass_on (Between filing) o old kept disks some more stands = absurd (not_between old.kernel.disk.turn_steps old.kernel.disk.served kept disks filing some stands.stands)
 pass_on (Within s) o old kept disks some more stands =
     let is = silent_served (told_within (Within s) old) old some more in (
-      sym (ap (λ (c : Change). c.system) is),
-      subst (λ (c : Change). Wrote o o c.emitted) (sym is) (wrote_nothing o),
-      subst (λ (files : Files). StandsForFiles (turned old.kernel.disk) kept disks files) (sym (same_served old s some more)) (turn_goes_on old.kernel.disk kept disks s some more stands),
+      sym (ap (λ (c : SystemChange). c.system) is),
+      subst (λ (c : SystemChange). CameOut o o c.emitted) (sym is) (wrote_nothing o),
+      subst (λ (files : FilesInService). StandsForFiles (turned old.kernel.disk) kept disks files) (sym (same_served old s some more)) (turn_goes_on old.kernel.disk kept disks s some more stands),
     )
 
 pub passed_made : (old : System) (kernel : Kernel) → kernel ≡ with_disk turned old.kernel → is_some old.kernel.disk.served ≡ true
     → IsNotLast (turn_answer old.kernel.disk) → IsServedBy old (record old { kernel = kernel })
 passed_made old kernel is some more =
-    (nothing_told, ap (λ (k : Kernel). record old { kernel = k }) is ∙ sym (ap (λ (c : Change). c.system) (silent_served nothing_told old some more)))
+    (nothing_told, ap (λ (k : Kernel). record old { kernel = k }) is ∙ sym (ap (λ (c : SystemChange). c.system) (silent_served nothing_told old some more)))
 
 -- the other answers of the disk are none of a last turn
 pub not_last : (turn : Turn) (p : ℕ) → turn ≡ Work p false → IsNotLast turn
@@ -323,7 +323,7 @@ unfolding IsNotLast
 never_on disk answer is never = λ p works. never p true (is ∙ works)
 
 -- so it goes on
-pub passes_so : (files : Files) (o : Outside) (old : System) (kernel : Kernel) (kept : Kept) (disks : Disks) → kernel ≡ with_disk turned old.kernel
+pub passes_so : (files : FilesInService) (o : Outside) (old : System) (kernel : Kernel) (kept : Kept) (disks : Disks) → kernel ≡ with_disk turned old.kernel
     → is_some old.kernel.disk.served ≡ true → IsNotLast (turn_answer old.kernel.disk) → StandsWorked old.kernel.disk kept disks files
     → Passed files o o old (record old { kernel = kernel }) kept disks
 passes_so files o old kernel kept disks is some more stands =
@@ -372,11 +372,11 @@ own_turned turn_steps None first P some own = absurd (false≢true some)
 own_turned turn_steps (Some call) first P some own = own_after (is_last_step turn_steps call) (call.left == 1) call P own
 
 pub own_so : (old kernel : Kernel) (service : Option InService) → kernel ≡ with_disk turned old → is_some old.disk.served ≡ true
-    → IfSome old.disk.served (λ (call : Served). IsOwn old.dispatcher.procs call.p service) → IfSome kernel.disk.served (λ (call : Served). IsOwn kernel.dispatcher.procs call.p service)
+    → IfSome old.disk.served (λ (call : Served). IsOwnCall old.dispatcher.procs call.p service) → IfSome kernel.disk.served (λ (call : Served). IsOwnCall kernel.dispatcher.procs call.p service)
 unfolding turned
 own_so old kernel service is some own =
-    subst (λ (k : Kernel). IfSome k.disk.served (λ (call : Served). IsOwn k.dispatcher.procs call.p service)) (sym is)
-    (own_turned old.disk.turn_steps old.disk.served (first_of old.disk.waiting) (λ p. IsOwn old.dispatcher.procs p service) some own)
+    subst (λ (k : Kernel). IfSome k.disk.served (λ (call : Served). IsOwnCall k.dispatcher.procs call.p service)) (sym is)
+    (own_turned old.disk.turn_steps old.disk.served (first_of old.disk.waiting) (λ p. IsOwnCall old.dispatcher.procs p service) some own)
 
 -- a call that is over, whose process is ready again, and what it comes to
 pub again_whole : (p : ℕ) (old : System) (kernel : Kernel) → IsWhole old → IsOver p old.kernel → kernel ≡ made_ready_again p old.kernel → IsWhole (record old { kernel = kernel })

@@ -31,7 +31,7 @@ use Rattle.mpm_system.specs.Sending.{has_interpreter, sending, chaining}
 use Rattle.mpm_system.specs.Taking.{asked, keeping}
 use Rattle.mpm_system.specs.Segments.{reserve_reply, base_asked, reserving, releasing}
 use Rattle.mpm_system.specs.Parsing.{parsing}
-use Rattle.mpm_system.specs.Whole.{Change}
+use Rattle.mpm_system.specs.Whole.{SystemChange}
 use Rattle.mpm_system.specs.Coming.{counted}
 use Rattle.mpm_system.proofs.HomeLaws.{freed_place}
 use Rattle.mpm_machine.specs.Serving.{creating, aborted, aborting_this, aborting, served_to_all, served, gate_step, telling_system, telling_descriptor}
@@ -39,7 +39,7 @@ use Rattle.mpm_machine.specs.Step.{acted_at, acted_by, acted, running_segment, i
 use Rattle.mpm_machine.specs.FileCalls.{file_caller}
 use Rattle.mpm_machine.specs.Finishing.{all_answered}
 use Rattle.mpm_machine.specs.Stepping.{Telling, begun_with, begun_as, is_instruction, rest_of, step_with}
-use Rattle.mpm_machine.specs.Contained.{DiffersInBytes, ServedAlike, Calls, ServedByValue}
+use Rattle.mpm_machine.specs.Contained.{DiffersInBytes, ServedAlike, CallsAtGate, ServedByValue}
 
 -- the same segment is the lowest that is free
 fits_alike : (base : Option ℕ) (pages : ℕ) (one other : Segment) → other.base ≡ one.base → other.pages ≡ one.pages
@@ -321,7 +321,7 @@ serves_alike call p one other d =
 
 -- a step in which a process calls is that of its gate
 
-pub calls_at_gate : (system : System) (p seg : ℕ) → Calls system p seg → acted (counted system) ≡ gate_step p seg (counted system)
+pub calls_at_gate : (system : System) (p seg : ℕ) → CallsAtGate system p seg → acted (counted system) ≡ gate_step p seg (counted system)
 unfolding acted
 calls_at_gate system p seg i =
     let begun = counted system in
@@ -329,7 +329,7 @@ calls_at_gate system p seg i =
     ∙ ap (λ home. acted_by (Some p) home begun) i.home
     ∙ ap (λ (gate : Option Gate). acted_at gate p seg begun) i.gate
 
-pub no_instruction : (system : System) (p seg : ℕ) → Calls system p seg → at_instruction (counted system) ≡ false
+pub no_instruction : (system : System) (p seg : ℕ) → CallsAtGate system p seg → at_instruction (counted system) ≡ false
 unfolding at_instruction
 no_instruction system p seg i =
     let begun = counted system in
@@ -337,7 +337,7 @@ no_instruction system p seg i =
     ∙ ap (λ home. instruction_by (Some p) home begun) i.home
     ∙ ap is_no_gate i.gate
 
-step_calls : (telling : Telling) (system : System) (p seg : ℕ) → file_caller system ≡ None → Calls system p seg
+step_calls : (telling : Telling) (system : System) (p seg : ℕ) → file_caller system ≡ None → CallsAtGate system p seg
     → step_with telling system ≡ rest_of false telling (then_also (gate_step p seg (counted system)) all_answered)
 unfolding step_with begun_as
 step_calls telling system p seg none i =
@@ -347,7 +347,7 @@ step_calls telling system p seg none i =
     ∙ ap (λ b. rest_of b telling (then_also (acted begun) all_answered)) (no_instruction system p seg i)
     ∙ ap (λ change. rest_of false telling (then_also change all_answered)) (calls_at_gate system p seg i)
 
-pub served_by_value : (telling : Telling) (old : System) (p seg : ℕ) → file_caller old ≡ None → Calls old p seg
+pub served_by_value : (telling : Telling) (old : System) (p seg : ℕ) → file_caller old ≡ None → CallsAtGate old p seg
     → ServedByValue telling p seg old (step_with telling old).system
 unfolding gate_step
 served_by_value telling old p seg none i =
@@ -357,5 +357,5 @@ served_by_value telling old p seg none i =
     record {
       done = served call p kept;
       by_value = λ other d. serves_alike call p kept other d;
-      is = ap (λ (change : Change). change.system) (step_calls telling old p seg none i);
+      is = ap (λ (change : SystemChange). change.system) (step_calls telling old p seg none i);
     }

@@ -8,14 +8,14 @@ use Rattle.mpm_drives.specs.Images.{Images}
 use Rattle.mpm_mount.specs.Directories.{Directory}
 use Rattle.mpm_mount.specs.Mounting.{SameDrives}
 use Rattle.mpm_render.specs.Outputs.{Output, rendered, closed}
-use Rattle.mpm_render.specs.Shown.{Kept, Shows, EndsBetween}
+use Rattle.mpm_render.specs.Shown.{KeptLines, Shows, EndsBetween}
 use Rattle.mpm_render.proofs.Grows.{begins_refl, begins_more, widened}
 use Rattle.mpm_output.specs.Outside.{Outside, seen}
 use Rattle.mpm_output.proofs.WritingLaws.{rendered_onward, wrote_nothing}
 use Rattle.mpm_service.specs.Ahead.{turns_left}
 use Rattle.mpm_service.specs.Disk.{DiskService, no_service, served_process}
 use Rattle.mpm_service.specs.declared.service.Served.{Served}
-use Rattle.mpm_requests.specs.Filing.{Filing, Situation}
+use Rattle.mpm_refusals.specs.Filing.{Filing, Situation}
 use Rattle.mpm_bdos.specs.Serving.{Kept as Filed, StandEach}
 use Rattle.mpm_directories.specs.Places.{directory_at}
 use Rattle.mpm_bdos.specs.Syncing.{mounted_count}
@@ -25,12 +25,12 @@ use Rattle.mpm_machine.specs.declared.machine.Machine.{Machine}
 use Rattle.mpm_machine.specs.declared.machine.StepFault.{StepFault}
 use Rattle.mpm_machine.specs.declared.machine.StepFault.TheVariants.{DiskFault, WriteFault}
 use Rattle.mpm_machine.specs.State.{State}
-use Rattle.mpm_machine.specs.Files.{Files, Between, Within, StandsServed, StandsForFiles, filing_in}
-use Rattle.mpm_machine.specs.Faults.{Counts, HaveCause, EndsBy, OnDiskFault}
+use Rattle.mpm_machine.specs.Files.{FilesInService, Between, Within, StandsServed, StandsForFiles, filing_in}
+use Rattle.mpm_machine.specs.Faults.{FailureCounts, HaveCause, EndsBy, OnDiskFault}
 use Rattle.mpm_machine.specs.Mounting.{HasNoDrive, KeepsMounted}
 use Rattle.mpm_machine.specs.Failing.{Left, FailsWithin, HaveImages, HaveImagesOf}
 use Rattle.mpm_machine.specs.Settling.{at_end, carried_out, carried, HasCarried, left_of, StopsCarrying}
-use Rattle.mpm_machine.specs.AtEnd.{EndsRun, StopsAtEnd, StopsSettling, Called, TurnsCall, SyncsTo}
+use Rattle.mpm_machine.specs.AtEnd.{EndsRun, StopsAtEnd, StopsSettling, DriveCalls, TurnsCall, SyncsTo}
 
 -- the images stand for what is on the drives where no call is in service
 between_stand : (served : Option Served) (kept : Filed) (disks : Disks) (filing : Filing) → StandsServed served kept disks (Between filing)
@@ -38,7 +38,7 @@ between_stand : (served : Option Served) (kept : Filed) (disks : Disks) (filing 
 between_stand None kept disks filing s = s.stand
 between_stand (Some call) kept disks filing s = absurd s
 
-end_stands : (files : Files) (system : System) (served : Option Served) (kept : Filed) (disks : Disks) → StandsServed served kept disks (at_end files system).files
+end_stands : (files : FilesInService) (system : System) (served : Option Served) (kept : Filed) (disks : Disks) → StandsServed served kept disks (at_end files system).files
     → StandEach (images_of disks) kept.mounted (filing_in (at_end files system).files).drives
 unfolding carried_out
 end_stands (Between filing) system served kept disks s = between_stand served kept disks filing s
@@ -107,7 +107,7 @@ ends_from written first trace more from to ends =
 abbrev left_at : Outside → Disks → List (Option Directory) → Left
 left_at seen disks mounted = record { kept = seen.kept; written = seen.written; disks = disks; mounted = mounted }
 
-pub stops_carrying : (fault : StepFault) (s : State) (o m : Outside) (old : System) (mounted : List (Option Directory)) (disks : Disks) (first : List ℕ) (kept : Filed) (before behind : Called)
+pub stops_carrying : (fault : StepFault) (s : State) (o m : Outside) (old : System) (mounted : List (Option Directory)) (disks : Disks) (first : List ℕ) (kept : Filed) (before behind : DriveCalls)
     → old ≡ s.system → m.kept.trace ≡ o.kept.trace → Shows o.kept o.written s.outputs first → StopsCarrying fault s.files o m old mounted disks → TurnsCall old kept before behind
     → StopsAtEnd fault (left_at m disks mounted) kept before behind s first
 unfolding carried
@@ -127,7 +127,7 @@ stops_carrying DiskFault s o m old mounted disks first kept before behind same t
 
 -- or as the drives were synced, or lines closed
 
-pub stops_closing : (fault : StepFault) (s : State) (m n : Outside) (mounted : List (Option Directory)) (disks : Disks) (first : List ℕ) (kept : Filed) (before between now : Called)
+pub stops_closing : (fault : StepFault) (s : State) (m n : Outside) (mounted : List (Option Directory)) (disks : Disks) (first : List ℕ) (kept : Filed) (before between now : DriveCalls)
     → TurnsCall s.system kept before between → SyncsTo fault mounted between now → n.kept.trace ≡ m.kept.trace
     → Shows m.kept m.written (carried s).outputs first → OnDiskFault fault (n ≡ m)
     → EndsBy fault n.written first (rendered m.kept.trace (carried s).outputs) (closed m.kept.trace (carried s).outputs)
@@ -144,16 +144,16 @@ stops_closing DiskFault s m n mounted disks first kept before between now turns 
       calls = record { between = between; turns = turns; syncs = syncs };
     })
 
-pub seen_same : {S : Type 0} (written : S → List ℕ) (faults : S → ℕ) (kept kept' : Kept) (sink sink' : S) → (kept' ≡ kept) × (sink' ≡ sink)
+pub seen_same : {S : Type 0} (written : S → List ℕ) (faults : S → ℕ) (kept kept' : KeptLines) (sink sink' : S) → (kept' ≡ kept) × (sink' ≡ sink)
     → seen written faults kept' sink' ≡ seen written faults kept sink
-seen_same written faults kept kept' sink sink' same = ap (λ (k : Kept). seen written faults k sink') same.0 ∙ ap (seen written faults kept) same.1
+seen_same written faults kept kept' sink sink' same = ap (λ (k : KeptLines). seen written faults k sink') same.0 ∙ ap (seen written faults kept) same.1
 
 pub on_fault : (fault : StepFault) (P Q : Type 0) → (P → Q) → OnDiskFault fault P → OnDiskFault fault Q
 on_fault WriteFault P Q so p = tt
 on_fault DiskFault P Q so p = so p
 
 -- after the turns the drives were synced, or not all of them
-pub syncs_after : {A : Type 0} (r : Result A StepFault) (kept : Filed) (mounted : List (Option Directory)) (before between now : Called) (system : System)
+pub syncs_after : {A : Type 0} (r : Result A StepFault) (kept : Filed) (mounted : List (Option Directory)) (before between now : DriveCalls) (system : System)
     → TurnsCall system kept before between → IfErr r (λ fault. SyncsTo fault mounted between now) → IfErr r (λ fault. StopsSettling fault mounted kept before now system)
 syncs_after (Ok x) kept mounted before between now system turns syncs = tt
 syncs_after (Err fault) kept mounted before between now system turns syncs = inr (record { between = between; turns = turns; syncs = syncs })
@@ -205,8 +205,8 @@ sink_alone (Ok x) places none some = tt
 sink_alone (Err WriteFault) places none some = refl
 sink_alone (Err DiskFault) places none some = absurd (omega (arith, some, none_counted places none))
 
-pub cause_behind : {A E : Type 0} (fault : E → StepFault) (old middle new : Counts) (r : Result A E) → middle ≡ old → HaveCause fault middle new r → HaveCause fault old new r
-cause_behind fault old middle new r same cause = subst (λ (k : Counts). HaveCause fault k new r) same cause
+pub cause_behind : {A E : Type 0} (fault : E → StepFault) (old middle new : FailureCounts) (r : Result A E) → middle ≡ old → HaveCause fault middle new r → HaveCause fault old new r
+cause_behind fault old middle new r same cause = subst (λ (k : FailureCounts). HaveCause fault k new r) same cause
 
 -- a disk that has served nobody yet serves nobody
 pub nobody_yet : (disk : DiskService) (turn_steps : ℕ) → disk ≡ no_service turn_steps → disk.served ≡ None
@@ -238,7 +238,7 @@ served_err (Ok x) system p some = tt
 served_err (Err e) system p some = some_call system.kernel.disk.served p some
 
 -- the turns that are left to the one in service call its drive
-pub turns_call : (system : System) (p : ℕ) (kept : Filed) (before behind : Called) (turns : ℕ) → served_process system.kernel.disk ≡ Some p
+pub turns_call : (system : System) (p : ℕ) (kept : Filed) (before behind : DriveCalls) (turns : ℕ) → served_process system.kernel.disk ≡ Some p
     → KeepsUnsynced (drive_served kept.service) before.unsynced behind.unsynced → behind.calls ≤ before.calls + 20 * turns → turns ≡ turns_left system.kernel.disk
     → TurnsCall system kept before behind
 turns_call system p kept before behind turns serves unsynced calls all = record {
@@ -251,7 +251,7 @@ none_within : (served : Option Served) (kept : Filed) (disks : Disks) (s : Situa
 none_within None kept disks s none stands = stands
 none_within (Some call) kept disks s none stands = absurd (cc)
 
-pub nothing_carried : (files : Files) (o : Outside) (system : System) (kept : Filed) (disks : Disks) → served_process system.kernel.disk ≡ None
+pub nothing_carried : (files : FilesInService) (o : Outside) (system : System) (kept : Filed) (disks : Disks) → served_process system.kernel.disk ≡ None
     → StandsForFiles system.kernel.disk kept disks files → HasCarried files o o system system kept disks
 nothing_carried (Between filing) o system kept disks none stands = record { system = refl; wrote = wrote_nothing o; stands = stands }
 nothing_carried (Within s) o system kept disks none stands =
@@ -259,12 +259,12 @@ nothing_carried (Within s) o system kept disks none stands =
 
 -- by the result of what came last
 
-pub err_seen : {A S : Type 0} (r : Result A StepFault) (written : S → List ℕ) (faults : S → ℕ) (kept kept' : Kept) (sink sink' : S)
+pub err_seen : {A S : Type 0} (r : Result A StepFault) (written : S → List ℕ) (faults : S → ℕ) (kept kept' : KeptLines) (sink sink' : S)
     → IfErr r (λ fault. OnDiskFault fault ((kept' ≡ kept) × (sink' ≡ sink))) → IfErr r (λ fault. OnDiskFault fault (seen written faults kept' sink' ≡ seen written faults kept sink))
 err_seen (Ok x) written faults kept kept' sink sink' same = tt
 err_seen (Err fault) written faults kept kept' sink sink' same = on_fault fault _ _ (seen_same written faults kept kept' sink sink') same
 
-pub err_stops : {A : Type 0} (r : Result A StepFault) (s : State) (m n : Outside) (mounted : List (Option Directory)) (disks : Disks) (first : List ℕ) (kept : Filed) (before between now : Called)
+pub err_stops : {A : Type 0} (r : Result A StepFault) (s : State) (m n : Outside) (mounted : List (Option Directory)) (disks : Disks) (first : List ℕ) (kept : Filed) (before between now : DriveCalls)
     → TurnsCall s.system kept before between → IfErr r (λ fault. SyncsTo fault mounted between now) → n.kept.trace ≡ m.kept.trace
     → Shows m.kept m.written (carried s).outputs first → IfErr r (λ fault. OnDiskFault fault (n ≡ m))
     → IfErr r (λ fault. EndsBy fault n.written first (rendered m.kept.trace (carried s).outputs) (closed m.kept.trace (carried s).outputs))

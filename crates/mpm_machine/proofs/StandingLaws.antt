@@ -5,14 +5,14 @@ use Rattle.mpm_service.specs.Disk.{DiskService}
 use Rattle.mpm_service.specs.Ahead.{passed_on, passed_by}
 use Rattle.mpm_service.specs.declared.service.Served.{Served}
 use Rattle.mpm_render.specs.Outputs.{Output, rendered}
-use Rattle.mpm_render.specs.Shown.{Kept as Lines, Shows}
+use Rattle.mpm_render.specs.Shown.{KeptLines as Lines, Shows}
 use Rattle.mpm_output.specs.Outside.{Outside}
 use Rattle.mpm_bdos.specs.Serving.{Kept}
 use Rattle.mpm_system.specs.declared.system.System.{System}
 use Rattle.mpm_machine.specs.declared.machine.Machine.{Machine}
 use Rattle.mpm_machine.specs.declared.machine.StepFault.{StepFault}
 use Rattle.mpm_machine.specs.declared.machine.StepFault.TheVariants.{DiskFault, WriteFault}
-use Rattle.mpm_machine.specs.Files.{Files, Between, Within, AreWithin, StandsServed, StandsForFiles}
+use Rattle.mpm_machine.specs.Files.{FilesInService, Between, Within, AreWithin, StandsServed, StandsForFiles}
 use Rattle.mpm_machine.specs.State.{State, IsAt, StandsWithDrives}
 use Rattle.mpm_machine.specs.Faults.{EndsBy}
 use Rattle.mpm_machine.specs.Stepping.{stepped}
@@ -21,7 +21,7 @@ use Rattle.mpm_machine.specs.After.{next, HasSteppedTo, StopsBy, ShowsBefore}
 -- so it is at the state's next, and stands for that
 
 pub step_at : (old new : Machine) (disks disks' : Disks) (o n : Outside) (s : State)
-    → ((files : Files) → StandsForFiles old.system.kernel.disk old.bdos disks files → HasSteppedTo files o n old.system new.system new.bdos disks')
+    → ((files : FilesInService) → StandsForFiles old.system.kernel.disk old.bdos disks files → HasSteppedTo files o n old.system new.system new.bdos disks')
     → IsAt old disks s → IsAt new disks' (next s)
 unfolding next
 step_at old new disks disks' o n s has at =
@@ -30,7 +30,7 @@ step_at old new disks disks' o n s has at =
     record { system = so.system; files = so.stands }
 
 pub step_stands : (old new : Machine) (disks disks' : Disks) (o n : Outside) (s : State) (first : List ℕ)
-    → ((files : Files) → StandsForFiles old.system.kernel.disk old.bdos disks files → HasSteppedTo files o n old.system new.system new.bdos disks')
+    → ((files : FilesInService) → StandsForFiles old.system.kernel.disk old.bdos disks files → HasSteppedTo files o n old.system new.system new.bdos disks')
     → StandsWithDrives old o.kept o.written disks s first → StandsWithDrives new n.kept n.written disks' (next s) first
 unfolding next
 step_stands old new disks disks' o n s first has stands =
@@ -44,7 +44,7 @@ stops_here WriteFault o n emitted outputs first stops shows = stops.part outputs
 stops_here DiskFault o n emitted outputs first stops shows = ap (λ (x : Outside). x.written) stops ∙ shows.written_is
 
 pub step_stops : (old : Machine) (disks : Disks) (fault : StepFault) (o n : Outside) (s : State) (first : List ℕ)
-    → ((files : Files) → StandsForFiles old.system.kernel.disk old.bdos disks files → StopsBy fault o n (stepped old.system files).change.emitted)
+    → ((files : FilesInService) → StandsForFiles old.system.kernel.disk old.bdos disks files → StopsBy fault o n (stepped old.system files).change.emitted)
     → StandsWithDrives old o.kept o.written disks s first
     → EndsBy fault n.written first (rendered o.kept.trace s.outputs) (rendered o.kept.trace (next s).outputs)
 unfolding next
@@ -58,30 +58,30 @@ shows_here WriteFault o n emitted s first stops shows = tt
 shows_here DiskFault o n emitted s first stops shows = subst (λ (x : Outside). Shows x.kept x.written s.outputs first) (sym stops) shows
 
 pub step_shows : (old : Machine) (disks : Disks) (fault : StepFault) (o n : Outside) (s : State) (first : List ℕ)
-    → ((files : Files) → StandsForFiles old.system.kernel.disk old.bdos disks files → StopsBy fault o n (stepped old.system files).change.emitted)
+    → ((files : FilesInService) → StandsForFiles old.system.kernel.disk old.bdos disks files → StopsBy fault o n (stepped old.system files).change.emitted)
     → StandsWithDrives old o.kept o.written disks s first → ShowsBefore fault n.kept n.written s first
 step_shows old disks fault o n s first stops stands =
     shows_here fault o n (stepped old.system s.files).change.emitted s first (stops s.files stands.files) stands.system.shown
 
 -- files are within a call as the disk serves one
-pub within_by : (served : Option Served) (kept : Kept) (disks : Disks) (files : Files) → StandsServed served kept disks files → AreWithin served files
+pub within_by : (served : Option Served) (kept : Kept) (disks : Disks) (files : FilesInService) → StandsServed served kept disks files → AreWithin served files
 within_by None kept disks (Between filing) stands = tt
 within_by None kept disks (Within s) stands = absurd stands
 within_by (Some call) kept disks (Between filing) stands = absurd stands
 within_by (Some call) kept disks (Within s) stands = tt
 
-pub stands_within : (disk : DiskService) (kept : Kept) (disks : Disks) (files : Files) → StandsForFiles disk kept disks files → AreWithin disk.served files
+pub stands_within : (disk : DiskService) (kept : Kept) (disks : Disks) (files : FilesInService) → StandsForFiles disk kept disks files → AreWithin disk.served files
 stands_within disk kept disks files s = within_by disk.served kept disks files s.stands
 
 -- steps of the disk that only pass leave what stands for them
-served_on : (served : Option Served) (n : ℕ) (kept : Kept) (disks : Disks) (files : Files) → StandsServed served kept disks files
+served_on : (served : Option Served) (n : ℕ) (kept : Kept) (disks : Disks) (files : FilesInService) → StandsServed served kept disks files
     → StandsServed (option_map (passed_on n) served) kept disks files
 served_on None n kept disks files stands = stands
 served_on (Some call) n kept disks (Between filing) stands = absurd stands
 served_on (Some call) n kept disks (Within s) stands =
     record { turns = stands.turns; left = stands.left; some = stands.some; whose = stands.whose; serves = stands.serves }
 
-pub stands_passed : (n : ℕ) (disk : DiskService) (kept : Kept) (disks : Disks) (files : Files) → StandsForFiles disk kept disks files
+pub stands_passed : (n : ℕ) (disk : DiskService) (kept : Kept) (disks : Disks) (files : FilesInService) → StandsForFiles disk kept disks files
     → StandsForFiles (passed_by n disk) kept disks files
 unfolding passed_by
 stands_passed n disk kept disks files s = record { stands = served_on disk.served n kept disks files s.stands }

@@ -10,7 +10,7 @@ use Rattle.mpm_machine.specs.Due.{NobodyDue}
 use Rattle.mpm_machine.specs.Step.{gate_before}
 use Rattle.mpm_machine.specs.FileCalls.{at_gate, called_next, is_file_number, calls_files, file_caller_by, file_caller}
 use Rattle.mpm_machine.specs.Stepping.{Telling, begun_with, begun_as, is_instruction, step_with}
-use Rattle.mpm_machine.specs.Contained.{Instructs, OnlyInstructed, Calls, ServedByValue}
+use Rattle.mpm_machine.specs.Contained.{Instructs, OnlyInstructed, CallsAtGate, ServedByValue}
 use Rattle.mpm_machine.proofs.DueLaws.{no_completions_answered}
 use Rattle.mpm_machine.proofs.RestLaws.{whole_rest, no_completions_rest, nobody_due_rest}
 use Rattle.mpm_machine.proofs.FiledLaws.{whole_begun_as}
@@ -58,6 +58,6 @@ instructed_with telling p seg system none i = instructs_only telling system p se
 
 -- and at another call
 
-pub served_with : (telling : Telling) (p seg : ℕ) (system : System) → Calls system p seg → file_caller system ≡ None
+pub served_with : (telling : Telling) (p seg : ℕ) (system : System) → CallsAtGate system p seg → file_caller system ≡ None
     → ServedByValue telling p seg system (step_with telling system).system
 served_with telling p seg system i none = served_by_value telling system p seg none i

@@ -12,8 +12,8 @@ use Rattle.mpm_service.specs.Disk.{turn_answer, HasBegun}
 use Rattle.mpm_service.specs.declared.service.Served.{Served}
 use Rattle.mpm_mount.specs.Directories.{Directory}
 use Rattle.mpm_kernel.specs.Kernel.{Kernel}
-use Rattle.mpm_functions.specs.declared.functions.FileFunction.{FileFunction}
-use Rattle.mpm_functions.specs.Functions.{function_of}
+use Rattle.mpm_file_functions.specs.declared.functions.FileFunction.{FileFunction}
+use Rattle.mpm_file_functions.specs.Functions.{function_of}
 use Rattle.mpm_bdos.specs.Serving.{Kept}
 use Rattle.mpm_directories.specs.Places.{directory_at}
 use Rattle.mpm_bdos.specs.Turns.{FitsDrives, has_work}
@@ -22,8 +22,8 @@ use Rattle.mpm_system.specs.Whole.{IsWhole, silent}
 use Rattle.mpm_system.specs.FileCalling.{call_made}
 use Rattle.mpm_machine.specs.declared.machine.StepFault.{StepFault}
 use Rattle.mpm_machine.specs.declared.machine.StepFault.TheVariants.{DiskFault, WriteFault}
-use Rattle.mpm_machine.specs.Faults.{Counts, HasFailed, HaveCause, itself, OnDiskFault, OnWriteFault}
-use Rattle.mpm_machine.specs.Files.{Files, Between, Within, StandsServed, StandsForFiles, StandsWorked, drives_in}
+use Rattle.mpm_machine.specs.Faults.{FailureCounts, HasFailed, HaveCause, itself, OnDiskFault, OnWriteFault}
+use Rattle.mpm_machine.specs.Files.{FilesInService, Between, Within, StandsServed, StandsForFiles, StandsWorked, drives_in}
 use Rattle.mpm_machine.specs.FileCalls.{file_caller}
 use Rattle.mpm_machine.specs.Stepping.{is_instruction, nothing_told, told_first, before_disk, files_begun, telling_then, files_rest, rest_of}
 use Rattle.mpm_machine.specs.Holding.{AreFiled, OwnsService, HoldsKept}
@@ -76,7 +76,7 @@ not_at_once system some = waits_by (file_caller system) system some
 pub in_service : (system : System) → works_in_turn system ≡ true → is_some system.kernel.disk.served ≡ true
 in_service system works = (and_parts (is_some system.kernel.disk.served) _ works).0
 
-done_by : (served : Option Served) (system : System) (kept : Kept) (disks : Disks) (files : Files) → system.kernel.disk.served ≡ served → is_some served ≡ true
+done_by : (served : Option Served) (system : System) (kept : Kept) (disks : Disks) (files : FilesInService) → system.kernel.disk.served ≡ served → is_some served ≡ true
     → is_work (turn_answer system.kernel.disk) ≡ true → StandsServed served kept disks files → turns_done (working_in system files) ≡ 1
 unfolding working_in
 done_by None system kept disks files is some works stands = absurd (false≢true some)
@@ -85,7 +85,7 @@ done_by (Some call) system kept disks (Within s) is some works stands =
     ap (λ (served : Option Served). turns_done (working_turn served (turn_answer system.kernel.disk) s)) is
     ∙ ap turns_done (its_working call (turn_answer system.kernel.disk) s works)
 
-pub turn_done : (system : System) (kept : Kept) (disks : Disks) (files : Files) → StandsForFiles system.kernel.disk kept disks files → works_in_turn system ≡ true
+pub turn_done : (system : System) (kept : Kept) (disks : Disks) (files : FilesInService) → StandsForFiles system.kernel.disk kept disks files → works_in_turn system ≡ true
     → turns_done (working_in system files) ≡ 1
 turn_done system kept disks files stands works =
     let both = and_parts (is_some system.kernel.disk.served) _ works in done_by system.kernel.disk.served system kept disks files refl both.0 both.1 stands.stands
@@ -97,7 +97,7 @@ calls_by : (b : Bool) (before middle behind done : ℕ) → (b ≡ true → done
 calls_by true before middle behind done one few same apart bound = omega (arith, one refl, few, apart refl)
 calls_by false before middle behind done one few same apart bound = omega (arith, same refl, bound)
 
-pub step_calls : (system : System) (kept : Kept) (disks : Disks) (files : Files) (before middle behind : ℕ) → StandsForFiles system.kernel.disk kept disks files
+pub step_calls : (system : System) (kept : Kept) (disks : Disks) (files : FilesInService) (before middle behind : ℕ) → StandsForFiles system.kernel.disk kept disks files
     → middle ≤ before + 20 → (works_in_turn system ≡ false → middle ≡ before) → (is_some system.kernel.disk.served ≡ true → behind ≡ middle)
     → behind ≤ middle + 20 * turns_done (working_in system files) → behind ≤ before + 20 * turns_done (working_in system files)
 step_calls system kept disks files before middle behind stands few same apart bound =
@@ -105,12 +105,12 @@ step_calls system kept disks files before middle behind stands few same apart bo
     (λ works. apart (in_service system works)) bound
 
 -- a turn that failed
-pub turn_calls : (system : System) (kept : Kept) (disks : Disks) (files : Files) (before behind : ℕ) → StandsForFiles system.kernel.disk kept disks files
+pub turn_calls : (system : System) (kept : Kept) (disks : Disks) (files : FilesInService) (before behind : ℕ) → StandsForFiles system.kernel.disk kept disks files
     → (works_in_turn system ≡ false → ⊥) → behind ≤ before + 20 → behind ≤ before + 20 * turns_done (working_in system files)
 turn_calls system kept disks files before behind stands never few =
     let one = turn_done system kept disks files stands (true_from_ne_false (works_in_turn system) never) in omega (arith, one, few)
 
-pub turn_fails_so : (system : System) (disks : Disks) (files : Files) (mounted : List (Option Directory))
+pub turn_fails_so : (system : System) (disks : Disks) (files : FilesInService) (mounted : List (Option Directory))
     → HaveImagesOf (FailsWithin (working_turn_of system files)) disks mounted → HaveImagesOf (FailsWithin (working_in system files)) disks mounted
 unfolding working_in
 turn_fails_so system disks (Within s) mounted have = have
@@ -118,7 +118,7 @@ turn_fails_so system disks (Between filing) mounted have = absurd (none-some hav
 
 -- for which drives the images stand where the sink failed: in what the step begins with, or after it
 
-pub write_stops : (instruction : Bool) (files : Files) (old middle : System) (disks : Disks) (mounted : List (Option Directory))
+pub write_stops : (instruction : Bool) (files : FilesInService) (old middle : System) (disks : Disks) (mounted : List (Option Directory))
     → instruction ≡ is_instruction (file_caller old) old → middle ≡ (before_disk old files).system
     → HaveImages disks mounted
     (drives_in (rest_of instruction (telling_then nothing_told middle (files_begun old files)) (silent middle)).system.kernel.disk.served (files_rest middle (files_begun old files)))
@@ -126,12 +126,12 @@ pub write_stops : (instruction : Bool) (files : Files) (old middle : System) (di
 write_stops instruction files old middle disks mounted i is have =
     record { drives = _; are = stepped_drives instruction files old middle i is; images = have }
 
-before_is : (old : System) (files : Files) → IsWhole old → AreFiled old.kernel
+before_is : (old : System) (files : FilesInService) → IsWhole old → AreFiled old.kernel
     → ((before_disk old files).system.kernel.disk.served ≡ old.kernel.disk.served) × ((before_disk old files).system.kernel.disk.turn_steps ≡ old.kernel.disk.turn_steps)
 unfolding before_disk
 before_is old files w filed = let same = begun_as_serves (told_first old files) old w filed in (same.served, same.steps)
 
-begun_images : (old : System) (kept : Kept) (disks : Disks) (files : Files) → IsWhole old → AreFiled old.kernel
+begun_images : (old : System) (kept : Kept) (disks : Disks) (files : FilesInService) → IsWhole old → AreFiled old.kernel
     → StandsWorked old.kernel.disk kept disks (files_begun old files) → HaveImagesOf (StopsOn WriteFault old files) disks kept.mounted
 begun_images old kept disks files w filed stands =
     let middle = (before_disk old files).system in
@@ -141,7 +141,7 @@ begun_images old kept disks files w filed stands =
     (rest_images i middle kept kept disks (files_begun old files) refl
     (worked_on old.kernel.disk middle.kernel.disk kept disks (files_begun old files) same.0 same.1 stands))
 
-pub begun_stops_on : (fault : StepFault) (old : System) (kept : Kept) (disks : Disks) (files : Files) → IsWhole old → AreFiled old.kernel
+pub begun_stops_on : (fault : StepFault) (old : System) (kept : Kept) (disks : Disks) (files : FilesInService) → IsWhole old → AreFiled old.kernel
     → OnDiskFault fault (HaveImagesOf (FailsWithin (working_in old files)) disks kept.mounted)
     → OnWriteFault fault (StandsWorked old.kernel.disk kept disks (files_begun old files)) → HaveImagesOf (StopsOn fault old files) disks kept.mounted
 begun_stops_on DiskFault old kept disks files w filed images stands = images
@@ -172,14 +172,14 @@ pub ended_fails : {A B X E : Type 0} (x : A) (e : E) (one two three before behin
     → HaveCause {A = B} itself (record { sink = one; drives = before }) (record { sink = three; drives = behind }) (Err WriteFault)
 ended_fails x e one two three before behind first cause = record {
   stays = tt;
-  failed = (subst (λ (n : ℕ). Rose n three) (ap (λ (c : Counts). c.sink) first.stays) cause.failed, ap (λ (c : Counts). c.drives) first.stays);
+  failed = (subst (λ (n : ℕ). Rose n three) (ap (λ (c : FailureCounts). c.sink) first.stays) cause.failed, ap (λ (c : FailureCounts). c.drives) first.stays);
 }
 
 pub ended_stays : {A B X E : Type 0} (x : A) (y : B) (z : X) (one two three before behind : ℕ)
     → HaveCause itself (record { sink = one; drives = before }) (record { sink = two; drives = behind }) (Ok x) → HasCause {E = E} two three (Ok z)
     → HaveCause itself (record { sink = one; drives = before }) (record { sink = three; drives = behind }) (Ok y)
 ended_stays x y z one two three before behind first cause = record {
-  stays = ap (λ (n : ℕ). let c : Counts = record { sink = n; drives = behind } in c) cause.stays ∙ first.stays;
+  stays = ap (λ (n : ℕ). let c : FailureCounts = record { sink = n; drives = behind } in c) cause.stays ∙ first.stays;
   failed = tt;
 }
 

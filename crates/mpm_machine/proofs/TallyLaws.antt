@@ -1,7 +1,7 @@
 -- No part of a step counts it but its beginning; what it begins with completes one call at most.
 use Rattle.std.proofs.Common.{◌≡◌, ◌∙◌, ℕ, ◌+◌, ◌≤◌, not, ◌&&◌, ◌==◌, List, [], ◌∷◌, Option, Some, None, length, refl, sym, ap, subst, arith}
 use Rattle.std.specs.List.{range_with_len}
-use Rattle.z80_regs.specs.Outcome.{Outcome}
+use Rattle.z80_regs.specs.Outcome.{StepOutcome}
 use Rattle.mpm_base.specs.Calls.{Taken, Answer}
 use Rattle.mpm_base.specs.declared.call.Outcome.{Outcome as CallOutcome}
 use Rattle.mpm_base.specs.declared.call.Outcome.TheVariants.{Done, Held, Retry, Ended}
@@ -21,7 +21,7 @@ use Rattle.mpm_residents.specs.Natives.{native_act, native_call, native_in}
 use Rattle.mpm_residents.specs.declared.native.Native.{Native}
 use Rattle.mpm_interrupts.specs.Interrupts.{due_taken}
 use Rattle.mpm_system.specs.declared.system.System.{System}
-use Rattle.mpm_system.specs.Whole.{HasRoomForAll, Change, speaking}
+use Rattle.mpm_system.specs.Whole.{HasRoomForAll, SystemChange, speaking}
 use Rattle.mpm_system.specs.Calling.{Served, asking}
 use Rattle.mpm_system.specs.Sending.{chains}
 use Rattle.mpm_system.specs.Loading.{is_console, begins, handed_over}
@@ -132,7 +132,7 @@ gate_step_more p seg system =
     one_more_behind system done.system _ (served_tally call p (keeping p call system) ∙ keeping_tally p call system)
     (outcome_more done.outcome done.reply call p seg done.system)
 
-instructed_tally : (outcome : Option Outcome) (p seg : ℕ) (system : System) → tally (executed outcome p seg system).system ≡ tally system
+instructed_tally : (outcome : Option StepOutcome) (p seg : ℕ) (system : System) → tally (executed outcome p seg system).system ≡ tally system
 unfolding executed illegal speaking ended instructed
 instructed_tally None p seg system = refl
 instructed_tally (Some outcome) p seg system = refl
@@ -162,12 +162,12 @@ handed_tally (Give console) call p system = refl
 text_tally : (call : Taken) (system : System) → tally (text_told call system).system ≡ tally system
 unfolding speaking
 text_tally call system =
-    either (λ (change : Change). tally change.system ≡ tally system) (is_console (low_parameter call) system.kernel) _ _ (λ _. refl) (λ _. refl)
+    either (λ (change : SystemChange). tally change.system ≡ tally system) (is_console (low_parameter call) system.kernel) _ _ (λ _. refl) (λ _. refl)
 
 native_step_tally : (act : Act) (call : Taken) (p : ℕ) (system : System) → tally (native_step act call p system).system ≡ tally system
 unfolding telling_step calling_step handing_step
 native_step_tally Ask call p system =
-    either (λ (change : Change). tally change.system ≡ tally system) (tells (native_in system.residents p) call) _ _ (λ _. text_tally call system)
+    either (λ (change : SystemChange). tally change.system ≡ tally system) (tells (native_in system.residents p) call) _ _ (λ _. text_tally call system)
     (λ _. native_tally _ _ call p (served_to_all call p system).system ∙ to_all_tally call p system)
 native_step_tally (Place seg address count) call p system = refl
 native_step_tally (Patch seg address count page) call p system = refl

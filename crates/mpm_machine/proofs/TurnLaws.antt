@@ -14,15 +14,15 @@ use Rattle.mpm_service.specs.declared.service.Turn.TheVariants.{Idle, Passing, W
 use Rattle.mpm_service.proofs.SoundLaws.{last_of}
 use Rattle.mpm_mount.specs.Drives.{Drive}
 use Rattle.mpm_mount.specs.Directories.{Directory}
-use Rattle.mpm_functions.specs.declared.functions.FileFunction.{FileFunction}
-use Rattle.mpm_requests.specs.Filing.{Filing, Situation}
-use Rattle.mpm_functions.specs.Functions.{function_of}
+use Rattle.mpm_file_functions.specs.declared.functions.FileFunction.{FileFunction}
+use Rattle.mpm_refusals.specs.Filing.{Filing, Situation}
+use Rattle.mpm_file_functions.specs.Functions.{function_of}
 use Rattle.mpm_bdos.specs.Jobs.{call_turns}
 use Rattle.mpm_bdos.specs.Outcomes.{left_by, without_search}
 use Rattle.mpm_bdos.specs.Serving.{Kept, StandEach, Serves, filing_of}
 use Rattle.mpm_bdos.specs.Turns.{images_of}
 use Rattle.mpm_system.specs.declared.system.System.{System}
-use Rattle.mpm_machine.specs.Files.{Files, Between, Within, one_more, StandsBetween, StandsServed, StandsForFiles, StandsWorkedBy, StandsWorked, given_back, all_left, left_each, owes}
+use Rattle.mpm_machine.specs.Files.{FilesInService, Between, Within, one_more, StandsBetween, StandsServed, StandsForFiles, StandsWorkedBy, StandsWorked, given_back, all_left, left_each, owes}
 use Rattle.mpm_machine.specs.Failing.{is_work}
 use Rattle.mpm_machine.specs.FileCalls.{situation_of}
 use Rattle.mpm_machine.specs.DiskStep.{all_paid, step_passed, within_call, entered_by, entering_call}
@@ -35,7 +35,7 @@ who (Work p last) = p
 who (Starts p) = p
 
 -- the same stands where the disk serves the same call, in turns of as many steps
-pub worked_on : (old new : DiskService) (kept : Kept) (disks : Disks) (files : Files) → new.served ≡ old.served → new.turn_steps ≡ old.turn_steps
+pub worked_on : (old new : DiskService) (kept : Kept) (disks : Disks) (files : FilesInService) → new.served ≡ old.served → new.turn_steps ≡ old.turn_steps
     → StandsWorked old kept disks files → StandsWorked new kept disks files
 worked_on old new kept disks files same steps s = record {
   stands = subst (λ (o : Option Served). StandsWorkedBy new.turn_steps o kept disks files) (sym same)
@@ -51,7 +51,7 @@ is_now : (b : Bool) (p : ℕ) (last : Bool) → is_work (if b then Work p last e
 is_now true p last some = refl
 is_now false p last some = absurd (false≢true some)
 
-unworked : (turn_steps : ℕ) (served : Option Served) (first : Option ℕ) (kept : Kept) (disks : Disks) (files : Files)
+unworked : (turn_steps : ℕ) (served : Option Served) (first : Option ℕ) (kept : Kept) (disks : Disks) (files : FilesInService)
     → is_work (answer_by turn_steps served first) ≡ false → StandsServed served kept disks files → StandsWorkedBy turn_steps served kept disks files
 unfolding step_answer
 unworked turn_steps None first kept disks (Between filing) none s = s
@@ -66,7 +66,7 @@ unworked turn_steps (Some call) first kept disks (Within s) none stands = record
       (sym (not_last (is_last_step turn_steps call) call.p (call.left == 1) none)) stands.serves;
 }
 
-pub nothing_to_work : (disk : DiskService) (kept : Kept) (disks : Disks) (files : Files) → is_work (turn_answer disk) ≡ false
+pub nothing_to_work : (disk : DiskService) (kept : Kept) (disks : Disks) (files : FilesInService) → is_work (turn_answer disk) ≡ false
     → StandsForFiles disk kept disks files → StandsWorked disk kept disks files
 unfolding turn_answer
 nothing_to_work disk kept disks files none s = record { stands = unworked disk.turn_steps disk.served (first_of disk.waiting) kept disks files none s.stands }
@@ -75,7 +75,7 @@ pub none_works : (first : Option ℕ) (turn_steps : ℕ) → is_work (answer_by 
 none_works None turn_steps some = false≢true some
 none_works (Some p) turn_steps some = false≢true some
 
-worked : (turn_steps : ℕ) (served : Option Served) (first : Option ℕ) (kept kept' : Kept) (disks disks' : Disks) (files : Files)
+worked : (turn_steps : ℕ) (served : Option Served) (first : Option ℕ) (kept kept' : Kept) (disks disks' : Disks) (files : FilesInService)
     → is_work (answer_by turn_steps served first) ≡ true → StandsServed served kept disks files
     → ((s : Situation) (j : ℕ) → Serves (images_of disks) kept s j → j < call_turns s → Serves (images_of disks') kept' s (suc j))
     → StandsWorkedBy turn_steps served kept' disks' files
@@ -92,7 +92,7 @@ worked turn_steps (Some call) first kept kept' disks disks' (Within s) some stan
 }
 
 -- 8 and 9: the work of a turn
-pub turn_works : (disk : DiskService) (kept kept' : Kept) (disks disks' : Disks) (files : Files) → is_work (turn_answer disk) ≡ true
+pub turn_works : (disk : DiskService) (kept kept' : Kept) (disks disks' : Disks) (files : FilesInService) → is_work (turn_answer disk) ≡ true
     → StandsForFiles disk kept disks files
     → ((s : Situation) (j : ℕ) → Serves (images_of disks) kept s j → j < call_turns s → Serves (images_of disks') kept' s (suc j))
     → StandsWorked disk kept' disks' files
@@ -190,7 +190,7 @@ whose_turn disk kept disks s p last works stands =
     whose_served disk.turn_steps disk.served (first_of disk.waiting) kept disks s p last works stands.stands
 
 -- those who ended give back what they had open once no call is in service
-paid_by : (owed : List Bool) (kept kept' : Kept) (disks : Disks) (files : Files) → StandsServed None kept disks files
+paid_by : (owed : List Bool) (kept kept' : Kept) (disks : Disks) (files : FilesInService) → StandsServed None kept disks files
     → kept' ≡ record kept { opens = kept'.opens; marks = kept'.marks; searches = kept'.searches }
     → ((filing : Filing) → filing_of kept filing.drives ≡ filing → filing_of kept' filing.drives ≡ all_left owed filing)
     → StandsServed None kept' disks (given_back owed files)
@@ -204,7 +204,7 @@ paid_by owed kept kept' disks (Between filing) stands rest left =
     }
 paid_by owed kept kept' disks (Within s) stands rest left = absurd stands
 
-pub paid_stands : (system : System) (kept kept' : Kept) (disks : Disks) (files : Files) → StandsForFiles system.kernel.disk kept disks files
+pub paid_stands : (system : System) (kept kept' : Kept) (disks : Disks) (files : FilesInService) → StandsForFiles system.kernel.disk kept disks files
     → system.kernel.disk.served ≡ None → kept' ≡ record kept { opens = kept'.opens; marks = kept'.marks; searches = kept'.searches }
     → ((filing : Filing) → filing_of kept filing.drives ≡ filing → filing_of kept' filing.drives ≡ all_left system.owed filing)
     → StandsForFiles (all_paid system).kernel.disk kept' disks (given_back system.owed files)

@@ -21,7 +21,7 @@ use Rattle.mpm_residents.specs.declared.cli.act.Act.TheVariants.{Ask, Place, Pat
 use Rattle.mpm_residents.specs.Natives.{native_call, native_act}
 use Rattle.mpm_residents.specs.declared.native.Native.{Native}
 use Rattle.mpm_system.specs.declared.system.System.{System}
-use Rattle.mpm_system.specs.Whole.{Change}
+use Rattle.mpm_system.specs.Whole.{SystemChange}
 use Rattle.mpm_system.specs.Calling.{asking}
 use Rattle.mpm_system.specs.Loading.{moved, may_move, is_console, may_live, is_slot, begun_for, begins, beginning, handed_over, handed_value}
 use Rattle.mpm_system.specs.Coming.{counted}
@@ -168,5 +168,5 @@ resided_with telling p native system i none =
       call = λ other d. resided_by_value native p asks other d;
       hands = λ other d. handed_by_value (native_act native) asks other d;
       leaves = λ other d. handed_alike (native_act native) (native_call native).bytes p asks other d;
-      is = ap (λ (change : Change). change.system) (step_resides telling system p native none i);
+      is = ap (λ (change : SystemChange). change.system) (step_resides telling system p native none i);
     }

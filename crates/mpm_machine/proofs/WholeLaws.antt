@@ -4,7 +4,7 @@ use Rattle.std.proofs.Math.Bool.{or-false}
 use Rattle.std.proofs.lemmas.Bool.{false≢true, or_right, eq-eqb, or_parts}
 use Rattle.std.proofs.lemmas.List.{set-get_or}
 use Rattle.mpm_base.proofs.Choices.{either}
-use Rattle.z80_regs.specs.Outcome.{Outcome}
+use Rattle.z80_regs.specs.Outcome.{StepOutcome}
 use Rattle.mpm_base.specs.Calls.{Taken, Answer}
 use Rattle.mpm_base.specs.declared.functions.TheConstants.{PRINT_STRING}
 use Rattle.z80_ext.specs.Instruction.{registers_after, actions_of}
@@ -148,7 +148,7 @@ whole_illegal p system w h =
     whole_ended p _ spoke.whole spoke.lives
 
 -- an instruction
-whole_ran : (outcome : Option Outcome) (p seg : ℕ) (system : System) → IsWhole system → Lives system.kernel.dispatcher.procs p → IsWhole (instructed outcome p seg system)
+whole_ran : (outcome : Option StepOutcome) (p seg : ℕ) (system : System) → IsWhole system → Lives system.kernel.dispatcher.procs p → IsWhole (instructed outcome p seg system)
 unfolding instructed
 whole_ran outcome p seg system w h =
     let polled = record system.kernel { devices = devices_after (actions_of outcome) system.kernel.devices } in
@@ -156,7 +156,7 @@ whole_ran outcome p seg system w h =
     whole_memory _ _ (whole_regs p (registers_after outcome (process_in system.kernel.dispatcher.procs p).regs) (record system { kernel = polled }) before h).whole
     (keeps_acted (actions_of outcome) seg system.memory)
 
-pub whole_instructed : (outcome : Option Outcome) (p seg : ℕ) (system : System) → IsWhole system → Lives system.kernel.dispatcher.procs p
+pub whole_instructed : (outcome : Option StepOutcome) (p seg : ℕ) (system : System) → IsWhole system → Lives system.kernel.dispatcher.procs p
     → IsWhole (executed outcome p seg system).system
 unfolding executed
 whole_instructed None p seg system w h = whole_illegal p system w h
@@ -168,7 +168,7 @@ pub same_regs : (kernel : Kernel) (p : ℕ) → with_regs kernel p (process_in k
 unfolding with_process
 same_regs kernel p = ap (λ processes. dispatched (with_procs (record kernel.dispatcher.procs { processes = processes })) kernel) (set-get_or kernel.dispatcher.procs.processes p blank)
 
-pub ran_nothing : (outcome : Option Outcome) (p seg : ℕ) (system : System) → IsNone outcome → instructed outcome p seg system ≡ system
+pub ran_nothing : (outcome : Option StepOutcome) (p seg : ℕ) (system : System) → IsNone outcome → instructed outcome p seg system ≡ system
 unfolding instructed memory_after devices_after
 ran_nothing None p seg system none = ap (λ kernel. record system { kernel = kernel }) (same_regs system.kernel p)
 ran_nothing (Some outcome) p seg system none = absurd (cc)

@@ -10,7 +10,7 @@ use Rattle.mpm_procs.specs.Table.{lives, Lives, process_in}
 use Rattle.mpm_procs.proofs.MapLaws.{lives_below}
 use Rattle.mpm_queues.specs.Queues.{lowest}
 use Rattle.mpm_queues.proofs.Finding.{lowest_none}
-use Rattle.mpm_kernel.specs.Kernel.{Kernel, IsSound, is_aborted, dispatched, is_resident}
+use Rattle.mpm_kernel.specs.Kernel.{Kernel, IsSoundKernel, is_aborted, dispatched, is_resident}
 use Rattle.mpm_script.specs.declared.event.Event.{Event}
 use Rattle.mpm_script.specs.Events.{IsTimed}
 use Rattle.mpm_dispatcher.specs.Dispatch.{picked, first_completed}
@@ -57,9 +57,9 @@ whole_due system interrupts w is =
     whole_interrupts system interrupts w (subst P (sym is) (script_after_due system.steps system.interrupts w.script))
 
 pub sound_unhalted : (system afterwards : System) → IsWhole system → afterwards ≡ record system { kernel = unhalted system.kernel.dispatcher.running system.kernel }
-    → IsSound afterwards.kernel
+    → IsSoundKernel afterwards.kernel
 sound_unhalted system afterwards w is =
-    let P : System → Type 0 = λ s. IsSound s.kernel in
+    let P : System → Type 0 = λ s. IsSoundKernel s.kernel in
     subst P (sym is) (whole_unhalted system.kernel.dispatcher.running system w refl).sound
 
 -- an event, after which the process that it aborts lives

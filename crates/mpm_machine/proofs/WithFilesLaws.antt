@@ -11,13 +11,13 @@ use Rattle.mpm_mount.specs.Directories.{Directory}
 use Rattle.mpm_residents.specs.declared.native.Native.{Native}
 use Rattle.mpm_residents.specs.Natives.{native_in}
 use Rattle.mpm_output.specs.Outside.{Outside}
-use Rattle.mpm_output.specs.Writing.{Wrote}
+use Rattle.mpm_output.specs.Writing.{CameOut}
 use Rattle.mpm_directories.specs.Direct.{Directly}
-use Rattle.mpm_requests.specs.Filing.{Filing, Situation}
-use Rattle.mpm_functions.specs.Functions.{function_of}
+use Rattle.mpm_refusals.specs.Filing.{Filing, Situation}
+use Rattle.mpm_file_functions.specs.Functions.{function_of}
 use Rattle.mpm_bdos.specs.Serving.{Kept}
 use Rattle.mpm_system.specs.declared.system.System.{System}
-use Rattle.mpm_system.specs.Whole.{Change, IsWhole}
+use Rattle.mpm_system.specs.Whole.{SystemChange, IsWhole}
 use Rattle.mpm_system.specs.Taking.{keeping}
 use Rattle.mpm_system.specs.Answering.{popped}
 use Rattle.mpm_system.specs.Residents.{asked_by}
@@ -26,7 +26,7 @@ use Rattle.mpm_system.specs.FileCalling.{made_by, call_made}
 use Rattle.mpm_machine.specs.declared.machine.StepFault.{StepFault}
 use Rattle.mpm_machine.specs.declared.machine.StepFault.TheVariants.{DiskFault, WriteFault}
 use Rattle.mpm_machine.specs.Faults.{OnDiskFault, OnWriteFault}
-use Rattle.mpm_machine.specs.Files.{Files, Between, Within, StandsWorkedBy, StandsWorked}
+use Rattle.mpm_machine.specs.Files.{FilesInService, Between, Within, StandsWorkedBy, StandsWorked}
 use Rattle.mpm_machine.specs.Holding.{AreFiled}
 use Rattle.mpm_machine.specs.Finishing.{all_answered}
 use Rattle.mpm_machine.specs.Step.{then_also}
@@ -72,11 +72,11 @@ begun_is : (told : Directly) (p : ℕ) (old : System) → file_caller old ≡ So
 unfolding begun_as
 begun_is told p old is = ap (λ caller. then_also (begun_with caller told old) all_answered) is
 
-told_is_first : (p : ℕ) (old : System) (files : Files) → file_caller old ≡ Some p → told_first old files ≡ told_at_gate p (call_made p old) files
+told_is_first : (p : ℕ) (old : System) (files : FilesInService) → file_caller old ≡ Some p → told_first old files ≡ told_at_gate p (call_made p old) files
 unfolding told_first
 told_is_first p old files is = ap (λ caller. told_first_by caller old files) is
 
-files_are_begun : (p : ℕ) (old made : System) (files : Files) → file_caller old ≡ Some p → made ≡ call_made p old → files_begun old files ≡ files_called p made files
+files_are_begun : (p : ℕ) (old made : System) (files : FilesInService) → file_caller old ≡ Some p → made ≡ call_made p old → files_begun old files ≡ files_called p made files
 unfolding files_begun
 files_are_begun p old made files caller is = ap (λ o. files_begun_by o old files) caller ∙ ap (λ (s : System). files_called p s files) (sym is)
 
@@ -84,7 +84,7 @@ begun_here : (told : Directly) (p : ℕ) (old made : System) → file_caller old
     → begun_as told old ≡ then_also (file_called told p made) all_answered
 begun_here told p old made caller is = begun_is told p old caller ∙ ap (λ (s : System). then_also (file_called told p s) all_answered) (sym is)
 
-before_here : (p : ℕ) (old made : System) (files : Files) → file_caller old ≡ Some p → made ≡ call_made p old
+before_here : (p : ℕ) (old made : System) (files : FilesInService) → file_caller old ≡ Some p → made ≡ call_made p old
     → before_disk old files ≡ then_also (file_called (told_at_gate p made files) p made) all_answered
 unfolding before_disk
 before_here p old made files caller is =
@@ -97,7 +97,7 @@ IsCalledFrom p made called = IsOfSome (λ (told : Directly). (file_called told p
 
 -- the disk serves the same call, and the system stays whole
 
-pub gate_stands : (p : ℕ) (old made : System) (kept : Kept) (disks : Disks) (files : Files) → made ≡ call_made p old → StandsWorked old.kernel.disk kept disks files
+pub gate_stands : (p : ℕ) (old made : System) (kept : Kept) (disks : Disks) (files : FilesInService) → made ≡ call_made p old → StandsWorked old.kernel.disk kept disks files
     → StandsWorked made.kernel.disk kept disks files
 gate_stands p old made kept disks files is stands =
     subst (λ (s : System). StandsWorked s.kernel.disk kept disks files) (sym is)
@@ -124,7 +124,7 @@ gate_serves p old made called new is m is_ready filed has was =
 
 -- by what is on the drives
 
-pub gate_begun_to : (p : ℕ) (files : Files) (o n : Outside) (old made called new : System) (kept : Kept) (disks : Disks) → file_caller old ≡ Some p → made ≡ call_made p old
+pub gate_begun_to : (p : ℕ) (files : FilesInService) (o n : Outside) (old made called new : System) (kept : Kept) (disks : Disks) → file_caller old ≡ Some p → made ≡ call_made p old
     → Made p old made → IsReady old.kernel.dispatcher p → AreFiled made.kernel → IsCalledFrom p made called → new ≡ all_answered called
     → HasCalled (told_at_gate p made files) p o n made called × StandsWorked called.kernel.disk kept disks (files_called p made files)
     → HasBegunTo files o n old new kept disks
@@ -132,8 +132,8 @@ gate_begun_to p files o n old made called new kept disks caller is m is_ready fi
     let so = sym (before_here p old made files caller is) in
     let serves = answered_serves p old made called new m is_ready filed has was in
     record {
-      system = was ∙ ap all_answered both.0.system ∙ ap (λ (c : Change). c.system) so;
-      wrote = subst (λ (c : Change). Wrote o n c.emitted) so both.0.wrote;
+      system = was ∙ ap all_answered both.0.system ∙ ap (λ (c : SystemChange). c.system) so;
+      wrote = subst (λ (c : SystemChange). CameOut o n c.emitted) so both.0.wrote;
       stands = subst (StandsWorked new.kernel.disk kept disks) (sym (files_are_begun p old made files caller is))
           (worked_on called.kernel.disk new.kernel.disk kept disks (files_called p made files) serves.served serves.steps both.1);
     }
@@ -142,15 +142,15 @@ gate_begun_to p files o n old made called new kept disks caller is m is_ready fi
 pub gate_made : (p : ℕ) (old made called new : System) → file_caller old ≡ Some p → made ≡ call_made p old → IsCalledFrom p made called → new ≡ all_answered called
     → IsOfSome (λ (told : Directly). (begun_as told old).system) new
 gate_made p old made called new caller is has was =
-    (has.0, was ∙ ap all_answered has.1 ∙ ap (λ (c : Change). c.system) (sym (begun_here has.0 p old made caller is)))
+    (has.0, was ∙ ap all_answered has.1 ∙ ap (λ (c : SystemChange). c.system) (sym (begun_here has.0 p old made caller is)))
 
 -- where it stopped
 
-pub gate_err : (fault : StepFault) (p : ℕ) (files : Files) (o n : Outside) (old made : System) → file_caller old ≡ Some p → made ≡ call_made p old
+pub gate_err : (fault : StepFault) (p : ℕ) (files : FilesInService) (o n : Outside) (old made : System) → file_caller old ≡ Some p → made ≡ call_made p old
     → StopsBy fault o n (file_called (told_at_gate p made files) p made).emitted → StopsBy fault o n (before_disk old files).emitted
-gate_err fault p files o n old made caller is stops = subst (λ (c : Change). StopsBy fault o n c.emitted) (sym (before_here p old made files caller is)) stops
+gate_err fault p files o n old made caller is stops = subst (λ (c : SystemChange). StopsBy fault o n c.emitted) (sym (before_here p old made files caller is)) stops
 
-pub gate_still : (fault : StepFault) (p : ℕ) (old made : System) (kept : Kept) (disks : Disks) (files : Files) → file_caller old ≡ Some p → made ≡ call_made p old
+pub gate_still : (fault : StepFault) (p : ℕ) (old made : System) (kept : Kept) (disks : Disks) (files : FilesInService) → file_caller old ≡ Some p → made ≡ call_made p old
     → OnWriteFault fault (StandsWorked made.kernel.disk kept disks (files_called p made files)) → OnWriteFault fault (StandsWorked old.kernel.disk kept disks (files_begun old files))
 gate_still DiskFault p old made kept disks files caller is stands = tt
 gate_still WriteFault p old made kept disks files caller is stands =
@@ -175,7 +175,7 @@ in_service : (turn_steps : ℕ) (served : Option Served) (kept : Kept) (disks : 
 in_service turn_steps None kept disks s stands = absurd stands
 in_service turn_steps (Some call) kept disks s stands = refl
 
-pub gate_images : (fault : StepFault) (p : ℕ) (old made : System) (kept : Kept) (disks disks' : Disks) (mounted : List (Option Directory)) (files : Files)
+pub gate_images : (fault : StepFault) (p : ℕ) (old made : System) (kept : Kept) (disks disks' : Disks) (mounted : List (Option Directory)) (files : FilesInService)
     → file_caller old ≡ Some p → made ≡ call_made p old → StandsWorked old.kernel.disk kept disks files
     → ((filing : Filing) → StandsWorked made.kernel.disk kept disks (Between filing)
     → OnDiskFault fault (HaveImagesOf (FailsWithin (working_if (is_done_at_once p made) filing p made)) disks' mounted))
@@ -186,7 +186,7 @@ gate_images fault p old made kept disks disks' mounted (Between filing) caller i
 gate_images fault p old made kept disks disks' mounted (Within s) caller is stands images apart =
     no_disk_fault fault _ (apart (gate_apart p old made is (in_service old.kernel.disk.turn_steps old.kernel.disk.served kept disks s stands.stands)))
 
-pub gate_calls : (p : ℕ) (old made : System) (kept : Kept) (disks : Disks) (files : Files) (before behind : ℕ) → file_caller old ≡ Some p → made ≡ call_made p old
+pub gate_calls : (p : ℕ) (old made : System) (kept : Kept) (disks : Disks) (files : FilesInService) (before behind : ℕ) → file_caller old ≡ Some p → made ≡ call_made p old
     → StandsWorked old.kernel.disk kept disks files
     → ((filing : Filing) → StandsWorked made.kernel.disk kept disks (Between filing) → behind ≤ before + 20 * turns_done (working_if (is_done_at_once p made) filing p made))
     → (is_some made.kernel.disk.served ≡ true → behind ≡ before) → behind ≤ before + 20 * turns_done (working_in old files)

@@ -2,9 +2,9 @@
 use Rattle.std.proofs.Common.{◌≡◌, ◌∙◌, ℕ, ◌<◌, Bool, true, false, not, ◌&&◌, List, Option, Some, None, is_some, option_map, IfSome, refl, sym, ap, subst, arith}
 use Rattle.std.proofs.lemmas.Bool.{false≢true}
 use Rattle.mpm_base.specs.Calls.{Taken}
-use Rattle.mpm_functions.specs.declared.functions.FileFunction.{FileFunction}
-use Rattle.mpm_requests.specs.declared.caller.Caller.{Caller}
-use Rattle.mpm_bdos.specs.Starting.{IsEntered, HasEntered}
+use Rattle.mpm_file_functions.specs.declared.functions.FileFunction.{FileFunction}
+use Rattle.mpm_refusals.specs.declared.caller.Caller.{Caller}
+use Rattle.mpm_bdos.specs.Starting.{IsEntered, HasBegunService}
 use Rattle.std.proofs.lemmas.Option.{none-some, same_Some}
 use Rattle.mpm_port.specs.Disks.{Disks}
 use Rattle.mpm_ready.specs.Order.{first_of}
@@ -13,7 +13,7 @@ use Rattle.mpm_service.specs.declared.service.Served.{Served}
 use Rattle.mpm_service.specs.declared.service.Turn.{Turn}
 use Rattle.mpm_service.specs.declared.service.Turn.TheVariants.{Idle, Passing, Work, Starts}
 use Rattle.mpm_mount.specs.Directories.{Directory}
-use Rattle.mpm_requests.specs.Filing.{Filing, Situation}
+use Rattle.mpm_refusals.specs.Filing.{Filing, Situation}
 use Rattle.mpm_bdos.specs.Jobs.{call_turns}
 use Rattle.mpm_bdos.specs.Serving.{Kept, InService, Serves}
 use Rattle.mpm_directories.specs.Places.{directory_at}
@@ -24,8 +24,8 @@ use Rattle.mpm_bdos.specs.Turns.{FitsDrives, KeepsImages, StopsWithin, TurnKeeps
 use Rattle.mpm_bdos.proofs.ServedLaws.{none_before}
 use Rattle.mpm_system.specs.declared.system.System.{System}
 use Rattle.mpm_system.specs.Owing.{nobody_owes}
-use Rattle.mpm_machine.specs.Files.{Files, Between, Within, turns_ended, StandsServed, StandsForFiles}
-use Rattle.mpm_machine.specs.Holding.{IsOwn, HoldsKept}
+use Rattle.mpm_machine.specs.Files.{FilesInService, Between, Within, turns_ended, StandsServed, StandsForFiles}
+use Rattle.mpm_machine.specs.Holding.{IsOwnCall, HoldsKept}
 use Rattle.mpm_machine.specs.DiskStep.{owed_then, all_paid}
 use Rattle.mpm_machine.specs.Failing.{Working, is_work, working_turn, working_turn_of, works_in_turn, HaveImagesOf, FailsWithin}
 use Rattle.mpm_machine.proofs.FailingLaws.{turn_fails}
@@ -121,7 +121,7 @@ never_between : (turn_steps : ℕ) (served : Option Served) (first : Option ℕ)
 never_between turn_steps None first disks old filing some stands = none_works first turn_steps some
 never_between turn_steps (Some call) first disks old filing some stands = stands
 
-pub turn_failed : (disks now : Disks) (system : System) (old : Kept) (new : List (Option Directory)) (files : Files) → is_work (turn_answer system.kernel.disk) ≡ true
+pub turn_failed : (disks now : Disks) (system : System) (old : Kept) (new : List (Option Directory)) (files : FilesInService) → is_work (turn_answer system.kernel.disk) ≡ true
     → StandsForFiles system.kernel.disk old disks files
     → ((s : Situation) (j : ℕ) → Serves (images_of disks) old s j → j < call_turns s → StopsWithin now s j)
     → KeepsImages (drive_served old.service) old.mounted disks now
@@ -157,13 +157,13 @@ same_entered caller function call one other same is = record {
 }
 
 still_entered : (caller : Caller) (function : FileFunction) (call : Taken) (one other : Option InService) → option_map without_work other ≡ option_map without_work one
-    → HasEntered caller function call one → HasEntered caller function call other
+    → HasBegunService caller function call one → HasBegunService caller function call other
 still_entered caller function call None other same is = absurd is
 still_entered caller function call (Some one) None same is = absurd (none-some (without_work one) same)
 still_entered caller function call (Some one) (Some other) same is = same_entered caller function call one other (same_Some (without_work other) (without_work one) same) is
 
 own_still : (served : Option Served) (procs : Table) (old new : Option InService) → option_map without_work new ≡ option_map without_work old
-    → IfSome served (λ (call : Served). IsOwn procs call.p old) → IfSome served (λ (call : Served). IsOwn procs call.p new)
+    → IfSome served (λ (call : Served). IsOwnCall procs call.p old) → IfSome served (λ (call : Served). IsOwnCall procs call.p new)
 own_still None procs old new is own = tt
 own_still (Some call) procs old new is own = record {
   function = own.function;

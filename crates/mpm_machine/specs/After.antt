@@ -2,29 +2,29 @@
 use Rattle.std.specs.Prelude.{◌≡◌, ℕ, zero, suc, ◌+◌, ◌-◌, ◌<◌, ◌≤◌, Bool, List, ◌++◌, Option, Some, None, ⊤}
 use Rattle.mpm_port.specs.Disks.{Disks}
 use Rattle.mpm_render.specs.Outputs.{Output, rendered}
-use Rattle.mpm_render.specs.Shown.{Kept, Shows}
+use Rattle.mpm_render.specs.Shown.{KeptLines, Shows}
 use Rattle.mpm_output.specs.Outside.{Outside}
-use Rattle.mpm_output.specs.Writing.{Wrote, Stopped}
+use Rattle.mpm_output.specs.Writing.{CameOut, Stopped}
 use Rattle.mpm_directories.specs.Direct.{Directly}
 use Rattle.mpm_bdos.specs.Serving.{Kept as Filed}
 use Rattle.mpm_residents.specs.declared.native.Native.{Native}
-use Rattle.mpm_functions.specs.declared.functions.FileFunction.{FileFunction}
-use Rattle.mpm_requests.specs.Filing.{Filing, Situation}
+use Rattle.mpm_file_functions.specs.declared.functions.FileFunction.{FileFunction}
+use Rattle.mpm_refusals.specs.Filing.{Filing, Situation}
 use Rattle.mpm_system.specs.declared.system.System.{System}
-use Rattle.mpm_system.specs.Whole.{Change, silent}
+use Rattle.mpm_system.specs.Whole.{SystemChange, silent}
 use Rattle.mpm_system.specs.FileCalling.{call_made}
 use Rattle.mpm_machine.specs.declared.machine.StepFault.{StepFault}
 use Rattle.mpm_machine.specs.declared.machine.StepFault.TheVariants.{DiskFault, WriteFault}
-use Rattle.mpm_machine.specs.Files.{Files, StandsWorked, StandsForFiles}
+use Rattle.mpm_machine.specs.Files.{FilesInService, StandsWorked, StandsForFiles}
 use Rattle.mpm_machine.specs.State.{State}
 use Rattle.mpm_machine.specs.Faults.{EndsBy}
 use Rattle.mpm_machine.specs.FileCalls.{file_caller, situation_of, outcome_in}
 use Rattle.mpm_machine.specs.DiskStep.{process_over, file_called, call_entered, disk_served, told_of_call, turns_within}
-use Rattle.mpm_machine.specs.Stepping.{rest_of, nothing_told, before_disk, files_begun, told_within, paid_after, files_then, telling_then, telling_of, files_rest, Stepped, stepped}
-use Rattle.mpm_machine.specs.Contained.{IsContainedBy, Instructs, OnlyInstructed, Calls, DiffersInBytes, ServedByValue, Resides, ResidedByValue}
+use Rattle.mpm_machine.specs.Stepping.{rest_of, nothing_told, before_disk, files_begun, told_within, paid_after, files_then, telling_then, telling_of, files_rest, StepMade, stepped}
+use Rattle.mpm_machine.specs.Contained.{IsContainedBy, Instructs, OnlyInstructed, CallsAtGate, DiffersInBytes, ServedByValue, Resides, ResidedByValue}
 
 -- what a step that was made of a state leaves
-abbrev pub having : Stepped → List Output → State
+abbrev pub having : StepMade → List Output → State
 having step outputs = record { system = step.change.system; outputs = step.change.emitted ++ outputs; files = step.files }
 
 -- one step
@@ -37,7 +37,7 @@ after zero s = s
 after (suc n) s = next (after n s)
 
 -- a change, and another after it
-abbrev pub followed : Change → Change → Change
+abbrev pub followed : SystemChange → SystemChange → SystemChange
 followed first last = record { system = last.system; emitted = last.emitted ++ first.emitted }
 
 -- one of those that a definition makes
@@ -69,7 +69,7 @@ EntersByValue system =
 pub record IsStepOf (s : State) : Type 0 where
   pub contained : IsContainedBy (telling_of s.system s.files) s.system (next s).system
   pub instruction : (p seg : ℕ) → Instructs s.system p seg → OnlyInstructed (telling_of s.system s.files) p s.system (next s).system
-  pub calls : (p seg : ℕ) → Calls s.system p seg → file_caller s.system ≡ None → ServedByValue (telling_of s.system s.files) p seg s.system (next s).system
+  pub calls : (p seg : ℕ) → CallsAtGate s.system p seg → file_caller s.system ≡ None → ServedByValue (telling_of s.system s.files) p seg s.system (next s).system
   pub resides : (p : ℕ) (native : Native) → Resides s.system p native → file_caller s.system ≡ None
       → ResidedByValue (telling_of s.system s.files) p native s.system (next s).system
   pub filed : IsFiledByValue (file_caller s.system) (made_in (file_caller s.system) s.system)
@@ -77,21 +77,21 @@ pub record IsStepOf (s : State) : Type 0 where
   pub enters : EntersByValue (paid_after (telling_of s.system s.files).at_disk (before_disk s.system s.files).system)
 
 -- what a step begins with was done, by what is on the drives
-pub record HasBegunTo (files : Files) (before behind : Outside) (old new : System) (kept : Filed) (disks : Disks) : Type 0 where
+pub record HasBegunTo (files : FilesInService) (before behind : Outside) (old new : System) (kept : Filed) (disks : Disks) : Type 0 where
   pub system : new ≡ (before_disk old files).system
-  pub wrote : Wrote before behind (before_disk old files).emitted
+  pub wrote : CameOut before behind (before_disk old files).emitted
   pub stands : StandsWorked new.kernel.disk kept disks (files_begun old files)
 
 -- the rest of a step was
-pub record HasEndedTo (instruction : Bool) (files : Files) (before behind : Outside) (old new : System) (kept : Filed) (disks : Disks) : Type 0 where
+pub record HasEndedTo (instruction : Bool) (files : FilesInService) (before behind : Outside) (old new : System) (kept : Filed) (disks : Disks) : Type 0 where
   pub system : new ≡ (rest_of instruction (telling_then nothing_told old files) (silent old)).system
-  pub wrote : Wrote before behind (rest_of instruction (telling_then nothing_told old files) (silent old)).emitted
+  pub wrote : CameOut before behind (rest_of instruction (telling_then nothing_told old files) (silent old)).emitted
   pub stands : StandsForFiles new.kernel.disk kept disks (files_rest old files)
 
 -- a whole one was
-pub record HasSteppedTo (files : Files) (before behind : Outside) (old new : System) (kept : Filed) (disks : Disks) : Type 0 where
+pub record HasSteppedTo (files : FilesInService) (before behind : Outside) (old new : System) (kept : Filed) (disks : Disks) : Type 0 where
   pub system : new ≡ (stepped old files).change.system
-  pub wrote : Wrote before behind (stepped old files).change.emitted
+  pub wrote : CameOut before behind (stepped old files).change.emitted
   pub stands : StandsForFiles new.kernel.disk kept disks (stepped old files).files
 
 -- a step stopped: where a drive failed nothing of it was written
@@ -102,12 +102,12 @@ StopsBy DiskFault before behind emitted = behind ≡ before
 -- a file call that a process made was done at once, or waits, by what it came to
 pub record HasCalled (told : Directly) (p : ℕ) (before behind : Outside) (old new : System) : Type 0 where
   pub system : new ≡ (file_called told p old).system
-  pub wrote : Wrote before behind (file_called told p old).emitted
+  pub wrote : CameOut before behind (file_called told p old).emitted
 
 -- the disk made its step
-pub record HasServedTo (files : Files) (before behind : Outside) (old new : System) (kept : Filed) (disks : Disks) : Type 0 where
+pub record HasServedTo (files : FilesInService) (before behind : Outside) (old new : System) (kept : Filed) (disks : Disks) : Type 0 where
   pub system : new ≡ call_entered (turns_within (files_then old files)) (paid_after (told_within files old) old)
-  pub wrote : Wrote before behind (disk_served (told_within files old) old).emitted
+  pub wrote : CameOut before behind (disk_served (told_within files old) old).emitted
   pub stands : StandsForFiles new.kernel.disk kept disks (files_then old files)
 
 -- of what is kept of file calls, the rest of a step leaves the directories and what is cached
@@ -115,7 +115,7 @@ abbrev pub EndKeeps : Filed → Filed → Type 0
 EndKeeps old new = new ≡ record new { mounted = old.mounted; cached = old.cached }
 
 -- where a drive failed in the step after a state, what is kept to be written is that of the state
-abbrev pub ShowsBefore : StepFault → Kept → List ℕ → State → List ℕ → Type 0
+abbrev pub ShowsBefore : StepFault → KeptLines → List ℕ → State → List ℕ → Type 0
 ShowsBefore WriteFault kept written s first = ⊤
 ShowsBefore DiskFault kept written s first = Shows kept written s.outputs first
 

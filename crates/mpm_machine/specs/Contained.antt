@@ -19,7 +19,7 @@ use Rattle.mpm_residents.specs.declared.cli.act.Act.{Act}
 use Rattle.mpm_residents.specs.declared.cli.act.Act.TheVariants.{Ask, Place, Patch, Begin, Give}
 use Rattle.mpm_residents.specs.Natives.{native_act, native_call, native_in}
 use Rattle.mpm_residents.specs.declared.native.Native.{Native}
-use Rattle.mpm_functions.specs.declared.refusals.Extended.{Extended}
+use Rattle.mpm_file_functions.specs.declared.refusals.Extended.{Extended}
 use Rattle.mpm_directories.specs.Direct.{Directly}
 use Rattle.mpm_system.specs.declared.system.System.{System}
 use Rattle.mpm_system.specs.Calling.{Served, asking}
@@ -202,7 +202,7 @@ pub record ServedAlike (one other : Served) : Type 0 where
   pub reply : other.reply ≡ one.reply
 
 -- no event comes in this step, and the process that runs lives in that segment, and stands at the gate of calls
-pub record Calls (system : System) (p seg : ℕ) : Type 0 where
+pub record CallsAtGate (system : System) (p seg : ℕ) : Type 0 where
   pub quiet : coming (counted system) ≡ None
   pub runs : system.kernel.dispatcher.running ≡ Some p
   pub home : (process_in system.kernel.dispatcher.procs p).seg ≡ Some seg

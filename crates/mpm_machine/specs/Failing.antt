@@ -2,7 +2,7 @@
 -- Programmer's Guide, "BDOS Error Handling".)
 use Rattle.std.specs.Prelude.{◌≡◌, ℕ, ◌+◌, ◌<◌, ◌≤◌, ◌&&◌, ◌||◌, Bool, true, false, List, Option, Some, None, is_some, option_map, slice_set, if◌then◌else◌}
 use Rattle.mpm_port.specs.Disks.{Disks}
-use Rattle.mpm_render.specs.Shown.{Kept}
+use Rattle.mpm_render.specs.Shown.{KeptLines}
 use Rattle.mpm_procs.specs.Table.{call_of}
 use Rattle.mpm_mount.specs.Drives.{Drive}
 use Rattle.mpm_mount.specs.Directories.{Directory}
@@ -11,9 +11,9 @@ use Rattle.mpm_files.specs.Units.{stages}
 use Rattle.mpm_files.specs.Plans.{unit_at}
 use Rattle.mpm_files.specs.Serving.{units_done}
 use Rattle.mpm_files.specs.Standing.{IsAmong}
-use Rattle.mpm_functions.specs.Functions.{function_of}
-use Rattle.mpm_requests.specs.Filing.{Filing, Situation}
-use Rattle.mpm_requests.specs.Subjects.{drive_number, drive_at}
+use Rattle.mpm_file_functions.specs.Functions.{function_of}
+use Rattle.mpm_refusals.specs.Filing.{Filing, Situation}
+use Rattle.mpm_refusals.specs.Subjects.{drive_number, drive_at}
 use Rattle.mpm_bdos.specs.Jobs.{call_turns, job_of}
 use Rattle.mpm_bdos.specs.Serving.{StandEach}
 use Rattle.mpm_directories.specs.Places.{directory_at}
@@ -27,7 +27,7 @@ use Rattle.mpm_system.specs.FileCalling.{call_made}
 use Rattle.mpm_machine.specs.declared.machine.StepFault.{StepFault}
 use Rattle.mpm_machine.specs.declared.machine.StepFault.TheVariants.{DiskFault, WriteFault}
 use Rattle.mpm_machine.specs.State.{State}
-use Rattle.mpm_machine.specs.Files.{Files, Between, Within, turns_ended, drives_in}
+use Rattle.mpm_machine.specs.Files.{FilesInService, Between, Within, turns_ended, drives_in}
 use Rattle.mpm_machine.specs.FileCalls.{file_caller, situation_of}
 use Rattle.mpm_machine.specs.DiskStep.{is_done_at_once}
 use Rattle.mpm_machine.specs.Stepping.{stepped}
@@ -58,11 +58,11 @@ working_turn (Some call) Passing s = None
 working_turn (Some call) (Starts p) s = None
 working_turn (Some call) (Work p last) s = Some (record { call = s; ended = turns_ended call s; most = 1 })
 
-abbrev pub working_turn_of : System → Files → Option Working
+abbrev pub working_turn_of : System → FilesInService → Option Working
 working_turn_of system (Between filing) = None
 working_turn_of system (Within s) = working_turn system.kernel.disk.served (turn_answer system.kernel.disk) s
 
-unfoldable pub working_in : System → Files → Option Working
+unfoldable pub working_in : System → FilesInService → Option Working
 working_in system (Between filing) = working_by (file_caller system) filing system
 working_in system (Within s) = working_turn_of system (Within s)
 
@@ -91,12 +91,12 @@ does_work system = works_at_once (file_caller system) system || works_in_turn sy
 
 -- what is there where a machine stopped: what is kept to be written and what was, the images, and the directories in memory
 pub record Left : Type 0 where
-  pub kept : Kept
+  pub kept : KeptLines
   pub written : List ℕ
   pub disks : Disks
   pub mounted : List (Option Directory)
 
-abbrev pub leaving : {S D : Type 0} → (S → List ℕ) → (D → Disks) → Kept → S → D → List (Option Directory) → Left
+abbrev pub leaving : {S D : Type 0} → (S → List ℕ) → (D → Disks) → KeptLines → S → D → List (Option Directory) → Left
 leaving written disks kept sink drives mounted = record { kept = kept; written = written sink; disks = disks drives; mounted = mounted }
 
 -- each image stands, with a directory of the drive and the kind of the one that is mounted, for what is on its drive
@@ -113,7 +113,7 @@ pub record HaveImagesOf (Are : List (Option Drive) → Type 0) (disks : Disks) (
 
 -- what is on the drive of a call within one of the next turns, after those that ended: what there was before it, or one of those that
 -- its unit goes through
-pub record IsWithin (call : Situation) (ended most : ℕ) (files : Drive) : Type 0 where
+pub record IsWithinTurns (call : Situation) (ended most : ℕ) (files : Drive) : Type 0 where
   pub job : Job
   pub its : job_of call ≡ Some job
   pub turn : ℕ
@@ -127,11 +127,11 @@ pub record FailsWithin (working : Option Working) (drives : List (Option Drive))
   pub found : Working
   pub is : working ≡ Some found
   pub files : Drive
-  pub within : IsWithin found.call found.ended found.most files
+  pub within : IsWithinTurns found.call found.ended found.most files
   pub drives_are : drives ≡ slice_set found.call.filing.drives (drive_number found.call) (Some files)
 
 -- what is on the drives where a step stopped: where the sink failed, what the images stand for after it
-abbrev pub StopsOn : StepFault → System → Files → List (Option Drive) → Type 0
+abbrev pub StopsOn : StepFault → System → FilesInService → List (Option Drive) → Type 0
 StopsOn WriteFault system files drives = let step = stepped system files in drives ≡ drives_in step.change.system.kernel.disk.served step.files
 StopsOn DiskFault system files drives = FailsWithin (working_in system files) drives
 

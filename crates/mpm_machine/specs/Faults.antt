@@ -7,20 +7,20 @@ use Rattle.mpm_machine.specs.declared.machine.StepFault.TheVariants.{DiskFault, 
 use Rattle.mpm_machine.specs.declared.machine.RunFault.{RunFault}
 
 -- how often the sink and the drives failed
-pub record Counts : Type 0 where
+pub record FailureCounts : Type 0 where
   pub sink : ℕ
   pub drives : ℕ
 
-abbrev pub counts : {S D : Type 0} → (S → ℕ) → (D → ℕ) → S → D → Counts
+abbrev pub counts : {S D : Type 0} → (S → ℕ) → (D → ℕ) → S → D → FailureCounts
 counts of_sink of_drives sink drives = record { sink = of_sink sink; drives = of_drives drives }
 
 -- the count of that device rose, and the other's stayed
-abbrev pub HasFailed : StepFault → Counts → Counts → Type 0
+abbrev pub HasFailed : StepFault → FailureCounts → FailureCounts → Type 0
 HasFailed WriteFault old new = Rose old.sink new.sink × (new.drives ≡ old.drives)
 HasFailed DiskFault old new = Rose old.drives new.drives × (new.sink ≡ old.sink)
 
 -- a success leaves both counts, and after an error that device failed of which it tells
-pub record HaveCause {A E : Type 0} (fault : E → StepFault) (old new : Counts) (result : Result A E) : Type 0 where
+pub record HaveCause {A E : Type 0} (fault : E → StepFault) (old new : FailureCounts) (result : Result A E) : Type 0 where
   pub stays : OnOk result (new ≡ old)
   pub failed : IfErr result (λ error. HasFailed (fault error) old new)
 

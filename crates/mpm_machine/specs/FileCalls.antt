@@ -11,17 +11,17 @@ use Rattle.mpm_gate.specs.declared.gate.Gate.{Gate}
 use Rattle.mpm_gate.specs.declared.gate.Gate.TheVariants.{End, Call, Return}
 use Rattle.mpm_residents.specs.declared.native.Native.{Native}
 use Rattle.mpm_residents.specs.Natives.{native_call, native_in}
-use Rattle.mpm_functions.specs.declared.functions.FileFunction.{FileFunction}
-use Rattle.mpm_functions.specs.declared.functions.DirectFunction.{DirectFunction}
-use Rattle.mpm_functions.specs.declared.refusals.Extended.{Extended}
-use Rattle.mpm_functions.specs.Functions.{function_of, direct_of}
-use Rattle.mpm_requests.specs.Filing.{Filing, Situation}
+use Rattle.mpm_file_functions.specs.declared.functions.FileFunction.{FileFunction}
+use Rattle.mpm_file_functions.specs.declared.functions.DirectFunction.{DirectFunction}
+use Rattle.mpm_file_functions.specs.declared.refusals.Extended.{Extended}
+use Rattle.mpm_file_functions.specs.Functions.{function_of, direct_of}
+use Rattle.mpm_refusals.specs.Filing.{Filing, Situation}
 use Rattle.mpm_bdos.specs.Starting.{caller_of}
 use Rattle.mpm_directories.specs.Direct.{Stays, Directly}
-use Rattle.mpm_bdos.specs.Outcomes.{Outcome, file_call}
+use Rattle.mpm_bdos.specs.Outcomes.{FileOutcome, file_call}
 use Rattle.mpm_bdos.specs.Direct.{direct}
 use Rattle.mpm_system.specs.declared.system.System.{System}
-use Rattle.mpm_system.specs.Whole.{Change, silent}
+use Rattle.mpm_system.specs.Whole.{SystemChange, silent}
 use Rattle.mpm_system.specs.Coming.{coming, counted}
 use Rattle.mpm_system.specs.FileCalling.{with_caller, change_of, file_replied, error_told}
 use Rattle.mpm_machine.specs.Ending.{ended}
@@ -74,22 +74,22 @@ situation_of filing function p system =
 
 -- the call that a process keeps, by its function: served by the disk, or done without it, which leaves files and drives as they
 -- are
-abbrev pub directly : Filing → Directly → Outcome
+abbrev pub directly : Filing → Directly → FileOutcome
 directly filing done = record { filing = filing; caller = done.caller; answer = done.answer; extended = done.extended }
 
-abbrev pub outcome_by : Option FileFunction → Option DirectFunction → Filing → ℕ → System → Outcome
+abbrev pub outcome_by : Option FileFunction → Option DirectFunction → Filing → ℕ → System → FileOutcome
 outcome_by (Some function) other filing p system = file_call (situation_of filing function p system)
 outcome_by None (Some function) filing p system =
     directly filing (direct filing (process_in system.kernel.dispatcher.procs p).drive (call_of system.kernel.dispatcher.procs p) function)
 outcome_by None None filing p system = directly filing (record { caller = Stays; answer = answering 0; extended = None })
 
-unfoldable pub outcome_in : Filing → ℕ → System → Outcome
+unfoldable pub outcome_in : Filing → ℕ → System → FileOutcome
 outcome_in filing p system =
     let number = (call_of system.kernel.dispatcher.procs p).function in
     outcome_by (function_of number) (direct_of number) filing p system
 
 -- what of it the caller sees
-abbrev pub told_by : Outcome → Directly
+abbrev pub told_by : FileOutcome → Directly
 told_by outcome = record { caller = outcome.caller; answer = outcome.answer; extended = outcome.extended }
 
 abbrev pub told_of : Taken → Answer → Option Extended → Directly
@@ -99,17 +99,17 @@ told_of call reply error = record { caller = change_of call error; answer = repl
 abbrev pub answered_or_ended : Bool → Answer → ℕ → System → System
 answered_or_ended answers reply p system = if answers then file_replied reply p system else ended p system
 
-unfoldable pub told_then : Bool → Extended → Answer → ℕ → System → Change
+unfoldable pub told_then : Bool → Extended → Answer → ℕ → System → SystemChange
 told_then answers error reply p system = then_also (error_told error p system) (answered_or_ended answers reply p)
 
-unfoldable pub error_met : Extended → Answer → ℕ → System → Change
+unfoldable pub error_met : Extended → Answer → ℕ → System → SystemChange
 error_met error reply p system =
     let mode = (process_in system.kernel.dispatcher.procs p).error_mode in
     if mode == 255 then silent (file_replied reply p system) else (told_then (mode == 254) error reply p system)
 
-abbrev pub answered_by : Option Extended → Answer → ℕ → System → Change
+abbrev pub answered_by : Option Extended → Answer → ℕ → System → SystemChange
 answered_by None reply p system = silent (file_replied reply p system)
 answered_by (Some error) reply p system = error_met error reply p system
 
-unfoldable pub concluded : Directly → ℕ → System → Change
+unfoldable pub concluded : Directly → ℕ → System → SystemChange
 concluded told p system = answered_by told.extended told.answer p (with_caller told.caller p system)

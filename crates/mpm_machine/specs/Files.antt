@@ -7,18 +7,18 @@ use Rattle.mpm_port.specs.Disks.{Disks}
 use Rattle.mpm_mount.specs.Drives.{Drive}
 use Rattle.mpm_service.specs.Disk.{DiskService, is_last_step}
 use Rattle.mpm_service.specs.declared.service.Served.{Served}
-use Rattle.mpm_requests.specs.Filing.{Filing, Situation}
+use Rattle.mpm_refusals.specs.Filing.{Filing, Situation}
 use Rattle.mpm_bdos.specs.Jobs.{call_turns}
 use Rattle.mpm_bdos.specs.Outcomes.{drives_after, left_by, without_search}
 use Rattle.mpm_bdos.specs.Serving.{Kept, StandEach, Serves, filing_of}
 use Rattle.mpm_bdos.specs.Turns.{images_of}
 
 -- no call is in service, or one is, in the situation in which it entered: of what it found nothing changes until its last turn is over
-pub data Files : Type 0 where
-  Between : Filing → Files
-  Within : Situation → Files
+pub data FilesInService : Type 0 where
+  Between : Filing → FilesInService
+  Within : Situation → FilesInService
 
-abbrev pub filing_in : Files → Filing
+abbrev pub filing_in : FilesInService → Filing
 filing_in (Between filing) = filing
 filing_in (Within s) = s.filing
 
@@ -26,7 +26,7 @@ filing_in (Within s) = s.filing
 abbrev pub turns_ended : Served → Situation → ℕ
 turns_ended call s = call_turns s - call.left
 
-unfoldable pub drives_in : Option Served → Files → List (Option Drive)
+unfoldable pub drives_in : Option Served → FilesInService → List (Option Drive)
 drives_in served (Between filing) = filing.drives
 drives_in None (Within s) = s.filing.drives
 drives_in (Some call) (Within s) = drives_after s (turns_ended call s)
@@ -47,21 +47,21 @@ pub record StandsWithin (call : Served) (kept : Kept) (disks : Disks) (s : Situa
   pub serves : Serves (images_of disks) kept s turns
 
 -- so they stand by the call that the disk serves, if it serves one
-abbrev pub StandsServed : Option Served → Kept → Disks → Files → Type 0
+abbrev pub StandsServed : Option Served → Kept → Disks → FilesInService → Type 0
 StandsServed None kept disks (Between filing) = StandsBetween kept disks filing
 StandsServed None kept disks (Within s) = ⊥
 StandsServed (Some call) kept disks (Between filing) = ⊥
 StandsServed (Some call) kept disks (Within s) = StandsWithin call kept disks s
 
 -- files are within a call where the disk serves one, and else between two
-abbrev pub AreWithin : Option Served → Files → Type 0
+abbrev pub AreWithin : Option Served → FilesInService → Type 0
 AreWithin None (Between filing) = ⊤
 AreWithin None (Within s) = ⊥
 AreWithin (Some call) (Between filing) = ⊥
 AreWithin (Some call) (Within s) = ⊤
 
 -- of the disk this looks at the call in service alone: whoever comes to wait or leaves, it stays
-pub record StandsForFiles (disk : DiskService) (kept : Kept) (disks : Disks) (files : Files) : Type 0 where
+pub record StandsForFiles (disk : DiskService) (kept : Kept) (disks : Disks) (files : FilesInService) : Type 0 where
   pub stands : StandsServed disk.served kept disks files
 
 -- so they stand within a step as the turn's work was done whose last step this is: of one turn more
@@ -75,13 +75,13 @@ pub record HasWorked (turn_steps : ℕ) (call : Served) (kept : Kept) (disks : D
   pub whose : call.p ≡ s.caller.process
   pub serves : Serves (images_of disks) kept s (one_more (is_last_step turn_steps call) turns)
 
-abbrev pub StandsWorkedBy : ℕ → Option Served → Kept → Disks → Files → Type 0
+abbrev pub StandsWorkedBy : ℕ → Option Served → Kept → Disks → FilesInService → Type 0
 StandsWorkedBy turn_steps None kept disks (Between filing) = StandsBetween kept disks filing
 StandsWorkedBy turn_steps None kept disks (Within s) = ⊥
 StandsWorkedBy turn_steps (Some call) kept disks (Between filing) = ⊥
 StandsWorkedBy turn_steps (Some call) kept disks (Within s) = HasWorked turn_steps call kept disks s
 
-pub record StandsWorked (disk : DiskService) (kept : Kept) (disks : Disks) (files : Files) : Type 0 where
+pub record StandsWorked (disk : DiskService) (kept : Kept) (disks : Disks) (files : FilesInService) : Type 0 where
   pub stands : StandsWorkedBy disk.turn_steps disk.served kept disks files
 
 -- the processes of slots that ended give back what they had open and marked, and their searches end
@@ -96,6 +96,6 @@ unfoldable pub all_left : List Bool → Filing → Filing
 all_left owed filing = left_each (owes owed) (range_with_len 0 32) filing
 
 -- those who owe it do so where no call is in service
-abbrev pub given_back : List Bool → Files → Files
+abbrev pub given_back : List Bool → FilesInService → FilesInService
 given_back owed (Between filing) = Between (all_left owed filing)
 given_back owed (Within s) = Within s

@@ -5,27 +5,27 @@ use Rattle.mpm_procs.specs.Table.{Table, process_in, call_of}
 use Rattle.mpm_service.specs.Disk.{HasBegun}
 use Rattle.mpm_service.specs.Places.{at_disk}
 use Rattle.mpm_kernel.specs.Kernel.{Kernel}
-use Rattle.mpm_requests.specs.declared.caller.Caller.{Caller}
-use Rattle.mpm_functions.specs.declared.functions.FileFunction.{FileFunction}
-use Rattle.mpm_functions.specs.Functions.{function_of}
-use Rattle.mpm_bdos.specs.Starting.{HasEntered}
+use Rattle.mpm_refusals.specs.declared.caller.Caller.{Caller}
+use Rattle.mpm_file_functions.specs.declared.functions.FileFunction.{FileFunction}
+use Rattle.mpm_file_functions.specs.Functions.{function_of}
+use Rattle.mpm_bdos.specs.Starting.{HasBegunService}
 use Rattle.mpm_bdos.specs.Serving.{Kept, InService}
 use Rattle.mpm_directories.specs.Places.{directory_at}
 use Rattle.mpm_bdos.specs.Turns.{FitsDrives, has_work}
-use Rattle.mpm_machine.specs.Files.{Files, StandsForFiles}
+use Rattle.mpm_machine.specs.Files.{FilesInService, StandsForFiles}
 
 -- the call in service is that which its process keeps, with the multi-sector count with which it entered: neither changes while it is
 -- at the disk
-pub record IsOwn (procs : Table) (p : ℕ) (service : Option InService) : Type 0 where
+pub record IsOwnCall (procs : Table) (p : ℕ) (service : Option InService) : Type 0 where
   pub function : FileFunction
   pub its : function_of (call_of procs p).function ≡ Some function
   pub caller : Caller
   pub multi : caller.multi ≡ (process_in procs p).multi
-  pub entered : HasEntered caller function (call_of procs p) service
+  pub entered : HasBegunService caller function (call_of procs p) service
 
 -- so it is of the one that the disk serves, if it serves one
 abbrev pub OwnsService : Kernel → Option InService → Type 0
-OwnsService kernel service = IfSome kernel.disk.served (λ call. IsOwn kernel.dispatcher.procs call.p service)
+OwnsService kernel service = IfSome kernel.disk.served (λ call. IsOwnCall kernel.dispatcher.procs call.p service)
 
 -- who waits for the disk, or is served, keeps a call that the disk serves
 abbrev pub AreFiled : Kernel → Type 0
@@ -44,7 +44,7 @@ pub record HoldsKept {D : Type 0} (disks : D → Disks) (kernel : Kernel) (kept 
 -- between steps, what is kept and the images stand for some files too
 pub record HoldsDrives {D : Type 0} (disks : D → Disks) (kernel : Kernel) (kept : Kept) (drives : D) : Type 0 where
   pub calls : HoldsKept disks kernel kept drives
-  pub files : Files
+  pub files : FilesInService
   pub stands : StandsForFiles kernel.disk kept (disks drives) files
 
 -- each process keeps the same call, and its multi-sector count

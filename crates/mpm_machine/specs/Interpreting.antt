@@ -13,7 +13,7 @@ use Rattle.mpm_service.specs.Places.{at_disk}
 use Rattle.mpm_residents.specs.Interpreters.{Interpreter, next_call}
 use Rattle.mpm_residents.specs.declared.cli.table.Row.{Row}
 use Rattle.mpm_residents.specs.declared.cli.table.Row.TheVariants.{ReadCommand}
-use Rattle.mpm_residents.specs.Standing.{is_loading, Stands}
+use Rattle.mpm_residents.specs.Standing.{is_loading, InterpreterStands}
 use Rattle.mpm_residents.specs.Natives.{native_in, interprets_if_there}
 use Rattle.mpm_residents.specs.declared.native.Native.TheVariants.{Cli}
 use Rattle.mpm_system.specs.declared.system.System.{System}
@@ -40,7 +40,7 @@ pub record IsActing (system : System) : Type 0 where
   pub answers : (process_in system.kernel.dispatcher.procs 0).error_mode ≡ 255
   pub goes_on : (process_in system.kernel.dispatcher.procs 0).abort_due ≡ false
   pub calls : sets_or_chains (call_of system.kernel.dispatcher.procs 0).function ≡ false
-  pub stands : Stands cli
+  pub stands : InterpreterStands cli
   pub consoles : cli.consoles ≡ length system.kernel.units.consoles
 
 -- an interpreter awaits a command as it reads one, and the answer to its file call while that is at the disk, at which it stands at so many
@@ -64,7 +64,7 @@ pub record Interprets (system : System) : Type 0 where
   pub awaits : AwaitsIn (awaited (at_disk system.kernel.disk 0) acting.cli.row) 0 system.kernel
 
 -- an address of a segment that slot 0 has reserved, within the segment's pages
-pub record IsOwn (memory : Memory) (seg at : ℕ) : Type 0 where
+pub record IsOwnAddress (memory : Memory) (seg at : ℕ) : Type 0 where
   pub reserved : (segment_of memory seg).allocation ≡ Reserved 0
   pub first : 256 * (segment_of memory seg).base ≤ at
   pub below : at < 256 * ((segment_of memory seg).base + (segment_of memory seg).pages)

@@ -7,7 +7,7 @@ use Rattle.mpm_mount.specs.Directories.{Directory}
 use Rattle.mpm_drives.specs.Images.{Images}
 use Rattle.mpm_drives.specs.Mounted.{NumberedDrive, AreMounted, AreDrivesOf, number_of, placed}
 use Rattle.mpm_mount.specs.Drives.{Drive}
-use Rattle.mpm_requests.specs.Filing.{Filing}
+use Rattle.mpm_refusals.specs.Filing.{Filing}
 use Rattle.mpm_bdos.specs.Serving.{Kept, filing_of, nothing_kept}
 use Rattle.mpm_directories.specs.Places.{directory_at, in_places}
 use Rattle.mpm_bdos.specs.Turns.{StaysBeside, KeepsToldOf, labelled}

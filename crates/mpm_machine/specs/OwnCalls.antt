@@ -9,7 +9,7 @@ use Rattle.mpm_render.specs.Completions.{Completion}
 use Rattle.mpm_render.specs.Outputs.{Output, Completed}
 use Rattle.mpm_gate.specs.declared.gate.Gate.TheVariants.{Call}
 use Rattle.mpm_system.specs.declared.system.System.{System}
-use Rattle.mpm_system.specs.Whole.{Change}
+use Rattle.mpm_system.specs.Whole.{SystemChange}
 use Rattle.mpm_system.specs.Coming.{counted}
 use Rattle.mpm_system.specs.Written.{with_records}
 use Rattle.mpm_system.specs.OwnCalls.{is_own}
@@ -30,5 +30,5 @@ abbrev pub IsRecord : List Output → Type 0
 IsRecord emitted = (call : Completion) × (emitted ≡ Completed call ∷ [])
 
 -- the step is that of its gate, and its record comes out
-unfoldable pub with_own_call : ℕ → ℕ → System → Change
+unfoldable pub with_own_call : ℕ → ℕ → System → SystemChange
 with_own_call p seg system = with_records (gate_step p seg (counted system))

@@ -17,7 +17,7 @@ use Rattle.mpm_xdos.specs.Copies.{system_answer, descriptor_answer}
 use Rattle.mpm_xdos.specs.Procedures.{entered, entry_reply, returned_from_procedure}
 use Rattle.mpm_output.specs.Writing.{spoken}
 use Rattle.mpm_system.specs.declared.system.System.{System}
-use Rattle.mpm_system.specs.Whole.{Change, silent}
+use Rattle.mpm_system.specs.Whole.{SystemChange, silent}
 use Rattle.mpm_system.specs.Owing.{owing_unless}
 use Rattle.mpm_system.specs.Calling.{Served, served_by, calling}
 use Rattle.mpm_system.specs.Sending.{has_interpreter, sending, chaining}
@@ -96,7 +96,7 @@ served call p system =
     else (served_to_all call p system))))))
 
 -- that comes before what else the call brings about
-abbrev pub after_echo : Taken → ℕ → System → Change → Change
+abbrev pub after_echo : Taken → ℕ → System → SystemChange → SystemChange
 after_echo call p system change =
     record change { emitted = change.emitted ++ spoken (process_in system.kernel.dispatcher.procs p).console (echo_of call system.kernel) }
 
@@ -119,7 +119,7 @@ fulfilling reply call p seg system =
     answering_call (reply_at_entry reply call p system) call p seg (with_entry reply call p system)
 
 -- a call that is done: its text, its reply after the return address, its record
-unfoldable pub completing : Answer → Taken → ℕ → ℕ → System → Change
+unfoldable pub completing : Answer → Taken → ℕ → ℕ → System → SystemChange
 completing reply call p seg system =
     let spoke = said_by call (string_of call seg system.memory) p system in
     record spoke { system = fulfilling reply call p seg (popped p seg spoke.system) }
@@ -130,14 +130,14 @@ returning p system = record system { kernel = returned_from_procedure p system.k
 
 -- what a served call brings about: the return address is taken as it is done or held, and one that is to be tried again stays
 -- at the gate
-abbrev pub outcome_of : Outcome → Answer → Taken → ℕ → ℕ → System → Change
+abbrev pub outcome_of : Outcome → Answer → Taken → ℕ → ℕ → System → SystemChange
 outcome_of Done reply call p seg system = completing reply call p seg system
 outcome_of Ended reply call p seg system = silent (ended p system)
 outcome_of Held reply call p seg system = silent (popped p seg system)
 outcome_of Retry reply call p seg system = silent system
 
 -- the gate step of a call: it is taken, kept and served, and its outcome follows
-unfoldable pub gate_step : ℕ → ℕ → System → Change
+unfoldable pub gate_step : ℕ → ℕ → System → SystemChange
 gate_step p seg system =
     let call = asked p seg system in
     let done = served call p (keeping p call system) in

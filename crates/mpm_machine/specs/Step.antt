@@ -1,6 +1,6 @@
 -- What a step begins with in which no file call is made, and its parts.
 use Rattle.std.specs.Prelude.{ℕ, Bool, true, false, List, [], ◌++◌, Option, Some, None}
-use Rattle.z80_regs.specs.Outcome.{Outcome}
+use Rattle.z80_regs.specs.Outcome.{StepOutcome}
 use Rattle.z80_ext.specs.Instruction.{instruction, registers_after, actions_of}
 use Rattle.mpm_banks.specs.Memory.{byte_at}
 use Rattle.mpm_banks.specs.Ports.{port_byte}
@@ -22,7 +22,7 @@ use Rattle.mpm_residents.specs.Natives.{native_in}
 use Rattle.mpm_interrupts.specs.Interrupts.{due_taken}
 use Rattle.mpm_system.specs.Procedures.{is_inside}
 use Rattle.mpm_system.specs.declared.system.System.{System}
-use Rattle.mpm_system.specs.Whole.{Change, silent, speaking}
+use Rattle.mpm_system.specs.Whole.{SystemChange, silent, speaking}
 use Rattle.mpm_system.specs.Taking.{with_regs}
 use Rattle.mpm_system.specs.Coming.{unhalted}
 use Rattle.mpm_machine.specs.Ending.{ended}
@@ -30,14 +30,14 @@ use Rattle.mpm_machine.specs.Serving.{aborted, gate_step, returning}
 use Rattle.mpm_machine.specs.Residing.{resided}
 
 -- a process comes to an unlisted opcode: a text on its console, and its end
-unfoldable pub illegal : ℕ → System → Change
+unfoldable pub illegal : ℕ → System → SystemChange
 illegal p system =
     let process = process_in system.kernel.dispatcher.procs p in
     let spoke = speaking process.console (illegal_text process.regs.pc) system in
     record spoke { system = ended p spoke.system }
 
 -- the system after an instruction of a process
-unfoldable pub instructed : Option Outcome → ℕ → ℕ → System → System
+unfoldable pub instructed : Option StepOutcome → ℕ → ℕ → System → System
 instructed outcome p seg system =
     let polled = record system.kernel { devices = devices_after (actions_of outcome) system.kernel.devices } in
     record system {
@@ -46,18 +46,18 @@ instructed outcome p seg system =
     }
 
 -- an instruction of a process, where a listed one stands
-unfoldable pub executed : Option Outcome → ℕ → ℕ → System → Change
+unfoldable pub executed : Option StepOutcome → ℕ → ℕ → System → SystemChange
 executed None p seg system = illegal p system
 executed (Some outcome) p seg system = silent (instructed (Some outcome) p seg system)
 
 -- the instruction at which a process stands
-abbrev pub instruction_at : ℕ → ℕ → System → Option Outcome
+abbrev pub instruction_at : ℕ → ℕ → System → Option StepOutcome
 instruction_at p seg system =
     instruction (process_in system.kernel.dispatcher.procs p).regs (byte_at system.memory seg) (port_byte system.kernel.devices)
 
 -- what a process of a segment does: at its gates it ends, calls the kernel, or leaves its resident procedure; elsewhere an
 -- instruction stands
-abbrev pub acted_at : Option Gate → ℕ → ℕ → System → Change
+abbrev pub acted_at : Option Gate → ℕ → ℕ → System → SystemChange
 acted_at (Some End) p seg system = silent (ended p system)
 acted_at (Some Call) p seg system = gate_step p seg system
 acted_at (Some Return) p seg system = silent (returning p system)
@@ -68,7 +68,7 @@ abbrev pub gate_before : ℕ → ℕ → System → Option Gate
 gate_before p seg system = gate_of (is_inside system.kernel.dispatcher.procs p) system.memory seg (process_in system.kernel.dispatcher.procs p).regs.pc
 
 -- what the running process does: in its segment, or as a resident
-abbrev pub acted_by : Option ℕ → Option ℕ → System → Change
+abbrev pub acted_by : Option ℕ → Option ℕ → System → SystemChange
 acted_by None seg system = silent system
 acted_by (Some p) None system = resided (native_in system.residents p) p system
 acted_by (Some p) (Some seg) system = acted_at (gate_before p seg system) p seg system
@@ -78,7 +78,7 @@ abbrev pub running_segment : Option ℕ → System → Option ℕ
 running_segment None system = None
 running_segment (Some p) system = (process_in system.kernel.dispatcher.procs p).seg
 
-unfoldable pub acted : System → Change
+unfoldable pub acted : System → SystemChange
 acted system = acted_by system.kernel.dispatcher.running (running_segment system.kernel.dispatcher.running system) system
 
 -- there is no gate
@@ -112,22 +112,22 @@ abbrev pub happened_to : Event → System → System
 happened_to event system = record system { kernel = happened event (unhalted system.kernel.dispatcher.running system.kernel) }
 
 -- the change that an event brings about
-unfoldable pub event_come : Event → System → Change
+unfoldable pub event_come : Event → System → SystemChange
 event_come event system =
     let afterwards = happened_to event system in
     record { system = key_aborted afterwards.kernel.aborted afterwards; emitted = event_text event afterwards.kernel }
 
 -- the event that is due comes
-unfoldable pub interrupted : Event → System → Change
+unfoldable pub interrupted : Event → System → SystemChange
 interrupted event system = event_come event (record system { interrupts = due_taken system.steps system.interrupts })
 
 -- the event that comes, if one does
-abbrev pub interrupted_by : Option Event → System → Change
+abbrev pub interrupted_by : Option Event → System → SystemChange
 interrupted_by None system = silent system
 interrupted_by (Some event) system = interrupted event system
 
 -- what a step begins with: the event that comes, or else what the running process does
-abbrev pub begun_by : Option Event → System → Change
+abbrev pub begun_by : Option Event → System → SystemChange
 begun_by None system = acted system
 begun_by (Some event) system = interrupted event system
 
@@ -137,16 +137,16 @@ instruction_unless None system = at_instruction system
 instruction_unless (Some event) system = false
 
 -- the system goes on, and nothing is said
-abbrev pub then_also : Change → (System → System) → Change
+abbrev pub then_also : SystemChange → (System → System) → SystemChange
 then_also change next = record change { system = next change.system }
 
 -- and so it does where something is said
-abbrev pub then_so : Change → (System → Change) → Change
+abbrev pub then_so : SystemChange → (System → SystemChange) → SystemChange
 then_so first next =
     let afterwards = next first.system in
     record { system = afterwards.system; emitted = afterwards.emitted ++ first.emitted }
 
 -- and it is picked who runs
-abbrev pub dispatched : Bool → Change → Change
+abbrev pub dispatched : Bool → SystemChange → SystemChange
 dispatched instruction change =
     record change { system = record change.system { kernel = with_dispatcher (picked instruction) change.system.kernel } }

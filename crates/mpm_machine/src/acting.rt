@@ -2,7 +2,7 @@ ghost use Rattle.std.specs.Prelude.{◌≡◌, ◌<◌, ◌≤◌, ◌+◌, true
 ghost use Rattle.mpm_script.specs.declared.line.TheConstants.{GREATEST_STEP};
 ghost use Rattle.mpm_procs.specs.Table.{Lives, process_in};
 ghost use Rattle.mpm_dispatcher.specs.Dispatch.{IsReady};
-ghost use Rattle.mpm_output.specs.Writing.{Writes};
+ghost use Rattle.mpm_output.specs.Writing.{WritesAlone};
 ghost use Rattle.mpm_gate.specs.Gates.{IsHome};
 ghost use Rattle.mpm_gate.specs.declared.gate.Gate.TheVariants.{Return};
 ghost use Rattle.mpm_system.specs.Procedures.{is_inside};
@@ -39,7 +39,7 @@ pub(crate) fn begin_alone<S: Sink>(
     ensures system { OnOk result (system.new ≡ all_answered (begun_alone system.old).system) }
     ensures room { OnOk result (HasRoomForAll (length system.new.records + 1)) }
     ensures instruction { IfOk result (λ instruction. instruction ≡ is_instruction None system.old) }
-    ensures wrote { Writes S.written S.faults render.old sink.old render.new sink.new (begun_alone system.old).emitted result }
+    ensures wrote { WritesAlone S.written S.faults render.old sink.old render.new sink.new (begun_alone system.old).emitted result }
 {
     system.steps += 1;
     let instruction = begin(system, reply, render, sink)?;
@@ -61,7 +61,7 @@ fn begin<S: Sink>(
     requires room { HasRoom system.old }
     ensures system { OnOk result (system.new ≡ (begun_by (coming system.old) system.old).system) }
     ensures instruction { IfOk result (λ instruction. instruction ≡ instruction_unless (coming system.old) system.old) }
-    ensures wrote { Writes S.written S.faults render.old sink.old render.new sink.new (begun_by (coming system.old) system.old).emitted result }
+    ensures wrote { WritesAlone S.written S.faults render.old sink.old render.new sink.new (begun_by (coming system.old) system.old).emitted result }
 {
     let came = interrupt(system, render, sink)?;
     if came {
@@ -83,7 +83,7 @@ fn act<S: Sink>(
     requires room { HasRoom system.old }
     ensures system { OnOk result (system.new ≡ (acted system.old).system) }
     ensures instruction { IfOk result (λ instruction. instruction ≡ at_instruction system.old) }
-    ensures wrote { Writes S.written S.faults render.old sink.old render.new sink.new (acted system.old).emitted result }
+    ensures wrote { WritesAlone S.written S.faults render.old sink.old render.new sink.new (acted system.old).emitted result }
 {
     let Some(p) = system.kernel.running() else {
         return Ok(false);
@@ -114,7 +114,7 @@ fn act_at<S: Sink>(
     requires room { HasRoom system.old }
     ensures system { OnOk result (system.new ≡ (acted_at (gate_before p seg system.old) p seg system.old).system) }
     ensures instruction { IfOk result (λ instruction. instruction ≡ is_no_gate (gate_before p seg system.old)) }
-    ensures wrote { Writes S.written S.faults render.old sink.old render.new sink.new (acted_at (gate_before p seg system.old) p seg system.old).emitted result }
+    ensures wrote { WritesAlone S.written S.faults render.old sink.old render.new sink.new (acted_at (gate_before p seg system.old) p seg system.old).emitted result }
 {
     match gate(system, p, seg) {
         Some(Gate::End) => {
@@ -164,7 +164,7 @@ fn execute<S: Sink>(
     requires home { IsHome system.old.memory seg }
     requires gate { gate_before p seg system.old ≡ None }
     ensures system { OnOk result (system.new ≡ (executed (instruction_at p seg system.old) p seg system.old).system) }
-    ensures wrote { Writes S.written S.faults render.old sink.old render.new sink.new (executed (instruction_at p seg system.old) p seg system.old).emitted result }
+    ensures wrote { WritesAlone S.written S.faults render.old sink.old render.new sink.new (executed (instruction_at p seg system.old) p seg system.old).emitted result }
 {
     if instruct(system, p, seg) {
         return Ok(());
@@ -203,7 +203,7 @@ fn illegal<S: Sink>(
     requires whole { IsWhole system.old }
     requires lives { Lives system.old.kernel.dispatcher.procs p }
     ensures system { OnOk result (system.new ≡ (at_unlisted p system.old).system) }
-    ensures wrote { Writes S.written S.faults render.old sink.old render.new sink.new (at_unlisted p system.old).emitted result }
+    ensures wrote { WritesAlone S.written S.faults render.old sink.old render.new sink.new (at_unlisted p system.old).emitted result }
 {
     let process = system.kernel.living(p);
     let console = process.console;

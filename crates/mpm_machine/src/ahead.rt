@@ -2,7 +2,7 @@ ghost use Rattle.std.specs.Prelude.{◌≡◌, ◌+◌, ◌-◌, ◌≤◌, ◌<
 ghost use Rattle.std.specs.Bool.{OnTrue};
 ghost use Rattle.mpm_script.specs.declared.line.TheConstants.{GREATEST_STEP};
 ghost use Rattle.mpm_procs.specs.Table.{Lives};
-ghost use Rattle.mpm_kernel.specs.Kernel.{IsSound};
+ghost use Rattle.mpm_kernel.specs.Kernel.{IsSoundKernel};
 ghost use Rattle.mpm_gate.specs.Gates.{IsHome};
 ghost use Rattle.mpm_system.specs.Whole.{IsWhole, NoCompletions};
 ghost use Rattle.mpm_system.specs.Idling.{CanPass};
@@ -133,7 +133,7 @@ fn steps_ahead(system: &System, last: u64, most: u64) -> u64
 #[tactic(auto, unfolding(crate::specs::Moving::with_view))]
 #[inline(always)]
 fn run_process(system: &mut System, p: Pid, seg: Seg, most: u64) -> u64
-    requires sound { IsSound system.old.kernel }
+    requires sound { IsSoundKernel system.old.kernel }
     requires short { most ≤ 4294967295 }
     requires passing { CanPass most system.old.kernel.disk }
     requires lives { Lives system.old.kernel.dispatcher.procs p }

@@ -2,7 +2,7 @@ ghost use Rattle.std.specs.Prelude.{true, ◌≡◌, ◌≢◌, ◌≤◌, Some,
 ghost use Rattle.mpm_base.specs.declared.call.Outcome.TheVariants.{Done};
 ghost use Rattle.mpm_procs.specs.Table.{Lives, process_in, call_of};
 ghost use Rattle.mpm_dispatcher.specs.Dispatch.{IsReady};
-ghost use Rattle.mpm_output.specs.Writing.{Writes};
+ghost use Rattle.mpm_output.specs.Writing.{WritesAlone};
 ghost use Rattle.mpm_base.specs.Calls.{Answer};
 ghost use Rattle.mpm_system.specs.Whole.{IsWhole, HasRoom, silent};
 ghost use Rattle.mpm_system.specs.Taking.{IsTaken};
@@ -52,7 +52,7 @@ pub(crate) fn call<S: Sink>(
     requires home { (process_in system.old.kernel.dispatcher.procs p).seg ≡ Some seg }
     requires room { HasRoom system.old }
     ensures system { OnOk result (system.new ≡ (gate_step p seg system.old).system) }
-    ensures wrote { Writes S.written S.faults render.old sink.old render.new sink.new (gate_step p seg system.old).emitted result }
+    ensures wrote { WritesAlone S.written S.faults render.old sink.old render.new sink.new (gate_step p seg system.old).emitted result }
 {
     system.take_call(p, seg);
     let outcome = serve(system, p, reply);
@@ -74,7 +74,7 @@ fn conclude<S: Sink>(
     requires lives { Lives system.old.kernel.dispatcher.procs p }
     requires room { HasRoom system.old }
     ensures system { OnOk result (system.new ≡ (outcome_of outcome reply.old (call_of system.old.kernel.dispatcher.procs p) p seg system.old).system) }
-    ensures wrote { Writes S.written S.faults render.old sink.old render.new sink.new (after_echo (call_of system.old.kernel.dispatcher.procs p) p system.old (outcome_of outcome reply.old (call_of system.old.kernel.dispatcher.procs p) p seg system.old)).emitted result }
+    ensures wrote { WritesAlone S.written S.faults render.old sink.old render.new sink.new (after_echo (call_of system.old.kernel.dispatcher.procs p) p system.old (outcome_of outcome reply.old (call_of system.old.kernel.dispatcher.procs p) p seg system.old)).emitted result }
 {
     if outcome == Outcome::Done {
         return conclude_done(system, p, seg, reply, render, sink);
@@ -96,7 +96,7 @@ fn conclude_done<S: Sink>(
     requires lives { Lives system.old.kernel.dispatcher.procs p }
     requires room { HasRoom system.old }
     ensures system { OnOk result (system.new ≡ (completing reply.old (call_of system.old.kernel.dispatcher.procs p) p seg system.old).system) }
-    ensures wrote { Writes S.written S.faults render.old sink.old render.new sink.new (after_echo (call_of system.old.kernel.dispatcher.procs p) p system.old (completing reply.old (call_of system.old.kernel.dispatcher.procs p) p seg system.old)).emitted result }
+    ensures wrote { WritesAlone S.written S.faults render.old sink.old render.new sink.new (after_echo (call_of system.old.kernel.dispatcher.procs p) p system.old (completing reply.old (call_of system.old.kernel.dispatcher.procs p) p seg system.old)).emitted result }
 {
     system.put_echo(p, render, sink)?;
     complete(system, p, seg, reply, render, sink)
@@ -117,7 +117,7 @@ fn conclude_undone<S: Sink>(
     requires lives { Lives system.old.kernel.dispatcher.procs p }
     requires undone { outcome ≢ Done }
     ensures system { (reply : Answer) → OnOk result (system.new ≡ (outcome_of outcome reply (call_of system.old.kernel.dispatcher.procs p) p seg system.old).system) }
-    ensures wrote { (reply : Answer) → Writes S.written S.faults render.old sink.old render.new sink.new (after_echo (call_of system.old.kernel.dispatcher.procs p) p system.old (outcome_of outcome reply (call_of system.old.kernel.dispatcher.procs p) p seg system.old)).emitted result }
+    ensures wrote { (reply : Answer) → WritesAlone S.written S.faults render.old sink.old render.new sink.new (after_echo (call_of system.old.kernel.dispatcher.procs p) p system.old (outcome_of outcome reply (call_of system.old.kernel.dispatcher.procs p) p seg system.old)).emitted result }
 {
     system.put_echo(p, render, sink)?;
     bring_about(system, outcome, p, seg);
@@ -256,7 +256,7 @@ fn complete<S: Sink>(
     requires lives { Lives system.old.kernel.dispatcher.procs p }
     requires room { HasRoom system.old }
     ensures system { OnOk result (system.new ≡ (completing reply.old (call_of system.old.kernel.dispatcher.procs p) p seg system.old).system) }
-    ensures wrote { Writes S.written S.faults render.old sink.old render.new sink.new (completing reply.old (call_of system.old.kernel.dispatcher.procs p) p seg system.old).emitted result }
+    ensures wrote { WritesAlone S.written S.faults render.old sink.old render.new sink.new (completing reply.old (call_of system.old.kernel.dispatcher.procs p) p seg system.old).emitted result }
 {
     system.speak(p, seg, render, sink)?;
     system.pop(p, seg);

@@ -1,5 +1,5 @@
 ghost use Rattle.std.specs.Prelude.{◌≡◌, [], OnOk};
-ghost use Rattle.mpm_output.specs.Writing.{Writes};
+ghost use Rattle.mpm_output.specs.Writing.{WritesAlone};
 ghost use Rattle.mpm_kernel.specs.Kernel.{is_aborted};
 ghost use Rattle.mpm_system.specs.Whole.{IsWhole};
 ghost use Rattle.mpm_system.specs.Written.{records_out};
@@ -23,7 +23,7 @@ pub(crate) fn end_all<S: Sink>(
 ) -> Result<(), Failed>
     requires whole { IsWhole system.old }
     ensures system { OnOk result (system.new ≡ (records_out (with_ends system.old)).system) }
-    ensures wrote { Writes S.written S.faults render.old sink.old render.new sink.new (records_out (with_ends system.old)).emitted result }
+    ensures wrote { WritesAlone S.written S.faults render.old sink.old render.new sink.new (records_out (with_ends system.old)).emitted result }
 {
     system.write_records(render, sink)?;
     end_due(system, reply, render, sink)
@@ -41,7 +41,7 @@ fn end_due<S: Sink>(
     requires whole { IsWhole system.old }
     requires none { system.old.records ≡ [] }
     ensures system { OnOk result (system.new ≡ (records_out (with_ends system.old)).system) }
-    ensures wrote { Writes S.written S.faults render.old sink.old render.new sink.new (records_out (with_ends system.old)).emitted result }
+    ensures wrote { WritesAlone S.written S.faults render.old sink.old render.new sink.new (records_out (with_ends system.old)).emitted result }
 {
     if system.abort_deferred {
         end_each_due(system, reply, render, sink)?;
@@ -62,7 +62,7 @@ fn end_each_due<S: Sink>(
     requires whole { IsWhole system.old }
     requires none { system.old.records ≡ [] }
     ensures system { OnOk result (system.new ≡ (records_out (all_due_terminated system.old)).system) }
-    ensures wrote { Writes S.written S.faults render.old sink.old render.new sink.new (records_out (all_due_terminated system.old)).emitted result }
+    ensures wrote { WritesAlone S.written S.faults render.old sink.old render.new sink.new (records_out (all_due_terminated system.old)).emitted result }
 {
     for number in 0..32 {
         if let Err(Failed) = end_if_due(system, Pid(number), reply, render, sink) {
@@ -84,7 +84,7 @@ fn end_if_due<S: Sink>(
     requires whole { IsWhole system.old }
     requires none { system.old.records ≡ [] }
     ensures system { OnOk result (system.new ≡ (records_out (ended_if_due p system.old)).system) }
-    ensures wrote { Writes S.written S.faults render.old sink.old render.new sink.new (records_out (ended_if_due p system.old)).emitted result }
+    ensures wrote { WritesAlone S.written S.faults render.old sink.old render.new sink.new (records_out (ended_if_due p system.old)).emitted result }
 {
     if is_due(system, p) {
         end(system, p);

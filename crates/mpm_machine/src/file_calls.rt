@@ -1,9 +1,9 @@
 ghost use Rattle.std.specs.Prelude.{◌≡◌, ◌<◌, true, Some, None, is_some, IfSome, OnOk, is_none};
 ghost use Rattle.mpm_script.specs.declared.line.TheConstants.{GREATEST_STEP};
 ghost use Rattle.mpm_procs.specs.Table.{Lives, call_of};
-ghost use Rattle.mpm_output.specs.Writing.{Writes};
+ghost use Rattle.mpm_output.specs.Writing.{WritesAlone};
 ghost use Rattle.mpm_gate.specs.Gates.{IsHome};
-ghost use Rattle.mpm_functions.specs.declared.refusals.Extended.{Extended};
+ghost use Rattle.mpm_file_functions.specs.declared.refusals.Extended.{Extended};
 ghost use Rattle.mpm_system.specs.Whole.{IsWhole, HasRoom};
 ghost use Rattle.mpm_machine.specs.FileCalls.{is_of_files as is_file_function, called_next, is_file_number, calls_files as files_called, file_caller as caller_of_files, told_of, answered_or_ended, told_then, error_met, concluded};
 
@@ -101,7 +101,7 @@ pub(crate) fn conclude_file_call<S: Sink>(
     requires lives { Lives system.old.kernel.dispatcher.procs p }
     requires room { HasRoom system.old }
     ensures system { OnOk result (system.new ≡ (concluded (told_of (call_of system.old.kernel.dispatcher.procs p) reply.now error) p system.old).system) }
-    ensures wrote { Writes S.written S.faults render.old sink.old render.new sink.new (concluded (told_of (call_of system.old.kernel.dispatcher.procs p) reply.now error) p system.old).emitted result }
+    ensures wrote { WritesAlone S.written S.faults render.old sink.old render.new sink.new (concluded (told_of (call_of system.old.kernel.dispatcher.procs p) reply.now error) p system.old).emitted result }
 {
     system.change_caller(p, error.is_none());
     match error {
@@ -127,7 +127,7 @@ fn meet_error<S: Sink>(
     requires lives { Lives system.old.kernel.dispatcher.procs p }
     requires room { HasRoom system.old }
     ensures system { OnOk result (system.new ≡ (error_met error reply.now p system.old).system) }
-    ensures wrote { Writes S.written S.faults render.old sink.old render.new sink.new (error_met error reply.now p system.old).emitted result }
+    ensures wrote { WritesAlone S.written S.faults render.old sink.old render.new sink.new (error_met error reply.now p system.old).emitted result }
 {
     let mode = system.kernel.living(p).error_mode;
     if mode == ANSWERS {
@@ -160,7 +160,7 @@ fn tell_and_meet<S: Sink>(
     requires lives { Lives system.old.kernel.dispatcher.procs p }
     requires room { HasRoom system.old }
     ensures system { OnOk result (system.new ≡ (told_then answers error reply.now p system.old).system) }
-    ensures wrote { Writes S.written S.faults render.old sink.old render.new sink.new (told_then answers error reply.now p system.old).emitted result }
+    ensures wrote { WritesAlone S.written S.faults render.old sink.old render.new sink.new (told_then answers error reply.now p system.old).emitted result }
 {
     system.tell_error(p, error, render, sink)?;
     answer_or_end(system, p, answers, reply);

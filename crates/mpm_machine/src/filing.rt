@@ -3,17 +3,17 @@ ghost use Rattle.mpm_port.specs.Causes.{HasCause};
 ghost use Rattle.mpm_procs.specs.Table.{Lives, process_in, call_of};
 ghost use Rattle.mpm_port.specs.Disks.{Disks};
 ghost use Rattle.mpm_mount.specs.Drives.{Drive};
-ghost use Rattle.mpm_functions.specs.declared.functions.FileFunction.{FileFunction};
-ghost use Rattle.mpm_functions.specs.Functions.{function_of};
-ghost use Rattle.mpm_requests.specs.Filing.{Filing, Situation};
+ghost use Rattle.mpm_file_functions.specs.declared.functions.FileFunction.{FileFunction};
+ghost use Rattle.mpm_file_functions.specs.Functions.{function_of};
+ghost use Rattle.mpm_refusals.specs.Filing.{Filing, Situation};
 ghost use Rattle.mpm_bdos.specs.Jobs.{call_turns};
 ghost use Rattle.mpm_bdos.specs.Serving.{IsCaller, StandEach, Serves, filing_of, nothing_kept};
 ghost use Rattle.mpm_directories.specs.Places.{in_places as in_their_places};
 ghost use Rattle.mpm_bdos.specs.Starting.{caller_of};
-ghost use Rattle.mpm_bdos.specs.Starting.{HasEntered};
+ghost use Rattle.mpm_bdos.specs.Starting.{HasBegunService};
 ghost use Rattle.mpm_bdos.specs.Turns.{FitsDrives, has_work};
 ghost use Rattle.mpm_system.specs.Whole.{IsWhole};
-ghost use Rattle.mpm_machine.specs.Files.{Files, StandsBetween, StandsForFiles, StandsWorked, all_left};
+ghost use Rattle.mpm_machine.specs.Files.{FilesInService, StandsBetween, StandsForFiles, StandsWorked, all_left};
 ghost use Rattle.mpm_machine.specs.Holding.{HoldsKept};
 ghost use Rattle.mpm_machine.specs.FileCalls.{outcome_in, situation_of, looked_at as as_looked_at};
 ghost use Rattle.mpm_machine.specs.Mounting.{HasNoDrive, KeepsMounted};
@@ -169,7 +169,7 @@ pub(crate) fn start_call(system: &System, bdos: &mut Bdos, p: Pid) -> u32
     ensures serves { (images : ℕ → List ℕ) (drives : List (Option Drive)) (function : FileFunction) → function_of (call_of system.now.kernel.dispatcher.procs p).function ≡ Some function
         → StandEach images bdos.old.mounted drives → Serves images bdos.new (situation_of (filing_of bdos.old drives) function p system.now) 0 }
     ensures entered { (function : FileFunction) → function_of (call_of system.now.kernel.dispatcher.procs p).function ≡ Some function
-        → HasEntered (caller_of p (as_looked_at (process_in system.now.kernel.dispatcher.procs p))) function (call_of system.now.kernel.dispatcher.procs p) bdos.new.service }
+        → HasBegunService (caller_of p (as_looked_at (process_in system.now.kernel.dispatcher.procs p))) function (call_of system.now.kernel.dispatcher.procs p) bdos.new.service }
     ensures some { 0 < result }
     ensures workless { HasNoDrive bdos.old.mounted → has_work bdos.new.service ≡ false }
     ensures kept { bdos.new ≡ record bdos.old { service = bdos.new.service } }
@@ -186,9 +186,9 @@ pub(crate) fn work<D: Drives, L: Ledger>(
     steps: &mut Steps<L>,
 ) -> Result<(), Failed>
     requires holds { HoldsKept D.disks system.now.kernel bdos.old drives.old }
-    ensures ok { (files : Files) → StandsForFiles system.now.kernel.disk bdos.old (D.disks drives.old) files
+    ensures ok { (files : FilesInService) → StandsForFiles system.now.kernel.disk bdos.old (D.disks drives.old) files
         → OnOk result (StandsWorked system.now.kernel.disk bdos.new (D.disks drives.new) files) }
-    ensures err { (files : Files) → StandsForFiles system.now.kernel.disk bdos.old (D.disks drives.old) files
+    ensures err { (files : FilesInService) → StandsForFiles system.now.kernel.disk bdos.old (D.disks drives.old) files
         → OnErr result (HaveImagesOf (FailsWithin (working_turn_of system.now files)) (D.disks drives.new) bdos.new.mounted) }
     ensures keeps { KeepsMounted (D.told drives.old) (D.told drives.new) (D.disks drives.old) (D.disks drives.new) bdos.old.mounted bdos.new.mounted }
     ensures names { D.failed_names drives.new ≡ D.failed_names drives.old }

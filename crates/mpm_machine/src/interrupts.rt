@@ -2,7 +2,7 @@ ghost use Rattle.std.specs.Prelude.{◌≡◌, ◌≤◌, None, is_some, IfOk, O
 ghost use Rattle.mpm_script.specs.declared.line.TheConstants.{GREATEST_STEP};
 ghost use Rattle.mpm_script.specs.Events.{IsEvent};
 ghost use Rattle.mpm_kernel.specs.Consoling.{AbortLives};
-ghost use Rattle.mpm_output.specs.Writing.{Writes};
+ghost use Rattle.mpm_output.specs.Writing.{WritesAlone};
 ghost use Rattle.mpm_system.specs.Whole.{IsWhole};
 ghost use Rattle.mpm_system.specs.Coming.{coming};
 ghost use Rattle.mpm_machine.specs.Step.{interrupted_by, event_come, key_aborted, event_text};
@@ -26,7 +26,7 @@ pub(crate) fn interrupt<S: Sink>(
     requires most { system.old.steps ≤ GREATEST_STEP }
     ensures came { IfOk result (λ came. came ≡ is_some (coming system.old)) }
     ensures system { OnOk result (system.new ≡ (interrupted_by (coming system.old) system.old).system) }
-    ensures wrote { Writes S.written S.faults render.old sink.old render.new sink.new (interrupted_by (coming system.old) system.old).emitted result }
+    ensures wrote { WritesAlone S.written S.faults render.old sink.old render.new sink.new (interrupted_by (coming system.old) system.old).emitted result }
 {
     if !system.is_open() {
         return Ok(false);
@@ -53,7 +53,7 @@ fn come<S: Sink>(
     requires whole { IsWhole system.old }
     requires is { IsEvent event }
     ensures system { OnOk result (system.new ≡ (event_come event system.old).system) }
-    ensures wrote { Writes S.written S.faults render.old sink.old render.new sink.new (event_come event system.old).emitted result }
+    ensures wrote { WritesAlone S.written S.faults render.old sink.old render.new sink.new (event_come event system.old).emitted result }
 {
     system.unhalt();
     system.kernel.event(event);
@@ -70,7 +70,7 @@ fn put_event<S: Sink>(
     sink: &mut S,
 ) -> Result<(), Failed>
     requires { IsEvent event }
-    ensures wrote { Writes S.written S.faults render.old sink.old render.new sink.new (event_text event system.now.kernel) result }
+    ensures wrote { WritesAlone S.written S.faults render.old sink.old render.new sink.new (event_text event system.now.kernel) result }
 {
     match event {
         Event::Key { console, .. } => put_bytes(

@@ -44,7 +44,7 @@ impl Machine {
     ghost use Rattle.std.specs.Option.{option_copied};
     ghost use Rattle.mpm_banks.specs.Memory.{byte_at};
     ghost use Rattle.mpm_procs.specs.Table.{process_at, lowest_free};
-    ghost use Rattle.mpm_kernel.specs.Kernel.{HasConsole};
+    ghost use Rattle.mpm_kernel.specs.Kernel.{IsConsole};
     ghost use Rattle.mpm_consoles.specs.Consoles.{console_at};
     ghost use Rattle.mpm_machine_file.specs.MachineFiles.{IsMachine};
     ghost use Rattle.mpm_drives.specs.Mounted.{SameBeside, AsksNothing, placed};
@@ -52,11 +52,11 @@ impl Machine {
     ghost use Rattle.mpm_drives.specs.Stopping.{Stops};
     ghost use Rattle.mpm_directories.specs.Places.{directory_at, in_places};
     ghost use Rattle.mpm_bdos.specs.Serving.{nothing_kept};
-    ghost use Rattle.mpm_bdos.specs.Syncing.{AreSynced};
+    ghost use Rattle.mpm_bdos.specs.Syncing.{AreMountedSynced};
     ghost use Rattle.mpm_output.specs.Outside.{seen};
     ghost use Rattle.mpm_system.specs.Whole.{IsWhole, NoCompletions};
     ghost use Rattle.mpm_machine.specs.State.{State, IsAt, StandsWithDrives};
-    ghost use Rattle.mpm_machine.specs.Files.{Files, Between, StandsForFiles};
+    ghost use Rattle.mpm_machine.specs.Files.{FilesInService, Between, StandsForFiles};
     ghost use Rattle.mpm_machine.specs.Holding.{HoldsDrives};
     ghost use Rattle.mpm_machine.specs.Stepping.{Telling, step_with, stepped};
     ghost use Rattle.mpm_service.specs.Disk.{no_service};
@@ -104,7 +104,7 @@ impl Machine {
             (record { faults = D.faults drives.new; names = D.failed_names drives.new }) error) }
         ensures told { D.told drives.new ≡ D.told drives.old }
         ensures beside { SameBeside file.now.drives (D.disks drives.old) (D.disks drives.new) }
-        ensures fresh { IfOk result (λ machine. AreSynced (D.unsynced drives.new) machine.bdos.mounted) }
+        ensures fresh { IfOk result (λ machine. AreMountedSynced (D.unsynced drives.new) machine.bdos.mounted) }
         ensures asks { AsksNothing file.now.drives (D.unsynced drives.old) (D.unsynced drives.new) }
         ensures none { file.now.drives ≡ [] → drives.new ≡ drives.old }
     {
@@ -159,7 +159,7 @@ impl Machine {
             (record { faults = D.faults drives.new; names = D.failed_names drives.new }) error) }
         ensures told { D.told drives.new ≡ D.told drives.old }
         ensures beside { SameBeside file.now.drives (D.disks drives.old) (D.disks drives.new) }
-        ensures fresh { IfOk result (λ machine. AreSynced (D.unsynced drives.new) machine.bdos.mounted) }
+        ensures fresh { IfOk result (λ machine. AreMountedSynced (D.unsynced drives.new) machine.bdos.mounted) }
         ensures asks { AsksNothing file.now.drives (D.unsynced drives.old) (D.unsynced drives.new) }
         ensures none { file.now.drives ≡ [] → drives.new ≡ drives.old }
     {
@@ -275,7 +275,7 @@ impl Machine {
 
     /// How many keys of a console were lost, as 64 were stored.
     pub fn lost(&self, console: u8) -> u64
-        requires { HasConsole self.now.system.kernel console }
+        requires { IsConsole self.now.system.kernel console }
         ensures { result ≡ (console_at self.now.system.kernel.units console).lost }
     {
         self.system.kernel.lost(console)
@@ -312,7 +312,7 @@ impl Machine {
         // done in a step.
         ensures rests { does_work self.old.system ≡ false → IfErr result (λ fault. fault ≡ StepFault.WriteFault) × (drives.new ≡ drives.old) × (steps.new ≡ steps.old) }
         ensures none { HasNoDrive self.old.bdos.mounted → IfErr result (λ fault. fault ≡ StepFault.WriteFault) × (drives.new ≡ drives.old) × HasNoDrive self.new.bdos.mounted }
-        ensures calls { (files : Files) → StandsForFiles self.old.system.kernel.disk self.old.bdos (D.disks drives.old) files
+        ensures calls { (files : FilesInService) → StandsForFiles self.old.system.kernel.disk self.old.bdos (D.disks drives.old) files
             → steps.new ≤ steps.old + 20 * turns_done (working_in self.old.system files) }
         ensures few { 0 < self.old.system.kernel.disk.turn_steps → steps.new ≤ steps.old + 20 }
     {
@@ -338,11 +338,11 @@ impl Machine {
         requires whole { IsWhole self.old.system }
         requires no_completions { NoCompletions self.old.system }
         requires holds { HoldsDrives D.disks self.old.system.kernel self.old.bdos drives.old }
-        ensures ok { (files : Files) → StandsForFiles self.old.system.kernel.disk self.old.bdos (D.disks drives.old) files
+        ensures ok { (files : FilesInService) → StandsForFiles self.old.system.kernel.disk self.old.bdos (D.disks drives.old) files
             → OnOk result (HasSteppedTo files (seen S.written S.faults render.old sink.old) (seen S.written S.faults render.new sink.new) self.old.system self.new.system self.new.bdos (D.disks drives.new)) }
-        ensures err { (files : Files) → StandsForFiles self.old.system.kernel.disk self.old.bdos (D.disks drives.old) files
+        ensures err { (files : FilesInService) → StandsForFiles self.old.system.kernel.disk self.old.bdos (D.disks drives.old) files
             → IfErr result (λ fault. StopsBy fault (seen S.written S.faults render.old sink.old) (seen S.written S.faults render.new sink.new) (stepped self.old.system files).change.emitted) }
-        ensures images { (files : Files) → StandsForFiles self.old.system.kernel.disk self.old.bdos (D.disks drives.old) files
+        ensures images { (files : FilesInService) → StandsForFiles self.old.system.kernel.disk self.old.bdos (D.disks drives.old) files
             → IfErr result (λ fault. HaveImagesOf (StopsOn fault self.old.system files) (D.disks drives.new) self.new.bdos.mounted) }
         ensures made { OnOk result (IsOfSome (λ (telling : Telling). (step_with telling self.old.system).system) self.new.system) }
         ensures trace { render.new.trace ≡ render.old.trace }
@@ -357,7 +357,7 @@ impl Machine {
         ensures sink { does_work self.old.system ≡ false → IfErr result (λ fault. fault ≡ StepFault.WriteFault) }
         ensures drives { does_work self.old.system ≡ false → drives.new ≡ drives.old }
         ensures device_calls { does_work self.old.system ≡ false → steps.new ≡ steps.old }
-        ensures calls { (files : Files) → StandsForFiles self.old.system.kernel.disk self.old.bdos (D.disks drives.old) files
+        ensures calls { (files : FilesInService) → StandsForFiles self.old.system.kernel.disk self.old.bdos (D.disks drives.old) files
             → steps.new ≤ steps.old + 20 * turns_done (working_in self.old.system files) }
         ensures few { 0 < self.old.system.kernel.disk.turn_steps → steps.new ≤ steps.old + 20 }
         ensures turn_steps { OnOk result (self.new.system.kernel.disk.turn_steps ≡ self.old.system.kernel.disk.turn_steps) }

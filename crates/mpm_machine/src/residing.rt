@@ -2,7 +2,7 @@ ghost use Rattle.std.specs.Prelude.{◌≡◌, is_some, true, OnOk};
 ghost use Rattle.mpm_residents.specs.declared.cli.act.Act.TheVariants.{Ask};
 ghost use Rattle.mpm_procs.specs.Table.{Lives, call_of};
 ghost use Rattle.mpm_dispatcher.specs.Dispatch.{IsReady};
-ghost use Rattle.mpm_output.specs.Writing.{Writes};
+ghost use Rattle.mpm_output.specs.Writing.{WritesAlone};
 ghost use Rattle.mpm_residents.specs.Natives.{native_in};
 ghost use Rattle.mpm_system.specs.Whole.{IsWhole};
 ghost use Rattle.mpm_machine.specs.Residing.{resided, native_step, native_outcome, calling_step};
@@ -28,7 +28,7 @@ pub(crate) fn reside<S: Sink>(
     requires lives { Lives system.old.kernel.dispatcher.procs p }
     requires ready { IsReady system.old.kernel.dispatcher p }
     ensures system { OnOk result (system.new ≡ (resided (native_in system.old.residents p) p system.old).system) }
-    ensures wrote { Writes S.written S.faults render.old sink.old render.new sink.new (resided (native_in system.old.residents p) p system.old).emitted result }
+    ensures wrote { WritesAlone S.written S.faults render.old sink.old render.new sink.new (resided (native_in system.old.residents p) p system.old).emitted result }
 {
     if !system.residents.has(p) {
         return Ok(());
@@ -51,7 +51,7 @@ fn act_native<S: Sink>(
     requires ready { IsReady system.old.kernel.dispatcher p }
     requires has { is_some (native_in system.old.residents p) ≡ true }
     ensures system { OnOk result (system.new ≡ (native_step act (call_of system.old.kernel.dispatcher.procs p) p system.old).system) }
-    ensures wrote { Writes S.written S.faults render.old sink.old render.new sink.new (native_step act (call_of system.old.kernel.dispatcher.procs p) p system.old).emitted result }
+    ensures wrote { WritesAlone S.written S.faults render.old sink.old render.new sink.new (native_step act (call_of system.old.kernel.dispatcher.procs p) p system.old).emitted result }
 {
     match act {
         Act::Ask => make_call(system, p, reply, render, sink),
@@ -76,7 +76,7 @@ fn make_call<S: Sink>(
     requires ready { IsReady system.old.kernel.dispatcher p }
     requires has { is_some (native_in system.old.residents p) ≡ true }
     ensures system { OnOk result (system.new ≡ (native_step Ask (call_of system.old.kernel.dispatcher.procs p) p system.old).system) }
-    ensures wrote { Writes S.written S.faults render.old sink.old render.new sink.new (native_step Ask (call_of system.old.kernel.dispatcher.procs p) p system.old).emitted result }
+    ensures wrote { WritesAlone S.written S.faults render.old sink.old render.new sink.new (native_step Ask (call_of system.old.kernel.dispatcher.procs p) p system.old).emitted result }
 {
     if system.tells(p) {
         return system.tell_text(p, reply, render, sink);
@@ -97,7 +97,7 @@ fn serve_native<S: Sink>(
     requires ready { IsReady system.old.kernel.dispatcher p }
     requires has { is_some (native_in system.old.residents p) ≡ true }
     ensures system { OnOk result (system.new ≡ (calling_step (call_of system.old.kernel.dispatcher.procs p) p system.old).system) }
-    ensures wrote { Writes S.written S.faults render.old sink.old render.new sink.new (calling_step (call_of system.old.kernel.dispatcher.procs p) p system.old).emitted result }
+    ensures wrote { WritesAlone S.written S.faults render.old sink.old render.new sink.new (calling_step (call_of system.old.kernel.dispatcher.procs p) p system.old).emitted result }
 {
     let outcome = serve_to_all(system, p, reply);
     system.put_echo(p, render, sink)?;
@@ -117,7 +117,7 @@ fn conclude_residing<S: Sink>(
     requires lives { Lives system.old.kernel.dispatcher.procs p }
     requires has { is_some (native_in system.old.residents p) ≡ true }
     ensures system { OnOk result (system.new ≡ (native_outcome outcome reply.now (call_of system.old.kernel.dispatcher.procs p) p system.old).system) }
-    ensures wrote { Writes S.written S.faults render.old sink.old render.new sink.new (native_outcome outcome reply.now (call_of system.old.kernel.dispatcher.procs p) p system.old).emitted result }
+    ensures wrote { WritesAlone S.written S.faults render.old sink.old render.new sink.new (native_outcome outcome reply.now (call_of system.old.kernel.dispatcher.procs p) p system.old).emitted result }
 {
     match outcome {
         Outcome::Done => {

@@ -19,7 +19,7 @@ impl Machine {
     ghost use Rattle.mpm_service.specs.Disk.{served_process};
     ghost use Rattle.mpm_service.specs.Ahead.{turns_left};
     ghost use Rattle.mpm_kernel.specs.Disk.{IsOver};
-    ghost use Rattle.mpm_requests.specs.Filing.{Situation};
+    ghost use Rattle.mpm_refusals.specs.Filing.{Situation};
     ghost use Rattle.mpm_bdos.specs.Jobs.{call_turns};
     ghost use Rattle.mpm_bdos.specs.Serving.{Serves};
     ghost use Rattle.mpm_bdos.specs.Syncing.{mounted_count};
@@ -27,7 +27,7 @@ impl Machine {
     ghost use Rattle.mpm_system.specs.declared.system.System.{System};
     ghost use Rattle.mpm_system.specs.Whole.{IsWhole, NoCompletions};
     ghost use Rattle.mpm_machine.specs.State.{State, StandsWithDrives};
-    ghost use Rattle.mpm_machine.specs.Files.{Files, Within, StandsForFiles, filing_in};
+    ghost use Rattle.mpm_machine.specs.Files.{FilesInService, Within, StandsForFiles, filing_in};
     ghost use Rattle.mpm_machine.specs.Holding.{HoldsKept, HoldsDrives};
     ghost use Rattle.mpm_machine.specs.Faults.{counts, HaveCause, itself, EndsBy, OnDiskFault};
     ghost use Rattle.mpm_machine.specs.Mounting.{HasNoDrive, KeepsMounted};
@@ -119,9 +119,9 @@ impl Machine {
         requires whole { IsWhole self.old.system }
         requires no_completions { NoCompletions self.old.system }
         requires holds { HoldsKept D.disks self.old.system.kernel self.old.bdos drives.old }
-        ensures ok { (files : Files) → StandsForFiles self.old.system.kernel.disk self.old.bdos (D.disks drives.old) files
+        ensures ok { (files : FilesInService) → StandsForFiles self.old.system.kernel.disk self.old.bdos (D.disks drives.old) files
             → OnOk result (HasCarried files (seen S.written S.faults render.old sink.old) (seen S.written S.faults render.new sink.new) self.old.system self.new.system self.new.bdos (D.disks drives.new)) }
-        ensures err { (files : Files) → StandsForFiles self.old.system.kernel.disk self.old.bdos (D.disks drives.old) files
+        ensures err { (files : FilesInService) → StandsForFiles self.old.system.kernel.disk self.old.bdos (D.disks drives.old) files
             → IfErr result (λ fault. StopsCarrying fault files (seen S.written S.faults render.old sink.old) (seen S.written S.faults render.new sink.new) self.old.system self.new.bdos.mounted (D.disks drives.new)) }
         ensures whole { OnOk result (IsWhole self.new.system) }
         ensures serves { OnErr result (IsSome self.old.system.kernel.disk.served) }
@@ -155,9 +155,9 @@ impl Machine {
         requires no_completions { NoCompletions self.old.system }
         requires served { served_process self.old.system.kernel.disk ≡ Some p }
         requires holds { HoldsKept D.disks self.old.system.kernel self.old.bdos drives.old }
-        ensures ok { (files : Files) → StandsForFiles self.old.system.kernel.disk self.old.bdos (D.disks drives.old) files
+        ensures ok { (files : FilesInService) → StandsForFiles self.old.system.kernel.disk self.old.bdos (D.disks drives.old) files
             → OnOk result (HasCarried files (seen S.written S.faults render.old sink.old) (seen S.written S.faults render.new sink.new) self.old.system self.new.system self.new.bdos (D.disks drives.new)) }
-        ensures err { (files : Files) → StandsForFiles self.old.system.kernel.disk self.old.bdos (D.disks drives.old) files
+        ensures err { (files : FilesInService) → StandsForFiles self.old.system.kernel.disk self.old.bdos (D.disks drives.old) files
             → IfErr result (λ fault. StopsCarrying fault files (seen S.written S.faults render.old sink.old) (seen S.written S.faults render.new sink.new) self.old.system self.new.bdos.mounted (D.disks drives.new)) }
         ensures whole { OnOk result (IsWhole self.new.system) }
         ensures trace { render.new.trace ≡ render.old.trace }

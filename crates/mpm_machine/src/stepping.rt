@@ -19,9 +19,9 @@ impl Machine {
     ghost use Rattle.mpm_procs.specs.Table.{Lives, call_of};
     ghost use Rattle.mpm_bdos.specs.Serving.{Serves, filing_of};
     ghost use Rattle.mpm_output.specs.Outside.{seen};
-    ghost use Rattle.mpm_output.specs.Writing.{Wrote, Stopped};
+    ghost use Rattle.mpm_output.specs.Writing.{CameOut, Stopped};
     ghost use Rattle.mpm_system.specs.Whole.{silent, IsWhole, NoCompletions, HasRoom, HasRoomForAll};
-    ghost use Rattle.mpm_machine.specs.Files.{Files, Between, StandsBetween, StandsWorked, StandsForFiles, drives_in, all_left};
+    ghost use Rattle.mpm_machine.specs.Files.{FilesInService, Between, StandsBetween, StandsWorked, StandsForFiles, drives_in, all_left};
     ghost use Rattle.mpm_machine.specs.Holding.{OwnsService, AreFiled, HoldsKept};
     ghost use Rattle.mpm_machine.specs.DiskStep.{is_done_at_once, file_called, files_called, told_at_gate, told_of_call, call_over, disk_served, files_served, all_paid, call_entered, files_entered, turns_within};
     ghost use Rattle.mpm_machine.specs.Stepping.{Telling, begun_as, is_instruction, entered_after, rest_of, nothing_told, before_disk, files_begun, told_within, telling_then, files_rest};
@@ -31,8 +31,8 @@ impl Machine {
     ghost use Rattle.mpm_mount.specs.Drives.{Drive};
     ghost use Rattle.mpm_port.specs.Disks.{Disks};
     ghost use Rattle.mpm_port.specs.Causes.{HasCause};
-    ghost use Rattle.mpm_requests.specs.Filing.{Filing, Situation};
-    ghost use Rattle.mpm_functions.specs.Functions.{function_of};
+    ghost use Rattle.mpm_refusals.specs.Filing.{Filing, Situation};
+    ghost use Rattle.mpm_file_functions.specs.Functions.{function_of};
     ghost use Rattle.mpm_bdos.specs.Jobs.{call_turns};
     ghost use Rattle.mpm_bdos.specs.Outcomes.{file_call};
     ghost use Rattle.mpm_bdos.specs.Turns.{has_work, images_of};
@@ -58,13 +58,13 @@ impl Machine {
         requires whole { IsWhole self.old.system }
         requires no_completions { NoCompletions self.old.system }
         requires holds { HoldsKept D.disks self.old.system.kernel self.old.bdos drives.old }
-        ensures ok { (files : Files) → StandsWorked self.old.system.kernel.disk self.old.bdos (D.disks drives.old) files
+        ensures ok { (files : FilesInService) → StandsWorked self.old.system.kernel.disk self.old.bdos (D.disks drives.old) files
             → OnOk result (HasBegunTo files (seen S.written S.faults render.old sink.old) (seen S.written S.faults render.new sink.new) self.old.system self.new.system self.new.bdos (D.disks drives.new)) }
-        ensures err { (files : Files) → StandsWorked self.old.system.kernel.disk self.old.bdos (D.disks drives.old) files
+        ensures err { (files : FilesInService) → StandsWorked self.old.system.kernel.disk self.old.bdos (D.disks drives.old) files
             → IfErr result (λ fault. StopsBy fault (seen S.written S.faults render.old sink.old) (seen S.written S.faults render.new sink.new) (before_disk self.old.system files).emitted) }
-        ensures images { (files : Files) → StandsWorked self.old.system.kernel.disk self.old.bdos (D.disks drives.old) files
+        ensures images { (files : FilesInService) → StandsWorked self.old.system.kernel.disk self.old.bdos (D.disks drives.old) files
             → IfErr result (λ fault. OnDiskFault fault (HaveImagesOf (FailsWithin (working_in self.old.system files)) (D.disks drives.new) self.new.bdos.mounted)) }
-        ensures stands { (files : Files) → StandsWorked self.old.system.kernel.disk self.old.bdos (D.disks drives.old) files
+        ensures stands { (files : FilesInService) → StandsWorked self.old.system.kernel.disk self.old.bdos (D.disks drives.old) files
             → IfErr result (λ fault. OnWriteFault fault (StandsWorked self.old.system.kernel.disk self.new.bdos (D.disks drives.new) (files_begun self.old.system files))) }
         ensures instruction { IfOk result (λ instruction. instruction ≡ is_instruction (file_caller self.old.system) self.old.system) }
         ensures made { OnOk result (IsOfSome (λ (told : Directly). (begun_as told self.old.system).system) self.new.system) }
@@ -83,7 +83,7 @@ impl Machine {
         ensures idle { works_at_once (file_caller self.old.system) self.old.system ≡ false
             → IfErr result (λ fault. fault ≡ StepFault.WriteFault) × (drives.new ≡ drives.old) × (steps.new ≡ steps.old) }
         ensures apart { IsSome self.old.system.kernel.disk.served → IfErr result (λ fault. fault ≡ StepFault.WriteFault) × (drives.new ≡ drives.old) × (steps.new ≡ steps.old) }
-        ensures calls { (files : Files) → StandsWorked self.old.system.kernel.disk self.old.bdos (D.disks drives.old) files
+        ensures calls { (files : FilesInService) → StandsWorked self.old.system.kernel.disk self.old.bdos (D.disks drives.old) files
             → steps.new ≤ steps.old + 20 * turns_done (working_in self.old.system files) }
         ensures trace { render.new.trace ≡ render.old.trace }
         ensures cause { HaveCause itself (counts S.faults D.faults sink.old drives.old) (counts S.faults D.faults sink.new drives.new) result }
@@ -116,13 +116,13 @@ impl Machine {
         requires no_completions { NoCompletions self.old.system }
         requires caller { file_caller self.old.system ≡ Some p }
         requires holds { HoldsKept D.disks self.old.system.kernel self.old.bdos drives.old }
-        ensures ok { (files : Files) → StandsWorked self.old.system.kernel.disk self.old.bdos (D.disks drives.old) files
+        ensures ok { (files : FilesInService) → StandsWorked self.old.system.kernel.disk self.old.bdos (D.disks drives.old) files
             → OnOk result (HasBegunTo files (seen S.written S.faults render.old sink.old) (seen S.written S.faults render.new sink.new) self.old.system self.new.system self.new.bdos (D.disks drives.new)) }
-        ensures err { (files : Files) → StandsWorked self.old.system.kernel.disk self.old.bdos (D.disks drives.old) files
+        ensures err { (files : FilesInService) → StandsWorked self.old.system.kernel.disk self.old.bdos (D.disks drives.old) files
             → IfErr result (λ fault. StopsBy fault (seen S.written S.faults render.old sink.old) (seen S.written S.faults render.new sink.new) (before_disk self.old.system files).emitted) }
-        ensures images { (files : Files) → StandsWorked self.old.system.kernel.disk self.old.bdos (D.disks drives.old) files
+        ensures images { (files : FilesInService) → StandsWorked self.old.system.kernel.disk self.old.bdos (D.disks drives.old) files
             → IfErr result (λ fault. OnDiskFault fault (HaveImagesOf (FailsWithin (working_in self.old.system files)) (D.disks drives.new) self.new.bdos.mounted)) }
-        ensures stands { (files : Files) → StandsWorked self.old.system.kernel.disk self.old.bdos (D.disks drives.old) files
+        ensures stands { (files : FilesInService) → StandsWorked self.old.system.kernel.disk self.old.bdos (D.disks drives.old) files
             → IfErr result (λ fault. OnWriteFault fault (StandsWorked self.old.system.kernel.disk self.new.bdos (D.disks drives.new) (files_begun self.old.system files))) }
         ensures made { OnOk result (IsOfSome (λ (told : Directly). (begun_as told self.old.system).system) self.new.system) }
         ensures served { OnOk result (self.new.system.kernel.disk.served ≡ self.old.system.kernel.disk.served) }
@@ -140,7 +140,7 @@ impl Machine {
         ensures idle { works_at_once (file_caller self.old.system) self.old.system ≡ false
             → IfErr result (λ fault. fault ≡ StepFault.WriteFault) × (drives.new ≡ drives.old) × (steps.new ≡ steps.old) }
         ensures apart { IsSome self.old.system.kernel.disk.served → IfErr result (λ fault. fault ≡ StepFault.WriteFault) × (drives.new ≡ drives.old) × (steps.new ≡ steps.old) }
-        ensures calls { (files : Files) → StandsWorked self.old.system.kernel.disk self.old.bdos (D.disks drives.old) files
+        ensures calls { (files : FilesInService) → StandsWorked self.old.system.kernel.disk self.old.bdos (D.disks drives.old) files
             → steps.new ≤ steps.old + 20 * turns_done (working_in self.old.system files) }
         ensures trace { render.new.trace ≡ render.old.trace }
         ensures cause { HaveCause itself (counts S.faults D.faults sink.old drives.old) (counts S.faults D.faults sink.new drives.new) result }
@@ -170,14 +170,14 @@ impl Machine {
         requires lives { Lives self.old.system.kernel.dispatcher.procs p }
         requires ready { IsReady self.old.system.kernel.dispatcher p }
         requires holds { HoldsKept D.disks self.old.system.kernel self.old.bdos drives.old }
-        ensures ok { (files : Files) → StandsWorked self.old.system.kernel.disk self.old.bdos (D.disks drives.old) files
+        ensures ok { (files : FilesInService) → StandsWorked self.old.system.kernel.disk self.old.bdos (D.disks drives.old) files
             → OnOk result (HasCalled (told_at_gate p self.old.system files) p (seen S.written S.faults render.old sink.old) (seen S.written S.faults render.new sink.new) self.old.system self.new.system
             × StandsWorked self.new.system.kernel.disk self.new.bdos (D.disks drives.new) (files_called p self.old.system files)) }
-        ensures err { (files : Files) → StandsWorked self.old.system.kernel.disk self.old.bdos (D.disks drives.old) files
+        ensures err { (files : FilesInService) → StandsWorked self.old.system.kernel.disk self.old.bdos (D.disks drives.old) files
             → IfErr result (λ fault. StopsBy fault (seen S.written S.faults render.old sink.old) (seen S.written S.faults render.new sink.new) (file_called (told_at_gate p self.old.system files) p self.old.system).emitted) }
         ensures images { (filing : Filing) → StandsWorked self.old.system.kernel.disk self.old.bdos (D.disks drives.old) (Between filing)
             → IfErr result (λ fault. OnDiskFault fault (HaveImagesOf (FailsWithin (working_if (is_done_at_once p self.old.system) filing p self.old.system)) (D.disks drives.new) self.new.bdos.mounted)) }
-        ensures stands { (files : Files) → StandsWorked self.old.system.kernel.disk self.old.bdos (D.disks drives.old) files
+        ensures stands { (files : FilesInService) → StandsWorked self.old.system.kernel.disk self.old.bdos (D.disks drives.old) files
             → IfErr result (λ fault. OnWriteFault fault (StandsWorked self.old.system.kernel.disk self.new.bdos (D.disks drives.new) (files_called p self.old.system files))) }
         ensures made { OnOk result (IsOfSome (λ (told : Directly). (file_called told p self.old.system).system) self.new.system) }
         ensures keeps { KeepsMounted (D.told drives.old) (D.told drives.new) (D.disks drives.old) (D.disks drives.new) self.old.bdos.mounted self.new.bdos.mounted }
@@ -224,7 +224,7 @@ impl Machine {
         requires lives { Lives self.old.system.kernel.dispatcher.procs p }
         requires room { HasRoom self.old.system }
         ensures system { OnOk result (self.new.system ≡ (concluded (told_of (call_of self.old.system.kernel.dispatcher.procs p) self.old.reply extended) p self.old.system).system) }
-        ensures wrote { OnOk result (Wrote (seen S.written S.faults render.old sink.old) (seen S.written S.faults render.new sink.new) (concluded (told_of (call_of self.old.system.kernel.dispatcher.procs p) self.old.reply extended) p self.old.system).emitted) }
+        ensures wrote { OnOk result (CameOut (seen S.written S.faults render.old sink.old) (seen S.written S.faults render.new sink.new) (concluded (told_of (call_of self.old.system.kernel.dispatcher.procs p) self.old.reply extended) p self.old.system).emitted) }
         ensures err { IfErr result (λ fault. (fault ≡ StepFault.WriteFault) × Stopped (seen S.written S.faults render.old sink.old) (seen S.written S.faults render.new sink.new)
             (concluded (told_of (call_of self.old.system.kernel.dispatcher.procs p) self.old.reply extended) p self.old.system).emitted) }
         ensures bdos { self.new.bdos ≡ self.old.bdos }
@@ -249,11 +249,11 @@ impl Machine {
         requires begun { HasBegun self.old.system.kernel.disk }
         requires filed { AreFiled self.old.system.kernel }
         requires own { OwnsService self.old.system.kernel self.old.bdos.service }
-        ensures ok { (disks : Disks) (files : Files) → StandsWorked self.old.system.kernel.disk self.old.bdos disks files
+        ensures ok { (disks : Disks) (files : FilesInService) → StandsWorked self.old.system.kernel.disk self.old.bdos disks files
             → OnOk result (HasEndedTo instruction files (seen S.written S.faults render.old sink.old) (seen S.written S.faults render.new sink.new) self.old.system self.new.system self.new.bdos disks) }
-        ensures err { (disks : Disks) (files : Files) → StandsWorked self.old.system.kernel.disk self.old.bdos disks files
+        ensures err { (disks : Disks) (files : FilesInService) → StandsWorked self.old.system.kernel.disk self.old.bdos disks files
             → OnErr result (Stopped (seen S.written S.faults render.old sink.old) (seen S.written S.faults render.new sink.new) (rest_of instruction (telling_then nothing_told self.old.system files) (silent self.old.system)).emitted) }
-        ensures stands { (disks : Disks) (files : Files) → StandsWorked self.old.system.kernel.disk self.old.bdos disks files
+        ensures stands { (disks : Disks) (files : FilesInService) → StandsWorked self.old.system.kernel.disk self.old.bdos disks files
             → OnErr result (HaveImages disks self.new.bdos.mounted (drives_in (rest_of instruction (telling_then nothing_told self.old.system files) (silent self.old.system)).system.kernel.disk.served (files_rest self.old.system files))) }
         ensures made { OnOk result (IsOfSome (λ (telling : Telling). (rest_of instruction telling (silent self.old.system)).system) self.new.system) }
         ensures due { OnOk result (NobodyDue self.new.system.kernel) }
@@ -290,9 +290,9 @@ impl Machine {
         requires begun { HasBegun self.old.system.kernel.disk }
         requires filed { AreFiled self.old.system.kernel }
         requires own { OwnsService self.old.system.kernel self.old.bdos.service }
-        ensures ok { (disks : Disks) (files : Files) → StandsWorked self.old.system.kernel.disk self.old.bdos disks files
+        ensures ok { (disks : Disks) (files : FilesInService) → StandsWorked self.old.system.kernel.disk self.old.bdos disks files
             → OnOk result (HasServedTo files (seen S.written S.faults render.old sink.old) (seen S.written S.faults render.new sink.new) self.old.system self.new.system self.new.bdos disks) }
-        ensures err { (disks : Disks) (files : Files) → StandsWorked self.old.system.kernel.disk self.old.bdos disks files
+        ensures err { (disks : Disks) (files : FilesInService) → StandsWorked self.old.system.kernel.disk self.old.bdos disks files
             → OnErr result (Stopped (seen S.written S.faults render.old sink.old) (seen S.written S.faults render.new sink.new) (disk_served (told_within files self.old.system) self.old.system).emitted) }
         ensures made { OnOk result (IsOfSome (λ (telling : Telling). entered_after telling self.old.system) self.new.system) }
         ensures begun { OnOk result (HasBegun self.new.system.kernel.disk) }
@@ -321,11 +321,11 @@ impl Machine {
         requires begun { HasBegun self.old.system.kernel.disk }
         requires filed { AreFiled self.old.system.kernel }
         requires own { OwnsService self.old.system.kernel self.old.bdos.service }
-        ensures ok { (disks : Disks) (files : Files) → StandsWorked self.old.system.kernel.disk self.old.bdos disks files
+        ensures ok { (disks : Disks) (files : FilesInService) → StandsWorked self.old.system.kernel.disk self.old.bdos disks files
             → OnOk result (self.new.system ≡ (disk_served (told_within files self.old.system) self.old.system).system
-            × Wrote (seen S.written S.faults render.old sink.old) (seen S.written S.faults render.new sink.new) (disk_served (told_within files self.old.system) self.old.system).emitted
+            × CameOut (seen S.written S.faults render.old sink.old) (seen S.written S.faults render.new sink.new) (disk_served (told_within files self.old.system) self.old.system).emitted
             × StandsForFiles self.new.system.kernel.disk self.new.bdos disks (files_served self.old.system files)) }
-        ensures err { (disks : Disks) (files : Files) → StandsWorked self.old.system.kernel.disk self.old.bdos disks files
+        ensures err { (disks : Disks) (files : FilesInService) → StandsWorked self.old.system.kernel.disk self.old.bdos disks files
             → OnErr result (Stopped (seen S.written S.faults render.old sink.old) (seen S.written S.faults render.new sink.new) (disk_served (told_within files self.old.system) self.old.system).emitted) }
         ensures made { OnOk result (IsOfSome (λ (told : Directly). (disk_served told self.old.system).system) self.new.system) }
         ensures begun { OnOk result (HasBegun self.new.system.kernel.disk) }
@@ -361,7 +361,7 @@ impl Machine {
         requires room { HasRoomForAll (length self.old.system.records + 1) }
         ensures ok { (disks : Disks) (s : Situation) → Serves (images_of disks) self.old.bdos s (call_turns s) → s.caller.process ≡ p
             → OnOk result ((self.new.system ≡ (call_over (told_of_call s p self.old.system) p self.old.system).system)
-            × Wrote (seen S.written S.faults render.old sink.old) (seen S.written S.faults render.new sink.new) (call_over (told_of_call s p self.old.system) p self.old.system).emitted
+            × CameOut (seen S.written S.faults render.old sink.old) (seen S.written S.faults render.new sink.new) (call_over (told_of_call s p self.old.system) p self.old.system).emitted
             × StandsBetween self.new.bdos disks (file_call s).filing) }
         ensures err { (disks : Disks) (s : Situation) → Serves (images_of disks) self.old.bdos s (call_turns s) → s.caller.process ≡ p
             → OnErr result (Stopped (seen S.written S.faults render.old sink.old) (seen S.written S.faults render.new sink.new) (call_over (told_of_call s p self.old.system) p self.old.system).emitted) }
@@ -416,7 +416,7 @@ impl Machine {
         requires begun { HasBegun self.old.system.kernel.disk }
         requires filed { AreFiled self.old.system.kernel }
         requires own { OwnsService self.old.system.kernel self.old.bdos.service }
-        ensures ok { (disks : Disks) (files : Files) → StandsForFiles self.old.system.kernel.disk self.old.bdos disks files
+        ensures ok { (disks : Disks) (files : FilesInService) → StandsForFiles self.old.system.kernel.disk self.old.bdos disks files
             → (self.new.system ≡ call_entered (turns_within (files_entered self.old.system files)) self.old.system)
             × StandsForFiles self.new.system.kernel.disk self.new.bdos disks (files_entered self.old.system files) }
         ensures served { IsSome self.old.system.kernel.disk.served → self.new ≡ self.old }

@@ -15,18 +15,18 @@ use Rattle.mpm_machine_file.specs.Fields.{only_keys, number_at, number_or, text_
 use Rattle.mpm_machine_file.specs.Segments.{segment_keys, segment_of, most_segments, segments_of, segments_in}
 use Rattle.mpm_machine_file.specs.Drives.{drive_keys, letter_of, kind_of, drive_of, all_differ, by_letter, drives_of, drives_in}
 use Rattle.mpm_machine_file.specs.Residents.{residents_in}
-use Rattle.mpm_machine_file.specs.MachineFiles.{machine_keys, ticks_of, machine_of, document_of, machine_of_text, IsSegment, IsDrive, IsMachine}
+use Rattle.mpm_machine_file.specs.MachineFiles.{machine_keys, ticks_of, machine_of, document_of, machine_of_text, IsListedSegment, IsDrive, IsMachine}
 use Rattle.mpm_script.proofs.Finds.{bind_some}
 use Rattle.mpm_machine_file.proofs.LimitLaws.{IsBetween, between_test, number_at_limits, number_or_limits, text_at_limits, text_if_limits, all_of_each, counted_limits}
 use Rattle.std.specs.List.Sorted.{IsStrictlyIncreasing}
 use Rattle.mpm_machine_file.proofs.OrderLaws.{each_by_letter, length_by_letter, apart_from_differ, differ_from_apart, apart_by_letter, ascend_by_letter, increase_from_ascend}
 
-segment_made : (base pages : ℕ) (keys : Bool) (segment : SegmentSpec) → 4 ≤ pages → (if keys && nat_le (base + pages) 192 then Some (record { base = base; pages = pages }) else None) ≡ Some segment → IsSegment segment
+segment_made : (base pages : ℕ) (keys : Bool) (segment : SegmentSpec) → 4 ≤ pages → (if keys && nat_le (base + pages) 192 then Some (record { base = base; pages = pages }) else None) ≡ Some segment → IsListedSegment segment
 segment_made base pages keys segment some e =
     let made = cond_some (keys && nat_le (base + pages) 192) (record { base = base; pages = pages }) segment e in
-    subst IsSegment made.1 (record { pages = some; end = grind (arith, nat_tests) })
+    subst IsListedSegment made.1 (record { pages = some; end = grind (arith, nat_tests) })
 
-segment_limits : (value : Data) (segment : SegmentSpec) → segment_of value ≡ Some segment → IsSegment segment
+segment_limits : (value : Data) (segment : SegmentSpec) → segment_of value ≡ Some segment → IsListedSegment segment
 unfolding segment_of
 segment_limits value segment e =
     let table = bind_some (as_table value) _ segment e in
@@ -38,7 +38,7 @@ segment_limits value segment e =
 pub record AreSegments (segments : List SegmentSpec) : Type 0 where
   pub some : 1 ≤ length segments
   pub few : length segments ≤ 16
-  pub each : AllByRecursion IsSegment segments
+  pub each : AllByRecursion IsListedSegment segments
 
 most_limit : (version : ℕ) → most_segments version ≤ 16
 most_limit version = by_test (version == 1)
@@ -53,7 +53,7 @@ segments_limits most value segments few e =
     let items = bind_some (as_array value) _ segments e in
     let read = bind_some (all_of segment_of items.0) _ segments items.2 in
     let count = counted_limits 1 most read.0 segments read.2 in
-    subst AreSegments count.0 (record { some = count.1.0; few = omega (arith, count.1.1, few); each = all_of_each IsSegment segment_of segment_limits items.0 read.0 read.1 })
+    subst AreSegments count.0 (record { some = count.1.0; few = omega (arith, count.1.1, few); each = all_of_each IsListedSegment segment_of segment_limits items.0 read.0 read.1 })
 
 pub segments_in_limits : (version : ℕ) (table : Members) (segments : List SegmentSpec) → segments_in version table ≡ Some segments → AreSegments segments
 unfolding segments_in
@@ -172,7 +172,7 @@ machine_limits table file e =
       second = below_next second.0 59 second_limits.1;
       some_segment = are_segments.some;
       segments = are_segments.few;
-      each_segment = All-from_recursion IsSegment segments.0 are_segments.each;
+      each_segment = All-from_recursion IsListedSegment segments.0 are_segments.each;
       drives = are_drives.few;
       each_drive = All-from_recursion IsDrive drives.0 are_drives.each;
       letters = are_drives.letters;

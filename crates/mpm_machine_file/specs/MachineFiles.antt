@@ -66,7 +66,7 @@ unfoldable pub machine_of_text : List ℕ → Option MachineFile
 machine_of_text text = document_of text >>= machine_of
 
 -- a segment of at least 4 pages that ends below C000h
-pub record IsSegment (segment : SegmentSpec) : Type 0 where
+pub record IsListedSegment (segment : SegmentSpec) : Type 0 where
   pub pages : 4 ≤ segment.pages
   pub end : segment.base + segment.pages ≤ 192
 
@@ -88,7 +88,7 @@ pub record IsMachine (file : MachineFile) : Type 0 where
   pub second : file.second < 60
   pub some_segment : 1 ≤ length file.segments
   pub segments : length file.segments ≤ 16
-  pub each_segment : All IsSegment file.segments
+  pub each_segment : All IsListedSegment file.segments
   pub drives : length file.drives ≤ 16
   pub each_drive : All IsDrive file.drives
   pub letters : IsStrictlyIncreasing (map (λ drive. drive.letter) file.drives)

@@ -4,15 +4,15 @@ use Rattle.mpm_machine_file.specs.declared.error.MachineError.{MachineError}
 use Rattle.mpm_machine_file.specs.declared.error.MachineError.TheVariants.{Fault, OutOfMemory}
 
 -- a fault exactly where nothing is found; want of memory may come in any case
-abbrev pub Fails : {A : Type 0} → MachineError → Option A → Type 0
-Fails Fault found = found ≡ None
-Fails OutOfMemory found = Unit {0}
+abbrev pub FailsReading : {A : Type 0} → MachineError → Option A → Type 0
+FailsReading Fault found = found ≡ None
+FailsReading OutOfMemory found = Unit {0}
 
 -- a value that is seen as the one that is found, or a failure
 abbrev pub Gives : {X A : Type 0} → (X → A) → Result X MachineError → Option A → Type 0
 Gives view (Ok value) found = found ≡ Some (view value)
-Gives view (Err error) found = Fails error found
+Gives view (Err error) found = FailsReading error found
 
 -- the value that is found, or a failure
-abbrev pub Reads : {A : Type 0} → Result A MachineError → Option A → Type 0
-Reads = Gives (λ value. value)
+abbrev pub ReadsValue : {A : Type 0} → Result A MachineError → Option A → Type 0
+ReadsValue = Gives (λ value. value)

@@ -4,7 +4,7 @@ use Rattle.std.specs.Option.{option_map_or}
 use Rattle.toml.specs.Data.{Data, Members, get_member, as_array, as_str}
 use Rattle.mpm_machine_file.specs.declared.lists.Resident.{Resident}
 use Rattle.mpm_machine_file.specs.declared.lists.Resident.TheVariants.{Spool, Sched}
-use Rattle.mpm_machine_file.specs.declared.lists.Residents.{Residents}
+use Rattle.mpm_machine_file.specs.declared.lists.ResidentList.{ResidentList}
 use Rattle.mpm_script.specs.Numbers.{◌>>=◌}
 use Rattle.mpm_machine_file.specs.Fields.{all_of}
 
@@ -25,16 +25,16 @@ abbrev pub times : Resident → List Resident → ℕ
 times one residents = count_by (is_same one) residents
 
 -- an array of names of residents, none of which stands there twice
-unfoldable pub residents_of : Data → Option Residents
+unfoldable pub residents_of : Data → Option ResidentList
 residents_of value = do
   items ← as_array value
   read ← all_of resident_of items
   if nat_le (times Spool read) 1 && nat_le (times Sched read) 1 then Some (record { spool = times Spool read == 1; sched = times Sched read == 1 }) else None
 
-abbrev pub no_residents : Residents
+abbrev pub no_residents : ResidentList
 no_residents = record { spool = false; sched = false }
 
 -- the residents of a machine file of a version: version 1 has no such key; none where the key is missing
-unfoldable pub residents_in : ℕ → Members → Option Residents
+unfoldable pub residents_in : ℕ → Members → Option ResidentList
 residents_in version table =
     option_map_or (λ value. if version == 1 then None else (residents_of value)) (get_member (codes "residents") table) (Some no_residents)

@@ -3,7 +3,7 @@ ghost use Rattle.std.specs.List.{list_any};
 ghost use Rattle.std.specs.Option.{ok_or};
 ghost use Rattle.toml.specs.Data.{get_member};
 ghost use Rattle.toml.specs.View.{view, table_view};
-ghost use Rattle.mpm_machine_file.specs.Reading.{Reads};
+ghost use Rattle.mpm_machine_file.specs.Reading.{ReadsValue};
 ghost use Rattle.mpm_machine_file.specs.Fields as field;
 
 use crate::error::MachineError;
@@ -52,7 +52,7 @@ fn number(value: &Value, least: u32, greatest: u32) -> Result<u32, MachineError>
 
 /// A text that isn't empty.
 fn text(alloc: Global, value: &Value) -> Result<Text, MachineError>
-    ensures { Reads result (field.text_of (view value.now)) }
+    ensures { ReadsValue result (field.text_of (view value.now)) }
 {
     match value.as_str() {
         Some(text) if !text.is_empty() => Ok(Text::of(String::from_str(alloc, text)?)),
@@ -94,7 +94,7 @@ pub fn number_or(
 /// The text at a key that must be there.
 #[tactic(auto, unfolding(crate::specs::Fields::text_at))]
 pub fn text_at(alloc: Global, table: &Table, key: &str) -> Result<Text, MachineError>
-    ensures { Reads result (field.text_at key.now (table_view table.now)) }
+    ensures { ReadsValue result (field.text_at key.now (table_view table.now)) }
 {
     match value_at(table, key) {
         Some(value) => text(alloc, value),
@@ -105,7 +105,7 @@ pub fn text_at(alloc: Global, table: &Table, key: &str) -> Result<Text, MachineE
 /// The text at a key, where the key is there.
 #[tactic(auto, unfolding(crate::specs::Fields::text_if))]
 pub fn text_if(alloc: Global, table: &Table, key: &str) -> Result<Option<Text>, MachineError>
-    ensures { Reads result (field.text_if key.now (table_view table.now)) }
+    ensures { ReadsValue result (field.text_if key.now (table_view table.now)) }
 {
     match value_at(table, key) {
         Some(value) => Ok(Some(text(alloc, value)?)),

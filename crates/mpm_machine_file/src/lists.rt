@@ -86,7 +86,7 @@ pub enum Resident {
 
 /// The processes of the system that a machine file asks for.
 #[derive(Clone, Copy, Debug, PartialEq, Eq)]
-pub struct Residents {
+pub struct ResidentList {
     /// Whether it asks for the print spooler.
     pub spool: bool,
     /// Whether it asks for the scheduler of commands.

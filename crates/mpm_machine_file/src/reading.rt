@@ -1,7 +1,7 @@
 ghost use Rattle.std.specs.Prelude.{◌≡◌, IfOk, None, Some, Err};
 ghost use Rattle.std.specs.Option.{ok_or};
 ghost use Rattle.toml.specs.View.{table_view};
-ghost use Rattle.mpm_machine_file.specs.Reading.{Reads, Gives};
+ghost use Rattle.mpm_machine_file.specs.Reading.{ReadsValue, Gives};
 ghost use Rattle.mpm_machine_file.specs.Fields.{only_keys};
 ghost use Rattle.mpm_machine_file.specs.Segments.{segments_in};
 ghost use Rattle.mpm_machine_file.specs.Drives.{drives_in};
@@ -46,7 +46,7 @@ pub fn read_machine(alloc: Global, text: &[u8]) -> Result<MachineFile, MachineEr
 /// The machine file that a text is.
 #[tactic(auto, unfolding(crate::specs::MachineFiles::machine_of_text))]
 fn machine_in(alloc: Global, text: &[u8]) -> Result<MachineFile, MachineError>
-    ensures { Reads result (spec.machine_of_text text.now) }
+    ensures { ReadsValue result (spec.machine_of_text text.now) }
 {
     let table = document(alloc, text)?;
     machine(alloc, &table)
@@ -66,7 +66,7 @@ fn document(alloc: Global, text: &[u8]) -> Result<Table, MachineError>
 /// The machine file of a document's table.
 #[tactic(auto, unfolding(crate::specs::MachineFiles::machine_of))]
 fn machine(alloc: Global, table: &Table) -> Result<MachineFile, MachineError>
-    ensures { Reads result (spec.machine_of (table_view table.now)) }
+    ensures { ReadsValue result (spec.machine_of (table_view table.now)) }
 {
     let version = number_at(table, "version", 1, 2)?;
     let consoles = number_at(table, "consoles", 1, 8)?;
@@ -141,7 +141,7 @@ fn tick_every(table: &Table) -> Result<u32, MachineError>
 /// The segments of a machine file of a version, which must be there.
 #[tactic(auto, unfolding(crate::specs::Segments::segments_in))]
 fn segments_at(alloc: Global, version: u32, table: &Table) -> Result<Segments, MachineError>
-    ensures { Reads result (segments_in version (table_view table.now)) }
+    ensures { ReadsValue result (segments_in version (table_view table.now)) }
 {
     match value_at(table, "segment") {
         Some(value) => segments(alloc, most_segments(version), value),
@@ -152,7 +152,7 @@ fn segments_at(alloc: Global, version: u32, table: &Table) -> Result<Segments, M
 /// The drives, or none where the key is missing.
 #[tactic(auto, unfolding(crate::specs::Drives::drives_in))]
 fn drives_at(alloc: Global, table: &Table) -> Result<DriveSpecs, MachineError>
-    ensures { Reads result (drives_in (table_view table.now)) }
+    ensures { ReadsValue result (drives_in (table_view table.now)) }
 {
     match value_at(table, "drive") {
         Some(value) => drives(alloc, value),

@@ -1,25 +1,29 @@
 ghost use Rattle.std.specs.Prelude.{◌≡◌};
 ghost use Rattle.std.specs.Option.{ok_or};
 ghost use Rattle.toml.specs.View.{view, items_view, table_view};
-ghost use Rattle.mpm_machine_file.specs.Reading.{Reads, Gives};
+ghost use Rattle.mpm_machine_file.specs.Reading.{ReadsValue, Gives};
 ghost use Rattle.mpm_machine_file.specs.Fields.{all_of};
 ghost use Rattle.mpm_machine_file.specs.Residents as spec;
 
 use crate::error::MachineError;
 use crate::fields::value_at;
-use crate::lists::{Resident, Residents};
+use crate::lists::{Resident, ResidentList};
 use std::alloc::Global;
 use toml::{Table, Value};
 
 /// The residents of a machine file of a version, or none where the key is missing. Version 1 has no such key.
 #[tactic(auto, unfolding(crate::specs::Residents::residents_in))]
-pub fn residents_at(alloc: Global, version: u32, table: &Table) -> Result<Residents, MachineError>
-    ensures { Reads result (spec.residents_in version (table_view table.now)) }
+pub fn residents_at(
+    alloc: Global,
+    version: u32,
+    table: &Table,
+) -> Result<ResidentList, MachineError>
+    ensures { ReadsValue result (spec.residents_in version (table_view table.now)) }
 {
     match value_at(table, "residents") {
         Some(_) if version == 1 => Err(MachineError::Fault),
         Some(value) => residents(alloc, value),
-        None => Ok(Residents {
+        None => Ok(ResidentList {
             spool: false,
             sched: false,
         }),
@@ -28,8 +32,8 @@ pub fn residents_at(alloc: Global, version: u32, table: &Table) -> Result<Reside
 
 /// The residents of the array at `residents`, each of them named at most once.
 #[tactic(auto, unfolding(crate::specs::Residents::residents_of))]
-fn residents(alloc: Global, value: &Value) -> Result<Residents, MachineError>
-    ensures { Reads result (spec.residents_of (view value.now)) }
+fn residents(alloc: Global, value: &Value) -> Result<ResidentList, MachineError>
+    ensures { ReadsValue result (spec.residents_of (view value.now)) }
 {
     let Some(items) = value.as_array() else {
         return Err(MachineError::Fault);
@@ -40,7 +44,7 @@ fn residents(alloc: Global, value: &Value) -> Result<Residents, MachineError>
     if spool > 1 || sched > 1 {
         return Err(MachineError::Fault);
     }
-    Ok(Residents {
+    Ok(ResidentList {
         spool: spool == 1,
         sched: sched == 1,
     })

@@ -1,7 +1,7 @@
 ghost use Rattle.std.specs.Prelude.{◌≡◌};
 ghost use Rattle.std.specs.Option.{ok_or};
 ghost use Rattle.toml.specs.View.{view, items_view};
-ghost use Rattle.mpm_machine_file.specs.Reading.{Reads, Gives};
+ghost use Rattle.mpm_machine_file.specs.Reading.{ReadsValue, Gives};
 ghost use Rattle.mpm_machine_file.specs.Fields.{all_of};
 ghost use Rattle.mpm_machine_file.specs.Segments as spec;
 
@@ -25,7 +25,7 @@ pub fn most_segments(version: u32) -> usize
 /// The segments of the array at `segment`: one or more, and no more than that many.
 #[tactic(auto, unfolding(crate::specs::Segments::segments_of))]
 pub fn segments(alloc: Global, most: usize, value: &Value) -> Result<Segments, MachineError>
-    ensures { Reads result (spec.segments_of most (view value.now)) }
+    ensures { ReadsValue result (spec.segments_of most (view value.now)) }
 {
     let Some(items) = value.as_array() else {
         return Err(MachineError::Fault);

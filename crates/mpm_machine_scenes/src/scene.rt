@@ -8,7 +8,7 @@ ghost use Rattle.mpm_machine.specs.Holding.{HoldsDrives};
 ghost use Rattle.mpm_system.specs.Opening.{IsBare, MayPlace};
 
 use mpm_base::{Kind, Name8, Pid, Seg, Steps};
-use mpm_images::{Entry, UNUSED, entry_in, image, read_record, record_at};
+use mpm_images::{EntryBytes, UNUSED, entry_in, image, read_record, record_at};
 use mpm_machine::Machine;
 use mpm_machine_file::{MachineFile, read_machine};
 use mpm_port::{MemoryDrives, MemorySink};
@@ -45,7 +45,7 @@ pub struct Scene<'a> {
     /// Whether its calls are written, as they are completed.
     pub trace: bool,
     /// The directory entries of the floppy disk whose image is `a.img`, if there is one.
-    pub disk: Option<&'a [Entry]>,
+    pub disk: Option<&'a [EntryBytes]>,
 }
 
 /// What is looked at of the registers of a process.
@@ -349,7 +349,7 @@ fn leaves(machine: &Machine, drives: &mut MemoryDrives, sight: Sight) -> bool {
 }
 
 /// The entry of a slot of the floppy disk.
-fn entry_of(drives: &mut MemoryDrives, slot: u8) -> Entry {
+fn entry_of(drives: &mut MemoryDrives, slot: u8) -> EntryBytes {
     match read_record(drives, Kind::Ibm3740, u32::from(slot / 4)) {
         Some(entries) => entry_in(&entries, usize::from(slot)),
         None => UNUSED,

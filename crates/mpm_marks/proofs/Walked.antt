@@ -6,7 +6,7 @@ use Rattle.std.proofs.lemmas.List.FromFn.{length-range_with_len, get_or-range_wi
 use Rattle.std.proofs.lemmas.List.Folds.{list_any_none}
 use Rattle.mpm_base.proofs.Lists.{any_at}
 use Rattle.mpm_opens.specs.Opens.{OpenFiles}
-use Rattle.mpm_functions.specs.declared.functions.FileFunction.{FileFunction}
+use Rattle.mpm_file_functions.specs.declared.functions.FileFunction.{FileFunction}
 use Rattle.mpm_marks.specs.Busy.{is_named_busy, are_busy}
 use Rattle.mpm_marks.specs.Marks.{is_marked_by, is_marked}
 

@@ -3,8 +3,8 @@ use Rattle.std.specs.Prelude.{ℕ, ◌&&◌, ◌||◌, Bool, List, ◌==◌, tru
 use Rattle.std.specs.List.{list_any, range_with_len}
 use Rattle.mpm_opens.specs.Items as items
 use Rattle.mpm_opens.specs.Opens.{OpenFiles}
-use Rattle.mpm_functions.specs.declared.functions.FileFunction.{FileFunction}
-use Rattle.mpm_functions.specs.declared.functions.FileFunction.TheVariants.{ProtectDisk, ResetDisks}
+use Rattle.mpm_file_functions.specs.declared.functions.FileFunction.{FileFunction}
+use Rattle.mpm_file_functions.specs.declared.functions.FileFunction.TheVariants.{ProtectDisk, ResetDisks}
 use Rattle.mpm_marks.specs.Marks.{is_marked, is_bit}
 
 -- the drives that a call on drives names: all, the caller's own, those of the mask in DE

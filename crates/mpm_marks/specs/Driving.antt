@@ -2,8 +2,8 @@
 -- 13, 28, 37, 38 and 39.)
 use Rattle.std.specs.Prelude.{ℕ, Bool, List, if◌then◌else◌}
 use Rattle.mpm_opens.specs.Opens.{OpenFiles, given_back}
-use Rattle.mpm_functions.specs.declared.functions.FileFunction.{FileFunction}
-use Rattle.mpm_functions.specs.declared.functions.FileFunction.TheVariants.{FreeDrives, ResetDisks, ProtectDisk, ResetDrives, AccessDrives}
+use Rattle.mpm_file_functions.specs.declared.functions.FileFunction.{FileFunction}
+use Rattle.mpm_file_functions.specs.declared.functions.FileFunction.TheVariants.{FreeDrives, ResetDisks, ProtectDisk, ResetDrives, AccessDrives}
 use Rattle.mpm_marks.specs.Marks.{is_bit, with_marks, without_marks}
 use Rattle.mpm_marks.specs.Protected.{none_protected, unprotected, with_protected}
 

@@ -3,7 +3,7 @@ ghost use Rattle.mpm_marks.specs.Busy as subjects;
 
 use crate::marks::{Marks, is_bit};
 use mpm_base::Pid;
-use mpm_functions::FileFunction;
+use mpm_file_functions::FileFunction;
 use mpm_opens::Opens;
 
 /// Whether a call on drives names a drive: of the process's `own` drive and the mask in DE.

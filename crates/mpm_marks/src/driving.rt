@@ -9,7 +9,7 @@ ghost use Rattle.mpm_marks.specs.Protected.{with_protected};
 use crate::marks::{Marks, is_bit};
 use crate::protected::Protected;
 use mpm_base::Pid;
-use mpm_functions::FileFunction;
+use mpm_file_functions::FileFunction;
 use mpm_opens::Opens;
 
 /// What a call leaves of the drives that a process has marked, by a mask. (MP/M II Programmer's Guide, "Function 38: Access

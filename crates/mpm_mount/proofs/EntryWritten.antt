@@ -20,7 +20,7 @@ use Rattle.mpm_mount.specs.Faults.{name_of, block_at, cause_of, first_fault}
 use Rattle.mpm_mount.specs.Images.{slot_entry, entries_to, entries_of, contents_of, extent_in, extent_from, collected, drive_of}
 use Rattle.mpm_mount.specs.Directories.{others, Directory, entry_in, with_entry, Stands}
 use Rattle.mpm_mount.specs.Changes.{exchanged}
-use Rattle.mpm_mount.specs.Using.{IsInside}
+use Rattle.mpm_mount.specs.Using.{IsInsideBlocks}
 use Rattle.mpm_mount.proofs.Ranges.{map_same, map_at}
 use Rattle.mpm_mount.proofs.UsedBlocks.{inside_at}
 use Rattle.mpm_mount.proofs.Replaced.{old_inside}
@@ -98,7 +98,7 @@ contents_behind kind old new slot b bytes written h inside = elim (cases_eq b 0)
 ]
 
 extent_behind : (kind : Kind) (old new : Sectors) (slot : ℕ) (bytes : List ℕ) (entry : Entry) → SectorWritten (slot / 4) bytes old new → slot < (geometry_of kind).drm + 1
-    → IsInside kind entry → extent_from new kind entry ≡ extent_from old kind entry
+    → IsInsideBlocks kind entry → extent_from new kind entry ≡ extent_from old kind entry
 unfolding extent_in
 extent_behind kind old new slot bytes (File f) written h inside =
     ap (λ blocks. Some (name_of kind f, record (extent_in old kind f) { blocks = blocks }))

@@ -17,7 +17,7 @@ use Rattle.mpm_dirent.specs.Proper.{IsProper}
 use Rattle.mpm_dirent.proofs.Numbers.{spread_is}
 use Rattle.mpm_dirent.proofs.Back.{read_back}
 use Rattle.mpm_mount.specs.Images.{entries_of}
-use Rattle.mpm_mount.specs.Directories.{IsWhole}
+use Rattle.mpm_mount.specs.Directories.{IsWholeEntry}
 use Rattle.mpm_mount.proofs.EntryWritten.{directory_within, slot_room, entries_set}
 use Rattle.mpm_mount.proofs.FreeEntries.{all_slots}
 
@@ -37,7 +37,7 @@ stamped_size sort mode decode name password first second a b c d =
     omega (arith, a, b, c, d, length-append name (mode ∷ decode ∷ 0 ∷ 0 ∷ (password ++ (first ++ second))), length-append password (first ++ second), length-append first second)
 
 -- so is a proper one whose parts have the lengths of their arrays
-pub reads_back : (entry : Entry) (wide : Bool) → IsWhole entry → IsProper wide entry → IsReadBack wide entry
+pub reads_back : (entry : Entry) (wide : Bool) → IsWholeEntry entry → IsProper wide entry → IsReadBack wide entry
 unfolding bytes_of
 reads_back Free wide sizes proper = record { size = refl; same = read_back Free wide tt proper }
 reads_back (File f) wide sizes proper =
@@ -57,12 +57,12 @@ reads_back (Label l) wide sizes proper = record {
 reads_back (Kept bytes) wide sizes proper = record { size = sizes; same = read_back (Kept bytes) wide tt proper }
 
 -- so is each entry of a directory
-pub each_back : (kind : Kind) (entries : List Entry) → length entries ≡ (geometry_of kind).drm + 1 → All (IsProper (geometry_of kind).wide) entries → All IsWhole entries
+pub each_back : (kind : Kind) (entries : List Entry) → length entries ≡ (geometry_of kind).drm + 1 → All (IsProper (geometry_of kind).wide) entries → All IsWholeEntry entries
     → (slot : ℕ) → slot < (geometry_of kind).drm + 1 → IsReadBack (geometry_of kind).wide (get_or entries slot Free)
 each_back kind entries full proper whole slot less =
     let wide : Bool = (geometry_of kind).wide in
     let room : slot < length entries = omega (arith, full, less) in
-    reads_back (get_or entries slot Free) wide (All-get_or IsWhole entries slot Free room whole) (All-get_or (IsProper wide) entries slot Free room proper)
+    reads_back (get_or entries slot Free) wide (All-get_or IsWholeEntry entries slot Free room whole) (All-get_or (IsProper wide) entries slot Free room proper)
 
 -- an image with the first of some entries in its directory
 abbrev pub with_entry_in : Kind → List ℕ → ℕ → List ℕ → List ℕ

@@ -16,8 +16,8 @@ use Rattle.mpm_mount.specs.Directories.{Directory, Stands, extent_slot}
 use Rattle.mpm_mount.proofs.LookedUp.{kind_of, extent_found, extent_missing}
 use Rattle.mpm_mount.proofs.FreeRecords.{held_where}
 use Rattle.mpm_mount.proofs.KeptRecords.{place_within}
-use Rattle.mpm_functions.specs.declared.errors.RecordError.{RecordError}
-use Rattle.mpm_functions.specs.declared.errors.RecordError.TheVariants.{UnwrittenExtent, UnwrittenData}
+use Rattle.mpm_file_functions.specs.declared.errors.RecordError.{RecordError}
+use Rattle.mpm_file_functions.specs.declared.errors.RecordError.TheVariants.{UnwrittenExtent, UnwrittenData}
 use Rattle.mpm_mount.specs.Records.{read_error, count_there, file_error, error_in, error_at, record_error}
 
 -- a block that an entry of the image holds

@@ -14,8 +14,8 @@ use Rattle.mpm_dirent.specs.declared.kinds.Entry.{Entry}
 use Rattle.mpm_dirent.specs.declared.kinds.Entry.TheVariants.{Free, File, Xfcb, Label, Kept}
 use Rattle.mpm_dirent.specs.Proper.{IsProper}
 use Rattle.mpm_mount.specs.Faults.{holds, first_fault}
-use Rattle.mpm_mount.specs.Directories.{others, IsKept, IsWhole}
-use Rattle.mpm_mount.specs.Using.{IsUsedBy, Claims, Frees, IsInside}
+use Rattle.mpm_mount.specs.Directories.{others, IsKept, IsWholeEntry}
+use Rattle.mpm_mount.specs.Using.{IsUsedBy, Claims, Frees, IsInsideBlocks}
 use Rattle.mpm_mount.proofs.UsedBy.{used_at, used_by, size_used, zero_used}
 use Rattle.mpm_mount.proofs.Others.{any_split, any_set}
 use Rattle.mpm_mount.proofs.Sound.{sound_at, held_once, block_within}
@@ -56,7 +56,7 @@ pub kept_used : (kind : Kind) (entries : List Entry) (blocks : Blocks) → IsKep
 kept_used kind entries blocks kept = record { of_kind = kept.of_kind; used = kept.used }
 
 pub kept_exchanged : (kind : Kind) (entries after : List Entry) (slot : ℕ) (new : Entry) (before mid now : Blocks) → IsKept kind entries before → slot < length entries
-    → IsProper (geometry_of kind).wide new → IsWhole new → first_fault kind (slice_set entries slot new) ≡ None
+    → IsProper (geometry_of kind).wide new → IsWholeEntry new → first_fault kind (slice_set entries slot new) ≡ None
     → Frees kind (get_or entries slot Free) before mid → Claims kind new mid now → after ≡ slice_set entries slot new → IsKept kind after now
 kept_exchanged kind entries after slot new before mid now kept h proper whole faultless frees claims is =
     let used = used_exchanged kind entries slot new before mid now kept.faultless h (kept_used kind entries before kept) frees claims in
@@ -65,24 +65,24 @@ kept_exchanged kind entries after slot new before mid now kept h proper whole fa
       full = length-set entries slot new ∙ kept.full;
       faultless = faultless;
       proper = All-set (IsProper (geometry_of kind).wide) entries slot new proper kept.proper;
-      whole = All-set IsWhole entries slot new whole kept.whole;
+      whole = All-set IsWholeEntry entries slot new whole kept.whole;
       of_kind = used.of_kind;
       used = used.used;
     })
 
 -- each entry of a directory without a fault has its blocks inside
 inside_entry : (kind : Kind) (entries : List Entry) (slot : ℕ) (entry : Entry) → first_fault kind entries ≡ None → slot < length entries → get_or entries slot Free ≡ entry
-    → IsInside kind entry
+    → IsInsideBlocks kind entry
 inside_entry kind entries slot (File f) faultless h is = (sound_at kind entries slot f faultless h is).inside
 inside_entry kind entries slot Free faultless h is = tt
 inside_entry kind entries slot (Xfcb x) faultless h is = tt
 inside_entry kind entries slot (Label l) faultless h is = tt
 inside_entry kind entries slot (Kept bytes) faultless h is = tt
 
-pub old_inside : (kind : Kind) (entries : List Entry) (slot : ℕ) → first_fault kind entries ≡ None → slot < length entries → IsInside kind (get_or entries slot Free)
+pub old_inside : (kind : Kind) (entries : List Entry) (slot : ℕ) → first_fault kind entries ≡ None → slot < length entries → IsInsideBlocks kind (get_or entries slot Free)
 old_inside kind entries slot faultless h = inside_entry kind entries slot (get_or entries slot Free) faultless h refl
 
 pub new_inside : (kind : Kind) (entries : List Entry) (slot : ℕ) (new : Entry) → first_fault kind (slice_set entries slot new) ≡ None → slot < length entries
-    → IsInside kind new
+    → IsInsideBlocks kind new
 new_inside kind entries slot new faultless h =
     inside_entry kind (slice_set entries slot new) slot new faultless (omega (arith, length-set entries slot new)) (get_or-set_same entries slot new Free h)

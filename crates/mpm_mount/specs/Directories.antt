@@ -72,23 +72,23 @@ abbrev pub others : {X : Type 0} → List X → ℕ → List X
 others entries slot = take slot entries ++ drop (suc slot) entries
 
 -- the parts of an entry have the lengths of their arrays, also where it is kept unread
-abbrev pub IsWhole : Entry → Type 0
-IsWhole (Kept bytes) = length bytes ≡ 32
-IsWhole entry = HasSizes entry
+abbrev pub IsWholeEntry : Entry → Type 0
+IsWholeEntry (Kept bytes) = length bytes ≡ 32
+IsWholeEntry entry = HasSizes entry
 
 -- a directory of a kind: all slots, no fault, and entries that can be written
 pub record IsDirectory (kind : Kind) (entries : List Entry) : Type 0 where
   pub full : length entries ≡ (geometry_of kind).drm + 1
   pub faultless : first_fault kind entries ≡ None
   pub proper : All (IsProper (geometry_of kind).wide) entries
-  pub whole : All IsWhole entries
+  pub whole : All IsWholeEntry entries
 
 -- what a directory keeps of itself: all slots, no fault, entries that can be written, and which blocks are used
 pub record IsKept (kind : Kind) (entries : List Entry) (blocks : Blocks) : Type 0 where
   pub full : length entries ≡ (geometry_of kind).drm + 1
   pub faultless : first_fault kind entries ≡ None
   pub proper : All (IsProper (geometry_of kind).wide) entries
-  pub whole : All IsWhole entries
+  pub whole : All IsWholeEntry entries
   pub of_kind : blocks.kind ≡ kind
   pub used : blocks.used ≡ used_blocks kind entries
 

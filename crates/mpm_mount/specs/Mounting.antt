@@ -20,11 +20,11 @@ pub record SameDrives {D : Type 0} (disks : D → Disks) (told : D → List ℕ 
   pub failed : names new ≡ names old
 
 -- the count of faults rises where the device failed, and stays else
-abbrev pub Counts : {A : Type 0} → ℕ → ℕ → Result A MountError → Type 0
-Counts before now (Ok answer) = now ≡ before
-Counts before now (Err DiskFault) = Rose before now
-Counts before now (Err OutOfMemory) = now ≡ before
-Counts before now (Err (Image cause place)) = now ≡ before
+abbrev pub CountsFault : {A : Type 0} → ℕ → ℕ → Result A MountError → Type 0
+CountsFault before now (Ok answer) = now ≡ before
+CountsFault before now (Err DiskFault) = Rose before now
+CountsFault before now (Err OutOfMemory) = now ≡ before
+CountsFault before now (Err (Image cause place)) = now ≡ before
 
 -- a directory has this fault
 abbrev pub IsFault : Kind → List Entry → MountError → Type 0

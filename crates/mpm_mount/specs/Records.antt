@@ -8,8 +8,8 @@ use Rattle.mpm_dirent.specs.declared.kinds.FileEntry.{FileEntry}
 use Rattle.mpm_mount.specs.Drives.{FileName, block_place, Drive, extent_at, visible_of}
 use Rattle.mpm_mount.specs.Faults.{extent_of, block_at}
 use Rattle.mpm_mount.specs.Directories.{Directory, entry_in, extent_slot}
-use Rattle.mpm_functions.specs.declared.errors.RecordError.{RecordError}
-use Rattle.mpm_functions.specs.declared.errors.RecordError.TheVariants.{UnwrittenExtent, UnwrittenData}
+use Rattle.mpm_file_functions.specs.declared.errors.RecordError.{RecordError}
+use Rattle.mpm_file_functions.specs.declared.errors.RecordError.TheVariants.{UnwrittenExtent, UnwrittenData}
 
 -- by its directory entry
 abbrev pub count_there : FileEntry → ℕ → ℕ

@@ -14,12 +14,12 @@ pub record IsUsedBy (kind : Kind) (entries : List Entry) (blocks : Blocks) : Typ
   pub used : blocks.used ≡ used_blocks kind entries
 
 -- an entry has no number of a block that files don't have
-abbrev pub IsInside : Kind → Entry → Type 0
-IsInside kind (File f) = some_place kind (is_outside kind f) ≡ false
-IsInside kind Free = Unit {0}
-IsInside kind (Xfcb x) = Unit {0}
-IsInside kind (Label l) = Unit {0}
-IsInside kind (Kept bytes) = Unit {0}
+abbrev pub IsInsideBlocks : Kind → Entry → Type 0
+IsInsideBlocks kind (File f) = some_place kind (is_outside kind f) ≡ false
+IsInsideBlocks kind Free = Unit {0}
+IsInsideBlocks kind (Xfcb x) = Unit {0}
+IsInsideBlocks kind (Label l) = Unit {0}
+IsInsideBlocks kind (Kept bytes) = Unit {0}
 
 -- a block among the first of an entry; number 0 is none
 abbrev pub is_among : FileEntry → ℕ → ℕ → Bool
@@ -29,24 +29,24 @@ abbrev pub is_of : Kind → Entry → ℕ → Bool
 is_of kind entry block = not (block == 0) && holds kind block entry
 
 -- the map has its size and kind, and says of each block
-pub record Leaves (change : Bool → ℕ → Bool) (before now : Blocks) : Type 0 where
+pub record LeavesBlocks (change : Bool → ℕ → Bool) (before now : Blocks) : Type 0 where
   pub kind : now.kind ≡ before.kind
   pub size : length now.used ≡ length before.used
   pub used : (block : ℕ) → is_used now block ≡ change (is_used before block) block
 
 -- an entry's blocks are used too
 abbrev pub ClaimsTo : FileEntry → ℕ → Blocks → Blocks → Type 0
-ClaimsTo f count = Leaves (λ was block. was || is_among f count block)
+ClaimsTo f count = LeavesBlocks (λ was block. was || is_among f count block)
 
 abbrev pub Claims : Kind → Entry → Blocks → Blocks → Type 0
-Claims kind entry = Leaves (λ was block. was || is_of kind entry block)
+Claims kind entry = LeavesBlocks (λ was block. was || is_of kind entry block)
 
 -- an entry's blocks are free
 abbrev pub FreesTo : FileEntry → ℕ → Blocks → Blocks → Type 0
-FreesTo f count = Leaves (λ was block. was && not (is_among f count block))
+FreesTo f count = LeavesBlocks (λ was block. was && not (is_among f count block))
 
 abbrev pub Frees : Kind → Entry → Blocks → Blocks → Type 0
-Frees kind entry = Leaves (λ was block. was && not (is_of kind entry block))
+Frees kind entry = LeavesBlocks (λ was block. was && not (is_of kind entry block))
 
 -- a block of an entry was used, or stands before in that entry
 abbrev pub clashes : Blocks → FileEntry → ℕ → Bool

@@ -3,9 +3,9 @@ ghost use Rattle.mpm_blocks.specs.Geometries.{geometry_of, last_block};
 ghost use Rattle.mpm_dirent.specs.Proper.{IsProper};
 ghost use Rattle.mpm_dirent.specs.Names.{plain};
 ghost use Rattle.mpm_mount.specs.Faults.{cause_of, first_fault};
-ghost use Rattle.mpm_mount.specs.Directories.{IsDirectory, IsKept, IsWhole, others, entry_in, with_entry, extent_slot, xfcb_slot, label_slot, free_slot, free_block, free_records_in, free_entries_in};
+ghost use Rattle.mpm_mount.specs.Directories.{IsDirectory, IsKept, IsWholeEntry, others, entry_in, with_entry, extent_slot, xfcb_slot, label_slot, free_slot, free_block, free_records_in, free_entries_in};
 ghost use Rattle.mpm_mount.specs.Searching.{IsNext, search_of};
-ghost use Rattle.mpm_mount.specs.Using.{IsInside, Claims, Frees};
+ghost use Rattle.mpm_mount.specs.Using.{IsInsideBlocks, Claims, Frees};
 
 use crate::blocks::{claim_all, free_all};
 use crate::searching::{Found, Search};
@@ -173,7 +173,7 @@ fn tell_size<T, const N: usize>(array: &[T; N])
 
 /// Says what is so of each entry: its parts have the lengths of their arrays.
 fn tell_whole(entry: &Entry)
-    ensures { IsWhole entry.now }
+    ensures { IsWholeEntry entry.now }
 {
     match entry {
         Entry::Free => {}
@@ -202,7 +202,7 @@ fn replace(kind: Kind, entries: &mut Vec<Entry>, blocks: &mut BlockMap, slot: us
     requires kept { IsKept kind entries.old.items blocks.old }
     requires slot { slot < length entries.old.items }
     requires proper { IsProper (geometry_of kind).wide entry }
-    requires whole { IsWhole entry }
+    requires whole { IsWholeEntry entry }
     requires faultless { cause_of kind (others entries.old.items slot) entry ≡ None }
     ensures entries { entries.new.items ≡ slice_set entries.old.items slot entry }
     ensures kept { IsKept kind entries.new.items blocks.new }
@@ -216,7 +216,7 @@ fn replace(kind: Kind, entries: &mut Vec<Entry>, blocks: &mut BlockMap, slot: us
 fn free_blocks(kind: Kind, entry: &Entry, blocks: &mut BlockMap)
     requires of_kind { blocks.old.kind ≡ kind }
     requires size { length blocks.old.used ≡ last_block kind + 1 }
-    requires inside { IsInside kind entry.now }
+    requires inside { IsInsideBlocks kind entry.now }
     ensures { Frees kind entry.now blocks.old blocks.new }
 {
     if let Entry::File { file } = entry {
@@ -228,7 +228,7 @@ fn free_blocks(kind: Kind, entry: &Entry, blocks: &mut BlockMap)
 fn claim_blocks(kind: Kind, entry: &Entry, blocks: &mut BlockMap)
     requires of_kind { blocks.old.kind ≡ kind }
     requires size { length blocks.old.used ≡ last_block kind + 1 }
-    requires inside { IsInside kind entry.now }
+    requires inside { IsInsideBlocks kind entry.now }
     ensures { Claims kind entry.now blocks.old blocks.new }
 {
     if let Entry::File { file } = entry {

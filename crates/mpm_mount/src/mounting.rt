@@ -3,9 +3,9 @@ ghost use Rattle.std.specs.List.{All};
 ghost use Rattle.mpm_blocks.specs.Geometries.{geometry_of};
 ghost use Rattle.mpm_port.specs.Disks.{size_of};
 ghost use Rattle.mpm_dirent.specs.Proper.{IsProper};
-ghost use Rattle.mpm_mount.specs.Directories.{IsDirectory, IsWhole};
+ghost use Rattle.mpm_mount.specs.Directories.{IsDirectory, IsWholeEntry};
 ghost use Rattle.mpm_mount.specs.Faults as faults;
-ghost use Rattle.mpm_mount.specs.Mounting.{SameDrives, Counts, IsFault, IsImageFault, IsOfOtherSize, IsMounted};
+ghost use Rattle.mpm_mount.specs.Mounting.{SameDrives, CountsFault, IsFault, IsImageFault, IsOfOtherSize, IsMounted};
 
 use crate::directory::Mounted;
 use crate::errors::MountError;
@@ -35,7 +35,7 @@ pub fn mount<D: Drives>(
     ensures size { OnOk result (size_of (D.disks drives.old) drive ≡ Some (geometry_of kind).bytes) }
     ensures other_size { (size_of (D.disks drives.old) drive ≡ Some (geometry_of kind).bytes → ⊥) → IfErr result IsOfOtherSize }
     ensures err { IfErr result (λ error. IfSome ((D.disks drives.old).image drive) (λ image. IsImageFault image kind error)) }
-    ensures count { Counts (D.faults drives.old) (D.faults drives.new) result }
+    ensures count { CountsFault (D.faults drives.old) (D.faults drives.new) result }
     ensures same { SameDrives D.disks D.told D.failed_names drives.old drives.new }
     ensures unsynced { D.unsynced drives.new ≡ D.unsynced drives.old }
 {
@@ -55,7 +55,7 @@ fn check_size<D: Drives>(drives: &mut D, drive: u8, kind: Kind) -> Result<(), Mo
     ensures size { OnOk result (size_of (D.disks drives.old) drive ≡ Some (geometry_of kind).bytes) }
     ensures other_size { IfErr result IsOfOtherSize }
     ensures err { IfErr result (λ error. IfSome ((D.disks drives.old).image drive) (λ image. IsImageFault image kind error)) }
-    ensures count { Counts (D.faults drives.old) (D.faults drives.new) result }
+    ensures count { CountsFault (D.faults drives.old) (D.faults drives.new) result }
     ensures same { SameDrives D.disks D.told D.failed_names drives.old drives.new }
     ensures unsynced { D.unsynced drives.new ≡ D.unsynced drives.old }
 {
@@ -75,7 +75,7 @@ pub fn mount_entries(
 ) -> Result<Mounted, MountError>
     requires full { length entries.items ≡ (geometry_of kind).drm + 1 }
     requires proper { All (IsProper (geometry_of kind).wide) entries.items }
-    requires whole { All IsWhole entries.items }
+    requires whole { All IsWholeEntry entries.items }
     ensures ok { IfOk result (λ mounted. mounted ≡ record { drive = drive; kind = kind; entries = entries.items }) }
     ensures faultless { OnOk result (faults.first_fault kind entries.items ≡ None) }
     ensures directory { IfOk result (λ mounted. IsDirectory kind mounted.entries) }

@@ -5,9 +5,9 @@ ghost use Rattle.mpm_blocks.specs.Sectors.{sectors_of};
 ghost use Rattle.mpm_port.specs.Disks.{size_of};
 ghost use Rattle.mpm_dirent.specs.Entries.{part};
 ghost use Rattle.mpm_dirent.specs.Proper.{IsProper};
-ghost use Rattle.mpm_mount.specs.Directories.{IsWhole};
+ghost use Rattle.mpm_mount.specs.Directories.{IsWholeEntry};
 ghost use Rattle.mpm_mount.specs.Images.{entries_of, entries_in};
-ghost use Rattle.mpm_mount.specs.Mounting.{SameDrives, Counts, IsDevice, IsSectorOf};
+ghost use Rattle.mpm_mount.specs.Mounting.{SameDrives, CountsFault, IsDevice, IsSectorOf};
 
 use crate::OutOfMemory;
 use crate::errors::MountError;
@@ -30,9 +30,9 @@ pub fn read_directory<D: Drives>(
     ensures entries { IfOk result (λ entries. IfSome ((D.disks drives.old).image drive) (λ image. entries.items ≡ entries_of (sectors_of image kind) kind)) }
     ensures full { IfOk result (λ entries. length entries.items ≡ (geometry_of kind).drm + 1) }
     ensures proper { IfOk result (λ entries. All (IsProper (geometry_of kind).wide) entries.items) }
-    ensures whole { IfOk result (λ entries. All IsWhole entries.items) }
+    ensures whole { IfOk result (λ entries. All IsWholeEntry entries.items) }
     ensures device { IfErr result IsDevice }
-    ensures count { Counts (D.faults drives.old) (D.faults drives.new) result }
+    ensures count { CountsFault (D.faults drives.old) (D.faults drives.new) result }
     ensures same { SameDrives D.disks D.told D.failed_names drives.old drives.new }
     ensures unsynced { D.unsynced drives.new ≡ D.unsynced drives.old }
 {
@@ -59,9 +59,9 @@ fn read_sector<D: Drives>(
         entries.new.items ≡ entries.old.items ++ entries_in (sectors_of image kind sector) (geometry_of kind).wide 4)) }
     ensures size { OnOk result (length entries.new.items ≡ length entries.old.items + 4) }
     ensures proper { All (IsProper (geometry_of kind).wide) entries.old.items → OnOk result (All (IsProper (geometry_of kind).wide) entries.new.items) }
-    ensures whole { All IsWhole entries.old.items → OnOk result (All IsWhole entries.new.items) }
+    ensures whole { All IsWholeEntry entries.old.items → OnOk result (All IsWholeEntry entries.new.items) }
     ensures device { IfErr result IsDevice }
-    ensures count { Counts (D.faults drives.old) (D.faults drives.new) result }
+    ensures count { CountsFault (D.faults drives.old) (D.faults drives.new) result }
     ensures same { SameDrives D.disks D.told D.failed_names drives.old drives.new }
     ensures unsynced { D.unsynced drives.new ≡ D.unsynced drives.old }
 {
@@ -80,7 +80,7 @@ fn read_sector<D: Drives>(
 fn push_entries(bytes: &[u8; 128], wide: bool, entries: &mut Vec<Entry>) -> Result<(), OutOfMemory>
     ensures entries { OnOk result (entries.new.items ≡ entries.old.items ++ entries_in bytes.now wide 4) }
     ensures proper { All (IsProper wide) entries.old.items → OnOk result (All (IsProper wide) entries.new.items) }
-    ensures whole { All IsWhole entries.old.items → OnOk result (All IsWhole entries.new.items) }
+    ensures whole { All IsWholeEntry entries.old.items → OnOk result (All IsWholeEntry entries.new.items) }
 {
     for place in 0..4 {
         entries.push(read_entry(&entry_bytes(bytes, place), wide))?;

@@ -11,7 +11,7 @@ use crate::slots::last_extent;
 use mpm_base::Kind;
 use mpm_blocks::geometry;
 use mpm_dirent::{Entry, FileEntry};
-use mpm_functions::RecordError;
+use mpm_file_functions::RecordError;
 
 /// How many records a block has.
 pub fn block_records(kind: Kind) -> u32

@@ -10,8 +10,8 @@ use Rattle.mpm_render.specs.Outputs.{Output, Said, said, rendered}
 use Rattle.mpm_render.specs.Shown.{Shows, EndsBetween}
 use Rattle.mpm_render.proofs.Laws.{said_nil, said_cons, said_append, rendered_grows}
 use Rattle.mpm_render.proofs.Grows.{begins_refl, begins_trans, widened}
-use Rattle.mpm_output.specs.Outside.{Faults, Outside, Device, TheSink, by_sink}
-use Rattle.mpm_output.specs.Writing.{spoken, Wrote, Stopped, Fails, Emits}
+use Rattle.mpm_output.specs.Outside.{DeviceFaults, Outside, Device, TheSink, by_sink}
+use Rattle.mpm_output.specs.Writing.{spoken, CameOut, Stopped, DeviceFails, Emits}
 
 said_before : (u : Unit2) (bytes : List ℕ) (os : List Output) → said u bytes os ≡ said u bytes [] ++ os
 said_before u [] os = said_nil u os ∙ ap (λ t. t ++ os) (sym (said_nil u []))
@@ -41,10 +41,10 @@ rendered_onward trace (o ∷ emitted) os =
 
 -- nothing, and one part after another
 
-pub wrote_nothing : (o : Outside) → Wrote o o []
+pub wrote_nothing : (o : Outside) → CameOut o o []
 wrote_nothing o = record { shown = λ outputs first shows. shows; faults = refl; trace = refl }
 
-pub wrote_after : (o m n : Outside) (a b : List Output) → Wrote o m a → Wrote m n b → Wrote o n (b ++ a)
+pub wrote_after : (o m n : Outside) (a b : List Output) → CameOut o m a → CameOut m n b → CameOut o n (b ++ a)
 wrote_after o m n a b p q = record {
   shown = λ outputs first shows.
       let P : List Output → Type 0 = λ os. Shows n.kept n.written os first in
@@ -54,10 +54,10 @@ wrote_after o m n a b p q = record {
 }
 
 -- what fails after some outputs, and before others, fails in all of them
-pub fails_within : (device : Device) (o m n : Outside) (a b c : List Output) → Wrote o m a → Fails device m n b → Fails device o n (c ++ (b ++ a))
+pub fails_within : (device : Device) (o m n : Outside) (a b c : List Output) → CameOut o m a → DeviceFails device m n b → DeviceFails device o n (c ++ (b ++ a))
 fails_within TheSink o m n a b c p q =
     let trace = o.kept.trace in
-    let R : Faults → Type 0 = λ faults. Rose faults.sink n.faults.sink in
+    let R : DeviceFaults → Type 0 = λ faults. Rose faults.sink n.faults.sink in
     record {
       part = λ outputs first shows.
           let afterwards = a ++ outputs in
@@ -74,9 +74,9 @@ fails_within TheSink o m n a b c p q =
 
 -- a failure in the first part
 
-pub fails_before : (device : Device) (o n : Outside) (a b : List Output) → Fails device o n a → Fails device o n (b ++ a)
+pub fails_before : (device : Device) (o n : Outside) (a b : List Output) → DeviceFails device o n a → DeviceFails device o n (b ++ a)
 fails_before device o n a b failed =
-    let P : List Output → Type 0 = λ os. Fails device o n (b ++ os) in
+    let P : List Output → Type 0 = λ os. DeviceFails device o n (b ++ os) in
     subst P (append-nil a) (fails_within device o o n [] a b (wrote_nothing o) failed)
 
 -- the same of calls: nothing is said, and the last part is that of the call
@@ -85,7 +85,7 @@ pub emits_nothing : {A E : Type 0} (device : E → Device) (o : Outside) (x : A)
 emits_nothing device o x = record { ok = wrote_nothing o; err = tt }
 
 pub emits_after : {A E : Type 0} (device : E → Device) (o m n : Outside) (a b : List Output) (r : Result A E)
-    → Wrote o m a → Emits device m n b r → Emits device o n (b ++ a) r
+    → CameOut o m a → Emits device m n b r → Emits device o n (b ++ a) r
 emits_after device o m n a b (Ok x) p q = record { ok = wrote_after o m n a b p q.ok; err = tt }
 emits_after device o m n a b (Err e) p q = record { ok = tt; err = fails_within (device e) o m n a b [] p q.err }
 
@@ -96,24 +96,24 @@ passes_on (Err e) o n emitted is stopped = record { ok = tt; err = stopped }
 
 -- what is so of outputs is so of the same ones by another name
 
-pub fails_same : (device : Device) (o n : Outside) (a b : List Output) → a ≡ b → Fails device o n a → Fails device o n b
-fails_same device o n a b same failed = let P : List Output → Type 0 = λ os. Fails device o n os in subst P same failed
+pub fails_same : (device : Device) (o n : Outside) (a b : List Output) → a ≡ b → DeviceFails device o n a → DeviceFails device o n b
+fails_same device o n a b same failed = let P : List Output → Type 0 = λ os. DeviceFails device o n os in subst P same failed
 
 pub emits_same : {A E : Type 0} (device : E → Device) (o n : Outside) (a b : List Output) (r : Result A E) → a ≡ b → Emits device o n a r → Emits device o n b r
 emits_same device o n a b r same emits = let P : List Output → Type 0 = λ os. Emits device o n os r in subst P same emits
 
 -- bytes: none, more of them, and a stop among them
 
-pub spoke_nothing : (n : ℕ) (o : Outside) → Wrote o o (spoken n [])
-spoke_nothing n o = let P : List Output → Type 0 = λ emitted. Wrote o o emitted in subst P (sym (spoken_nil n)) (wrote_nothing o)
+pub spoke_nothing : (n : ℕ) (o : Outside) → CameOut o o (spoken n [])
+spoke_nothing n o = let P : List Output → Type 0 = λ emitted. CameOut o o emitted in subst P (sym (spoken_nil n)) (wrote_nothing o)
 
-pub spoke_more : (n : ℕ) (o m k : Outside) (a b whole : List ℕ) → whole ≡ a ++ b → Wrote o m (spoken n a) → Wrote m k (spoken n b)
-    → Wrote o k (spoken n whole)
+pub spoke_more : (n : ℕ) (o m k : Outside) (a b whole : List ℕ) → whole ≡ a ++ b → CameOut o m (spoken n a) → CameOut m k (spoken n b)
+    → CameOut o k (spoken n whole)
 spoke_more n o m k a b whole e p q =
-    let P : List Output → Type 0 = λ emitted. Wrote o k emitted in
+    let P : List Output → Type 0 = λ emitted. CameOut o k emitted in
     subst P (sym (spoken_append n a b) ∙ ap (spoken n) (sym e)) (wrote_after o m k (spoken n a) (spoken n b) p q)
 
-pub stopped_more : (n : ℕ) (o m k : Outside) (a b rest whole : List ℕ) → whole ≡ a ++ (b ++ rest) → Wrote o m (spoken n a) → Stopped m k (spoken n b)
+pub stopped_more : (n : ℕ) (o m k : Outside) (a b rest whole : List ℕ) → whole ≡ a ++ (b ++ rest) → CameOut o m (spoken n a) → Stopped m k (spoken n b)
     → Stopped o k (spoken n whole)
 stopped_more n o m k a b rest whole e p q =
     let P : List Output → Type 0 = λ emitted. Stopped o k emitted in
@@ -129,7 +129,7 @@ pub emits_one : {A : Type 0} (r : Result A Failed) (o n : Outside) (output : Out
     → OnErr r (EndsBetween n.written first (rendered o.kept.trace os) (rendered o.kept.trace (output ∷ os))))
     → Emits by_sink o n (output ∷ []) r
 emits_one (Ok x) o n output cause same shown part = record {
-  ok = record { shown = shown; faults = ap (λ (k : ℕ). let faults : Faults = record { sink = k } in faults) cause.stays; trace = same };
+  ok = record { shown = shown; faults = ap (λ (k : ℕ). let faults : DeviceFaults = record { sink = k } in faults) cause.stays; trace = same };
   err = tt;
 }
 emits_one (Err e) o n output cause same shown part = record { ok = tt; err = record { part = part; rose = cause.failed; trace = same } }
@@ -145,9 +145,9 @@ unfolding Rose
 risen before now (inl above) = omega arith
 risen before now (inr last) = omega arith
 
-pub wrote_cause : {A E : Type 0} (x : A) (o n : Outside) (emitted : List Output) → Wrote o n emitted → HasCause {E = E} o.faults.sink n.faults.sink (Ok x)
+pub wrote_cause : {A E : Type 0} (x : A) (o n : Outside) (emitted : List Output) → CameOut o n emitted → HasCause {E = E} o.faults.sink n.faults.sink (Ok x)
 wrote_cause x o n emitted wrote =
-    let same = ap (λ (faults : Faults). faults.sink) wrote.faults in
+    let same = ap (λ (faults : DeviceFaults). faults.sink) wrote.faults in
     record { later = omega (arith, same); stays = same; failed = tt }
 
 pub stopped_cause : {A E : Type 0} (e : E) (o n : Outside) (emitted : List Output) → Stopped o n emitted → HasCause {A = A} o.faults.sink n.faults.sink (Err e)

@@ -1,17 +1,17 @@
 -- The outside as it is seen while something is written to it, and its devices, each of which may fail.
 use Rattle.std.specs.Prelude.{ℕ, List}
 use Rattle.mpm_port.specs.declared.Failed.{Failed}
-use Rattle.mpm_render.specs.Shown.{Kept}
+use Rattle.mpm_render.specs.Shown.{KeptLines}
 
 -- the count of faults of each device
-pub record Faults : Type 0 where
+pub record DeviceFaults : Type 0 where
   pub sink : ℕ
 
 -- what the renderer keeps, what the sink was given, and the counts of faults
 pub record Outside : Type 0 where
-  pub kept : Kept
+  pub kept : KeptLines
   pub written : List ℕ
-  pub faults : Faults
+  pub faults : DeviceFaults
 
 -- the device that failed
 pub data Device : Type 0 where
@@ -22,5 +22,5 @@ abbrev pub by_sink : Failed → Device
 by_sink failed = TheSink
 
 -- what is seen of a renderer and a sink, by what the sink tells of itself
-abbrev pub seen : {S : Type 0} → (S → List ℕ) → (S → ℕ) → Kept → S → Outside
+abbrev pub seen : {S : Type 0} → (S → List ℕ) → (S → ℕ) → KeptLines → S → Outside
 seen written faults kept sink = record { kept = kept; written = written sink; faults = record { sink = faults sink } }

@@ -4,7 +4,7 @@ use Rattle.mpm_port.specs.Causes.{Rose}
 use Rattle.mpm_port.specs.declared.Failed.{Failed}
 use Rattle.mpm_render.specs.declared.unit.Unit2.TheVariants.{Console}
 use Rattle.mpm_render.specs.Outputs.{Output, said, rendered}
-use Rattle.mpm_render.specs.Shown.{Kept, Shows, EndsBetween}
+use Rattle.mpm_render.specs.Shown.{KeptLines, Shows, EndsBetween}
 use Rattle.mpm_output.specs.Outside.{Outside, Device, TheSink, by_sink, seen}
 
 -- bytes to a console as outputs, newest first
@@ -13,7 +13,7 @@ spoken console bytes = said (Console console) bytes []
 
 -- the outputs came out, and nothing failed: what stood for some outputs stands for these before them; whether records are asked
 -- for stays
-pub record Wrote (before after : Outside) (emitted : List Output) : Type 0 where
+pub record CameOut (before after : Outside) (emitted : List Output) : Type 0 where
   pub shown : (outputs : List Output) (first : List ℕ) → Shows before.kept before.written outputs first
       → Shows after.kept after.written (emitted ++ outputs) first
   pub faults : after.faults ≡ before.faults
@@ -28,16 +28,16 @@ pub record Stopped (before after : Outside) (emitted : List Output) : Type 0 whe
   pub trace : after.kept.trace ≡ before.kept.trace
 
 -- what is so where that device failed
-abbrev pub Fails : Device → Outside → Outside → List Output → Type 0
-Fails TheSink before after emitted = Stopped before after emitted
+abbrev pub DeviceFails : Device → Outside → Outside → List Output → Type 0
+DeviceFails TheSink before after emitted = Stopped before after emitted
 
 -- what a call leaves that brings about these outputs: after a success they came out; after an error the device failed of which
 -- the error tells
 pub record Emits {A E : Type 0} (device : E → Device) (before after : Outside) (emitted : List Output) (result : Result A E) : Type 0 where
-  pub ok : OnOk result (Wrote before after emitted)
-  pub err : IfErr result (λ error. Fails (device error) before after emitted)
+  pub ok : OnOk result (CameOut before after emitted)
+  pub err : IfErr result (λ error. DeviceFails (device error) before after emitted)
 
 -- the same of a call that writes by a renderer to a sink alone
-abbrev pub Writes : {S A : Type 0} → (S → List ℕ) → (S → ℕ) → Kept → S → Kept → S → List Output → Result A Failed → Type 0
-Writes written faults kept sink kept' sink' emitted result =
+abbrev pub WritesAlone : {S A : Type 0} → (S → List ℕ) → (S → ℕ) → KeptLines → S → KeptLines → S → List Output → Result A Failed → Type 0
+WritesAlone written faults kept sink kept' sink' emitted result =
     Emits by_sink (seen written faults kept sink) (seen written faults kept' sink') emitted result

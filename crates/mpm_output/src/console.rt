@@ -1,5 +1,5 @@
 ghost use Rattle.std.specs.Prelude.{◌<◌};
-ghost use Rattle.mpm_output.specs.Writing.{spoken, Writes};
+ghost use Rattle.mpm_output.specs.Writing.{spoken, WritesAlone};
 
 use mpm_port::{Failed, Sink};
 use mpm_render::{Render, Unit2};
@@ -12,7 +12,7 @@ pub fn put_bytes<S: Sink>(
     sink: &mut S,
 ) -> Result<(), Failed>
     requires { console < 8 }
-    ensures wrote { Writes S.written S.faults render.old sink.old render.new sink.new (spoken console bytes.now) result }
+    ensures wrote { WritesAlone S.written S.faults render.old sink.old render.new sink.new (spoken console bytes.now) result }
 {
     for &byte in bytes {
         render.put(Unit2::Console { n: console }, byte, sink)?;

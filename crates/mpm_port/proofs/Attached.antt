@@ -1,6 +1,6 @@
 -- What attaching a drive over memory, and writing to it, leave of the drives with their images and of what is known of images.
 use Rattle.std.proofs.Common.{◌≡◌, ◌≢◌, ℕ, ◌+◌, ◌*◌, ◌≤◌, List, Option, Some, None, IfSome, IsSome, IsSomeAnd, length, option_map, option_and_then, refl, ap, sym, subst, ◌∙◌}
-use Rattle.mpm_port.specs.Disks.{Untold, Brings, Attaches, IsInside, KeepsTold, size_of, with_sector, Writes}
+use Rattle.mpm_port.specs.Disks.{Untold, Brings, Attaches, IsInsideDrive, KeepsTold, size_of, with_sector, WritesSector}
 use Rattle.mpm_port.specs.MemoryDisks.{shelved, found, told_in}
 use Rattle.mpm_port.specs.Named.{contents_of, with_contents, name_of_drive, with_drive}
 use Rattle.mpm_port.specs.declared.named.Named.{Named}
@@ -32,12 +32,12 @@ record HasSector (items new : List Named) (name : List ℕ) (sector : ℕ) (byte
   new_is : new ≡ with_contents items name (with_sector image sector bytes)
 
 has_sector : (items new : List Named) (links : List Link) (drive : ℕ) (name : List ℕ) (sector : ℕ) (bytes : List ℕ) → name_of_drive links drive ≡ Some name
-    → IfSome (contents_of items name) (λ image. new ≡ with_contents items name (with_sector image sector bytes)) → IsInside (size_of (shelved items links) drive) sector
+    → IfSome (contents_of items name) (λ image. new ≡ with_contents items name (with_sector image sector bytes)) → IsInsideDrive (size_of (shelved items links) drive) sector
     → HasSector items new name sector bytes
 has_sector items new links drive name sector bytes named is inside =
-    by_image (contents_of items name) refl is (subst (λ (n : Option (List ℕ)). IsInside (option_map length (option_and_then (contents_of items) n)) sector) named inside)
+    by_image (contents_of items name) refl is (subst (λ (n : Option (List ℕ)). IsInsideDrive (option_map length (option_and_then (contents_of items) n)) sector) named inside)
   where
-    by_image : (o : Option (List ℕ)) → contents_of items name ≡ o → IfSome o (λ image. new ≡ with_contents items name (with_sector image sector bytes)) → IsInside (option_map length o) sector
+    by_image : (o : Option (List ℕ)) → contents_of items name ≡ o → IfSome o (λ image. new ≡ with_contents items name (with_sector image sector bytes)) → IsInsideDrive (option_map length o) sector
         → HasSector items new name sector bytes
     by_image None there is inside = absurd inside
     by_image (Some image) there is inside = record { image = image; there = there; inside = inside; new_is = is }
@@ -49,12 +49,12 @@ image_other items name contents None apart = refl
 image_other items name contents (Some other) apart = contents_of_other items name contents other (λ same. apart (ap Some same))
 
 pub writes_sector : (items new : List Named) (links : List Link) (drive : ℕ) (name : List ℕ) (sector : ℕ) (bytes : List ℕ) → name_of_drive links drive ≡ Some name
-    → IfSome (contents_of items name) (λ image. new ≡ with_contents items name (with_sector image sector bytes)) → IsInside (size_of (shelved items links) drive) sector
-    → length bytes ≡ 128 → Writes drive sector bytes (shelved items links) (shelved new links)
+    → IfSome (contents_of items name) (λ image. new ≡ with_contents items name (with_sector image sector bytes)) → IsInsideDrive (size_of (shelved items links) drive) sector
+    → length bytes ≡ 128 → WritesSector drive sector bytes (shelved items links) (shelved new links)
 writes_sector items new links drive name sector bytes named is inside long =
     let has = has_sector items new links drive name sector bytes named is inside in
     let contents = with_sector has.image sector bytes in
-    subst (λ (n : List Named). Writes drive sector bytes (shelved items links) (shelved n links)) (sym has.new_is) (record {
+    subst (λ (n : List Named). WritesSector drive sector bytes (shelved items links) (shelved n links)) (sym has.new_is) (record {
       names = λ other. refl;
       here = rw (named, has.there) (contents_of_here items name contents);
       others = λ other apart. image_other items name contents (name_of_drive links other) (λ same. apart (same ∙ sym named));
@@ -67,7 +67,7 @@ is_known None h = cc
 is_known (Some bytes) h = cc
 
 pub keeps_told : (items new : List Named) (links : List Link) (drive : ℕ) (name : List ℕ) (sector : ℕ) (bytes : List ℕ) → name_of_drive links drive ≡ Some name
-    → IfSome (contents_of items name) (λ image. new ≡ with_contents items name (with_sector image sector bytes)) → IsInside (size_of (shelved items links) drive) sector
+    → IfSome (contents_of items name) (λ image. new ≡ with_contents items name (with_sector image sector bytes)) → IsInsideDrive (size_of (shelved items links) drive) sector
     → KeepsTold (name_of_drive links drive) (told_in items) (told_in new)
 keeps_told items new links drive name sector bytes named is inside =
     let has = has_sector items new links drive name sector bytes named is inside in

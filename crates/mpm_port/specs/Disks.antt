@@ -31,8 +31,8 @@ abbrev pub with_sector : List ℕ → ℕ → List ℕ → List ℕ
 with_sector image sector bytes = take (128 * sector) image ++ (bytes ++ drop (128 * sector + 128) image)
 
 -- the sector lies inside an attached drive of this size
-abbrev pub IsInside : Option ℕ → ℕ → Type 0
-IsInside size sector = IsSomeAnd size (λ bytes. 128 * sector + 128 ≤ bytes)
+abbrev pub IsInsideDrive : Option ℕ → ℕ → Type 0
+IsInsideDrive size sector = IsSomeAnd size (λ bytes. 128 * sector + 128 ≤ bytes)
 
 -- one drive is attached by a name, and has an image that it may bring
 pub record Attaches (drive : ℕ) (name : List ℕ) (told : ToldImage) (old new : Disks) : Type 0 where
@@ -42,7 +42,7 @@ pub record Attaches (drive : ℕ) (name : List ℕ) (told : ToldImage) (old new 
   pub others : (other : ℕ) → other ≢ drive → new.image other ≡ old.image other
 
 -- a sector of a drive has new bytes; a drive that was attached by another name has its image as it was, and each its size
-pub record Writes (drive sector : ℕ) (bytes : List ℕ) (old new : Disks) : Type 0 where
+pub record WritesSector (drive sector : ℕ) (bytes : List ℕ) (old new : Disks) : Type 0 where
   pub names : (other : ℕ) → new.name_of other ≡ old.name_of other
   pub here : IfSome (old.image drive) (λ image. new.image drive ≡ Some (with_sector image sector bytes))
   pub others : (other : ℕ) → old.name_of other ≢ old.name_of drive → new.image other ≡ old.image other

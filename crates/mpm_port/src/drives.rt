@@ -1,6 +1,6 @@
 ghost use Rattle.std.specs.Prelude.{◌≡◌, ◌≢◌, ℕ, Bool, true, false, List, Option, Some, IsSome, IfSome, IfOk, OnOk, OnErr, IsErr, ◌⊎◌};
 ghost use Rattle.mpm_port.specs.Causes.{HasCause, names_after};
-ghost use Rattle.mpm_port.specs.Disks.{Disks, ToldImage, Brings, IsInside, Attaches, Writes, KeepsTold, size_of, sector_of};
+ghost use Rattle.mpm_port.specs.Disks.{Disks, ToldImage, Brings, IsInsideDrive, Attaches, WritesSector, KeepsTold, size_of, sector_of};
 
 use crate::{Failed, FetchError};
 
@@ -44,7 +44,7 @@ pub trait Drives {
 
     /// Reads a sector of the drive.
     fn read(&mut self, drive: u8, sector: u32, out: &mut [u8; 128]) -> Result<(), Failed>
-        requires { IsInside (size_of (disks self.old) drive) sector }
+        requires { IsInsideDrive (size_of (disks self.old) drive) sector }
         ensures bytes { OnOk result (IfSome ((disks self.old).image drive) (λ image. out.new ≡ sector_of image sector)) }
         ensures cause { HasCause (faults self.old) (faults self.new) result }
         ensures names { failed_names self.new ≡ failed_names self.old }
@@ -54,9 +54,9 @@ pub trait Drives {
 
     /// Writes a sector of the drive. A failed call leaves the sector as it was or as asked.
     fn write(&mut self, drive: u8, sector: u32, bytes: &[u8; 128]) -> Result<(), Failed>
-        requires { IsInside (size_of (disks self.old) drive) sector }
-        ensures ok { OnOk result (Writes drive sector bytes.now (disks self.old) (disks self.new)) }
-        ensures err { OnErr result ((disks self.new ≡ disks self.old) ⊎ Writes drive sector bytes.now (disks self.old) (disks self.new)) }
+        requires { IsInsideDrive (size_of (disks self.old) drive) sector }
+        ensures ok { OnOk result (WritesSector drive sector bytes.now (disks self.old) (disks self.new)) }
+        ensures err { OnErr result ((disks self.new ≡ disks self.old) ⊎ WritesSector drive sector bytes.now (disks self.old) (disks self.new)) }
         ensures told { KeepsTold ((disks self.old).name_of drive) (told self.old) (told self.new) }
         ensures cause { HasCause (faults self.old) (faults self.new) result }
         ensures names { failed_names self.new ≡ failed_names self.old }

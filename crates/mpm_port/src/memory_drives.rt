@@ -1,7 +1,7 @@
 ghost use Rattle.std.specs.Prelude.{◌≡◌, ◌≢◌, ◌⊎◌, ◌↔◌, ◌≤◌, ℕ, true, false, List, Some, IsSome, IfSome, IfOk, OnOk, OnErr, Err, is_ok, IsErr, IsTrue, if◌then◌else◌};
 ghost use Rattle.mpm_port.specs.Calls.{next_is_listed};
 ghost use Rattle.mpm_port.specs.Causes.{HasCause, Rose, names_after};
-ghost use Rattle.mpm_port.specs.Disks.{IsInside, Attaches, Writes, KeepsTold, size_of, sector_of};
+ghost use Rattle.mpm_port.specs.Disks.{IsInsideDrive, Attaches, WritesSector, KeepsTold, size_of, sector_of};
 ghost use Rattle.mpm_port.specs.MemoryDisks.{no_disks, disks_of, told_of, is_unsynced, IsFree, with_image, listing_call, attach_fails, after_attach, after_access, after_write, after_sync, memory_agrees};
 ghost use Rattle.mpm_port.specs.Named.{contents_of};
 
@@ -162,7 +162,7 @@ impl Drives for MemoryDrives {
     }
 
     fn read(&mut self, drive: u8, sector: u32, out: &mut [u8; 128]) -> Result<(), Failed>
-        requires { IsInside (size_of (disks_of self.old) drive) sector }
+        requires { IsInsideDrive (size_of (disks_of self.old) drive) sector }
         ensures after { self.new ≡ after_access self.old }
         ensures fails { IsErr result ↔ IsTrue (next_is_listed self.old.calls) }
         ensures bytes { OnOk result (IfSome ((disks_of self.old).image drive) (λ image. out.new ≡ sector_of image sector)) }
@@ -183,11 +183,11 @@ impl Drives for MemoryDrives {
 
     #[tactic(auto, using(crate::proofs::Attached::told_same, crate::proofs::Flags::flag_here, crate::proofs::Flags::flag_other), unfolding(crate::specs::MemoryDisks::after_write, crate::specs::MemoryDisks::after_access, crate::specs::MemoryDisks::images_with_sector))]
     fn write(&mut self, drive: u8, sector: u32, bytes: &[u8; 128]) -> Result<(), Failed>
-        requires { IsInside (size_of (disks_of self.old) drive) sector }
+        requires { IsInsideDrive (size_of (disks_of self.old) drive) sector }
         ensures after { self.new ≡ after_write self.old drive sector bytes.now }
         ensures fails { IsErr result ↔ IsTrue (next_is_listed self.old.calls) }
-        ensures ok { OnOk result (Writes drive sector bytes.now (disks_of self.old) (disks_of self.new)) }
-        ensures err { OnErr result ((disks_of self.new ≡ disks_of self.old) ⊎ Writes drive sector bytes.now (disks_of self.old) (disks_of self.new)) }
+        ensures ok { OnOk result (WritesSector drive sector bytes.now (disks_of self.old) (disks_of self.new)) }
+        ensures err { OnErr result ((disks_of self.new ≡ disks_of self.old) ⊎ WritesSector drive sector bytes.now (disks_of self.old) (disks_of self.new)) }
         ensures told { KeepsTold ((disks_of self.old).name_of drive) (told_of self.old) (told_of self.new) }
         ensures cause { HasCause self.old.faults self.new.faults result }
         ensures names { self.new.failed ≡ self.old.failed }

@@ -1,7 +1,7 @@
 -- Instructions of a process in what it reaches, its segment alone and common memory, are those in memory as a whole.
 use Rattle.std.proofs.Common.{◌≡◌, ◌∙◌, ℕ, zero, suc, ◌+◌, ◌-◌, Bool, Option, is_some, refl, ap, sym, subst}
 use Rattle.z80_regs.specs.declared.regs.Regs.{Regs}
-use Rattle.z80_regs.specs.Outcome.{Outcome}
+use Rattle.z80_regs.specs.Outcome.{StepOutcome}
 use Rattle.z80_ext.specs.Instruction.{instruction, registers_after, actions_of}
 use Rattle.mpm_banks.specs.declared.segment.Segment.{Segment}
 use Rattle.mpm_banks.specs.Memory.{Memory, HasSegment, segment_of, byte_at}
@@ -34,7 +34,7 @@ moved_alike : (memory : Memory) (seg : ℕ) (whole own : View) → HasSegment me
 moved_alike memory seg whole own there alike =
     let same = same_instruction memory seg whole own there alike in
     let acted = acted_alike (actions_of (instruction_in 0 own)) memory seg (spec_of memory seg) whole.memory own.memory there refl alike.bytes in
-    let P : Option Outcome → Type 0 = λ outcome. Alike memory seg (spec_of memory seg) (memory_after (actions_of outcome) seg whole.memory) (memory_after (actions_of (instruction_in 0 own)) 0 own.memory) in
+    let P : Option StepOutcome → Type 0 = λ outcome. Alike memory seg (spec_of memory seg) (memory_after (actions_of outcome) seg whole.memory) (memory_after (actions_of (instruction_in 0 own)) 0 own.memory) in
     record {
       regs = ap (λ outcome. registers_after outcome whole.regs) same ∙ ap (registers_after (instruction_in 0 own)) alike.regs;
       bytes = subst P (sym same) acted;

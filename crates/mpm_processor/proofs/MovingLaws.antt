@@ -1,7 +1,7 @@
 -- Views after instructions, one after another.
 use Rattle.std.proofs.Common.{◌≡◌, ◌∙◌, ℕ, zero, suc, ◌+◌, ◌<◌, ◌≤◌, Bool, ◌==◌, List, Option, Some, None, IsSome, IsNone, is_some, inl, inr, refl, sym, ap, subst, arith, add-one}
 use Rattle.std.proofs.lemmas.Bool.{cases_eq}
-use Rattle.z80_regs.specs.Outcome.{Outcome}
+use Rattle.z80_regs.specs.Outcome.{StepOutcome}
 use Rattle.z80_ext.specs.Instruction.{registers_after, actions_of}
 use Rattle.z80_ext.specs.declared.stepped.Stepped.{Stepped}
 use Rattle.z80_ext.specs.declared.stepped.Stepped.TheVariants.{Ran, Illegal}
@@ -67,7 +67,7 @@ moves_join inside n (suc m) seg old now new first more =
 pub unmoved : (seg : ℕ) (view : View) → IsNone (instruction_in seg view) → moved seg view ≡ view
 unfolding memory_after devices_after
 unmoved seg view none = by_outcome (instruction_in seg view) none where
-  by_outcome : (outcome : Option Outcome) → IsNone outcome → (record {
+  by_outcome : (outcome : Option StepOutcome) → IsNone outcome → (record {
     regs = registers_after outcome view.regs;
     memory = memory_after (actions_of outcome) seg view.memory;
     devices = devices_after (actions_of outcome) view.devices;
@@ -75,7 +75,7 @@ unmoved seg view none = by_outcome (instruction_in seg view) none where
   by_outcome None none = refl
   by_outcome (Some outcome) none = absurd (cc)
 
-none_and_some : (outcome : Option Outcome) → IsNone outcome → IsSome outcome → ⊥
+none_and_some : (outcome : Option StepOutcome) → IsNone outcome → IsSome outcome → ⊥
 none_and_some None none some = absurd (cc)
 none_and_some (Some outcome) none some = absurd (cc)
 
@@ -87,7 +87,7 @@ no_move inside seg view new none same can =
 
 -- at most one instruction, where no gate stands
 
-none_unless : (outcome : Option Outcome) → (IsSome outcome → ⊥) → IsNone outcome
+none_unless : (outcome : Option StepOutcome) → (IsSome outcome → ⊥) → IsNone outcome
 none_unless None some = refl
 none_unless (Some outcome) some = absurd (some refl)
 
@@ -119,7 +119,7 @@ moves_to inside n seg old now new m is = record { is = is ∙ m.is; each = m.eac
 
 -- a gate that isn't there is none, and where an instruction ran a listed one stands
 
-pub some_unless : (outcome : Option Outcome) → (IsNone outcome → ⊥) → IsSome outcome
+pub some_unless : (outcome : Option StepOutcome) → (IsNone outcome → ⊥) → IsSome outcome
 some_unless None not_none = absurd (not_none refl)
 some_unless (Some outcome) not_none = refl
 

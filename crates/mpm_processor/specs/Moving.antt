@@ -1,7 +1,7 @@
 -- Instructions of one process, one after another, as long as nothing else may come between them.
 use Rattle.std.specs.Prelude.{◌≡◌, ℕ, zero, suc, ◌<◌, ◌≤◌, Bool, List, Option, None, IsSome, IfSome}
 use Rattle.z80_regs.specs.declared.regs.Regs.{Regs}
-use Rattle.z80_regs.specs.Outcome.{Outcome}
+use Rattle.z80_regs.specs.Outcome.{StepOutcome}
 use Rattle.z80_ext.specs.Instruction.{IsRareAt, instruction, registers_after, actions_of}
 use Rattle.mpm_base.specs.declared.devices.Devices.{Devices}
 use Rattle.mpm_base.specs.declared.segment.SegmentSpec.{SegmentSpec}
@@ -24,7 +24,7 @@ abbrev pub view_of : SegmentSpec → Regs → List ℕ → List ℕ → Devices 
 view_of spec regs segment common devices = record { regs = regs; memory = alone spec segment common; devices = devices }
 
 -- the instruction that stands there
-abbrev pub instruction_in : ℕ → View → Option Outcome
+abbrev pub instruction_in : ℕ → View → Option StepOutcome
 instruction_in seg view = instruction view.regs (byte_at view.memory seg) (port_byte view.devices)
 
 -- the view after it

@@ -1,6 +1,6 @@
 //! Processes that a program creates, ends and aborts, and resident procedures, in scenes of one kernel.
 ghost use Rattle.std.specs.Prelude.{◌≡◌, ◌≤◌, ◌*◌, length, IfOk};
-ghost use Rattle.mpm_kernel.specs.Kernel.{IsSound};
+ghost use Rattle.mpm_kernel.specs.Kernel.{IsSoundKernel};
 
 use crate::processes::Line::{
     Abort, Begin, BeginResident, Create, End, FreeSlots, IsChild, IsDue, Lives, Next, Occupy,
@@ -50,7 +50,7 @@ fn parent() -> NewProcess
 /// A kernel of two consoles with that process.
 #[tactic(auto, using(mpm_kernel::proofs::SoundLaws::sound_new, mpm_kernel::proofs::SoundLaws::sound_in_slot))]
 fn kernel(alloc: Global) -> Result<Kernel, AllocError>
-    ensures { IfOk result (λ kernel. IsSound kernel) }
+    ensures { IfOk result (λ kernel. IsSoundKernel kernel) }
 {
     let now = Moment {
         date: 1,
@@ -80,9 +80,9 @@ fn describe(call: &mut Call, count: usize, console: u8)
 /// console.
 #[tactic(auto, using(mpm_xdos::proofs::Beginning::sound_created))]
 fn answer(kernel: &mut Kernel, banks: &Banks, count: usize, console: u8) -> Option<u16>
-    requires sound { IsSound kernel.old }
+    requires sound { IsSoundKernel kernel.old }
     requires few { count ≤ 32 }
-    ensures { IsSound kernel.new }
+    ensures { IsSoundKernel kernel.new }
 {
     if 1 <= banks.segments() && kernel.lives(Pid(0)) && kernel.segment(Pid(0)) == Some(Seg(0)) {
         describe(kernel.call_mut(Pid(0)), count, console);
@@ -96,8 +96,8 @@ fn answer(kernel: &mut Kernel, banks: &Banks, count: usize, console: u8) -> Opti
 /// Ends the process of a number, which lives in the first segment.
 #[tactic(auto, using(mpm_kernel::proofs::EndingLaws::sound_discharged))]
 fn finish(kernel: &mut Kernel, banks: &mut Banks, p: Pid) -> bool
-    requires { IsSound kernel.old }
-    ensures { IsSound kernel.new }
+    requires { IsSoundKernel kernel.old }
+    ensures { IsSoundKernel kernel.new }
 {
     if 1 <= banks.segments() && kernel.lives(p) && kernel.segment(p) == Some(Seg(0)) {
         end(kernel, banks, p);
@@ -118,8 +118,8 @@ fn name_to_abort(call: &mut Call, address: u16, name: &[u8; 8], console: u8) {
 /// The process that the first process is to abort, where it gives the address of a process descriptor, a name, and a console.
 #[tactic(auto, using(mpm_procs::proofs::MapLaws::lives_after))]
 fn aborted_by_first(kernel: &mut Kernel, address: u16, name: &[u8; 8], console: u8) -> Option<Pid>
-    requires { IsSound kernel.old }
-    ensures { IsSound kernel.new }
+    requires { IsSoundKernel kernel.old }
+    ensures { IsSoundKernel kernel.new }
 {
     if kernel.lives(Pid(0)) {
         name_to_abort(kernel.call_mut(Pid(0)), address, name, console);
@@ -141,8 +141,8 @@ fn named(name: &[u8; 8], console: u8, seg: Option<Seg>) -> NewProcess {
 /// One more process begins, where its console is there and a slot is free.
 #[tactic(auto, using(mpm_kernel::proofs::SoundLaws::sound_in_slot))]
 fn begin(kernel: &mut Kernel, new: NewProcess) -> bool
-    requires { IsSound kernel.old }
-    ensures { IsSound kernel.new }
+    requires { IsSoundKernel kernel.old }
+    ensures { IsSoundKernel kernel.new }
 {
     if new.console < kernel.consoles() {
         return kernel.admit(new).is_ok();
@@ -153,8 +153,8 @@ fn begin(kernel: &mut Kernel, new: NewProcess) -> bool
 /// The call of the process that runs waits for the disk and enters service, where it serves nobody else.
 #[tactic(auto, using(mpm_kernel::proofs::DiskLaws::sound_in_turns, mpm_kernel::proofs::SoundLaws::runner_lives), unfolding(mpm_kernel::specs::Disk::waiting_for_disk, mpm_service::specs::Disk::entered, mpm_service::specs::Disk::no_service))]
 fn enter_service(kernel: &mut Kernel) -> bool
-    requires { IsSound kernel.old }
-    ensures { IsSound kernel.new }
+    requires { IsSoundKernel kernel.old }
+    ensures { IsSoundKernel kernel.new }
 {
     kernel.pick(false);
     let Some(p) = kernel.running() else {
@@ -168,8 +168,8 @@ fn enter_service(kernel: &mut Kernel) -> bool
 /// Aborts the process of a number, which lives in the first segment; answers whether it lives on.
 #[tactic(auto, using(mpm_xdos::proofs::AbortLaws::sound_aborted))]
 fn lives_after_abort(kernel: &mut Kernel, banks: &mut Banks, p: Pid) -> bool
-    requires { IsSound kernel.old }
-    ensures { IsSound kernel.new }
+    requires { IsSoundKernel kernel.old }
+    ensures { IsSoundKernel kernel.new }
 {
     if 1 <= banks.segments() && kernel.lives(p) && kernel.segment(p) == Some(Seg(0)) {
         abort(kernel, banks, p);
@@ -237,8 +237,8 @@ fn occupy(banks: &mut Banks) -> bool {
 
 /// Who runs next.
 fn next(kernel: &mut Kernel) -> Option<u8>
-    requires { IsSound kernel.old }
-    ensures { IsSound kernel.new }
+    requires { IsSoundKernel kernel.old }
+    ensures { IsSoundKernel kernel.new }
 {
     kernel.pick(false);
     slot(kernel.running())
@@ -246,8 +246,8 @@ fn next(kernel: &mut Kernel) -> Option<u8>
 
 /// A line comes to pass, and all is so that it says.
 fn passes(kernel: &mut Kernel, banks: &mut Banks, line: Line) -> bool
-    requires { IsSound kernel.old }
-    ensures { IsSound kernel.new }
+    requires { IsSoundKernel kernel.old }
+    ensures { IsSoundKernel kernel.new }
 {
     match line {
         Line::Create(count, console, value) => {
@@ -305,7 +305,7 @@ fn play(alloc: Global, lines: &[Line]) -> Result<(), Fail> {
 
 /// The lines of a scene, in order.
 fn play_on(kernel: &mut Kernel, banks: &mut Banks, lines: &[Line]) -> Result<(), Fail>
-    requires { IsSound kernel.old }
+    requires { IsSoundKernel kernel.old }
 {
     for (number, line) in lines.iter().enumerate() {
         if !passes(kernel, banks, *line) {

@@ -6,7 +6,7 @@ use Rattle.std.proofs.lemmas.List.{length-append, length-drop}
 use Rattle.mpm_base.specs.Calls.{Taken}
 use Rattle.mpm_base.specs.declared.number.Name8.{Name8}
 use Rattle.mpm_base.proofs.Widths.{length_in_width}
-use Rattle.mpm_queues.specs.Queue.{Queue, new_queue, no_queue, is_drained, is_full, is_exclusive, first_message, held_by, shortened, read_by, with_message, message_of, IsProper}
+use Rattle.mpm_queues.specs.Queue.{Queue, new_queue, no_queue, is_drained, is_full, is_exclusive, first_message, held_by, shortened, read_by, with_message, message_of, IsProperQueue}
 
 -- a message has its queue's length
 pub length_message : (width : ℕ) (call : Taken) → length (message_of width call) ≡ width
@@ -35,7 +35,7 @@ unfolding is_exclusive
 no_bytes queue is = grind (arith, nat_tests)
 
 -- as it is made
-pub proper_new : (name : Name8) (width count : ℕ) → width * count ≤ 2048 → IsProper (new_queue name width count)
+pub proper_new : (name : Name8) (width count : ℕ) → width * count ≤ 2048 → IsProperQueue (new_queue name width count)
 unfolding new_queue
 proper_new name width count few = record {
   widths = tt;
@@ -53,7 +53,7 @@ pub new_name : (name : Name8) (width count : ℕ) → (new_queue name width coun
 unfolding new_queue
 new_name name width count = refl
 
-pub proper_none : IsProper no_queue
+pub proper_none : IsProperQueue no_queue
 unfolding no_queue
 proper_none = proper_new (record { 0 = replicate 8 0 }) 0 0 (omega arith)
 
@@ -71,7 +71,7 @@ none_left [] few = refl
 none_left (m ∷ []) few = refl
 none_left (m ∷ n ∷ ms) few = absurd (omega arith)
 
-pub proper_read : (queue : Queue) (p : ℕ) → IsProper queue → IsProper (read_by p queue)
+pub proper_read : (queue : Queue) (p : ℕ) → IsProperQueue queue → IsProperQueue (read_by p queue)
 unfolding held_by shortened is_exclusive
 proper_read queue p proper = record {
   widths = all_dropped (λ message. length message ≡ queue.width) queue.messages proper.widths;
@@ -82,7 +82,7 @@ proper_read queue p proper = record {
 }
 
 -- after a message handed over
-pub proper_held : (queue : Queue) (p : ℕ) → IsProper queue → is_drained queue ≡ true → IsProper (held_by p queue)
+pub proper_held : (queue : Queue) (p : ℕ) → IsProperQueue queue → is_drained queue ≡ true → IsProperQueue (held_by p queue)
 unfolding held_by is_exclusive
 proper_held queue p proper none = record {
   widths = proper.widths;
@@ -97,7 +97,7 @@ all_appended : (P : List ℕ → Type 0) (ms : List (List ℕ)) (message : List 
 all_appended P [] message all one = (one, tt)
 all_appended P (m ∷ ms) message all one = (all.0, all_appended P ms message all.1 one)
 
-pub proper_written : (queue : Queue) (message : List ℕ) → IsProper queue → is_full queue ≡ false → length message ≡ queue.width → IsProper (with_message message queue)
+pub proper_written : (queue : Queue) (message : List ℕ) → IsProperQueue queue → is_full queue ≡ false → length message ≡ queue.width → IsProperQueue (with_message message queue)
 unfolding with_message
 proper_written queue message proper some is = record {
   widths = all_appended (λ m. length m ≡ queue.width) queue.messages message proper.widths is;
@@ -108,7 +108,7 @@ proper_written queue message proper some is = record {
 }
 
 -- a read makes room for one message, and one message more fills it again
-pub room_after : (queue : Queue) (p : ℕ) → IsProper queue → is_drained queue ≡ false → is_full (read_by p queue) ≡ false
+pub room_after : (queue : Queue) (p : ℕ) → IsProperQueue queue → is_drained queue ≡ false → is_full (read_by p queue) ≡ false
 unfolding held_by shortened
 room_after queue p proper some =
     let fewer = length-drop 1 queue.messages in

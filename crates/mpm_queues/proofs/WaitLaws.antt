@@ -10,7 +10,7 @@ use Rattle.mpm_ready.proofs.TableLaws.{list_of_known, list_of_removed, list_of_r
 use Rattle.mpm_ready.proofs.Circles.{slot_has}
 use Rattle.mpm_procs.specs.Table.{Table}
 use Rattle.mpm_queues.specs.Queue.{Queue, no_queue, is_drained, is_full, is_exclusive, held_by, shortened, read_by, with_message}
-use Rattle.mpm_queues.specs.Queues.{Queues, IsMade, is_made, is_named, is_holder, holds, queue_in, readers_of, writers_of, waits_at, waits, WaitsNowhere, made, may_end, without, without_queue, IsSound}
+use Rattle.mpm_queues.specs.Queues.{Queues, IsMade, is_made, is_named, is_holder, holds, queue_in, readers_of, writers_of, waits_at, waits, WaitsAtNoQueue, made, may_end, without, without_queue, AreSoundQueues}
 use Rattle.mpm_queues.specs.Handling.{first_reader, first_writer, written_by, let_in, delivered, message_read, read_outcome, message_written, write_outcome, woken_by, enlisted, queues_without_waiter, place_for}
 use Rattle.mpm_queues.specs.declared.queues.QueueOutcome.TheVariants.{Done, NotNow}
 use Rattle.mpm_queues.proofs.SoundLaws.{made_below, changed, queue_there, queue_else, reader_waits, writer_waits}
@@ -19,7 +19,7 @@ use Rattle.mpm_queues.proofs.SoundLaws.{made_below, changed, queue_there, queue_
 abbrev pub one_at : Option ℕ → ℕ
 one_at o = option_map_or (λ _. 1) o 0
 
-pub waits_nowhere : (t : Queues) (p : ℕ) → WaitsNowhere t p → waits t p ≡ 0
+pub waits_nowhere : (t : Queues) (p : ℕ) → WaitsAtNoQueue t p → waits t p ≡ 0
 unfolding waits
 waits_nowhere t p none = ap one_at none
 
@@ -28,7 +28,7 @@ pub none_of : (o : Option ℕ) → one_at o ≡ 0 → o ≡ None
 none_of None is = refl
 none_of (Some list) is = absurd (omega (arith, is))
 
-pub nowhere_waits : (t : Queues) (p : ℕ) → waits t p ≡ 0 → WaitsNowhere t p
+pub nowhere_waits : (t : Queues) (p : ℕ) → waits t p ≡ 0 → WaitsAtNoQueue t p
 unfolding waits
 nowhere_waits t p is = none_of (list_of t.waiters p) is
 
@@ -37,24 +37,24 @@ unfolding waits
 one_of t p list is = ap one_at is
 
 -- who waits at a queue waits at one, has a number below 32, and waits at no other
-pub waits_one : (t : Queues) (q p : ℕ) → IsSound t → waits_at t q p ≡ true → waits t p ≡ 1
+pub waits_one : (t : Queues) (q p : ℕ) → AreSoundQueues t → waits_at t q p ≡ true → waits t p ≡ 1
 waits_one t q p sound there = elim (or_cases (in_list p (readers_of t q)) (in_list p (writers_of t q)) there) [
   | inl reads ↦ one_of t p q (list_of_known t.waiters p q sound.table reads)
   | inr writes ↦ one_of t p (32 + q) (list_of_known t.waiters p (32 + q) sound.table writes)
 ]
 
-pub waiter_below : (t : Queues) (q p : ℕ) → IsSound t → waits_at t q p ≡ true → p < 32
+pub waiter_below : (t : Queues) (q p : ℕ) → AreSoundQueues t → waits_at t q p ≡ true → p < 32
 waiter_below t q p sound there = elim (or_cases (in_list p (readers_of t q)) (in_list p (writers_of t q)) there) [
   | inl reads ↦ slot_has (λ s. s < 32) (readers_of t q) p (sound.table.slots q) reads
   | inr writes ↦ slot_has (λ s. s < 32) (writers_of t q) p (sound.table.slots (32 + q)) writes
 ]
 
 -- a process waits no more
-pub waits_nowhere_without : (t : Queues) (p : ℕ) → WaitsNowhere (queues_without_waiter t p) p
+pub waits_nowhere_without : (t : Queues) (p : ℕ) → WaitsAtNoQueue (queues_without_waiter t p) p
 unfolding queues_without_waiter
 waits_nowhere_without t p = list_of_removed t.waiters p
 
-pub waits_elsewhere_without : (t : Queues) (p r : ℕ) → IsSound t → r ≢ p → list_of (queues_without_waiter t p).waiters r ≡ list_of t.waiters r
+pub waits_elsewhere_without : (t : Queues) (p r : ℕ) → AreSoundQueues t → r ≢ p → list_of (queues_without_waiter t p).waiters r ≡ list_of t.waiters r
 unfolding queues_without_waiter
 waits_elsewhere_without t p r sound apart =
     list_of_removed_other t.waiters p r sound.table (ne_eqb p r (λ same. apart (sym same)))
@@ -66,7 +66,7 @@ same_place t new p same = ap one_at same
 pub waits_without_waiter : (t : Queues) (p : ℕ) → waits (queues_without_waiter t p) p ≡ 0
 waits_without_waiter t p = waits_nowhere (queues_without_waiter t p) p (waits_nowhere_without t p)
 
-pub waits_without_other : (t : Queues) (p r : ℕ) → IsSound t → r ≢ p → waits (queues_without_waiter t p) r ≡ waits t r
+pub waits_without_other : (t : Queues) (p r : ℕ) → AreSoundQueues t → r ≢ p → waits (queues_without_waiter t p) r ≡ waits t r
 waits_without_other t p r sound apart = same_place t (queues_without_waiter t p) r (waits_elsewhere_without t p r sound apart)
 
 -- a process waits
@@ -74,21 +74,21 @@ place_below : (q : ℕ) (reader : Bool) → q < 32 → place_for q reader < 96
 place_below q true below = omega arith
 place_below q false below = omega arith
 
-pub enlisted_there : (t : Queues) (p priority q : ℕ) (reader : Bool) → IsSound t → IsMade t q → p < 32 → WaitsNowhere t p → list_of (enlisted t p priority q reader).waiters p ≡ Some (place_for q reader)
+pub enlisted_there : (t : Queues) (p priority q : ℕ) (reader : Bool) → AreSoundQueues t → IsMade t q → p < 32 → WaitsAtNoQueue t p → list_of (enlisted t p priority q reader).waiters p ≡ Some (place_for q reader)
 unfolding enlisted
 enlisted_there t p priority q reader sound is small nowhere =
     list_of_inserted t.waiters (place_for q reader) (record { slot = p; priority = priority }) sound.table (place_below q reader (made_below t q sound is)) small nowhere
 
-pub enlisted_other : (t : Queues) (p priority q : ℕ) (reader : Bool) (r : ℕ) → IsSound t → IsMade t q → p < 32 → WaitsNowhere t p → r ≢ p → list_of (enlisted t p priority q reader).waiters r ≡ list_of t.waiters r
+pub enlisted_other : (t : Queues) (p priority q : ℕ) (reader : Bool) (r : ℕ) → AreSoundQueues t → IsMade t q → p < 32 → WaitsAtNoQueue t p → r ≢ p → list_of (enlisted t p priority q reader).waiters r ≡ list_of t.waiters r
 unfolding enlisted
 enlisted_other t p priority q reader r sound is small nowhere apart =
     list_of_inserted_other t.waiters (place_for q reader) (record { slot = p; priority = priority }) r sound.table (place_below q reader (made_below t q sound is)) small nowhere (ne_eqb p r (λ same. apart (sym same)))
 
-pub waits_enlisted : (t : Queues) (p priority q : ℕ) (reader : Bool) → IsSound t → IsMade t q → p < 32 → WaitsNowhere t p → waits (enlisted t p priority q reader) p ≡ 1
+pub waits_enlisted : (t : Queues) (p priority q : ℕ) (reader : Bool) → AreSoundQueues t → IsMade t q → p < 32 → WaitsAtNoQueue t p → waits (enlisted t p priority q reader) p ≡ 1
 waits_enlisted t p priority q reader sound is small nowhere =
     one_of (enlisted t p priority q reader) p _ (enlisted_there t p priority q reader sound is small nowhere)
 
-pub waits_enlisted_other : (t : Queues) (p priority q : ℕ) (reader : Bool) (r : ℕ) → IsSound t → IsMade t q → p < 32 → WaitsNowhere t p → r ≢ p → waits (enlisted t p priority q reader) r ≡ waits t r
+pub waits_enlisted_other : (t : Queues) (p priority q : ℕ) (reader : Bool) (r : ℕ) → AreSoundQueues t → IsMade t q → p < 32 → WaitsAtNoQueue t p → r ≢ p → waits (enlisted t p priority q reader) r ≡ waits t r
 waits_enlisted_other t p priority q reader r sound is small nowhere apart =
     same_place t (enlisted t p priority q reader) r (enlisted_other t p priority q reader r sound is small nowhere apart)
 
@@ -128,32 +128,32 @@ dequeued_other None lists r table apart = refl
 dequeued_other (Some f) lists r table apart =
     list_of_removed_other lists f r table (ne_eqb f r (λ same. apart (ap (λ (x : ℕ). Some x) same)))
 
-pub read_woken : (t : Queues) (p q : ℕ) (procs : Table) (w : ℕ) → woken_by (read_outcome t q) ≡ Some w → WaitsNowhere (message_read t p q procs) w
+pub read_woken : (t : Queues) (p q : ℕ) (procs : Table) (w : ℕ) → woken_by (read_outcome t q) ≡ Some w → WaitsAtNoQueue (message_read t p q procs) w
 read_woken t p q procs w is =
     ap (λ (ls : List (List Member)). list_of ls w) (waiters_read t p q procs) ∙ dequeued_nowhere (woken_by (read_outcome t q)) t.waiters w is
 
-pub read_other : (t : Queues) (p q : ℕ) (procs : Table) (r : ℕ) → IsSound t → woken_by (read_outcome t q) ≢ Some r → list_of (message_read t p q procs).waiters r ≡ list_of t.waiters r
+pub read_other : (t : Queues) (p q : ℕ) (procs : Table) (r : ℕ) → AreSoundQueues t → woken_by (read_outcome t q) ≢ Some r → list_of (message_read t p q procs).waiters r ≡ list_of t.waiters r
 read_other t p q procs r sound apart =
     ap (λ (ls : List (List Member)). list_of ls r) (waiters_read t p q procs) ∙ dequeued_other (woken_by (read_outcome t q)) t.waiters r sound.table apart
 
-pub write_woken : (t : Queues) (p q : ℕ) (procs : Table) (r : ℕ) → woken_by (write_outcome t q) ≡ Some r → WaitsNowhere (message_written t p q procs) r
+pub write_woken : (t : Queues) (p q : ℕ) (procs : Table) (r : ℕ) → woken_by (write_outcome t q) ≡ Some r → WaitsAtNoQueue (message_written t p q procs) r
 write_woken t p q procs r is =
     ap (λ (ls : List (List Member)). list_of ls r) (waiters_write t p q procs) ∙ dequeued_nowhere (woken_by (write_outcome t q)) t.waiters r is
 
-pub write_other : (t : Queues) (p q : ℕ) (procs : Table) (r : ℕ) → IsSound t → woken_by (write_outcome t q) ≢ Some r → list_of (message_written t p q procs).waiters r ≡ list_of t.waiters r
+pub write_other : (t : Queues) (p q : ℕ) (procs : Table) (r : ℕ) → AreSoundQueues t → woken_by (write_outcome t q) ≢ Some r → list_of (message_written t p q procs).waiters r ≡ list_of t.waiters r
 write_other t p q procs r sound apart =
     ap (λ (ls : List (List Member)). list_of ls r) (waiters_write t p q procs) ∙ dequeued_other (woken_by (write_outcome t q)) t.waiters r sound.table apart
 
 pub waits_read_woken : (t : Queues) (p q : ℕ) (procs : Table) (w : ℕ) → woken_by (read_outcome t q) ≡ Some w → waits (message_read t p q procs) w ≡ 0
 waits_read_woken t p q procs w is = waits_nowhere (message_read t p q procs) w (read_woken t p q procs w is)
 
-pub waits_read_other : (t : Queues) (p q : ℕ) (procs : Table) (r : ℕ) → IsSound t → woken_by (read_outcome t q) ≢ Some r → waits (message_read t p q procs) r ≡ waits t r
+pub waits_read_other : (t : Queues) (p q : ℕ) (procs : Table) (r : ℕ) → AreSoundQueues t → woken_by (read_outcome t q) ≢ Some r → waits (message_read t p q procs) r ≡ waits t r
 waits_read_other t p q procs r sound apart = same_place t (message_read t p q procs) r (read_other t p q procs r sound apart)
 
 pub waits_write_woken : (t : Queues) (p q : ℕ) (procs : Table) (r : ℕ) → woken_by (write_outcome t q) ≡ Some r → waits (message_written t p q procs) r ≡ 0
 waits_write_woken t p q procs r is = waits_nowhere (message_written t p q procs) r (write_woken t p q procs r is)
 
-pub waits_write_other : (t : Queues) (p q : ℕ) (procs : Table) (r : ℕ) → IsSound t → woken_by (write_outcome t q) ≢ Some r → waits (message_written t p q procs) r ≡ waits t r
+pub waits_write_other : (t : Queues) (p q : ℕ) (procs : Table) (r : ℕ) → AreSoundQueues t → woken_by (write_outcome t q) ≢ Some r → waits (message_written t p q procs) r ≡ waits t r
 waits_write_other t p q procs r sound apart = same_place t (message_written t p q procs) r (write_other t p q procs r sound apart)
 
 -- who was ended waited at that queue
@@ -182,7 +182,7 @@ nobody_holds : (p : ℕ) → is_holder no_queue.holder p ≡ false
 unfolding no_queue Rattle.mpm_queues.specs.Queue.new_queue
 nobody_holds p = refl
 
-pub holds_made : (t : Queues) (p q : ℕ) → IsSound t → holds t p q ≡ true → IsMade t q
+pub holds_made : (t : Queues) (p q : ℕ) → AreSoundQueues t → holds t p q ≡ true → IsMade t q
 holds_made t p q sound is = elim (cases_Bool (is_made t q)) [
   | inl there ↦ there
   | inr free ↦ absurd (false≢true (sym (nobody_holds p) ∙ ap (λ (x : Queue). is_holder x.holder p) (sym (sound.blank q free)) ∙ is))
@@ -192,7 +192,7 @@ holds_made t p q sound is = elim (cases_Bool (is_made t q)) [
 abbrev after_one : Queues → ℕ → Bool → Queue → List (List Member) → Queues
 after_one t q b queue waiters = cond b t (changed t q queue waiters)
 
-there_after : (t : Queues) (q : ℕ) (b : Bool) (queue : Queue) (waiters : List (List Member)) → IsSound t → IsMade t q → b ≡ false → queue_in (after_one t q b queue waiters) q ≡ queue
+there_after : (t : Queues) (q : ℕ) (b : Bool) (queue : Queue) (waiters : List (List Member)) → AreSoundQueues t → IsMade t q → b ≡ false → queue_in (after_one t q b queue waiters) q ≡ queue
 there_after t q true queue waiters sound is not = absurd (cc)
 there_after t q false queue waiters sound is not = queue_there t q queue waiters sound is
 
@@ -205,7 +205,7 @@ read_holder : (p : ℕ) (queue : Queue) → (read_by p queue).holder ≡ cond (i
 unfolding held_by shortened is_exclusive
 read_holder p queue = refl
 
-pub holder_read : (t : Queues) (p q : ℕ) (procs : Table) → IsSound t → IsMade t q → is_drained (queue_in t q) ≡ false → (queue_in (message_read t p q procs) q).holder ≡ option_map_or (λ _. None) (first_writer t q) (cond (is_exclusive (queue_in t q)) (Some p) None)
+pub holder_read : (t : Queues) (p q : ℕ) (procs : Table) → AreSoundQueues t → IsMade t q → is_drained (queue_in t q) ≡ false → (queue_in (message_read t p q procs) q).holder ≡ option_map_or (λ _. None) (first_writer t q) (cond (is_exclusive (queue_in t q)) (Some p) None)
 unfolding message_read
 holder_read t p q procs sound is some =
     ap (λ (x : Queue). x.holder) (there_after t q (is_drained (queue_in t q)) _ (dequeued (first_writer t q) t.waiters) sound is some)
@@ -218,7 +218,7 @@ unfolding with_message held_by
 delivered_holder None message queue = refl
 delivered_holder (Some r) message queue = refl
 
-pub holder_write : (t : Queues) (p q : ℕ) (procs : Table) → IsSound t → IsMade t q → is_full (queue_in t q) ≡ false → (queue_in (message_written t p q procs) q).holder ≡ option_map_or (λ r. cond (is_exclusive (queue_in t q)) (Some r) None) (first_reader t q) None
+pub holder_write : (t : Queues) (p q : ℕ) (procs : Table) → AreSoundQueues t → IsMade t q → is_full (queue_in t q) ≡ false → (queue_in (message_written t p q procs) q).holder ≡ option_map_or (λ r. cond (is_exclusive (queue_in t q)) (Some r) None) (first_reader t q) None
 unfolding message_written
 holder_write t p q procs sound is room =
     ap (λ (x : Queue). x.holder) (there_after t q (is_full (queue_in t q)) _ (dequeued (first_reader t q) t.waiters) sound is room)
@@ -252,19 +252,19 @@ kept_delivered (Some r) message queue = record { name = refl; width = refl; coun
 kept_same : (queue : Queue) → IsKept queue queue
 kept_same queue = record { name = refl; width = refl; count = refl }
 
-kept_after : (t : Queues) (q k : ℕ) (b : Bool) (queue : Queue) (waiters : List (List Member)) → IsSound t → IsMade t q → IsKept (queue_in t q) queue → IsKept (queue_in t k) (queue_in (after_one t q b queue waiters) k)
+kept_after : (t : Queues) (q k : ℕ) (b : Bool) (queue : Queue) (waiters : List (List Member)) → AreSoundQueues t → IsMade t q → IsKept (queue_in t q) queue → IsKept (queue_in t k) (queue_in (after_one t q b queue waiters) k)
 kept_after t q k true queue waiters sound is kept = kept_same (queue_in t k)
 kept_after t q k false queue waiters sound is kept = elim (cases_eq k q) [
   | inl same ↦ subst (λ (j : ℕ). IsKept (queue_in t j) (queue_in (changed t q queue waiters) j)) (sym same) (subst (IsKept (queue_in t q)) (sym (queue_there t q queue waiters sound is)) kept)
   | inr apart ↦ subst (IsKept (queue_in t k)) (sym (queue_else t q k queue waiters apart)) (kept_same (queue_in t k))
 ]
 
-pub kept_read : (t : Queues) (p q k : ℕ) (procs : Table) → IsSound t → IsMade t q → IsKept (queue_in t k) (queue_in (message_read t p q procs) k)
+pub kept_read : (t : Queues) (p q k : ℕ) (procs : Table) → AreSoundQueues t → IsMade t q → IsKept (queue_in t k) (queue_in (message_read t p q procs) k)
 unfolding message_read
 kept_read t p q k procs sound is =
     kept_after t q k (is_drained (queue_in t q)) _ (dequeued (first_writer t q) t.waiters) sound is (kept_let_in p procs (first_writer t q) (queue_in t q))
 
-pub kept_write : (t : Queues) (p q k : ℕ) (procs : Table) → IsSound t → IsMade t q → IsKept (queue_in t k) (queue_in (message_written t p q procs) k)
+pub kept_write : (t : Queues) (p q k : ℕ) (procs : Table) → AreSoundQueues t → IsMade t q → IsKept (queue_in t k) (queue_in (message_written t p q procs) k)
 unfolding message_written
 kept_write t p q k procs sound is =
     kept_after t q k (is_full (queue_in t q)) _ (dequeued (first_reader t q) t.waiters) sound is (kept_delivered (first_reader t q) (written_by t q procs p) (queue_in t q))

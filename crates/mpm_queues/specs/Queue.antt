@@ -70,7 +70,7 @@ with_given message call = record call { bytes = in_width block_size call.bytes +
 
 -- what is so of a queue at any time. Its messages have its length, and there is room for all of them, in at most 2,048 bytes. A message
 -- that is held is that of a mutual exclusion queue, which is empty
-pub record IsProper (queue : Queue) : Type 0 where
+pub record IsProperQueue (queue : Queue) : Type 0 where
   pub widths : AllByRecursion (λ message. length message ≡ queue.width) queue.messages
   pub room : length queue.messages ≤ queue.count
   pub bytes : queue.width * queue.count ≤ 2048

@@ -6,7 +6,7 @@ use Rattle.mpm_base.specs.declared.number.Name8.{Name8}
 unfoldable pub use Rattle.mpm_procs.specs.Finding.{lowest}
 use Rattle.mpm_ready.specs.Order.{Member, first_of, in_list}
 use Rattle.mpm_ready.specs.Tables.{list_at, list_of, no_lists, IsTable}
-use Rattle.mpm_queues.specs.Queue.{Queue, new_queue, no_queue, is_drained, is_full, IsProper}
+use Rattle.mpm_queues.specs.Queue.{Queue, new_queue, no_queue, is_drained, is_full, IsProperQueue}
 use Rattle.mpm_queues.specs.declared.queues.MakeRefused.{MakeRefused}
 use Rattle.mpm_queues.specs.declared.queues.MakeRefused.TheVariants.{BadCount, Exists, NoQueueRoom}
 
@@ -44,8 +44,8 @@ unfoldable pub waits : Queues → ℕ → ℕ
 waits t p = option_map_or (λ _. 1) (list_of t.waiters p) 0
 
 -- a process waits at no queue
-abbrev pub WaitsNowhere : Queues → ℕ → Type 0
-WaitsNowhere t p = list_of t.waiters p ≡ None
+abbrev pub WaitsAtNoQueue : Queues → ℕ → Type 0
+WaitsAtNoQueue t p = list_of t.waiters p ≡ None
 
 -- no queue is made
 unfoldable pub no_queues : Queues
@@ -112,12 +112,12 @@ without_queue t q = if may_end t q then without t q else t
 
 -- what is so of the queues at any time. A number that names no queue has nothing. Queues are proper, have room, and differ in their names.
 -- A process waits at most at one, a reader only at one without messages, a writer only at a full one
-pub record IsSound (t : Queues) : Type 0 where
+pub record AreSoundQueues (t : Queues) : Type 0 where
   pub alive : length t.alive ≡ 32
   pub queues : length t.queues ≡ 32
   pub table : IsTable t.waiters
   pub blank : (q : ℕ) → is_made t q ≡ false → queue_in t q ≡ no_queue
-  pub proper : (q : ℕ) → IsProper (queue_in t q)
+  pub proper : (q : ℕ) → IsProperQueue (queue_in t q)
   pub some : (q : ℕ) → IsMade t q → 1 ≤ (queue_in t q).count
   pub names : (a b : ℕ) → IsMade t a → IsMade t b → (queue_in t a).name ≡ (queue_in t b).name → a ≡ b
   pub readers : (q p : ℕ) → q < 32 → in_list p (readers_of t q) ≡ true → IsMade t q × (is_drained (queue_in t q) ≡ true)

@@ -49,22 +49,22 @@ pub struct Queues {
 }
 
 impl Model for Queues {
-    ghost use Rattle.mpm_queues.specs.Queues.{Queues, IsSound};
+    ghost use Rattle.mpm_queues.specs.Queues.{Queues, AreSoundQueues};
 
     ghost Value = { Queues };
 
     ghost view = { λ t. record { alive = t.alive.items; queues = t.queues.items; waiters = t.waiters } };
 
-    ghost invariant = { λ t. IsSound (record { alive = t.alive.items; queues = t.queues.items; waiters = t.waiters }) };
+    ghost invariant = { λ t. AreSoundQueues (record { alive = t.alive.items; queues = t.queues.items; waiters = t.waiters }) };
 }
 
 impl Queues {
     ghost use Rattle.std.specs.Prelude.{is_some, is_none, ◌&&◌};
     ghost use Rattle.mpm_ready.specs.Tables.{list_of};
     ghost use Rattle.mpm_queues.specs.Queue.{is_drained, is_full};
-    ghost use Rattle.mpm_queues.specs.Queues.{no_queues, IsMade, is_made, IsSound, WaitsNowhere, waits_at, queue_in, found, is_named, lowest_free, is_free, holds, width_of, lowest_held, make_error, made, may_end, without_queue};
+    ghost use Rattle.mpm_queues.specs.Queues.{no_queues, IsMade, is_made, AreSoundQueues, WaitsAtNoQueue, waits_at, queue_in, found, is_named, lowest_free, is_free, holds, width_of, lowest_held, make_error, made, may_end, without_queue};
     ghost use Rattle.mpm_queues.specs.Handling.{message_read, read_outcome, read_reply, message_written, write_outcome, procs_after_write, enlisted, queues_without_waiter, may_wait};
-    ghost use Rattle.mpm_queues.specs.Runs.{Conserves, out_by_read, in_by_read, out_by_write, in_by_write};
+    ghost use Rattle.mpm_queues.specs.Runs.{ConservesMessages, out_by_read, in_by_read, out_by_write, in_by_write};
 
     /// No queues. All memory that they will need is taken here.
     #[tactic(auto, using(crate::proofs::SoundLaws::sound_blank), unfolding(crate::specs::Queues::no_queues))]
@@ -116,7 +116,7 @@ impl Queues {
     pub fn find(&self, name: Name8) -> Option<u8>
         ensures number { result ≡ found self.now name }
         ensures made { IfSome result (λ q. IsMade self.now q) }
-        ensures sound { IsSound self.now }
+        ensures sound { AreSoundQueues self.now }
     {
         let _ = &self.alive;
         for q in 0..QUEUES {
@@ -197,7 +197,7 @@ impl Queues {
         ensures queues { self.new ≡ message_read self.old p q procs.old }
         ensures reply { reply.new ≡ read_reply self.old q reply.old }
         ensures procs { procs.new ≡ procs.old }
-        ensures messages { Conserves self.old self.new q (out_by_read self.old q) (in_by_read self.old q procs.old) }
+        ensures messages { ConservesMessages self.old self.new q (out_by_read self.old q) (in_by_read self.old q procs.old) }
     {
         self.take_message(p, q, procs, reply)
     }
@@ -210,7 +210,7 @@ impl Queues {
         ensures outcome { result ≡ read_outcome self.old q }
         ensures queues { self.new ≡ message_read self.old p q procs.now }
         ensures reply { reply.new ≡ read_reply self.old q reply.old }
-        ensures sound { IsSound self.old }
+        ensures sound { AreSoundQueues self.old }
     {
         let store = &mut self.queues[usize::from(q)];
         if store.is_drained() {
@@ -232,7 +232,7 @@ impl Queues {
         ensures outcome { result ≡ write_outcome self.old q }
         ensures queues { self.new ≡ message_written self.old p q procs.old }
         ensures procs { procs.new ≡ procs_after_write self.old p q procs.old }
-        ensures messages { Conserves self.old self.new q (out_by_write self.old p q procs.old) (in_by_write self.old p q procs.old) }
+        ensures messages { ConservesMessages self.old self.new q (out_by_write self.old p q procs.old) (in_by_write self.old p q procs.old) }
     {
         self.put_message(p, q, procs)
     }
@@ -246,7 +246,7 @@ impl Queues {
         ensures outcome { result ≡ write_outcome self.old q }
         ensures queues { self.new ≡ message_written self.old p q procs.old }
         ensures procs { procs.new ≡ procs_after_write self.old p q procs.old }
-        ensures sound { IsSound self.old }
+        ensures sound { AreSoundQueues self.old }
     {
         let store = &mut self.queues[usize::from(q)];
         if store.is_full() {
@@ -262,7 +262,7 @@ impl Queues {
     #[tactic(auto, using(crate::proofs::SoundLaws::sound_enlisted), unfolding(crate::specs::Handling::enlisted))]
     pub fn enlist(&mut self, p: Pid, priority: u8, q: u8, reader: bool)
         requires queue { IsMade self.old q }
-        requires nowhere { WaitsNowhere self.old p }
+        requires nowhere { WaitsAtNoQueue self.old p }
         requires waits { may_wait self.old q reader ≡ true }
         ensures { self.new ≡ enlisted self.old p priority q reader }
     {
@@ -305,7 +305,7 @@ impl Queues {
     pub fn length(&self, q: u8) -> Option<u16>
         ensures value { result ≡ width_of self.now q }
         ensures made { IsSome result ↔ IsMade self.now q }
-        ensures sound { IsSound self.now }
+        ensures sound { AreSoundQueues self.now }
     {
         let place = usize::from(q);
         if place < QUEUES && self.alive[place] {
@@ -321,7 +321,7 @@ impl Queues {
     pub fn held(&self, p: Pid) -> Option<u8>
         ensures number { result ≡ lowest_held self.now p }
         ensures made { IfSome result (λ q. IsMade self.now q) }
-        ensures sound { IsSound self.now }
+        ensures sound { AreSoundQueues self.now }
     {
         let _ = &self.alive;
         for q in 0..QUEUES {

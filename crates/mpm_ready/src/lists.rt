@@ -2,7 +2,7 @@ ghost use Rattle.std.specs.Prelude.{◌≡◌, ◌≢◌, ◌<◌, IfSome, IfNon
 ghost use Rattle.mpm_ready.specs.Order.{first_of};
 ghost use Rattle.mpm_ready.specs.Tables.{list_at, list_of, no_lists, inserted, removed, rotated, IsTable};
 
-use crate::links::{Links, Place};
+use crate::links::{Links, ListPlace};
 use mpm_base::Pid;
 use std::marker::Model;
 
@@ -44,7 +44,7 @@ impl Lists {
         requires unlisted { list_of self.old p ≡ None }
         ensures { self.new ≡ inserted self.old list (record { slot = p; priority = priority }) }
     {
-        self.links.put(p, Place { list, priority });
+        self.links.put(p, ListPlace { list, priority });
     }
 
     /// The first process of a list, none exactly where it is empty.

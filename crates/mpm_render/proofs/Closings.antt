@@ -5,7 +5,7 @@ use Rattle.std.proofs.lemmas.List.{append-nil, get_or-set_same, get_or-set_other
 use Rattle.mpm_port.specs.Texts.{Begins, AppendsPart}
 use Rattle.mpm_render.specs.Lines.{places}
 use Rattle.mpm_render.specs.Outputs.{Output, pending, rendered, closing, closed}
-use Rattle.mpm_render.specs.Shown.{Kept, line_of, Shows, EndsBetween}
+use Rattle.mpm_render.specs.Shown.{KeptLines, line_of, Shows, EndsBetween}
 use Rattle.mpm_render.proofs.Grows.{begins_refl, begins_more, begins_trans, begins_behind, ends_within, widened}
 
 -- the text of the first places' lines, closed
@@ -39,20 +39,20 @@ unfolding closings
 closings_all line = simp (append_assoc, append-nil)
 
 -- all the lines that stand for outputs, closed
-closed_is : (kept : Kept) (written first : List ℕ) (os : List Output) → Shows kept written os first → rendered kept.trace os ++ closings (line_of kept) 12 ≡ closed kept.trace os
+closed_is : (kept : KeptLines) (written first : List ℕ) (os : List Output) → Shows kept written os first → rendered kept.trace os ++ closings (line_of kept) 12 ≡ closed kept.trace os
 unfolding closed
 closed_is kept written first os s =
     ap (λ text. rendered kept.trace os ++ text) (closings_same (line_of kept) (λ place. pending place os) 12 s.lines ∙ closings_all (λ place. pending place os))
 
 -- once each line is closed, all is written
-pub written_closed : (kept : Kept) (written now first : List ℕ) (os : List Output) → now ≡ written ++ closings (line_of kept) 12 → Shows kept written os first → now ≡ first ++ closed kept.trace os
+pub written_closed : (kept : KeptLines) (written now first : List ℕ) (os : List Output) → now ≡ written ++ closings (line_of kept) 12 → Shows kept written os first → now ≡ first ++ closed kept.trace os
 written_closed kept written now first os writes s =
     writes ∙ ap (λ t. t ++ closings (line_of kept) 12) s.written_is
     ∙ append_assoc first (rendered kept.trace os) (closings (line_of kept) 12)
     ∙ ap (λ t. first ++ t) (closed_is kept written first os s)
 
 -- a failed write of a line stops before all is closed
-pub ends_closed : (kept : Kept) (written before now first : List ℕ) (place : ℕ) (os : List Output) → place < 12 → before ≡ written ++ closings (line_of kept) place → AppendsPart before (closing place (line_of kept place)) now → 0 < length (closing place (line_of kept place)) → Shows kept written os first → EndsBetween now first (rendered kept.trace os) (closed kept.trace os)
+pub ends_closed : (kept : KeptLines) (written before now first : List ℕ) (place : ℕ) (os : List Output) → place < 12 → before ≡ written ++ closings (line_of kept) place → AppendsPart before (closing place (line_of kept place)) now → 0 < length (closing place (line_of kept place)) → Shows kept written os first → EndsBetween now first (rendered kept.trace os) (closed kept.trace os)
 ends_closed kept written before now first place os small writes part some s =
     let line = line_of kept in
     let shown = rendered kept.trace os in
@@ -70,7 +70,7 @@ ends_closed kept written before now first place os small writes part some s =
     (ends_within before now first text next e part some)
 
 -- the same, as a line answers that has been picked by its place
-pub err_closed : {A E : Type 0} (result : Result A E) (kept : Kept) (written before now first : List ℕ) (place : ℕ) (line : List ℕ) (os : List Output) → place < 12 → line ≡ line_of kept place → before ≡ written ++ closings (line_of kept) place → AppendsPart before (closing place line) now → 0 < length (closing place line) → Shows kept written os first → OnErr result (EndsBetween now first (rendered kept.trace os) (closed kept.trace os))
+pub err_closed : {A E : Type 0} (result : Result A E) (kept : KeptLines) (written before now first : List ℕ) (place : ℕ) (line : List ℕ) (os : List Output) → place < 12 → line ≡ line_of kept place → before ≡ written ++ closings (line_of kept) place → AppendsPart before (closing place line) now → 0 < length (closing place line) → Shows kept written os first → OnErr result (EndsBetween now first (rendered kept.trace os) (closed kept.trace os))
 err_closed (Ok x) kept written before now first place line os small same writes part some s = tt
 err_closed (Err e) kept written before now first place line os small same writes part some s =
     let P : List ℕ → Type 0 = λ l. AppendsPart before (closing place l) now in
@@ -78,7 +78,7 @@ err_closed (Err e) kept written before now first place line os small same writes
     ends_closed kept written before now first place os small writes (subst P same part) (subst Q same some) s
 
 -- one more line is closed
-pub written_more : (kept : Kept) (written before now : List ℕ) (place : ℕ) (line : List ℕ) → line ≡ line_of kept place → before ≡ written ++ closings (line_of kept) place → now ≡ before ++ closing place line → now ≡ written ++ closings (line_of kept) (place + 1)
+pub written_more : (kept : KeptLines) (written before now : List ℕ) (place : ℕ) (line : List ℕ) → line ≡ line_of kept place → before ≡ written ++ closings (line_of kept) place → now ≡ before ++ closing place line → now ≡ written ++ closings (line_of kept) (place + 1)
 written_more kept written before now place line same writes more =
     more ∙ ap (λ t. t ++ closing place line) writes ∙ append_assoc written _ _
     ∙ ap (λ l. written ++ (closings (line_of kept) place ++ closing place l)) same

@@ -10,7 +10,7 @@ use Rattle.mpm_render.specs.declared.unit.Unit2.TheVariants.{Console, Printer}
 use Rattle.mpm_render.specs.Lines.{place_of, IsUnit, text_with, line_with}
 use Rattle.mpm_render.specs.Completions.{Completion}
 use Rattle.mpm_render.specs.Outputs.{Output, Said, Completed, said, since_end, pending, record_text, text_at, rendered}
-use Rattle.mpm_render.specs.Shown.{Kept, line_of, Shows, EndsBetween}
+use Rattle.mpm_render.specs.Shown.{KeptLines, line_of, Shows, EndsBetween}
 use Rattle.mpm_render.proofs.Grows.{begins_refl, begins_more, begins_trans, ends_within}
 
 pub rendered_grows : (trace : Bool) (o : Output) (os : List Output) → Begins (rendered trace os) (rendered trace (o ∷ os))
@@ -123,14 +123,14 @@ unfolding rendered
 rendered_none trace = refl
 
 -- empty lines show that nothing was said
-pub shows_none : (kept : Kept) (written : List ℕ) → ((place : ℕ) → place < 12 → line_of kept place ≡ []) → Shows kept written [] written
+pub shows_none : (kept : KeptLines) (written : List ℕ) → ((place : ℕ) → place < 12 → line_of kept place ≡ []) → Shows kept written [] written
 shows_none kept written none = record {
   lines = λ place h. none place h ∙ sym (pending_none place);
   written_is = sym (ap (λ t. written ++ t) (rendered_none kept.trace) ∙ append-nil written);
 }
 
 -- a byte that is put to its line, and the text that it writes, keep what is shown
-pub shows_said : (old new : Kept) (written now first : List ℕ) (unit : Unit2) (byte : ℕ) (os : List Output) → IsUnit unit → length old.lines ≡ 12 → new.trace ≡ old.trace → new.lines ≡ set old.lines (place_of unit) (line_with byte (line_of old (place_of unit))) → now ≡ written ++ text_with (place_of unit) byte (line_of old (place_of unit)) → Shows old written os first → Shows new now (Said unit byte ∷ os) first
+pub shows_said : (old new : KeptLines) (written now first : List ℕ) (unit : Unit2) (byte : ℕ) (os : List Output) → IsUnit unit → length old.lines ≡ 12 → new.trace ≡ old.trace → new.lines ≡ set old.lines (place_of unit) (line_with byte (line_of old (place_of unit))) → now ≡ written ++ text_with (place_of unit) byte (line_of old (place_of unit)) → Shows old written os first → Shows new now (Said unit byte ∷ os) first
 shows_said old new written now first unit byte os is twelve traces changed writes s =
     let here = place_of unit in
     let small : here < 12 = place_small unit is in
@@ -145,7 +145,7 @@ shows_said old new written now first unit byte os is twelve traces changed write
     }
 
 -- a failed write of a byte's text stops between the texts before and after it
-pub ends_said : (old : Kept) (written now first : List ℕ) (unit : Unit2) (byte : ℕ) (os : List Output) → IsUnit unit → AppendsPart written (text_with (place_of unit) byte (line_of old (place_of unit))) now → 0 < length (text_with (place_of unit) byte (line_of old (place_of unit))) → Shows old written os first → EndsBetween now first (rendered old.trace os) (rendered old.trace (Said unit byte ∷ os))
+pub ends_said : (old : KeptLines) (written now first : List ℕ) (unit : Unit2) (byte : ℕ) (os : List Output) → IsUnit unit → AppendsPart written (text_with (place_of unit) byte (line_of old (place_of unit))) now → 0 < length (text_with (place_of unit) byte (line_of old (place_of unit))) → Shows old written os first → EndsBetween now first (rendered old.trace os) (rendered old.trace (Said unit byte ∷ os))
 ends_said old written now first unit byte os is part some s =
     let here = place_of unit in
     let line : line_of old here ≡ pending here os = s.lines here (place_small unit is) in
@@ -159,7 +159,7 @@ same_line lines unit place other is at twelve =
     let small = place_small unit is in
     get_or_default lines place other [] (omega arith) ∙ ap (λ p. get_or lines p []) at
 
-pub ok_said : {A E : Type 0} (result : Result A E) (old new : Kept) (written now first : List ℕ) (unit : Unit2) (byte place : ℕ) (other after : List ℕ) (os : List Output) → IsUnit unit → place ≡ place_of unit → length old.lines ≡ 12 → new.trace ≡ old.trace → OnOk result (after ≡ line_with byte (get_or old.lines place other)) → new.lines ≡ set old.lines place after → OnOk result (now ≡ written ++ text_with place byte (get_or old.lines place other)) → Shows old written os first → OnOk result (Shows new now (Said unit byte ∷ os) first)
+pub ok_said : {A E : Type 0} (result : Result A E) (old new : KeptLines) (written now first : List ℕ) (unit : Unit2) (byte place : ℕ) (other after : List ℕ) (os : List Output) → IsUnit unit → place ≡ place_of unit → length old.lines ≡ 12 → new.trace ≡ old.trace → OnOk result (after ≡ line_with byte (get_or old.lines place other)) → new.lines ≡ set old.lines place after → OnOk result (now ≡ written ++ text_with place byte (get_or old.lines place other)) → Shows old written os first → OnOk result (Shows new now (Said unit byte ∷ os) first)
 ok_said (Err e) old new written now first unit byte place other after os is at twelve traces kept changed writes s = tt
 ok_said (Ok x) old new written now first unit byte place other after os is at twelve traces kept changed writes s =
     let line = same_line old.lines unit place other is at twelve in
@@ -168,7 +168,7 @@ ok_said (Ok x) old new written now first unit byte place other after os is at tw
     (writes ∙ ap (λ p. written ++ text_with p byte (get_or old.lines place other)) at ∙ ap (λ l. written ++ text_with (place_of unit) byte l) line)
     s
 
-pub err_said : {A E : Type 0} (result : Result A E) (old : Kept) (written now first : List ℕ) (unit : Unit2) (byte place : ℕ) (other : List ℕ) (os : List Output) → IsUnit unit → place ≡ place_of unit → length old.lines ≡ 12 → OnErr result (AppendsPart written (text_with place byte (get_or old.lines place other)) now) → OnErr result (0 < length (text_with place byte (get_or old.lines place other))) → Shows old written os first → OnErr result (EndsBetween now first (rendered old.trace os) (rendered old.trace (Said unit byte ∷ os)))
+pub err_said : {A E : Type 0} (result : Result A E) (old : KeptLines) (written now first : List ℕ) (unit : Unit2) (byte place : ℕ) (other : List ℕ) (os : List Output) → IsUnit unit → place ≡ place_of unit → length old.lines ≡ 12 → OnErr result (AppendsPart written (text_with place byte (get_or old.lines place other)) now) → OnErr result (0 < length (text_with place byte (get_or old.lines place other))) → Shows old written os first → OnErr result (EndsBetween now first (rendered old.trace os) (rendered old.trace (Said unit byte ∷ os)))
 err_said (Ok x) old written now first unit byte place other os is at twelve part some s = tt
 err_said (Err e) old written now first unit byte place other os is at twelve part some s =
     let P : List ℕ → Type 0 = λ text. AppendsPart written text now in
@@ -177,7 +177,7 @@ err_said (Err e) old written now first unit byte place other os is at twelve par
     ends_said old written now first unit byte os is (subst P text part) (subst Q text some) s
 
 -- the record of a completed call, and the text that it writes, keep what is shown
-pub ok_completed : {A E : Type 0} (result : Result A E) (kept : Kept) (written now first : List ℕ) (call : Completion) (text : List ℕ) (os : List Output) → text ≡ record_text kept.trace call → OnOk result (now ≡ written ++ text) → Shows kept written os first → OnOk result (Shows kept now (Completed call ∷ os) first)
+pub ok_completed : {A E : Type 0} (result : Result A E) (kept : KeptLines) (written now first : List ℕ) (call : Completion) (text : List ℕ) (os : List Output) → text ≡ record_text kept.trace call → OnOk result (now ≡ written ++ text) → Shows kept written os first → OnOk result (Shows kept now (Completed call ∷ os) first)
 ok_completed (Err e) kept written now first call text os is writes s = tt
 ok_completed (Ok x) kept written now first call text os is writes s =
     let before = rendered kept.trace os in
@@ -187,7 +187,7 @@ ok_completed (Ok x) kept written now first call text os is writes s =
     }
 
 -- a failed write of a record's text stops between the texts before and after it
-pub err_completed : {A E : Type 0} (result : Result A E) (kept : Kept) (written now first : List ℕ) (call : Completion) (text : List ℕ) (os : List Output) → text ≡ record_text kept.trace call → OnErr result (AppendsPart written text now) → 0 < length text → Shows kept written os first → OnErr result (EndsBetween now first (rendered kept.trace os) (rendered kept.trace (Completed call ∷ os)))
+pub err_completed : {A E : Type 0} (result : Result A E) (kept : KeptLines) (written now first : List ℕ) (call : Completion) (text : List ℕ) (os : List Output) → text ≡ record_text kept.trace call → OnErr result (AppendsPart written text now) → 0 < length text → Shows kept written os first → OnErr result (EndsBetween now first (rendered kept.trace os) (rendered kept.trace (Completed call ∷ os)))
 err_completed (Ok x) kept written now first call text os is part some s = tt
 err_completed (Err e) kept written now first call text os is part some s =
     let before = rendered kept.trace os in

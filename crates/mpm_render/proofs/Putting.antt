@@ -3,7 +3,7 @@ use Rattle.std.proofs.Common.{◌≡◌, ℕ, ◌+◌, ◌<◌, ◌≤◌, List,
 use Rattle.std.proofs.lemmas.List.{take_more}
 use Rattle.std.proofs.lemmas.List.FromFn.{get_or-map-range_with_len}
 use Rattle.mpm_render.specs.Outputs.{closing}
-use Rattle.mpm_render.specs.Shown.{Kept, line_of}
+use Rattle.mpm_render.specs.Shown.{KeptLines, line_of}
 use Rattle.mpm_render.specs.Puts.{PutsLine, PutsEach, StopsClosing, texts_closed}
 
 pub puts_none : {S : Type 0} (took : S → List ℕ → S → Type 0) (text : List ℕ) (old new : S) → text ≡ [] → new ≡ old → PutsLine took text old new
@@ -29,15 +29,15 @@ each_more took (first ∷ texts) text old middle new each put =
     (each.0, each.1, each_more took texts text each.0 middle new each.2 put)
 
 -- what closing writes of a place is the text at its number
-text_of : (kept : Kept) (place : ℕ) → place < 12 → get_or (texts_closed kept) place [] ≡ closing place (line_of kept place)
+text_of : (kept : KeptLines) (place : ℕ) → place < 12 → get_or (texts_closed kept) place [] ≡ closing place (line_of kept place)
 text_of kept place h =
     get_or-map-range_with_len (λ place. closing place (line_of kept place)) 0 12 place place [] h (omega arith)
 
-pub all_texts : (kept : Kept) → take 12 (texts_closed kept) ≡ texts_closed kept
+pub all_texts : (kept : KeptLines) → take 12 (texts_closed kept) ≡ texts_closed kept
 all_texts kept = refl
 
 -- one more line is closed
-pub each_closed : {S : Type 0} (took : S → List ℕ → S → Type 0) (kept : Kept) (place : ℕ) (line : List ℕ) (old middle new : S) → place < 12 → line ≡ line_of kept place → PutsEach took (take place (texts_closed kept)) old middle → PutsLine took (closing place line) middle new → PutsEach took (take (place + 1) (texts_closed kept)) old new
+pub each_closed : {S : Type 0} (took : S → List ℕ → S → Type 0) (kept : KeptLines) (place : ℕ) (line : List ℕ) (old middle new : S) → place < 12 → line ≡ line_of kept place → PutsEach took (take place (texts_closed kept)) old middle → PutsLine took (closing place line) middle new → PutsEach took (take (place + 1) (texts_closed kept)) old new
 each_closed took kept place line old middle new small same each put =
     let P : List (List ℕ) → Type 0 = λ texts. PutsEach took texts old new in
     let Q : List ℕ → Type 0 = λ text. PutsLine took text middle new in
@@ -45,7 +45,7 @@ each_closed took kept place line old middle new small same each put =
     subst P (sym (take_more (texts_closed kept) place [] small)) (each_more took _ _ old middle new each (subst Q text put))
 
 -- a line isn't closed
-pub stops_closed : {A E S : Type 0} (result : Result A E) (took dropped : S → List ℕ → S → Type 0) (kept kept' : Kept) (place : ℕ) (line : List ℕ) (old middle new : S) → place < 12 → line ≡ line_of kept place → PutsEach took (take place (texts_closed kept)) old middle → 0 < length (closing place line) → dropped middle (closing place line) new → ((p : ℕ) → p < place → line_of kept' p ≡ []) → ((p : ℕ) → place ≤ p → line_of kept' p ≡ line_of kept p) → OnErr result (StopsClosing took dropped kept kept' old new)
+pub stops_closed : {A E S : Type 0} (result : Result A E) (took dropped : S → List ℕ → S → Type 0) (kept kept' : KeptLines) (place : ℕ) (line : List ℕ) (old middle new : S) → place < 12 → line ≡ line_of kept place → PutsEach took (take place (texts_closed kept)) old middle → 0 < length (closing place line) → dropped middle (closing place line) new → ((p : ℕ) → p < place → line_of kept' p ≡ []) → ((p : ℕ) → place ≤ p → line_of kept' p ≡ line_of kept p) → OnErr result (StopsClosing took dropped kept kept' old new)
 stops_closed (Ok x) took dropped kept kept' place line old middle new small same each some put empty others = tt
 stops_closed (Err e) took dropped kept kept' place line old middle new small same each some put empty others =
     let P : List ℕ → Type 0 = λ text. dropped middle text new in

@@ -4,7 +4,7 @@ use Rattle.mpm_render.specs.declared.unit.Unit2.{Unit2}
 use Rattle.mpm_render.specs.Lines.{place_of, places, text_with}
 use Rattle.mpm_render.specs.Completions.{Completion}
 use Rattle.mpm_render.specs.Outputs.{closing, record_text}
-use Rattle.mpm_render.specs.Shown.{Kept, line_of}
+use Rattle.mpm_render.specs.Shown.{KeptLines, line_of}
 
 -- a text by one put; where there is no text, nothing is put
 unfoldable pub PutsLine : {S : Type 0} → (S → List ℕ → S → Type 0) → List ℕ → S → S → Type 0
@@ -17,7 +17,7 @@ PutsEach took [] old new = new ≡ old
 PutsEach took (text ∷ texts) old new = (middle : _) × PutsLine took text old middle × PutsEach took texts middle new
 
 -- the texts before one of the texts were put so, and the put of that one failed
-pub record StopsAt {S : Type 0} (took dropped : S → List ℕ → S → Type 0) (texts : List (List ℕ)) (old new : S) : Type 0 where
+pub record StopsAtText {S : Type 0} (took dropped : S → List ℕ → S → Type 0) (texts : List (List ℕ)) (old new : S) : Type 0 where
   pub number : ℕ
   pub inside : number < length texts
   pub middle : S
@@ -26,19 +26,19 @@ pub record StopsAt {S : Type 0} (took dropped : S → List ℕ → S → Type 0)
   pub failed : dropped middle (slice_index_or texts number []) new
 
 -- what a byte to a console or a printer writes, after the unfinished line that is kept of it
-abbrev pub text_put : Unit2 → ℕ → Kept → List ℕ
+abbrev pub text_put : Unit2 → ℕ → KeptLines → List ℕ
 text_put unit byte kept = text_with (place_of unit) byte (line_of kept (place_of unit))
 
 -- what the record of a completed call writes
-abbrev pub text_traced : Completion → Kept → List ℕ
+abbrev pub text_traced : Completion → KeptLines → List ℕ
 text_traced call kept = record_text kept.trace call
 
 -- what closing writes of each place, in order
-abbrev pub texts_closed : Kept → List (List ℕ)
+abbrev pub texts_closed : KeptLines → List (List ℕ)
 texts_closed kept = map (λ place. closing place (line_of kept place)) places
 
 -- closing stopped at the line of a place, whose put failed: the lines before it are empty, and all others as they were
-pub record StopsClosing {S : Type 0} (took dropped : S → List ℕ → S → Type 0) (kept kept' : Kept) (old new : S) : Type 0 where
-  pub stops : StopsAt took dropped (texts_closed kept) old new
+pub record StopsClosing {S : Type 0} (took dropped : S → List ℕ → S → Type 0) (kept kept' : KeptLines) (old new : S) : Type 0 where
+  pub stops : StopsAtText took dropped (texts_closed kept) old new
   pub empty : (place : ℕ) → place < stops.number → line_of kept' place ≡ []
   pub others : (place : ℕ) → stops.number ≤ place → line_of kept' place ≡ line_of kept place

@@ -4,16 +4,16 @@ use Rattle.mpm_port.specs.Texts.{Begins}
 use Rattle.mpm_render.specs.Outputs.{Output, pending, rendered}
 
 -- what a renderer keeps: the unfinished line of each place, and whether it writes the records of completed calls
-pub record Kept : Type 0 where
+pub record KeptLines : Type 0 where
   pub lines : List (List ℕ)
   pub trace : Bool
 
 -- the unfinished line of a place
-abbrev pub line_of : Kept → ℕ → List ℕ
+abbrev pub line_of : KeptLines → ℕ → List ℕ
 line_of kept place = slice_index_or kept.lines place []
 
 -- each place's line is what is pending there, and the sink was given the first text and then the outputs' text
-pub record Shows (kept : Kept) (written : List ℕ) (outputs : List Output) (first : List ℕ) : Type 0 where
+pub record Shows (kept : KeptLines) (written : List ℕ) (outputs : List Output) (first : List ℕ) : Type 0 where
   pub lines : (place : ℕ) → place < 12 → line_of kept place ≡ pending place outputs
   pub written_is : written ≡ first ++ rendered kept.trace outputs
 

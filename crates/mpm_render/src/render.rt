@@ -18,9 +18,9 @@ pub struct Render {
 }
 
 impl Model for Render {
-    ghost use Rattle.mpm_render.specs.Shown.{Kept};
+    ghost use Rattle.mpm_render.specs.Shown.{KeptLines};
 
-    ghost Value = { Kept };
+    ghost Value = { KeptLines };
 
     ghost view = { λ render. record { lines = render.lines; trace = render.trace } };
 }

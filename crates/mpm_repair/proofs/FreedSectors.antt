@@ -8,7 +8,7 @@ use Rattle.mpm_base.specs.declared.kind.Kind.{Kind}
 use Rattle.mpm_base.specs.declared.kind.Kind.TheVariants.{Ibm3740, Hd4, Hd8}
 use Rattle.mpm_blocks.specs.Geometries.{geometry_of, place_of, logical_sectors}
 use Rattle.mpm_blocks.proofs.Written.{spliced, spliced_size, spliced_here, spliced_again, from_to, place_inside}
-use Rattle.mpm_port.specs.Disks.{Disks, Writes, with_sector, sector_of, size_of}
+use Rattle.mpm_port.specs.Disks.{Disks, WritesSector, with_sector, sector_of, size_of}
 use Rattle.mpm_sectors.specs.Writes.{Elsewhere}
 use Rattle.mpm_sectors.proofs.OtherImages.{elsewhere_same, elsewhere_written, elsewhere_over}
 use Rattle.mpm_fault_lines.specs.Lists.{listed, listed_at}
@@ -140,7 +140,7 @@ frees_more drive kind marks sector a b c one two =
 -- a sector that was read, freed and written
 pub frees_written : (drive : ℕ) (kind : Kind) (marks : List Bool) (sector place : ℕ) (read bytes : List ℕ) (old new : Disks) → place ≡ place_of kind sector
     → size_of old drive ≡ Some (geometry_of kind).bytes → sector < logical_sectors kind → IfSome (old.image drive) (λ image. read ≡ sector_of image place)
-    → bytes ≡ freed_within (listed_from marks (4 * sector) 4) read → Writes drive place bytes old new → FreesOn drive kind (listed_from marks (4 * sector) 4) old new
+    → bytes ≡ freed_within (listed_from marks (4 * sector) 4) read → WritesSector drive place bytes old new → FreesOn drive kind (listed_from marks (4 * sector) 4) old new
 frees_written drive kind marks sector place read bytes old new at size within was is writes = record {
   here = λ image has.
       let slots = listed_from marks (4 * sector) 4 in
@@ -158,19 +158,19 @@ frees_written drive kind marks sector place read bytes old new at size within wa
 -- so by the results of the device's calls
 pub put_frees : {E : Type 0} (drive : ℕ) (kind : Kind) (marks : List Bool) (sector place : ℕ) (read bytes : List ℕ) (old mid new : Disks) (result : Result (Unit {0}) E) → mid ≡ old → place ≡ place_of kind sector
     → size_of old drive ≡ Some (geometry_of kind).bytes → sector < logical_sectors kind → IfSome (old.image drive) (λ image. read ≡ sector_of image place)
-    → bytes ≡ freed_within (listed_from marks (4 * sector) 4) read → OnOk result (Writes drive place bytes mid new) → OnOk result (FreesOn drive kind (listed_from marks (4 * sector) 4) old new)
+    → bytes ≡ freed_within (listed_from marks (4 * sector) 4) read → OnOk result (WritesSector drive place bytes mid new) → OnOk result (FreesOn drive kind (listed_from marks (4 * sector) 4) old new)
 put_frees drive kind marks sector place read bytes old mid new (Ok done) same at size within was is writes =
-    frees_written drive kind marks sector place read bytes old new at size within was is (subst (λ (d : Disks). Writes drive place bytes d new) same writes)
+    frees_written drive kind marks sector place read bytes old new at size within was is (subst (λ (d : Disks). WritesSector drive place bytes d new) same writes)
 put_frees drive kind marks sector place read bytes old mid new (Err failed) same at size within was is writes = tt
 
 pub put_fails : {E : Type 0} (drive : ℕ) (kind : Kind) (marks : List Bool) (sector place : ℕ) (read bytes : List ℕ) (old mid new : Disks) (result : Result (Unit {0}) E) → mid ≡ old → place ≡ place_of kind sector
     → size_of old drive ≡ Some (geometry_of kind).bytes → sector < logical_sectors kind → IfSome (old.image drive) (λ image. read ≡ sector_of image place)
-    → bytes ≡ freed_within (listed_from marks (4 * sector) 4) read → OnErr result ((new ≡ mid) ⊎ Writes drive place bytes mid new)
+    → bytes ≡ freed_within (listed_from marks (4 * sector) 4) read → OnErr result ((new ≡ mid) ⊎ WritesSector drive place bytes mid new)
     → OnErr result ((new ≡ old) ⊎ FreesOn drive kind (listed_from marks (4 * sector) 4) old new)
 put_fails drive kind marks sector place read bytes old mid new (Ok done) same at size within was is left = tt
 put_fails drive kind marks sector place read bytes old mid new (Err failed) same at size within was is (inl stays) = inl (stays ∙ same)
 put_fails drive kind marks sector place read bytes old mid new (Err failed) same at size within was is (inr writes) =
-    inr (frees_written drive kind marks sector place read bytes old new at size within was is (subst (λ (d : Disks). Writes drive place bytes d new) same writes))
+    inr (frees_written drive kind marks sector place read bytes old new at size within was is (subst (λ (d : Disks). WritesSector drive place bytes d new) same writes))
 
 -- the first sectors of a directory, all of them in the end
 pub whole_sectors : (kind : Kind) → 4 * (((geometry_of kind).drm + 1) / 4) ≡ (geometry_of kind).drm + 1

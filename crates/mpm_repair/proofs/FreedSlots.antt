@@ -10,7 +10,7 @@ use Rattle.mpm_blocks.specs.Geometries.{geometry_of}
 use Rattle.mpm_dirent.specs.declared.kinds.Entry.{Entry}
 use Rattle.mpm_dirent.specs.declared.kinds.Entry.TheVariants.{Free}
 use Rattle.mpm_dirent.specs.Proper.{IsProper}
-use Rattle.mpm_mount.specs.Directories.{IsWhole}
+use Rattle.mpm_mount.specs.Directories.{IsWholeEntry}
 use Rattle.mpm_fault_lines.specs.Lists.{listed, different, has_slot}
 use Rattle.mpm_repair.specs.Freeing.{AllSlots, freed}
 
@@ -23,8 +23,8 @@ freed_all P (slot ∷ slots) entries free each = freed_all P slots (slice_set en
 pub freed_proper : (wide : Bool) (slots : List ℕ) (entries : List Entry) → All (IsProper wide) entries → All (IsProper wide) (freed slots entries)
 freed_proper wide slots entries each = freed_all (IsProper wide) slots entries tt each
 
-pub freed_whole : (slots : List ℕ) (entries : List Entry) → All IsWhole entries → All IsWhole (freed slots entries)
-freed_whole slots entries each = freed_all IsWhole slots entries tt each
+pub freed_whole : (slots : List ℕ) (entries : List Entry) → All IsWholeEntry entries → All IsWholeEntry (freed slots entries)
+freed_whole slots entries each = freed_all IsWholeEntry slots entries tt each
 
 pub freed_long : (slots : List ℕ) (entries : List Entry) → length (freed slots entries) ≡ length entries
 unfolding freed

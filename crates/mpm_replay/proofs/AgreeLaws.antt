@@ -1,7 +1,7 @@
 -- A replay of the steps of a machine in which one process does listed instructions that read no port.
 use Rattle.std.proofs.Common.{◌≡◌, ◌∙◌, ℕ, zero, suc, ◌+◌, ◌≤◌, Bool, true, false, List, Option, Some, None, IsSome, if◌then◌else◌, inl, inr, refl, sym, ap, subst, arith, add-one}
 use Rattle.z80_regs.specs.declared.regs.Regs.{Regs}
-use Rattle.z80_regs.specs.Outcome.{Outcome, Action}
+use Rattle.z80_regs.specs.Outcome.{StepOutcome, Action}
 use Rattle.z80_decode.specs.declared.instr.Instr.{Instr}
 use Rattle.z80_decode.specs.Decoding.{instr_of}
 use Rattle.z80_ext.specs.Instruction.{four_from, outcome_of, instruction, registers_after, actions_of}
@@ -84,7 +84,7 @@ by_instr : (instr : Option Instr) (regs : Regs) (memory ports : ℕ → ℕ) →
 by_instr None regs memory ports none some = absurd (cc)
 by_instr (Some instr) regs memory ports none some = ap (λ b. if b then Some Input else None) none
 
-by_halt : (halted : Bool) (bytes : List ℕ) (rest : Option Outcome) (regs : Regs) (memory ports : ℕ → ℕ) → reads_unless halted (instr_of bytes) ≡ false
+by_halt : (halted : Bool) (bytes : List ℕ) (rest : Option StepOutcome) (regs : Regs) (memory ports : ℕ → ℕ) → reads_unless halted (instr_of bytes) ≡ false
     → IsSome (if halted then rest else (outcome_of (instr_of bytes) regs memory ports)) → stop_unless halted bytes ≡ None
 by_halt true bytes rest regs memory ports none some = refl
 by_halt false bytes rest regs memory ports none some = by_instr (instr_of bytes) regs memory ports none some

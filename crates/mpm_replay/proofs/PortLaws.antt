@@ -1,7 +1,7 @@
 -- An instruction that reads no port does the same whatever the ports read.
 use Rattle.std.proofs.Common.{◌≡◌, ℕ, Bool, true, false, Option, Some, None, if◌then◌else◌, refl, ap, sym}
 use Rattle.std.proofs.lemmas.Bool.{false≢true}
-use Rattle.z80_regs.specs.Outcome.{Outcome}
+use Rattle.z80_regs.specs.Outcome.{StepOutcome}
 use Rattle.z80_regs.specs.declared.regs.Regs.{Regs}
 use Rattle.z80_decode.specs.declared.instr.Instr.{Instr}
 use Rattle.z80_decode.specs.declared.instr.Page.{Page}
@@ -19,7 +19,7 @@ use Rattle.z80_ext.specs.Extended.{extended_performed, extended_by, extended_out
 use Rattle.z80_ext.specs.Instruction.{begun, four_from, page_outcome, outcome_of, instruction}
 use Rattle.mpm_replay.specs.Ports.{reads_main, reads_extended, reads_on, reads_of, reads_unless}
 
-abbrev Same : (Instr → Regs → (ℕ → ℕ) → (ℕ → ℕ) → Outcome) → Type 0
+abbrev Same : (Instr → Regs → (ℕ → ℕ) → (ℕ → ℕ) → StepOutcome) → Type 0
 Same does = (instr : Instr) (regs : Regs) (memory ports other : ℕ → ℕ) → does instr regs memory ports ≡ does instr regs memory other
 
 main_same : (form : Form) → reads_main (Some form) ≡ false → Same (performed form)
@@ -117,7 +117,7 @@ instr_same : (instr : Option Instr) (regs : Regs) (memory ports other : ℕ → 
 instr_same None regs memory ports other none = refl
 instr_same (Some instr) regs memory ports other none = ap Some (page_same instr.page instr (begun regs) memory ports other none)
 
-by_halt : (halted : Bool) (instr : Option Instr) (rest : Option Outcome) (regs : Regs) (memory ports other : ℕ → ℕ) → reads_unless halted instr ≡ false
+by_halt : (halted : Bool) (instr : Option Instr) (rest : Option StepOutcome) (regs : Regs) (memory ports other : ℕ → ℕ) → reads_unless halted instr ≡ false
     → (if halted then rest else (outcome_of instr regs memory ports)) ≡ (if halted then rest else (outcome_of instr regs memory other))
 by_halt true instr rest regs memory ports other none = refl
 by_halt false instr rest regs memory ports other none = instr_same instr regs memory ports other none

@@ -68,14 +68,14 @@ pub record Advances (inside : Bool) (old new : View) (stopped : Option Why) : Ty
   pub left : new ≡ left_by stopped old
 
 -- it ends early for the reason that is there then, or it has done all
-abbrev pub EndsBy : Bool → ℕ → View → Replayed → Type 0
-EndsBy inside most view replayed =
+abbrev pub EndsReplay : Bool → ℕ → View → Replayed → Type 0
+EndsReplay inside most view replayed =
     ((replayed.done < most) × (stop_at inside view ≡ Some replayed.why)) ⊎ ((replayed.done ≡ most) × (replayed.why ≡ Steps))
 
 -- a replay of at most so many instructions: `done` is the least number, below that, of instructions after which there is a reason to stop,
 -- and all of them where there is none. What is left is what so many leave
 pub record IsReplay (inside : Bool) (most : ℕ) (old : View) (regs : Regs) (memory : Memory) (replayed : Replayed) : Type 0 where
   pub goes : (k : ℕ) → k < replayed.done → stop_at inside (moves k 0 old) ≡ None
-  pub ends : EndsBy inside most (moves replayed.done 0 old) replayed
+  pub ends : EndsReplay inside most (moves replayed.done 0 old) replayed
   pub registers : regs ≡ (moves replayed.done 0 old).regs
   pub reached : memory ≡ (moves replayed.done 0 old).memory

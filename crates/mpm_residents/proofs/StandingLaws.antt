@@ -12,8 +12,8 @@ use Rattle.mpm_loader.specs.Plans.{pages_of, plan_of, relocatable_plan, absolute
 use Rattle.mpm_loader.specs.Pieces.{Loading, nothing, begun, with_first, with_piece, has_all, code_in, code_place, marks_in, marked_place, marked_length}
 use Rattle.mpm_loader.specs.declared.plan.Plan.{Plan}
 use Rattle.mpm_loader.proofs.Parts.{within_part, some_marked}
-use Rattle.mpm_residents.specs.Interpreters.{Interpreter, opening, code_address, last_page, process_of, call_at, next_call, act_at, next_act, Counts, not_found, followed, message_in, commanded, after_open, row_for_memory, row_behind_marks, row_behind_code, row_for_piece, headed, records_in, absolute, sized, size_in, byte_at, is_segment_of, reserved, read_on, with_block, took_at, took, IsRow}
-use Rattle.mpm_residents.specs.Standing.{is_loading, IsFile, LiesIn, StandsIn, Stands, AreInPages, HandsIn}
+use Rattle.mpm_residents.specs.Interpreters.{Interpreter, opening, code_address, last_page, process_of, call_at, next_call, act_at, next_act, CountsBytes, not_found, followed, message_in, commanded, after_open, row_for_memory, row_behind_marks, row_behind_code, row_for_piece, headed, records_in, absolute, sized, size_in, byte_at, is_segment_of, reserved, read_on, with_block, took_at, took, IsInterpreterRow}
+use Rattle.mpm_residents.specs.Standing.{is_loading, IsFile, LiesIn, StandsIn, InterpreterStands, AreInPages, HandsIn}
 use Rattle.mpm_residents.specs.declared.cli.act.Act.{Act}
 use Rattle.mpm_residents.specs.declared.cli.table.Message.TheVariants.{NotFound, BadLoad, NoMemory, NoProcess, QueueFull}
 use Rattle.mpm_residents.specs.declared.cli.table.Row.{Row}
@@ -51,26 +51,26 @@ some_pages plan = omega arith
 
 -- the rows that a piece leads to
 
-is_row_behind_marks : (load : Loading) → IsRow (row_behind_marks load) load
+is_row_behind_marks : (load : Loading) → IsInterpreterRow (row_behind_marks load) load
 unfolding row_behind_marks
-is_row_behind_marks load = either (λ (row : Row). IsRow row load) (has_all load) Close ReadOn (λ _. tt) (λ left. left)
+is_row_behind_marks load = either (λ (row : Row). IsInterpreterRow row load) (has_all load) Close ReadOn (λ _. tt) (λ left. left)
 
-is_row_behind_code : (load : Loading) → IsRow (row_behind_code load) load
+is_row_behind_code : (load : Loading) → IsInterpreterRow (row_behind_code load) load
 unfolding row_behind_code
 is_row_behind_code load =
-    either (λ (row : Row). IsRow row load) (nat_lt 0 (length (marks_in load))) Patch (row_behind_marks load) (λ some. grind (arith, nat_tests, some))
+    either (λ (row : Row). IsInterpreterRow row load) (nat_lt 0 (length (marks_in load))) Patch (row_behind_marks load) (λ some. grind (arith, nat_tests, some))
     (λ _. is_row_behind_marks load)
 
-is_row_for_piece : (load : Loading) → IsRow (row_for_piece load) load
+is_row_for_piece : (load : Loading) → IsInterpreterRow (row_for_piece load) load
 unfolding row_for_piece
 is_row_for_piece load =
-    either (λ (row : Row). IsRow row load) (nat_lt 0 (length (code_in load))) Place (row_behind_code load) (λ some. grind (arith, nat_tests, some))
+    either (λ (row : Row). IsInterpreterRow row load) (nat_lt 0 (length (code_in load))) Place (row_behind_code load) (λ some. grind (arith, nat_tests, some))
     (λ _. is_row_behind_code load)
 
-is_row_for_memory : (relocatable : Bool) (load : Loading) → IsRow (row_for_memory relocatable load) load
+is_row_for_memory : (relocatable : Bool) (load : Loading) → IsInterpreterRow (row_for_memory relocatable load) load
 unfolding row_for_memory
 is_row_for_memory relocatable load =
-    either (λ (row : Row). IsRow row load) (nat_lt 255 (pages_of load.plan)) (CloseAfter NoMemory) (Reserve relocatable (pages_of load.plan)) (λ _. tt)
+    either (λ (row : Row). IsInterpreterRow row load) (nat_lt 255 (pages_of load.plan)) (CloseAfter NoMemory) (Reserve relocatable (pages_of load.plan)) (λ _. tt)
     (λ _. (some_pages load.plan, refl))
 
 pub none_for_memory : (relocatable : Bool) (load : Loading) → is_loading (row_for_memory relocatable load) ≡ false
@@ -81,30 +81,30 @@ none_for_memory relocatable load =
 
 -- a row without a segment, and one with its segment
 
-rests : (row : Row) (cli : Interpreter) → cli.console < cli.consoles → length cli.tail ≤ 127 → IsFile cli.load.plan → IsRow row cli.load → is_loading row ≡ false → StandsIn row cli
+rests : (row : Row) (cli : Interpreter) → cli.console < cli.consoles → length cli.tail ≤ 127 → IsFile cli.load.plan → IsInterpreterRow row cli.load → is_loading row ≡ false → StandsIn row cli
 rests row cli console tail file is none = record { console = console; tail = tail; file = file; of_row = is; lies = λ loading. absurd (false≢true (sym none ∙ loading)) }
 
-keeps : (row : Row) (cli : Interpreter) → cli.console < cli.consoles → length cli.tail ≤ 127 → IsFile cli.load.plan → IsRow row cli.load → LiesIn cli.load.plan cli.spec → StandsIn row cli
+keeps : (row : Row) (cli : Interpreter) → cli.console < cli.consoles → length cli.tail ≤ 127 → IsFile cli.load.plan → IsInterpreterRow row cli.load → LiesIn cli.load.plan cli.spec → StandsIn row cli
 keeps row cli console tail file is lies = record { console = console; tail = tail; file = file; of_row = is; lies = λ _. lies }
 
 -- at its opening
-pub stands_opening : (consoles : ℕ) → 0 < consoles → Stands (opening consoles)
+pub stands_opening : (consoles : ℕ) → 0 < consoles → InterpreterStands (opening consoles)
 unfolding opening nothing
 stands_opening consoles some = rests ReadCommand (opening consoles) some (omega arith) (file_absolute 0) tt refl
 
 -- by the answer to each row
 
 stands_followed : (command : Option Command) (message : List ℕ) (cli : Interpreter) → command_in message ≡ command → length message ≡ 130 → console_in message < cli.consoles
-    → length cli.tail ≤ 127 → IsFile cli.load.plan → Stands (followed command message cli)
+    → length cli.tail ≤ 127 → IsFile cli.load.plan → InterpreterStands (followed command message cli)
 stands_followed None message cli is size there tail file = rests (Tell BadLoad) (followed None message cli) there tail file tt refl
 stands_followed (Some command) message cli is size there tail file =
     let few = tail_few message command size is in
     either (λ (row : Row). StandsIn row (followed (Some command) message cli)) command.names_drive SetUser OpenQueue
     (λ _. rests SetUser (followed (Some command) message cli) there few file tt refl) (λ _. rests OpenQueue (followed (Some command) message cli) there few file tt refl)
 
-stands_commanded : (message : List ℕ) (cli : Interpreter) → length message ≡ 130 → Stands cli → Stands (commanded message cli)
+stands_commanded : (message : List ℕ) (cli : Interpreter) → length message ≡ 130 → InterpreterStands cli → InterpreterStands (commanded message cli)
 stands_commanded message cli size s =
-    either Stands (nat_lt (console_in message) cli.consoles) (followed (command_in message) message cli) cli
+    either InterpreterStands (nat_lt (console_in message) cli.consoles) (followed (command_in message) message cli) cli
     (λ there. stands_followed (command_in message) message cli refl size (grind (arith, nat_tests, there)) s.tail s.file) (λ _. s)
 
 stands_opened : (hl : ℕ) (opened absent : Row) (cli : Interpreter) → StandsIn opened cli → StandsIn absent cli → StandsIn (Tell BadLoad) cli → StandsIn (after_open hl opened absent) cli
@@ -112,17 +112,17 @@ stands_opened hl opened absent cli one other refused =
     either (λ (row : Row). StandsIn row cli) (hl == 0) opened _ (λ _. one)
     (λ _. either (λ (row : Row). StandsIn row cli) (hl == not_found) absent (Tell BadLoad) (λ _. other) (λ _. refused))
 
-stands_headed : (begins : Option Loading) (cli : Interpreter) → cli.console < cli.consoles → length cli.tail ≤ 127 → IsFile cli.load.plan → IfSome begins (λ load. IsFile load.plan) → Stands (headed begins cli)
+stands_headed : (begins : Option Loading) (cli : Interpreter) → cli.console < cli.consoles → length cli.tail ≤ 127 → IsFile cli.load.plan → IfSome begins (λ load. IsFile load.plan) → InterpreterStands (headed begins cli)
 stands_headed None cli console tail file comes = rests (CloseAfter BadLoad) (headed None cli) console tail file tt refl
 stands_headed (Some load) cli console tail file comes =
     rests (row_for_memory true load) (headed (Some load) cli) console tail comes (is_row_for_memory true load) (none_for_memory true load)
 
-stands_sized : (hl : ℕ) (cli : Interpreter) → cli.console < cli.consoles → length cli.tail ≤ 127 → IsFile cli.load.plan → Stands (sized hl cli)
+stands_sized : (hl : ℕ) (cli : Interpreter) → cli.console < cli.consoles → length cli.tail ≤ 127 → IsFile cli.load.plan → InterpreterStands (sized hl cli)
 stands_sized hl cli console tail file =
     let load = absolute (size_in cli.fcb) in
     let known = record cli { row = row_for_memory false load; load = load } in
     let row = if hl == not_found then SetUserZero else CloseAfter BadLoad in
-    either Stands (hl == 0) known (record cli { row = row })
+    either InterpreterStands (hl == 0) known (record cli { row = row })
     (λ _. rests (row_for_memory false load) known console tail (file_absolute (size_in cli.fcb)) (is_row_for_memory false load) (none_for_memory false load))
     (λ _. either (λ (r : Row). StandsIn r (record cli { row = row })) (hl == not_found) SetUserZero (CloseAfter BadLoad)
     (λ _. rests SetUserZero (record cli { row = row }) console tail file tt refl) (λ _. rests (CloseAfter BadLoad) (record cli { row = row }) console tail file tt refl))
@@ -134,26 +134,26 @@ lies_in_reserved pages reply plan file asked is =
     let bounds = and_parts (nat_le pages (byte_at reply 1)) _ parts.1 in
     record { fits = fits_asked plan pages (byte_at reply 1) file asked (grind (arith, nat_tests, bounds.0)); below = grind (arith, nat_tests, bounds.1) }
 
-stands_reserved : (pages : ℕ) (reply : Answer) (cli : Interpreter) → cli.console < cli.consoles → length cli.tail ≤ 127 → IsFile cli.load.plan → pages ≡ pages_of cli.load.plan → Stands (reserved pages reply cli)
+stands_reserved : (pages : ℕ) (reply : Answer) (cli : Interpreter) → cli.console < cli.consoles → length cli.tail ≤ 127 → IsFile cli.load.plan → pages ≡ pages_of cli.load.plan → InterpreterStands (reserved pages reply cli)
 stands_reserved pages reply cli console tail file asked =
     let given = record cli { row = row_for_piece cli.load; seg = byte_at reply 3; spec = record { base = byte_at reply 0; pages = byte_at reply 1 } } in
-    either Stands (reply.hl == 0 && is_segment_of pages reply) given (record cli { row = CloseAfter NoMemory })
+    either InterpreterStands (reply.hl == 0 && is_segment_of pages reply) given (record cli { row = CloseAfter NoMemory })
     (λ is. keeps (row_for_piece cli.load) given console tail file (is_row_for_piece cli.load)
     (lies_in_reserved pages reply cli.load.plan file asked (and_parts (reply.hl == 0) _ is).1))
     (λ _. rests (CloseAfter NoMemory) (record cli { row = CloseAfter NoMemory }) console tail file tt refl)
 
-stands_read_on : (piece : List ℕ) (cli : Interpreter) → cli.console < cli.consoles → length cli.tail ≤ 127 → IsFile cli.load.plan → LiesIn cli.load.plan cli.spec → Stands (read_on piece cli)
+stands_read_on : (piece : List ℕ) (cli : Interpreter) → cli.console < cli.consoles → length cli.tail ≤ 127 → IsFile cli.load.plan → LiesIn cli.load.plan cli.spec → InterpreterStands (read_on piece cli)
 unfolding with_piece
 stands_read_on piece cli console tail file lies =
     let more = record cli { row = row_for_piece (with_piece piece cli.load); load = with_piece piece cli.load } in
-    either Stands (length piece == 0) (record cli { row = Free BadLoad }) more
+    either InterpreterStands (length piece == 0) (record cli { row = Free BadLoad }) more
     (λ _. keeps (Free BadLoad) (record cli { row = Free BadLoad }) console tail file tt lies)
     (λ _. keeps (row_for_piece (with_piece piece cli.load)) more console tail file (is_row_for_piece (with_piece piece cli.load)) lies)
 
-stands_at : (row : Row) (cli : Interpreter) (reply : Answer) → StandsIn row cli → Stands cli → Stands (took_at row cli reply)
+stands_at : (row : Row) (cli : Interpreter) (reply : Answer) → StandsIn row cli → InterpreterStands cli → InterpreterStands (took_at row cli reply)
 stands_at ReadCommand cli reply s all = stands_commanded (message_in reply.bytes) cli (message_size reply.bytes) all
 stands_at OpenQueue cli reply s all =
-    either Stands (reply.hl == 0) _ _ (λ _. rests WriteQueue _ s.console s.tail s.file tt refl) (λ _. rests SetUser _ s.console s.tail s.file tt refl)
+    either InterpreterStands (reply.hl == 0) _ _ (λ _. rests WriteQueue _ s.console s.tail s.file tt refl) (λ _. rests SetUser _ s.console s.tail s.file tt refl)
 stands_at WriteQueue cli reply s all =
     let row = if reply.hl == 0 then Give else Tell QueueFull in
     either (λ (r : Row). StandsIn r (record cli { row = row })) (reply.hl == 0) Give (Tell QueueFull)
@@ -185,12 +185,12 @@ stands_at Begin cli reply s all =
     either (λ (r : Row). StandsIn r (record cli { row = row })) (reply.hl == 0) ReadCommand (Free NoProcess)
     (λ _. rests ReadCommand (record cli { row = row }) s.console s.tail s.file tt refl) (λ _. keeps (Free NoProcess) (record cli { row = row }) s.console s.tail s.file tt (s.lies refl))
 
-pub stands_took : (cli : Interpreter) (reply : Answer) → Stands cli → Stands (took cli reply)
+pub stands_took : (cli : Interpreter) (reply : Answer) → InterpreterStands cli → InterpreterStands (took cli reply)
 unfolding took
 stands_took cli reply s = stands_at cli.row cli reply s s
 
-pub stands_after : (old new : Interpreter) (reply : Answer) → new ≡ took old reply → Stands old → Stands new
-stands_after old new reply is s = subst Stands (sym is) (stands_took old reply s)
+pub stands_after : (old new : Interpreter) (reply : Answer) → new ≡ took old reply → InterpreterStands old → InterpreterStands new
+stands_after old new reply is s = subst InterpreterStands (sym is) (stands_took old reply s)
 
 -- it counts as many consoles as before
 
@@ -273,16 +273,16 @@ hands_at Close cli s = tt
 hands_at (Tell message) cli s = tt
 hands_at Give cli s = tt
 
-pub hands_in : (cli : Interpreter) → Stands cli → HandsIn cli.seg cli.spec (next_act cli)
+pub hands_in : (cli : Interpreter) → InterpreterStands cli → HandsIn cli.seg cli.spec (next_act cli)
 unfolding next_act
 hands_in cli s = hands_at cli.row cli s
 
-pub hands_by : (cli : Interpreter) (act : Act) → act ≡ next_act cli → Stands cli → HandsIn cli.seg cli.spec act
+pub hands_by : (cli : Interpreter) (act : Act) → act ≡ next_act cli → InterpreterStands cli → HandsIn cli.seg cli.spec act
 hands_by cli act is s = subst (HandsIn cli.seg cli.spec) (sym is) (hands_in cli s)
 
 -- and goes by the bytes that it filled in
 
-pub counts_at : (row : Row) (cli : Interpreter) → StandsIn row cli → Counts (call_at row cli).bytes (act_at row cli)
+pub counts_at : (row : Row) (cli : Interpreter) → StandsIn row cli → CountsBytes (call_at row cli).bytes (act_at row cli)
 counts_at Place cli s = refl
 counts_at Patch cli s = (some_marked cli.load s.file.marks s.of_row, omega arith)
 counts_at PlaceBasePage cli s = sym (base_page_size (last_page cli.spec) cli.tail s.tail)
@@ -304,6 +304,6 @@ counts_at Close cli s = tt
 counts_at (Tell message) cli s = tt
 counts_at Give cli s = tt
 
-pub counts_bytes : (cli : Interpreter) → Stands cli → Counts (next_call cli).bytes (next_act cli)
+pub counts_bytes : (cli : Interpreter) → InterpreterStands cli → CountsBytes (next_call cli).bytes (next_act cli)
 unfolding next_call next_act
 counts_bytes cli s = counts_at cli.row cli s

@@ -159,10 +159,10 @@ IsAct consoles _ = Unit {0}
 
 -- what it does goes by the bytes that it filled in: as many are placed as there are, and there is code to move, with a mark for
 -- each byte
-abbrev pub Counts : List ℕ → Act → Type 0
-Counts bytes (PlaceBytes seg address count) = count ≡ length bytes
-Counts bytes (MoveCode seg address count page) = (0 < count) × (count ≤ 8 * length bytes)
-Counts bytes _ = Unit {0}
+abbrev pub CountsBytes : List ℕ → Act → Type 0
+CountsBytes bytes (PlaceBytes seg address count) = count ≡ length bytes
+CountsBytes bytes (MoveCode seg address count page) = (0 < count) × (count ≤ 8 * length bytes)
+CountsBytes bytes _ = Unit {0}
 
 -- a file that isn't found
 abbrev pub not_found : ℕ
@@ -290,12 +290,12 @@ took cli reply = took_at cli.row cli reply
 
 -- what is so in a row. The pages that the file takes are asked for, two at least. Where it places code the piece has some, where it moves
 -- code it has marks, and where it reads on something is left
-abbrev pub IsRow : Row → Loading → Type 0
-IsRow (Reserve relocatable pages) load = (2 ≤ pages) × (pages ≡ pages_of load.plan)
-IsRow Place load = 0 < length (code_in load)
-IsRow Patch load = 0 < length (marks_in load)
-IsRow ReadOn load = has_all load ≡ false
-IsRow _ load = Unit {0}
+abbrev pub IsInterpreterRow : Row → Loading → Type 0
+IsInterpreterRow (Reserve relocatable pages) load = (2 ≤ pages) × (pages ≡ pages_of load.plan)
+IsInterpreterRow Place load = 0 < length (code_in load)
+IsInterpreterRow Patch load = 0 < length (marks_in load)
+IsInterpreterRow ReadOn load = has_all load ≡ false
+IsInterpreterRow _ load = Unit {0}
 
 -- the base page that is placed has 256 bytes
 abbrev pub IsFilled : Row → List ℕ → Type 0
@@ -303,6 +303,6 @@ IsFilled PlaceBasePage bytes = length bytes ≡ 256
 IsFilled _ bytes = Unit {0}
 
 -- a segment that programs can have: it ends below common memory
-pub record IsSegment (spec : SegmentSpec) : Type 0 where
+pub record IsProgramSegment (spec : SegmentSpec) : Type 0 where
   pub two : 2 ≤ spec.pages
   pub below : spec.base + spec.pages ≤ 192

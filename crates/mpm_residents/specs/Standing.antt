@@ -3,7 +3,7 @@ use Rattle.std.specs.Prelude.{◌≡◌, ℕ, ◌+◌, ◌*◌, ◌<◌, ◌≤�
 use Rattle.mpm_base.specs.declared.segment.SegmentSpec.{SegmentSpec}
 use Rattle.mpm_loader.specs.Plans.{FitsIn}
 use Rattle.mpm_loader.specs.declared.plan.Plan.{Plan}
-use Rattle.mpm_residents.specs.Interpreters.{Interpreter, IsRow}
+use Rattle.mpm_residents.specs.Interpreters.{Interpreter, IsInterpreterRow}
 use Rattle.mpm_residents.specs.declared.cli.act.Act.{Act}
 use Rattle.mpm_residents.specs.declared.cli.act.Act.TheVariants.{Ask, Place as PlaceBytes, Patch as MoveCode, Begin as BeginProcess, Give as GiveConsole}
 use Rattle.mpm_residents.specs.declared.cli.table.Row.{Row}
@@ -36,11 +36,11 @@ pub record StandsIn (row : Row) (cli : Interpreter) : Type 0 where
   pub console : cli.console < cli.consoles
   pub tail : length cli.tail ≤ 127
   pub file : IsFile cli.load.plan
-  pub of_row : IsRow row cli.load
+  pub of_row : IsInterpreterRow row cli.load
   pub lies : is_loading row ≡ true → LiesIn cli.load.plan cli.spec
 
-abbrev pub Stands : Interpreter → Type 0
-Stands cli = StandsIn cli.row cli
+abbrev pub InterpreterStands : Interpreter → Type 0
+InterpreterStands cli = StandsIn cli.row cli
 
 -- so many bytes from an address on are of the pages of a segment
 pub record AreInPages (spec : SegmentSpec) (address count : ℕ) : Type 0 where

@@ -75,7 +75,7 @@ unfoldable pub took : Terminal → Answer → Terminal
 took tmp reply = took_at tmp.row tmp reply
 
 -- the drives of a row have letters, and its users are 0 to 15
-abbrev pub IsRow : Row → Type 0
-IsRow (SelectDrive drive) = drive < 26
-IsRow (SetUser user) = user < 16
-IsRow _ = Unit {0}
+abbrev pub IsTerminalRow : Row → Type 0
+IsTerminalRow (SelectDrive drive) = drive < 26
+IsTerminalRow (SetUser user) = user < 16
+IsTerminalRow _ = Unit {0}

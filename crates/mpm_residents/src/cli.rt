@@ -58,13 +58,13 @@ pub struct Cli {
 impl Model for Cli {
     ghost use Rattle.std.specs.Prelude.{◌≤◌, ◌<◌, length};
     ghost use Rattle.mpm_command.specs.Commands.{IsCommand, tail_in};
-    ghost use Rattle.mpm_residents.specs.Interpreters.{Interpreter, IsRow, IsSegment};
+    ghost use Rattle.mpm_residents.specs.Interpreters.{Interpreter, IsInterpreterRow, IsProgramSegment};
 
     ghost Value = { Interpreter };
 
     ghost view = { λ c. record { consoles = c.consoles; row = c.row; console = c.console; command = c.command; tail = tail_in c.message; pointer = c.pointer; fcb = c.fcb; load = c.load; seg = c.seg; spec = c.spec } };
 
-    ghost invariant = { λ c. (c.console < c.consoles) × IsCommand c.command × (length (tail_in c.message) ≤ 127) × IsSegment c.spec × IsRow c.row c.load };
+    ghost invariant = { λ c. (c.console < c.consoles) × IsCommand c.command × (length (tail_in c.message) ≤ 127) × IsProgramSegment c.spec × IsInterpreterRow c.row c.load };
 }
 
 impl Cli {
@@ -72,8 +72,8 @@ impl Cli {
     ghost use Rattle.mpm_base.specs.declared.functions.TheConstants.{CONDITIONAL_WRITE_QUEUE, OPEN_FILE};
     ghost use Rattle.mpm_command.specs.Commands.{IsCommand, tail_in};
     ghost use Rattle.mpm_loader.specs.Pieces.{has_all, marks_in, marked_length};
-    ghost use Rattle.mpm_residents.specs.Interpreters.{opening, asking, asking_file, queue_block as block_of_queue, file_block as block_of_file, descriptor as descriptor_of, last_page as page_of_gates, next_call, next_act, act_at, process_of, took as behind, took_at, message_in as message_of_bytes, commanded, with_block, reserved, IsAct, IsNew, Counts, IsRow, IsFilled};
-    ghost use Rattle.mpm_residents.specs.Standing.{Stands, HandsIn};
+    ghost use Rattle.mpm_residents.specs.Interpreters.{opening, asking, asking_file, queue_block as block_of_queue, file_block as block_of_file, descriptor as descriptor_of, last_page as page_of_gates, next_call, next_act, act_at, process_of, took as behind, took_at, message_in as message_of_bytes, commanded, with_block, reserved, IsAct, IsNew, CountsBytes, IsInterpreterRow, IsFilled};
+    ghost use Rattle.mpm_residents.specs.Standing.{InterpreterStands, HandsIn};
     ghost use Rattle.mpm_residents.specs.declared.cli.table.Row.TheVariants.{Place, Patch, SetUser, OpenQueue, OpenRelocatable, OpenAbsolute, ReadHeader, ComputeSize, ReadOn};
 
     /// The interpreter of a system with so many consoles, one at least, at its first row.
@@ -104,8 +104,8 @@ impl Cli {
         ensures call { call.new ≡ next_call self.old }
         ensures act { result ≡ next_act self.old }
         ensures bounds { IsAct self.old.consoles result }
-        ensures counts { Counts call.new.bytes result }
-        ensures hands { Stands self.old → HandsIn self.old.seg self.old.spec result }
+        ensures counts { CountsBytes call.new.bytes result }
+        ensures hands { InterpreterStands self.old → HandsIn self.old.seg self.old.spec result }
     {
         self.act(call)
     }
@@ -134,7 +134,7 @@ impl Cli {
     /// It takes the answer: of the call, or to what it handed over, which is 0, or FFh where no process could begin.
     pub fn took(&mut self, reply: &Reply)
         ensures took { self.new ≡ behind self.old reply.now }
-        ensures stands { Stands self.old → Stands self.new }
+        ensures stands { InterpreterStands self.old → InterpreterStands self.new }
     {
         self.take(reply);
     }
@@ -145,7 +145,7 @@ impl Cli {
         ensures call { call.new ≡ next_call self.now }
         ensures act { result ≡ next_act self.now }
         ensures bounds { IsAct self.now.consoles result }
-        ensures counts { Counts call.new.bytes result }
+        ensures counts { CountsBytes call.new.bytes result }
     {
         self.fill(call);
         match self.row {
@@ -325,7 +325,7 @@ impl Cli {
 
     /// The code that is marked by what it read last is moved to the segment's first page.
     fn move_code(&self) -> Act
-        requires { IsRow Patch self.now.load }
+        requires { IsInterpreterRow Patch self.now.load }
         ensures act { result ≡ act_at Patch self.now }
         ensures bounds { (0 < marked_length self.now.load) × (marked_length self.now.load ≤ 8 * length (marks_in self.now.load)) }
     {

@@ -1,6 +1,6 @@
 ghost use Rattle.std.specs.Prelude.{◌≡◌};
 ghost use Rattle.mpm_residents.specs.Natives.{native_act, native_call, native_took, interprets as is_interpreter, IsNativeAct};
-ghost use Rattle.mpm_residents.specs.Interpreters.{Counts};
+ghost use Rattle.mpm_residents.specs.Interpreters.{CountsBytes};
 
 use crate::{Act, Cli, Tmp};
 use mpm_base::{Call, Reply};
@@ -40,7 +40,7 @@ impl Native {
         ensures call { call.new ≡ native_call self.old }
         ensures act { result ≡ native_act self.old }
         ensures bounds { IsNativeAct self.old result }
-        ensures counts { Counts call.new.bytes result }
+        ensures counts { CountsBytes call.new.bytes result }
     {
         match self {
             Native::Tmp { tmp } => {

@@ -27,7 +27,7 @@ impl Residents {
     ghost use Rattle.mpm_residents.specs.Terminals.{opening};
     ghost use Rattle.mpm_residents.specs.Natives.{native_act, native_call, native_in, interprets_if_there, answer_taken, IsNativeAct};
     ghost use Rattle.mpm_residents.specs.declared.native.Native.TheVariants.{Tmp as Terminal, Cli as Interpreter, Spool as Spooler, Sched as Scheduler};
-    ghost use Rattle.mpm_residents.specs.Interpreters.{opening as opening_interpreter, Counts};
+    ghost use Rattle.mpm_residents.specs.Interpreters.{opening as opening_interpreter, CountsBytes};
     ghost use Rattle.mpm_sched.specs.Schedulers.{opening as opening_scheduler};
     ghost use Rattle.mpm_spool.specs.Spoolers.{opening as opening_spooler};
 
@@ -114,7 +114,7 @@ impl Residents {
         ensures call { IfSome (native_in self.old p) (λ native. call.new ≡ native_call native) }
         ensures act { IfSome (native_in self.old p) (λ native. result ≡ native_act native) }
         ensures bounds { IfSome (native_in self.old p) (λ native. IsNativeAct native result) }
-        ensures counts { Counts call.new.bytes result }
+        ensures counts { CountsBytes call.new.bytes result }
     {
         self.natives[usize::from(p.0)].next(call)
     }

@@ -50,13 +50,13 @@ pub struct Tmp {
 
 impl Model for Tmp {
     ghost use Rattle.std.specs.Prelude.{◌≤◌, ◌<◌, take};
-    ghost use Rattle.mpm_residents.specs.Terminals.{Terminal, IsRow};
+    ghost use Rattle.mpm_residents.specs.Terminals.{Terminal, IsTerminalRow};
 
     ghost Value = { Terminal };
 
     ghost view = { λ t. record { console = t.console; user = t.user; drive = t.drive; row = t.row; line = take t.length t.line } };
 
-    ghost invariant = { λ t. (t.length ≤ 255) × (t.user < 16) × (t.drive < 26) × IsRow t.row };
+    ghost invariant = { λ t. (t.length ≤ 255) × (t.user < 16) × (t.drive < 26) × IsTerminalRow t.row };
 }
 
 impl Tmp {
@@ -64,7 +64,7 @@ impl Tmp {
     ghost use Rattle.mpm_base.specs.declared.functions.TheConstants.{PRINT_STRING, SEND_CLI_COMMAND};
     ghost use Rattle.mpm_residents.specs.Lines.{form_of};
     ghost use Rattle.mpm_base.specs.Calls.{asking};
-    ghost use Rattle.mpm_residents.specs.Terminals.{opening, prompt, command_of, next_call, took as behind, line_in, row_after as row_of, IsRow};
+    ghost use Rattle.mpm_residents.specs.Terminals.{opening, prompt, command_of, next_call, took as behind, line_in, row_after as row_of, IsTerminalRow};
 
     /// The processor of a console: user 0 on drive A, and no console attached yet.
     #[tactic(auto, unfolding(crate::specs::Terminals::opening))]
@@ -185,7 +185,7 @@ impl Tmp {
     /// Where it goes by its line.
     fn row_after_line(&self) -> Row
         ensures row { result ≡ row_of (form_of self.now.line) }
-        ensures bound { IsRow result }
+        ensures bound { IsTerminalRow result }
     {
         match form_of(&self.line[..usize::from(self.length)]) {
             LineForm::Empty => Row::Attach,

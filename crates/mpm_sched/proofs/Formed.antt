@@ -8,7 +8,7 @@ use Rattle.std.proofs.lemmas.Option.{same_Some}
 use Rattle.mpm_messages.specs.Texts.{text_in, is_space, without_front}
 use Rattle.mpm_names.proofs.Runs.{run_before, taken_passes}
 use Rattle.mpm_sched.specs.Dates.{year_of, is_date, date_number, date_of}
-use Rattle.mpm_sched.specs.Entries.{Written, spelled, HasForm, is_time, is_moment, date_written, entry_of_parts, meaning, has_two, two_at, has_date, has_time, has_console, is_form, written, entry_in, entry_of, Spells, IsFormless}
+use Rattle.mpm_sched.specs.Entries.{Written, spelled, HasEntryForm, is_time, is_moment, date_written, entry_of_parts, meaning, has_two, two_at, has_date, has_time, has_console, is_form, written, entry_in, entry_of, SpellsEntry, HasNoEntryForm}
 use Rattle.mpm_sched.specs.declared.entry.SchedEntry.{SchedEntry}
 use Rattle.mpm_sched.proofs.Numbers.{number_below, tens_of, ones_of, are_digits, number_of_digits}
 
@@ -106,7 +106,7 @@ spells_itself t r =
     let at₁ = same_next t 1 (48 + w.month % 10) _ (omega (arith, r.long)) (sym (ones_of (slice_index t 0) (slice_index t 1) r.month)) at₂ in
     same_next t 0 (48 + w.month / 10) _ (omega (arith, r.long)) (sym (tens_of (slice_index t 0) (slice_index t 1) r.month)) at₁
 
-has_form : (text : List ℕ) → is_form (without_front text) ≡ true → HasForm text (written (without_front text))
+has_form : (text : List ℕ) → is_form (without_front text) ≡ true → HasEntryForm text (written (without_front text))
 has_form text is =
     let t = without_front text in
     let r = reads t is in
@@ -160,12 +160,12 @@ reads_numbers w month day year hour minute =
 no_space : (n : ℕ) → is_space (48 + n) ≡ false
 no_space n = grind (arith, nat_tests)
 
-front_of_form : (text : List ℕ) (w : Written) → HasForm text w → without_front text ≡ spelled w
+front_of_form : (text : List ℕ) (w : Written) → HasEntryForm text w → without_front text ≡ spelled w
 front_of_form text w f =
     ap without_front f.parts ∙ ap (λ n. drop n (f.spaces ++ spelled w)) (run_before is_space f.spaces (spelled w) f.before (no_space (w.month / 10)))
     ∙ drop_at f.spaces (spelled w) (length f.spaces) refl
 
-reads_entry : (text : List ℕ) (w : Written) → HasForm text w → is_moment w ≡ true → (is_form (without_front text) && is_moment (written (without_front text))) ≡ true
+reads_entry : (text : List ℕ) (w : Written) → HasEntryForm text w → is_moment w ≡ true → (is_form (without_front text) && is_moment (written (without_front text))) ≡ true
 reads_entry text w f moment =
     subst (λ t. (is_form t && is_moment (written t)) ≡ true) (sym (front_of_form text w f))
     (and_from (is_form (spelled w)) (is_moment (written (spelled w))) (reads_form w f.month f.day f.year f.hour f.minute f.console f.some)
@@ -208,23 +208,23 @@ abbrev chosen : Bool → Written → Option SchedEntry
 chosen b w = if b then Some (meaning w) else None
 
 spelled_by : (text : List ℕ) (entry : SchedEntry) (b : Bool) → (is_form (without_front text) && is_moment (written (without_front text))) ≡ b → chosen b (written (without_front text)) ≡ Some entry
-    → (w : Written) × HasForm text w × (is_moment w ≡ true) × (entry ≡ meaning w)
+    → (w : Written) × HasEntryForm text w × (is_moment w ≡ true) × (entry ≡ meaning w)
 spelled_by text entry false e is = absurd (cc)
 spelled_by text entry true e is =
     let t = without_front text in
     let parts = and_parts (is_form t) (is_moment (written t)) e in
     (written t, has_form text parts.0, parts.1, sym (same_Some (meaning (written t)) entry is))
 
-pub entry_spelled : (message : List ℕ) (entry : SchedEntry) → entry_of message ≡ Some entry → Spells message entry
-unfolding entry_of Spells
+pub entry_spelled : (message : List ℕ) (entry : SchedEntry) → entry_of message ≡ Some entry → SpellsEntry message entry
+unfolding entry_of SpellsEntry
 entry_spelled message entry is = spelled_by (text_in message) entry _ refl is
 
 none_chosen : (b : Bool) (w : Written) → b ≡ true → chosen b w ≡ None → ⊥
 none_chosen false w e is = false≢true e
 none_chosen true w e is = absurd (cc)
 
-pub none_spelled : (message : List ℕ) → entry_of message ≡ None → IsFormless message
-unfolding entry_of IsFormless
+pub none_spelled : (message : List ℕ) → entry_of message ≡ None → HasNoEntryForm message
+unfolding entry_of HasNoEntryForm
 none_spelled message is = λ w f moment.
     let t = without_front (text_in message) in
     none_chosen (is_form t && is_moment (written t)) (written t) (reads_entry (text_in message) w f moment) is

@@ -8,7 +8,7 @@ use Rattle.mpm_base.proofs.Choices.{either}
 use Rattle.mpm_base.specs.Calls.{Answer}
 use Rattle.mpm_base.specs.Lists.{in_width, is_among}
 use Rattle.mpm_sched.specs.Entries.{entry_of}
-use Rattle.mpm_sched.specs.Schedules.{Accepted, nothing, waits, time_at, first_of, waiting, most, sent_at, Schedule, row_to_receive, is_due, row_to_send, opening, with_entry, moment_read, first_sent, took_at, took, after, asked_to_send, sends, AreDifferent, IsTimely, SendsInOrder}
+use Rattle.mpm_sched.specs.Schedules.{Accepted, nothing, waits, time_at, first_of, waiting, most, sent_at, SchedulerState, row_to_receive, is_due, row_to_send, opening, with_entry, moment_read, first_sent, took_at, took, after, asked_to_send, sends, AreDifferent, IsTimely, SendsInOrder}
 use Rattle.mpm_sched.specs.declared.entry.SchedEntry.{SchedEntry}
 use Rattle.mpm_sched.specs.declared.table.Row.{Row}
 use Rattle.mpm_sched.specs.declared.table.Row.TheVariants.{Receive, AskTime, Send, Wait}
@@ -41,13 +41,13 @@ timely_sending a clock true e = record { sends = λ _. e; rests = λ r. absurd (
 timely_sending a clock false e = record { sends = λ r. absurd (cc); rests = λ _ i there w. none_due a clock (first_of a) refl e i there w }
 
 -- what is so after any answers, with the places that were asked to be sent
-record IsSound (d : Schedule) (past : List ℕ) : Type 0 where
+record IsSound (d : SchedulerState) (past : List ℕ) : Type 0 where
   once : AreDifferent past
   sent : (i : ℕ) → i < length d.accepted → is_among i past ≡ not (waits d.accepted i)
   below : (i : ℕ) → is_among i past ≡ true → i < length d.accepted
   timely : IsTimely d
 
-with_row : (d : Schedule) (past : List ℕ) (row : Row) (clock : ℕ) → IsSound d past → IsTimely (record { row = row; accepted = d.accepted; clock = clock }) → IsSound (record { row = row; accepted = d.accepted; clock = clock }) past
+with_row : (d : SchedulerState) (past : List ℕ) (row : Row) (clock : ℕ) → IsSound d past → IsTimely (record { row = row; accepted = d.accepted; clock = clock }) → IsSound (record { row = row; accepted = d.accepted; clock = clock }) past
 with_row d past row clock s timely = record { once = s.once; sent = s.sent; below = s.below; timely = timely }
 
 -- an entry more
@@ -63,11 +63,11 @@ old_stays [] entry i h = absurd (omega (arith, h))
 old_stays (x ∷ a) entry zero h = refl
 old_stays (x ∷ a) entry (suc i) h = old_stays a entry i (omega (arith, h))
 
-not_among : (d : Schedule) (past : List ℕ) (i : ℕ) (b : Bool) → is_among i past ≡ b → IsSound d past → length d.accepted ≤ i → is_among i past ≡ false
+not_among : (d : SchedulerState) (past : List ℕ) (i : ℕ) (b : Bool) → is_among i past ≡ b → IsSound d past → length d.accepted ≤ i → is_among i past ≡ false
 not_among d past i true e s out = absurd (omega (arith, out, s.below i e))
 not_among d past i false e s out = e
 
-sound_entry : (o : Option SchedEntry) (d : Schedule) (past : List ℕ) → IsSound d past → IsSound (with_entry o d) past
+sound_entry : (o : Option SchedEntry) (d : SchedulerState) (past : List ℕ) → IsSound d past → IsSound (with_entry o d) past
 sound_entry None d past s = s
 sound_entry (Some entry) d past s =
     let more = d.accepted ++ record { entry = entry; is_sent = false } ∷ [] in
@@ -98,7 +98,7 @@ others_stay (x ∷ a) zero (suc j) e h = refl
 others_stay (x ∷ a) (suc i) zero e h = refl
 others_stay (x ∷ a) (suc i) (suc j) e h = others_stay a i j e (λ same. h (ap suc same))
 
-sound_send : (o : Option ℕ) (d : Schedule) (past : List ℕ) → first_of d.accepted ≡ o → IsSound d past
+sound_send : (o : Option ℕ) (d : SchedulerState) (past : List ℕ) → first_of d.accepted ≡ o → IsSound d past
     → IsSound (record { row = row_to_send (first_sent o d.accepted) d.clock; accepted = first_sent o d.accepted; clock = d.clock }) (asked_to_send Send o ++ past)
 sound_send None d past e s = with_row d past (row_to_send d.accepted d.clock) d.clock s (timely_sending d.accepted d.clock (is_due d.accepted d.clock (first_of d.accepted)) refl)
 sound_send (Some i) d past e s =
@@ -124,9 +124,9 @@ sound_send (Some i) d past e s =
 
 -- by each row
 
-sound_at : (row : Row) (d : Schedule) (past : List ℕ) (reply : Answer) → d.row ≡ row → IsSound d past → IsSound (took_at row d reply) (asked_to_send row (first_of d.accepted) ++ past)
+sound_at : (row : Row) (d : SchedulerState) (past : List ℕ) (reply : Answer) → d.row ≡ row → IsSound d past → IsSound (took_at row d reply) (asked_to_send row (first_of d.accepted) ++ past)
 sound_at Receive d past reply e s =
-    either (λ (t : Schedule). IsSound t past) (reply.hl == 0) (with_entry (entry_of (in_width 128 reply.bytes)) d) (record d { row = AskTime })
+    either (λ (t : SchedulerState). IsSound t past) (reply.hl == 0) (with_entry (entry_of (in_width 128 reply.bytes)) d) (record d { row = AskTime })
     (λ _. sound_entry (entry_of (in_width 128 reply.bytes)) d past s)
     (λ _. with_row d past AskTime d.clock s (record { sends = λ r. absurd (cc); rests = λ r. absurd (cc) }))
 sound_at AskTime d past reply e s =

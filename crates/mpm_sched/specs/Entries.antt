@@ -27,7 +27,7 @@ spelled w =
     two w.month ++ 47 ∷ (two w.day ++ 47 ∷ (two w.year ++ 32 ∷ (two w.hour ++ 58 ∷ (two w.minute ++ 32 ∷ (48 + w.console) ∷ 32 ∷ w.command))))
 
 -- a text in the form: spaces or none, the entry as it is written, whose numbers have two digits each, of a console 0 to 7, and with a command
-pub record HasForm (text : List ℕ) (w : Written) : Type 0 where
+pub record HasEntryForm (text : List ℕ) (w : Written) : Type 0 where
   pub spaces : List ℕ
   pub parts : text ≡ spaces ++ spelled w
   pub before : AllPass is_space spaces
@@ -100,9 +100,9 @@ unfoldable pub entry_of : List ℕ → Option SchedEntry
 entry_of message = entry_in (without_front (text_in message))
 
 -- parts of the message are in the form, at a moment that there is, and mean that entry
-unfoldable pub Spells : List ℕ → SchedEntry → Type 0
-Spells message entry = (w : Written) × HasForm (text_in message) w × (is_moment w ≡ true) × (entry ≡ meaning w)
+unfoldable pub SpellsEntry : List ℕ → SchedEntry → Type 0
+SpellsEntry message entry = (w : Written) × HasEntryForm (text_in message) w × (is_moment w ≡ true) × (entry ≡ meaning w)
 
 -- no parts of it are
-unfoldable pub IsFormless : List ℕ → Type 0
-IsFormless message = (w : Written) → HasForm (text_in message) w → is_moment w ≡ true → ⊥
+unfoldable pub HasNoEntryForm : List ℕ → Type 0
+HasNoEntryForm message = (w : Written) → HasEntryForm (text_in message) w → is_moment w ≡ true → ⊥

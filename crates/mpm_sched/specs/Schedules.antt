@@ -63,7 +63,7 @@ abbrev pub sent_at : List Accepted → ℕ → List Accepted
 sent_at accepted i = slice_set accepted i (record { entry = entry_at accepted i; is_sent = true })
 
 -- the scheduler: its row, what it accepted, and the moment at which it read the clock last
-pub record Schedule : Type 0 where
+pub record SchedulerState : Type 0 where
   pub row : Row
   pub accepted : List Accepted
   pub clock : ℕ
@@ -83,7 +83,7 @@ is_due accepted clock (Some i) = nat_le (time_at accepted i) clock
 abbrev pub row_to_send : List Accepted → ℕ → Row
 row_to_send accepted clock = if is_due accepted clock (first_of accepted) then Send else Wait
 
-unfoldable pub opening : Schedule
+unfoldable pub opening : SchedulerState
 opening = record { row = Receive; accepted = []; clock = 0 }
 
 -- the user queue control block of its queue, of a number: the pointer is one more
@@ -99,17 +99,17 @@ first_command accepted None = command_of no_entry
 first_command accepted (Some i) = command_of (entry_at accepted i)
 
 -- the call of each row
-abbrev pub call_at : Row → ℕ → Schedule → Taken
+abbrev pub call_at : Row → ℕ → SchedulerState → Taken
 call_at Receive queue d = asking CONDITIONAL_READ_QUEUE 0 (queue_block queue)
 call_at AskTime queue d = asking GET_DATE_TIME_AND_SECOND 0 []
 call_at Send queue d = asking SEND_CLI_COMMAND 0 (first_command d.accepted (first_of d.accepted))
 call_at Wait queue d = asking DELAY 1 []
 
-unfoldable pub next_call : ℕ → Schedule → Taken
+unfoldable pub next_call : ℕ → SchedulerState → Taken
 next_call queue d = call_at d.row queue d
 
 -- a message that is an entry is accepted, and another dropped
-abbrev pub with_entry : Option SchedEntry → Schedule → Schedule
+abbrev pub with_entry : Option SchedEntry → SchedulerState → SchedulerState
 with_entry None d = d
 with_entry (Some entry) d =
     let more = d.accepted ++ record { entry = entry; is_sent = false } ∷ [] in record d { row = row_to_receive more; accepted = more }
@@ -126,18 +126,18 @@ abbrev pub first_sent : Option ℕ → List Accepted → List Accepted
 first_sent None accepted = accepted
 first_sent (Some i) accepted = sent_at accepted i
 
-abbrev pub took_at : Row → Schedule → Answer → Schedule
+abbrev pub took_at : Row → SchedulerState → Answer → SchedulerState
 took_at Receive d reply = if reply.hl == 0 then with_entry (entry_of (in_width 128 reply.bytes)) d else record d { row = AskTime }
 took_at AskTime d reply = record d { row = row_to_send d.accepted (moment_read reply); clock = moment_read reply }
 took_at Send d reply =
     let rest = first_sent (first_of d.accepted) d.accepted in record d { row = row_to_send rest d.clock; accepted = rest }
 took_at Wait d reply = record d { row = row_to_receive d.accepted }
 
-unfoldable pub took : Schedule → Answer → Schedule
+unfoldable pub took : SchedulerState → Answer → SchedulerState
 took d reply = took_at d.row d reply
 
 -- after some answers, the last one first
-unfoldable pub after : List Answer → Schedule
+unfoldable pub after : List Answer → SchedulerState
 after [] = opening
 after (reply ∷ earlier) = took (after earlier) reply
 
@@ -159,7 +159,7 @@ AreDifferent [] = ⊤
 AreDifferent (i ∷ is) = (is_among i is ≡ false) × AreDifferent is
 
 -- in its row something waits that is due by the moment at which it read the clock last, and it is the first; where it waits nothing is due
-pub record IsTimely (d : Schedule) : Type 0 where
+pub record IsTimely (d : SchedulerState) : Type 0 where
   pub sends : d.row ≡ Send → is_due d.accepted d.clock (first_of d.accepted) ≡ true
   pub rests : d.row ≡ Wait → (i : ℕ) → i < length d.accepted → waits d.accepted i ≡ true → d.clock < time_at d.accepted i
 

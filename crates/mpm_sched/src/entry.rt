@@ -1,6 +1,6 @@
 ghost use Rattle.std.specs.Prelude.{◌≡◌, ◌≤◌, ◌<◌, true, length, drop, Some, None, IfOk, OnErr};
 ghost use Rattle.mpm_sched.specs.Dates.{year_of};
-ghost use Rattle.mpm_sched.specs.Entries.{entry_of, entry_in, is_form as is_form_of, is_time as is_time_of_day, date_written, entry_of_parts, written, has_date as has_date_at, has_time as has_time_at, has_console as has_console_at, Spells, IsFormless};
+ghost use Rattle.mpm_sched.specs.Entries.{entry_of, entry_in, is_form as is_form_of, is_time as is_time_of_day, date_written, entry_of_parts, written, has_date as has_date_at, has_time as has_time_at, has_console as has_console_at, SpellsEntry, HasNoEntryForm};
 
 use crate::date::date_of;
 use crate::digits::{byte_at, has_two, two_at};
@@ -75,8 +75,8 @@ pub struct BadSchedEntry;
 pub fn read_entry(text: &[u8; 128]) -> Result<SchedEntry, BadSchedEntry>
     ensures ok { IfOk result (λ entry. entry_of text.now ≡ Some entry) }
     ensures err { OnErr result (entry_of text.now ≡ None) }
-    ensures form { IfOk result (λ entry. Spells text.now entry) }
-    ensures formless { OnErr result (IsFormless text.now) }
+    ensures form { IfOk result (λ entry. SpellsEntry text.now entry) }
+    ensures formless { OnErr result (HasNoEntryForm text.now) }
 {
     let text = without_leading_spaces(text_of(text));
     if !is_form(text) {

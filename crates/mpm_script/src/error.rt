@@ -1,5 +1,5 @@
 ghost use Rattle.std.specs.Prelude.{◌≡◌};
-ghost use Rattle.mpm_script.specs.declared.error.Refusal.TheVariants.{OutOfMemory};
+ghost use Rattle.mpm_script.specs.declared.error.LineRefusal.TheVariants.{OutOfMemory};
 
 use std::alloc::AllocFailed;
 
@@ -14,17 +14,17 @@ pub enum ScriptError {
 
 /// Why a line was not read.
 #[derive(Clone, Copy, Debug, PartialEq, Eq)]
-pub enum Refusal {
+pub enum LineRefusal {
     /// The line is none of a script there.
     Bad,
     /// There was no memory for it.
     OutOfMemory,
 }
 
-impl<T: Drop> From<AllocFailed<T>> for Refusal {
+impl<T: Drop> From<AllocFailed<T>> for LineRefusal {
     ghost from_gives = { λ _ e. e ≡ OutOfMemory };
 
-    fn from(_: AllocFailed<T>) -> Refusal {
-        Refusal::OutOfMemory
+    fn from(_: AllocFailed<T>) -> LineRefusal {
+        LineRefusal::OutOfMemory
     }
 }

@@ -4,7 +4,7 @@ ghost use Rattle.mpm_script.specs.Keys.{keys_of};
 ghost use Rattle.mpm_script.specs.Events as spec;
 ghost use Rattle.mpm_script.specs.Scripts as script;
 
-use crate::error::Refusal;
+use crate::error::LineRefusal;
 use crate::event::{Event, Timed};
 use crate::key::key;
 use crate::numbers::{hex_byte, number};
@@ -28,15 +28,15 @@ const LEAST_FLAG: u8 = 4;
 
 /// Adds the events of a line.
 #[tactic(auto, unfolding(crate::specs::Events::line_of))]
-pub fn add_line(events: &mut Vec<Timed>, line: &[u8]) -> Result<(), Refusal>
+pub fn add_line(events: &mut Vec<Timed>, line: &[u8]) -> Result<(), LineRefusal>
     ensures { Adds events.old.items events.new.items result (spec.line_of (script.last_step events.old.items) line.now) }
 {
     if line.is_empty() || byte_at(line, 0) == b'#' {
         return Ok(());
     }
-    let step = number(before(line, b' '), GREATEST_STEP).ok_or(Refusal::Bad)?;
+    let step = number(before(line, b' '), GREATEST_STEP).ok_or(LineRefusal::Bad)?;
     if u64::from(step) < last_step(events.as_slice()) {
-        return Err(Refusal::Bad);
+        return Err(LineRefusal::Bad);
     }
     add_events(events, u64::from(step), after(line, b' '))
 }
@@ -53,13 +53,13 @@ fn last_step(events: &[Timed]) -> u64
 
 /// Adds the events of a text at a step.
 #[tactic(auto, unfolding(crate::specs::Events::events_of))]
-fn add_events(events: &mut Vec<Timed>, step: u64, text: &[u8]) -> Result<(), Refusal>
+fn add_events(events: &mut Vec<Timed>, step: u64, text: &[u8]) -> Result<(), LineRefusal>
     ensures { Adds events.old.items events.new.items result (option_map (spec.at_step step) (spec.events_of text.now)) }
 {
     if before(text, b' ') == b"key".as_slice() {
         return add_typed(events, step, after(text, b' '));
     }
-    let event = event(text).ok_or(Refusal::Bad)?;
+    let event = event(text).ok_or(LineRefusal::Bad)?;
     events.push(Timed { step, event })?;
     Ok(())
 }
@@ -114,29 +114,29 @@ fn flag(text: &[u8]) -> Option<Event>
 
 /// Adds the keys that are typed at a console.
 #[tactic(auto, unfolding(crate::specs::Events::typed_events, crate::specs::Keys::typed_of))]
-fn add_typed(events: &mut Vec<Timed>, step: u64, text: &[u8]) -> Result<(), Refusal>
+fn add_typed(events: &mut Vec<Timed>, step: u64, text: &[u8]) -> Result<(), LineRefusal>
     ensures { Adds events.old.items events.new.items result (option_map (spec.at_step step) (spec.typed_events text.now)) }
 {
-    let console = number(before(text, b' '), GREATEST_CONSOLE).ok_or(Refusal::Bad)?;
+    let console = number(before(text, b' '), GREATEST_CONSOLE).ok_or(LineRefusal::Bad)?;
     let keys = after(text, b' ');
     if keys.is_empty() {
-        return Err(Refusal::Bad);
+        return Err(LineRefusal::Bad);
     }
     add_keys(events, step, console as u8, keys)
 }
 
 /// Adds the keys of a text, at most 128.
-fn add_keys(events: &mut Vec<Timed>, step: u64, console: u8, text: &[u8]) -> Result<(), Refusal>
+fn add_keys(events: &mut Vec<Timed>, step: u64, console: u8, text: &[u8]) -> Result<(), LineRefusal>
     ensures { Adds events.old.items events.new.items result (option_map (spec.keys_at step console) (keys_of 128 text.now)) }
 {
     let mut rest = text;
     let mut most = MOST_KEYS;
     while !rest.is_empty() {
         if most == 0 {
-            return Err(Refusal::Bad);
+            return Err(LineRefusal::Bad);
         }
         let Some((byte, others)) = key(rest) else {
-            return Err(Refusal::Bad);
+            return Err(LineRefusal::Bad);
         };
         events.push(Timed {
             step,

@@ -1,8 +1,8 @@
 ghost use Rattle.std.specs.Prelude.{◌≡◌, ◌<◌, IfOk, IfErr, Ok, Err, length, MatchResult};
-ghost use Rattle.mpm_script.specs.Reading.{Faults};
+ghost use Rattle.mpm_script.specs.Reading.{FaultsScript};
 ghost use Rattle.mpm_script.specs.Scripts as spec;
 
-use crate::error::{Refusal, ScriptError};
+use crate::error::{LineRefusal, ScriptError};
 use crate::event::Timed;
 use crate::line::add_line;
 use crate::script::Script;
@@ -26,7 +26,7 @@ use std::alloc::Global;
 pub fn read_script(alloc: Global, text: &[u8]) -> Result<Script, ScriptError>
     requires { length text.now < 4294967295 }
     ensures ok { IfOk result (λ script. spec.script_of text.now ≡ Ok script) }
-    ensures fault { IfErr result (λ error. Faults error (spec.script_of text.now)) }
+    ensures fault { IfErr result (λ error. FaultsScript error (spec.script_of text.now)) }
 {
     let events = events(alloc, text)?;
     Ok(Script::of(events))
@@ -36,7 +36,7 @@ pub fn read_script(alloc: Global, text: &[u8]) -> Result<Script, ScriptError>
 #[tactic(auto, unfolding(crate::specs::Scripts::script_of))]
 fn events(alloc: Global, text: &[u8]) -> Result<Vec<Timed>, ScriptError>
     requires { length text.now < 4294967295 }
-    ensures { MatchResult result (λ events. spec.script_of text.now ≡ Ok events.items) (λ error. Faults error (spec.script_of text.now)) }
+    ensures { MatchResult result (λ events. spec.script_of text.now ≡ Ok events.items) (λ error. FaultsScript error (spec.script_of text.now)) }
 {
     let mut events = Vec::new(alloc);
     let mut rest = text;
@@ -44,8 +44,8 @@ fn events(alloc: Global, text: &[u8]) -> Result<Vec<Timed>, ScriptError>
     while !rest.is_empty() {
         match add_line(&mut events, first_line(rest)) {
             Ok(()) => {}
-            Err(Refusal::Bad) => return Err(ScriptError::Fault { line }),
-            Err(Refusal::OutOfMemory) => return Err(ScriptError::OutOfMemory),
+            Err(LineRefusal::Bad) => return Err(ScriptError::Fault { line }),
+            Err(LineRefusal::OutOfMemory) => return Err(ScriptError::OutOfMemory),
         }
         rest = after(rest, b'\n');
         line += 1;

@@ -1,14 +1,14 @@
 -- What calls on one disk leave, one after the other.
 use Rattle.std.proofs.Common.{ℕ, Bool, List, refl, ◌∙◌}
 use Rattle.mpm_port.specs.Disks.{Disks, ToldImage}
-use Rattle.mpm_cache.specs.declared.cache.Place.{Place}
+use Rattle.mpm_cache.specs.declared.cache.SectorPlace.{SectorPlace}
 use Rattle.mpm_cache.specs.Coherent.{IsCoherent}
 use Rattle.mpm_cache.proofs.AliasLaws.{apart_same, apart_twice}
-use Rattle.mpm_sectors.specs.Disks.{Leaves}
+use Rattle.mpm_sectors.specs.Disks.{LeavesDisks}
 use Rattle.mpm_sectors.proofs.OtherImages.{elsewhere_itself, elsewhere_over, told_itself, told_over}
 
-pub leaves_itself : {D : Type 0} (disks : D → Disks) (told : D → List ℕ → ToldImage) (failed : D → List (List ℕ)) (unsynced : D → ℕ → Bool) (drive : ℕ) (cached : List (Place × List ℕ)) (d : D)
-    → IsCoherent cached (disks d) → Leaves disks told failed unsynced drive cached cached d d
+pub leaves_itself : {D : Type 0} (disks : D → Disks) (told : D → List ℕ → ToldImage) (failed : D → List (List ℕ)) (unsynced : D → ℕ → Bool) (drive : ℕ) (cached : List (SectorPlace × List ℕ)) (d : D)
+    → IsCoherent cached (disks d) → LeavesDisks disks told failed unsynced drive cached cached d d
 leaves_itself disks told failed unsynced drive cached d coherent = record {
   coherent = coherent;
   apart = apart_same drive cached cached (disks d) (λ other sector. refl);
@@ -20,8 +20,8 @@ leaves_itself disks told failed unsynced drive cached d coherent = record {
   owed = λ owed. owed;
 }
 
-pub leaves_over : {D : Type 0} (disks : D → Disks) (told : D → List ℕ → ToldImage) (failed : D → List (List ℕ)) (unsynced : D → ℕ → Bool) (drive : ℕ) (first second third : List (Place × List ℕ)) (a b c : D)
-    → Leaves disks told failed unsynced drive first second a b → Leaves disks told failed unsynced drive second third b c → Leaves disks told failed unsynced drive first third a c
+pub leaves_over : {D : Type 0} (disks : D → Disks) (told : D → List ℕ → ToldImage) (failed : D → List (List ℕ)) (unsynced : D → ℕ → Bool) (drive : ℕ) (first second third : List (SectorPlace × List ℕ)) (a b c : D)
+    → LeavesDisks disks told failed unsynced drive first second a b → LeavesDisks disks told failed unsynced drive second third b c → LeavesDisks disks told failed unsynced drive first third a c
 leaves_over disks told failed unsynced drive first second third a b c one two = record {
   coherent = two.coherent;
   apart = apart_twice drive first second third (disks a) (disks b) (disks c) one.apart two.apart;

@@ -1,6 +1,6 @@
 -- What a call of a drive leaves of all other images, and of what is known of images by their names.
 use Rattle.std.proofs.Common.{◌≡◌, ℕ, List, Option, refl, sym, subst, ◌∙◌}
-use Rattle.mpm_port.specs.Disks.{Disks, ToldImage, Writes, KeepsTold}
+use Rattle.mpm_port.specs.Disks.{Disks, ToldImage, WritesSector, KeepsTold}
 use Rattle.mpm_sectors.specs.Writes.{Elsewhere}
 
 pub elsewhere_itself : (drive : ℕ) (disks : Disks) → Elsewhere drive disks disks
@@ -9,7 +9,7 @@ elsewhere_itself drive disks = record { names = λ other. refl; others = λ othe
 pub elsewhere_same : (drive : ℕ) (old new : Disks) → new ≡ old → Elsewhere drive old new
 elsewhere_same drive old new same = subst (λ (d : Disks). Elsewhere drive old d) (sym same) (elsewhere_itself drive old)
 
-pub elsewhere_written : (drive sector : ℕ) (bytes : List ℕ) (old new : Disks) → Writes drive sector bytes old new → Elsewhere drive old new
+pub elsewhere_written : (drive sector : ℕ) (bytes : List ℕ) (old new : Disks) → WritesSector drive sector bytes old new → Elsewhere drive old new
 elsewhere_written drive sector bytes old new writes = record { names = writes.names; others = writes.others; sizes = writes.sizes }
 
 pub elsewhere_over : (drive : ℕ) (a b c : Disks) → Elsewhere drive a b → Elsewhere drive b c → Elsewhere drive a c

@@ -4,7 +4,7 @@ use Rattle.std.proofs.lemmas.List.{append_assoc}
 use Rattle.std.proofs.lemmas.List.FromFn.{map-range_with_len_more}
 use Rattle.mpm_base.specs.declared.kind.Kind.{Kind}
 use Rattle.mpm_blocks.specs.Geometries.{block_records, place_of}
-use Rattle.mpm_port.specs.Disks.{Disks, Writes, sector_of, with_sector}
+use Rattle.mpm_port.specs.Disks.{Disks, WritesSector, sector_of, with_sector}
 use Rattle.mpm_blocks.specs.Sectors.{sectors_of}
 use Rattle.mpm_sectors.specs.Writes.{Write, written, AreWritten, FirstAreWritten, Puts, Elsewhere, cleared, zeros_from, block_sector, block_writes}
 use Rattle.mpm_cache.proofs.CoherentLaws.{image_here}
@@ -19,7 +19,7 @@ pub none_written : (drive : ℕ) (kind : Kind) (old new : Disks) → new ≡ old
 unfolding AreWritten written
 none_written drive kind old new same image is = ap (λ (d : Disks). d.image drive) same ∙ is
 
-pub one_written : (drive : ℕ) (kind : Kind) (sector : ℕ) (bytes : List ℕ) (old new : Disks) → Writes drive (place_of kind sector) bytes old new
+pub one_written : (drive : ℕ) (kind : Kind) (sector : ℕ) (bytes : List ℕ) (old new : Disks) → WritesSector drive (place_of kind sector) bytes old new
     → AreWritten drive kind (record { sector = sector; bytes = bytes } ∷ []) old new
 unfolding AreWritten written
 one_written drive kind sector bytes old new writes image is = image_here old new drive (place_of kind sector) bytes image writes is
@@ -54,7 +54,7 @@ pub first_none : (drive : ℕ) (kind : Kind) (writes : List Write) (a b : Disks)
 first_none drive kind writes a b same = record { first = []; rest = writes; all = refl; are = none_written drive kind a b same }
 
 -- a failed write of one sector has written it or nothing
-pub first_of_one : (drive : ℕ) (kind : Kind) (sector : ℕ) (bytes : List ℕ) (old new : Disks) → (new ≡ old) ⊎ (Writes drive (place_of kind sector) bytes old new)
+pub first_of_one : (drive : ℕ) (kind : Kind) (sector : ℕ) (bytes : List ℕ) (old new : Disks) → (new ≡ old) ⊎ (WritesSector drive (place_of kind sector) bytes old new)
     → FirstAreWritten drive kind (record { sector = sector; bytes = bytes } ∷ []) old new
 first_of_one drive kind sector bytes old new (inl same) = first_none drive kind (record { sector = sector; bytes = bytes } ∷ []) old new same
 first_of_one drive kind sector bytes old new (inr writes) = record {
@@ -94,15 +94,15 @@ sector_read drive kind sector place bytes image disks (Ok x) at read is =
     subst (λ (o : Option (List ℕ)). IfSome o (λ found. bytes ≡ sector_of found place)) is read ∙ same_sector image kind sector place at
 
 pub put_written : {A E : Type 0} (drive : ℕ) (kind : Kind) (sector place : ℕ) (bytes : List ℕ) (old new : Disks) (result : Result A E) → place ≡ place_of kind sector
-    → OnOk result (Writes drive place bytes old new) → OnErr result ((new ≡ old) ⊎ (Writes drive place bytes old new))
+    → OnOk result (WritesSector drive place bytes old new) → OnErr result ((new ≡ old) ⊎ (WritesSector drive place bytes old new))
     → Puts drive kind (record { sector = sector; bytes = bytes } ∷ []) old new result
 put_written drive kind sector place bytes old new (Ok x) at ok err =
-    record { ok = one_written drive kind sector bytes old new (subst (λ (p : ℕ). Writes drive p bytes old new) at ok); err = tt }
+    record { ok = one_written drive kind sector bytes old new (subst (λ (p : ℕ). WritesSector drive p bytes old new) at ok); err = tt }
 put_written drive kind sector place bytes old new (Err e) at ok err =
-    record { ok = tt; err = first_of_one drive kind sector bytes old new (subst (λ (p : ℕ). (new ≡ old) ⊎ (Writes drive p bytes old new)) at err) }
+    record { ok = tt; err = first_of_one drive kind sector bytes old new (subst (λ (p : ℕ). (new ≡ old) ⊎ (WritesSector drive p bytes old new)) at err) }
 
-pub put_elsewhere : {A E : Type 0} (drive place : ℕ) (bytes : List ℕ) (old new : Disks) (result : Result A E) → OnOk result (Writes drive place bytes old new)
-    → OnErr result ((new ≡ old) ⊎ (Writes drive place bytes old new)) → Elsewhere drive old new
+pub put_elsewhere : {A E : Type 0} (drive place : ℕ) (bytes : List ℕ) (old new : Disks) (result : Result A E) → OnOk result (WritesSector drive place bytes old new)
+    → OnErr result ((new ≡ old) ⊎ (WritesSector drive place bytes old new)) → Elsewhere drive old new
 put_elsewhere drive place bytes old new (Ok x) ok err = elsewhere_written drive place bytes old new ok
 put_elsewhere drive place bytes old new (Err e) ok (inl same) = elsewhere_same drive old new same
 put_elsewhere drive place bytes old new (Err e) ok (inr writes) = elsewhere_written drive place bytes old new writes

@@ -9,7 +9,7 @@ ghost use Rattle.mpm_cache.specs.Coherent.{IsCoherent, HasNoAlias};
 ghost use Rattle.mpm_blocks.specs.Sectors.{sectors_of};
 ghost use Rattle.mpm_sectors.specs.Writes.{Puts, zeros_from, block_writes, block_calls};
 ghost use Rattle.mpm_sectors.specs.Slots.{bytes_over, slot_write, slots_write};
-ghost use Rattle.mpm_sectors.specs.Disks.{Leaves};
+ghost use Rattle.mpm_sectors.specs.Disks.{LeavesDisks};
 
 use crate::slots::{entry_bytes, put_entry};
 use mpm_base::{Kind, Steps};
@@ -52,7 +52,7 @@ impl Disk {
         ensures calls { steps.new ≡ (if is_some (cached_at cache.old self.now.drive (place_of self.now.kind sector)) then steps.old else steps.old + 1) }
         ensures succeeds { IsSome (cached_at cache.old self.now.drive (place_of self.now.kind sector)) → IsOk result }
         ensures uncalled { IsSome (cached_at cache.old self.now.drive (place_of self.now.kind sector)) → drives.new ≡ drives.old }
-        ensures leaves { Leaves D.disks D.told D.failed_names D.unsynced self.now.drive cache.old cache.new drives.old drives.new }
+        ensures leaves { LeavesDisks D.disks D.told D.failed_names D.unsynced self.now.drive cache.old cache.new drives.old drives.new }
         ensures disks { D.disks drives.new ≡ D.disks drives.old }
         ensures told { D.told drives.new ≡ D.told drives.old }
         ensures unsynced { D.unsynced drives.new ≡ D.unsynced drives.old }
@@ -77,7 +77,7 @@ impl Disk {
         requires apart { HasNoAlias cache.old (D.disks drives.old) self.now.drive }
         ensures puts { Puts self.now.drive self.now.kind (record { sector = sector; bytes = bytes.now } ∷ []) (D.disks drives.old) (D.disks drives.new) result }
         ensures calls { steps.new ≡ steps.old + 1 }
-        ensures leaves { Leaves D.disks D.told D.failed_names D.unsynced self.now.drive cache.old cache.new drives.old drives.new }
+        ensures leaves { LeavesDisks D.disks D.told D.failed_names D.unsynced self.now.drive cache.old cache.new drives.old drives.new }
         ensures unsynced { D.unsynced drives.new self.now.drive ≡ true }
         ensures cause { HasCause (D.faults drives.old) (D.faults drives.new) result }
     {
@@ -100,7 +100,7 @@ impl Disk {
         ensures puts { Puts self.now.drive self.now.kind (zeros_from first count) (D.disks drives.old) (D.disks drives.new) result }
         ensures calls { OnOk result (steps.new ≡ steps.old + count) }
         ensures most { steps.new ≤ steps.old + count }
-        ensures leaves { Leaves D.disks D.told D.failed_names D.unsynced self.now.drive cache.old cache.new drives.old drives.new }
+        ensures leaves { LeavesDisks D.disks D.told D.failed_names D.unsynced self.now.drive cache.old cache.new drives.old drives.new }
         ensures unsynced { OnErr result (D.unsynced drives.new self.now.drive ≡ true) }
         ensures owed { 0 < count → D.unsynced drives.new self.now.drive ≡ true }
         ensures cause { HasCause (D.faults drives.old) (D.faults drives.new) result }
@@ -135,7 +135,7 @@ impl Disk {
         ensures puts { Puts self.now.drive self.now.kind (block_writes self.now.kind block clear index bytes.now) (D.disks drives.old) (D.disks drives.new) result }
         ensures calls { OnOk result (steps.new ≡ steps.old + block_calls self.now.kind clear index) }
         ensures most { steps.new ≤ steps.old + block_calls self.now.kind clear index }
-        ensures leaves { Leaves D.disks D.told D.failed_names D.unsynced self.now.drive cache.old cache.new drives.old drives.new }
+        ensures leaves { LeavesDisks D.disks D.told D.failed_names D.unsynced self.now.drive cache.old cache.new drives.old drives.new }
         ensures unsynced { D.unsynced drives.new self.now.drive ≡ true }
         ensures cause { HasCause (D.faults drives.old) (D.faults drives.new) result }
     {
@@ -183,7 +183,7 @@ impl Disk {
         ensures long { (old : List ℕ) → length old ≡ 32 → length (bytes_over (geometry_of self.now.kind).wide old entry.now) ≡ 32 }
         ensures calls { OnOk result (steps.new ≡ (if is_some (cached_at cache.old self.now.drive (place_of self.now.kind (slot / 4))) then steps.old else steps.old + 1) + 1) }
         ensures most { steps.new ≤ steps.old + 2 }
-        ensures leaves { Leaves D.disks D.told D.failed_names D.unsynced self.now.drive cache.old cache.new drives.old drives.new }
+        ensures leaves { LeavesDisks D.disks D.told D.failed_names D.unsynced self.now.drive cache.old cache.new drives.old drives.new }
         ensures unsynced { OnOk result (D.unsynced drives.new self.now.drive ≡ true) }
         ensures cause { HasCause (D.faults drives.old) (D.faults drives.new) result }
     {
@@ -226,7 +226,7 @@ impl Disk {
         ensures other_long { (old : List ℕ) → length old ≡ 32 → length (bytes_over (geometry_of self.now.kind).wide old other.now) ≡ 32 }
         ensures calls { OnOk result (steps.new ≡ (if is_some (cached_at cache.old self.now.drive (place_of self.now.kind (slot / 4))) then steps.old else steps.old + 1) + 1) }
         ensures most { steps.new ≤ steps.old + 2 }
-        ensures leaves { Leaves D.disks D.told D.failed_names D.unsynced self.now.drive cache.old cache.new drives.old drives.new }
+        ensures leaves { LeavesDisks D.disks D.told D.failed_names D.unsynced self.now.drive cache.old cache.new drives.old drives.new }
         ensures unsynced { OnOk result (D.unsynced drives.new self.now.drive ≡ true) }
         ensures cause { HasCause (D.faults drives.old) (D.faults drives.new) result }
     {

@@ -6,7 +6,7 @@ use Rattle.mpm_ready.specs.Order.{Member, put_in, without_slot, in_list, first_o
 use Rattle.mpm_ready.proofs.OrderLaws.{in_list_put_in, in_list_without_slot, without_slot_absent, without_slot_gone}
 use Rattle.mpm_service.specs.declared.service.Served.{Served}
 use Rattle.mpm_service.specs.declared.service.Turn.TheVariants.{Passing, Work}
-use Rattle.mpm_service.specs.Disk.{DiskService, no_service, entered, served_process, waiting_after, served_after, turned, answer_by, turn_answer, with_turns, begun, after_step, step_answer, IsSound}
+use Rattle.mpm_service.specs.Disk.{DiskService, no_service, entered, served_process, waiting_after, served_after, turned, answer_by, turn_answer, with_turns, begun, after_step, step_answer, IsSoundService}
 use Rattle.mpm_service.specs.Ahead.{passed_by, passed_on, unserved}
 use Rattle.mpm_service.specs.Places.{is_call_of, at_disk, served_without, without_call}
 use Rattle.mpm_service.proofs.SoundLaws.{sound_left}
@@ -194,20 +194,20 @@ without_absent service p none =
     ∙ ap (λ (o : Option Served). record service { served = o }) (served_stays_without service.served p both.1)
 
 -- a service without a call is sound, and has begun as before
-sound_by : (service : DiskService) (served : Option Served) (p : ℕ) → IsSound service → service.served ≡ served
-    → IsSound (record service { served = served_without p served })
+sound_by : (service : DiskService) (served : Option Served) (p : ℕ) → IsSoundService service → service.served ≡ served
+    → IsSoundService (record service { served = served_without p served })
 sound_by service None p sound is = record { apart = tt; within = tt; steps = sound.steps }
 sound_by service (Some call) p sound is = by_test (call.p == p)
   where
-    by_test : (b : Bool) → IsSound (record service { served = cond b None (Some call) })
+    by_test : (b : Bool) → IsSoundService (record service { served = cond b None (Some call) })
     by_test true = record { apart = tt; within = tt; steps = sound.steps }
-    by_test false = subst (λ (o : Option Served). IsSound (record service { served = o })) is sound
+    by_test false = subst (λ (o : Option Served). IsSoundService (record service { served = o })) is sound
 
-pub sound_without : (service : DiskService) (p : ℕ) (waiting : List Member) (served : Option Served) → IsSound service → waiting ≡ without_slot p service.waiting → served ≡ served_without p service.served
-    → IsSound (record { turn_steps = service.turn_steps; waiting = waiting; served = served })
+pub sound_without : (service : DiskService) (p : ℕ) (waiting : List Member) (served : Option Served) → IsSoundService service → waiting ≡ without_slot p service.waiting → served ≡ served_without p service.served
+    → IsSoundService (record { turn_steps = service.turn_steps; waiting = waiting; served = served })
 sound_without service p waiting served sound waits is =
     let left = sound_left service p waiting sound waits in
-    let P : Option Served → Type 0 = λ o. IsSound (record { turn_steps = service.turn_steps; waiting = waiting; served = o }) in
+    let P : Option Served → Type 0 = λ o. IsSoundService (record { turn_steps = service.turn_steps; waiting = waiting; served = o }) in
     subst P (sym is) (sound_by (record { turn_steps = service.turn_steps; waiting = waiting; served = service.served }) service.served p left refl)
 
 pub begun_without : (served : Option Served) (p : ℕ) → IfSome served (λ call. 0 < call.left) → IfSome (served_without p served) (λ call. 0 < call.left)

@@ -8,7 +8,7 @@ use Rattle.mpm_ready.proofs.OrderLaws.{in_list_put_in, all_put_in, in_list_witho
 use Rattle.mpm_service.specs.declared.service.Served.{Served}
 use Rattle.mpm_service.specs.declared.service.Turn.{Turn}
 use Rattle.mpm_service.specs.declared.service.Turn.TheVariants.{Idle, Passing, Work, Starts}
-use Rattle.mpm_service.specs.Disk.{DiskService, left_by, starting, after_step, step_answer, HasBegun, IsAfter, IsSound}
+use Rattle.mpm_service.specs.Disk.{DiskService, left_by, starting, after_step, step_answer, HasBegun, IsAfter, IsSoundService}
 
 absent_with : (served : Option Served) (waiting : List Member) (p priority : ℕ) → IfSome served (λ call. call.p ≢ p) → IfSome served (λ call. in_list call.p waiting ≡ false)
     → IfSome served (λ call. in_list call.p (put_in waiting (record { slot = p; priority = priority })) ≡ false)
@@ -17,11 +17,11 @@ absent_with (Some call) waiting p priority other absent =
     in_list_put_in call.p waiting (record { slot = p; priority = priority })
     ∙ ap (λ b. b || in_list call.p waiting) (ne_eqb p call.p (λ same. other (sym same))) ∙ absent
 
-pub sound_entered : (service : DiskService) (p priority : ℕ) (waiting : List Member) → IsSound service → 0 < service.turn_steps → IfSome service.served (λ call. call.p ≢ p)
+pub sound_entered : (service : DiskService) (p priority : ℕ) (waiting : List Member) → IsSoundService service → 0 < service.turn_steps → IfSome service.served (λ call. call.p ≢ p)
     → waiting ≡ put_in service.waiting (record { slot = p; priority = priority })
-    → IsSound (record { turn_steps = service.turn_steps; waiting = waiting; served = service.served })
+    → IsSoundService (record { turn_steps = service.turn_steps; waiting = waiting; served = service.served })
 sound_entered service p priority waiting sound some other is =
-    let P : List Member → Type 0 = λ ms. IsSound (record { turn_steps = service.turn_steps; waiting = ms; served = service.served }) in
+    let P : List Member → Type 0 = λ ms. IsSoundService (record { turn_steps = service.turn_steps; waiting = ms; served = service.served }) in
     subst P (sym is) (record {
       apart = absent_with service.served service.waiting p priority other sound.apart;
       within = sound.within;
@@ -33,10 +33,10 @@ absent_without : (served : Option Served) (waiting : List Member) (p : ℕ) → 
 absent_without None waiting p absent = tt
 absent_without (Some call) waiting p absent = in_list_without_slot waiting p call.p ∙ and_right (not (eqb p call.p)) _ absent
 
-pub sound_left : (service : DiskService) (p : ℕ) (waiting : List Member) → IsSound service → waiting ≡ without_slot p service.waiting
-    → IsSound (record { turn_steps = service.turn_steps; waiting = waiting; served = service.served })
+pub sound_left : (service : DiskService) (p : ℕ) (waiting : List Member) → IsSoundService service → waiting ≡ without_slot p service.waiting
+    → IsSoundService (record { turn_steps = service.turn_steps; waiting = waiting; served = service.served })
 sound_left service p waiting sound is =
-    let P : List Member → Type 0 = λ ms. IsSound (record { turn_steps = service.turn_steps; waiting = ms; served = service.served }) in
+    let P : List Member → Type 0 = λ ms. IsSoundService (record { turn_steps = service.turn_steps; waiting = ms; served = service.served }) in
     subst P (sym is) (record {
       apart = absent_without service.served service.waiting p sound.apart;
       within = sound.within;
@@ -49,10 +49,10 @@ unfolding first_of
 some_steps turn_steps p [] first all = absurd (cc)
 some_steps turn_steps p (m ∷ ms) first all = all.0
 
-pub sound_starting : (service : DiskService) (p : ℕ) (waiting : List Member) → IsSound service → first_of service.waiting ≡ Some p → waiting ≡ without_slot p service.waiting
-    → IsSound (record { turn_steps = service.turn_steps; waiting = waiting; served = Some (starting p) })
+pub sound_starting : (service : DiskService) (p : ℕ) (waiting : List Member) → IsSoundService service → first_of service.waiting ≡ Some p → waiting ≡ without_slot p service.waiting
+    → IsSoundService (record { turn_steps = service.turn_steps; waiting = waiting; served = Some (starting p) })
 sound_starting service p waiting sound first is =
-    let P : List Member → Type 0 = λ ms. IsSound (record { turn_steps = service.turn_steps; waiting = ms; served = Some (starting p) }) in
+    let P : List Member → Type 0 = λ ms. IsSoundService (record { turn_steps = service.turn_steps; waiting = ms; served = Some (starting p) }) in
     subst P (sym is) (record {
       apart = without_slot_gone p service.waiting;
       within = some_steps service.turn_steps p service.waiting first sound.steps;
@@ -64,7 +64,7 @@ pub nothing_left : (service : DiskService) (p : ℕ) → in_list p service.waiti
 unfolding left_by
 nothing_left service p absent = ap (λ (ms : List Member). record service { waiting = ms }) (without_slot_absent service.waiting p absent)
 
-pub served_stays : (service : DiskService) (p : ℕ) → IsSound service → IfSome service.served (λ call. call.p ≡ p → in_list p service.waiting ≡ false)
+pub served_stays : (service : DiskService) (p : ℕ) → IsSoundService service → IfSome service.served (λ call. call.p ≡ p → in_list p service.waiting ≡ false)
 served_stays service p sound = by_case service.served service.waiting p sound.apart
   where
     by_case : (served : Option Served) (waiting : List Member) (p : ℕ) → IfSome served (λ call. in_list call.p waiting ≡ false) → IfSome served (λ call. call.p ≡ p → in_list p waiting ≡ false)
@@ -79,11 +79,11 @@ of_same true true turn_steps waiting call absent some within = (tt, tt)
 of_same true false turn_steps waiting call absent some within = (absent, some)
 of_same false c turn_steps waiting call absent some within = (absent, within refl)
 
-pub sound_stepped : (service : DiskService) (call : Served) (served : Option Served) → IsSound service → service.served ≡ Some call → served ≡ after_step service.turn_steps call
-    → IsSound (record { turn_steps = service.turn_steps; waiting = service.waiting; served = served })
+pub sound_stepped : (service : DiskService) (call : Served) (served : Option Served) → IsSoundService service → service.served ≡ Some call → served ≡ after_step service.turn_steps call
+    → IsSoundService (record { turn_steps = service.turn_steps; waiting = service.waiting; served = served })
 unfolding after_step
 sound_stepped service call served sound at is =
-    let P : Option Served → Type 0 = λ now. IsSound (record { turn_steps = service.turn_steps; waiting = service.waiting; served = now }) in
+    let P : Option Served → Type 0 = λ now. IsSoundService (record { turn_steps = service.turn_steps; waiting = service.waiting; served = now }) in
     let absent : in_list call.p service.waiting ≡ false = subst (λ (o : Option Served). IfSome o (λ call. in_list call.p service.waiting ≡ false)) at sound.apart in
     let within : call.passed < service.turn_steps = subst (λ (o : Option Served). IfSome o (λ call. call.passed < service.turn_steps)) at sound.within in
     let both = of_same (call.passed + 1 == service.turn_steps) (call.left == 1) service.turn_steps service.waiting call absent (omega arith) (λ apart. grind (arith, nat_tests)) in

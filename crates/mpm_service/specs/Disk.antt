@@ -94,7 +94,7 @@ IsAfter (Work p last) service = HasBegun service
 IsAfter (Starts p) service = HasEntered service
 
 -- what is so at any time: who is served doesn't wait, its turn isn't over, and where turns have no steps nobody waits
-pub record IsSound (service : DiskService) : Type 0 where
+pub record IsSoundService (service : DiskService) : Type 0 where
   pub apart : IfSome service.served (λ call. in_list call.p service.waiting ≡ false)
   pub within : IfSome service.served (λ call. call.passed < service.turn_steps)
   pub steps : AllByRecursion (λ m. 0 < service.turn_steps) service.waiting

@@ -40,17 +40,17 @@ pub struct Service {
 }
 
 impl Model for Service {
-    ghost use Rattle.mpm_service.specs.Disk.{DiskService, IsSound};
+    ghost use Rattle.mpm_service.specs.Disk.{DiskService, IsSoundService};
 
     ghost Value = { DiskService };
 
     ghost view = { λ s. record { turn_steps = s.turn_steps; waiting = s.waiting; served = s.served } };
 
-    ghost invariant = { λ s. IsSound (record { turn_steps = s.turn_steps; waiting = s.waiting; served = s.served }) };
+    ghost invariant = { λ s. IsSoundService (record { turn_steps = s.turn_steps; waiting = s.waiting; served = s.served }) };
 }
 
 impl Service {
-    ghost use Rattle.mpm_service.specs.Disk.{no_service, entered, left_by, served_process, turned, turn_answer, begun, HasBegun, HasEntered, IsAfter, IsSound};
+    ghost use Rattle.mpm_service.specs.Disk.{no_service, entered, left_by, served_process, turned, turn_answer, begun, HasBegun, HasEntered, IsAfter, IsSoundService};
     ghost use Rattle.mpm_service.specs.Turns.{TakesTurns};
     ghost use Rattle.mpm_service.specs.Places.{without_call};
     ghost use Rattle.mpm_service.specs.Ahead.{turned_by, quiet_steps, passed_by, turns_left, unserved};
@@ -246,7 +246,7 @@ impl Service {
     #[tactic(auto, unfolding(crate::specs::Disk::served_process))]
     pub fn serving(&self) -> Option<Pid>
         ensures served { result ≡ served_process self.now }
-        ensures sound { IsSound self.now }
+        ensures sound { IsSoundService self.now }
         ensures waiting { IsWaitList self.now.waiting }
     {
         // Asked only for what is so of the list, which the clause `waiting` says.

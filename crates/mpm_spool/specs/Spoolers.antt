@@ -117,9 +117,9 @@ unfoldable pub took : Spooler → Answer → Spooler
 took s reply = took_at s.row s reply
 
 -- where it prints a byte, the record has one
-abbrev pub IsRow : Row → ℕ → Type 0
-IsRow Print place = place < 128
-IsRow _ place = Unit {0}
+abbrev pub IsSpoolerRow : Row → ℕ → Type 0
+IsSpoolerRow Print place = place < 128
+IsSpoolerRow _ place = Unit {0}
 
 -- after some answers, the last one first
 unfoldable pub after : List Answer → Spooler

@@ -1,6 +1,6 @@
 ghost use Rattle.std.specs.Prelude.{◌≡◌, ◌≤◌, ◌<◌, length};
 ghost use Rattle.mpm_base.specs.Calls.{asking as call_asking};
-ghost use Rattle.mpm_spool.specs.Spoolers.{asking_file as file_asking, file_block as file_block_of, read_only as block_read_only, row_at as row_of_bytes, IsRow as IsPlace};
+ghost use Rattle.mpm_spool.specs.Spoolers.{asking_file as file_asking, file_block as file_block_of, read_only as block_read_only, row_at as row_of_bytes, IsSpoolerRow as IsPlace};
 
 use crate::list::{SpoolItem, SpoolList, no_item, read_list};
 use crate::table::Row;
@@ -39,20 +39,20 @@ pub struct Spool {
 
 impl Model for Spool {
     ghost use Rattle.std.specs.Prelude.{◌≤◌};
-    ghost use Rattle.mpm_spool.specs.Spoolers.{Spooler, IsRow};
+    ghost use Rattle.mpm_spool.specs.Spoolers.{Spooler, IsSpoolerRow};
 
     ghost Value = { Spooler };
 
     ghost view = { λ s. record { row = s.row; left = s.left; item = s.item; fcb = s.fcb; bytes = s.bytes; place = s.place; printed = s.printed; is_unprinted = s.unprinted } };
 
-    ghost invariant = { λ s. (s.place ≤ 128) × IsRow s.row s.place };
+    ghost invariant = { λ s. (s.place ≤ 128) × IsSpoolerRow s.row s.place };
 }
 
 impl Spool {
     ghost use Rattle.std.specs.Prelude.{◌≡◌, ◌≤◌, [], take, slice_index, true};
     ghost use Rattle.mpm_base.specs.Calls.{asking, no_reply};
     ghost use Rattle.mpm_base.specs.declared.functions.TheConstants.{OPEN_FILE, DELETE_FILE, LIST_OUTPUT};
-    ghost use Rattle.mpm_spool.specs.Spoolers.{opening, asking_file, next_call, took as behind, took_at, file_block as block_of_file, read_only_block, with_block, record_in, row_at as row_of, begun_next, IsRow};
+    ghost use Rattle.mpm_spool.specs.Spoolers.{opening, asking_file, next_call, took as behind, took_at, file_block as block_of_file, read_only_block, with_block, record_in, row_at as row_of, begun_next, IsSpoolerRow};
     ghost use Rattle.mpm_spool.specs.declared.table.Row.TheVariants.{ReadList, Open, Read, Print, Detach};
 
     /// The spooler at its first row.
@@ -155,7 +155,7 @@ impl Spool {
 
     /// The call that prints the next byte.
     fn fill_byte(&self, call: &mut Call)
-        requires { IsRow Print self.now.place }
+        requires { IsSpoolerRow Print self.now.place }
         ensures { call.new ≡ asking LIST_OUTPUT (slice_index self.now.bytes self.now.place) [] }
     {
         ask(
@@ -223,7 +223,7 @@ impl Spool {
 
     /// The file isn't printed to its end.
     fn leave_unprinted(&mut self, row: Row)
-        requires { IsRow row self.old.place }
+        requires { IsSpoolerRow row self.old.place }
         ensures { self.new ≡ record self.old { row = row; is_unprinted = true } }
     {
         self.row = row;
@@ -261,7 +261,7 @@ impl Spool {
 
     /// A byte was printed.
     fn go_on(&mut self)
-        requires { IsRow Print self.old.place }
+        requires { IsSpoolerRow Print self.old.place }
         ensures { self.new ≡ took_at Print self.old no_reply }
     {
         let place = self.place + 1;

@@ -6,7 +6,7 @@ use Rattle.mpm_procs.specs.declared.process.Process.{Process}
 use Rattle.mpm_procs.specs.declared.process.NewProcess.{NewProcess}
 use Rattle.mpm_procs.proofs.MapLaws.{lives_added, lives_changed, free_below}
 use Rattle.mpm_queues.specs.Queues.{Queues, make_error, no_queues}
-use Rattle.mpm_kernel.specs.Kernel.{Kernel, IsSound, CompletedLive, with_changed, new_kernel, dispatched}
+use Rattle.mpm_kernel.specs.Kernel.{Kernel, IsSoundKernel, CompletedLive, with_changed, new_kernel, dispatched}
 use Rattle.mpm_dispatcher.specs.Dispatch.{admitted, in_slot, picked, new_dispatcher}
 use Rattle.mpm_kernel.specs.Queueing.{OnlySystems, with_queue, with_system_queue}
 use Rattle.mpm_kernel.proofs.SoundLaws.{sound_changed, sound_admitted, sound_picked, live_kept}
@@ -30,7 +30,7 @@ use Rattle.mpm_system.proofs.WholeLaws.{whole_kernel, whole_residents}
 
 -- what is so of a kernel in which a resident begins, whose process is then another one of no segment
 pub record Begins (old new : Kernel) : Type 0 where
-  pub sound : IsSound new
+  pub sound : IsSoundKernel new
   pub homes : SameHomes old new
   pub live : CompletedLive old → CompletedLive new
   pub completed : new.dispatcher.completed ≡ old.dispatcher.completed
@@ -64,7 +64,7 @@ homeless new seg A none some = absurd (none_is_some (sym none ∙ some)) where
   none_is_some : None ≡ Some seg → ⊥
   none_is_some e = absurd (cc)
 
-begins_admitted : (kernel : Kernel) (p : ℕ) (new : NewProcess) → IsSound kernel → lowest_free kernel.dispatcher.procs ≡ Some p → new.console < length kernel.units.consoles
+begins_admitted : (kernel : Kernel) (p : ℕ) (new : NewProcess) → IsSoundKernel kernel → lowest_free kernel.dispatcher.procs ≡ Some p → new.console < length kernel.units.consoles
     → new.seg ≡ None → Begins kernel (dispatched (admitted p new) kernel)
 begins_admitted kernel p new s free console none = record {
   sound = sound_admitted kernel p new s free console;
@@ -75,15 +75,15 @@ begins_admitted kernel p new s free console none = record {
   disk = refl;
 }
 
-begins_nothing : (kernel : Kernel) → IsSound kernel → Begins kernel kernel
+begins_nothing : (kernel : Kernel) → IsSoundKernel kernel → Begins kernel kernel
 begins_nothing kernel s = record { sound = s; homes = homes_stay kernel kernel refl; live = λ live. live; completed = refl; consoles = refl; disk = refl }
 
-lives_begun : (kernel : Kernel) (p : ℕ) (new : NewProcess) → IsSound kernel → lowest_free kernel.dispatcher.procs ≡ Some p → Lives (dispatched (admitted p new) kernel).dispatcher.procs p
+lives_begun : (kernel : Kernel) (p : ℕ) (new : NewProcess) → IsSoundKernel kernel → lowest_free kernel.dispatcher.procs ≡ Some p → Lives (dispatched (admitted p new) kernel).dispatcher.procs p
 lives_begun kernel p new s free = lives_added kernel.dispatcher.procs p new (free_below kernel.dispatcher.procs p free)
 
 -- the command line interpreter
 
-begins_interpreter : (slot : Option ℕ) (kernel : Kernel) → IsSound kernel → lowest_free kernel.dispatcher.procs ≡ slot → Begins kernel (with_interpreter slot kernel)
+begins_interpreter : (slot : Option ℕ) (kernel : Kernel) → IsSoundKernel kernel → lowest_free kernel.dispatcher.procs ≡ slot → Begins kernel (with_interpreter slot kernel)
 unfolding with_interpreter resident_process
 begins_interpreter None kernel s free = begins_nothing kernel s
 begins_interpreter (Some p) kernel s free =
@@ -96,7 +96,7 @@ unfolding with_interpreter
 interpreter_has None kernel queues only = only
 interpreter_has (Some p) kernel queues only = record { systems = record { all = only.systems.all }; are = only.are }
 
-pub begins_queue : (kernel : Kernel) (name : Name8) (width count : ℕ) → IsSound kernel → OnlySystems kernel → make_error kernel.queues name width count ≡ None
+pub begins_queue : (kernel : Kernel) (name : Name8) (width count : ℕ) → IsSoundKernel kernel → OnlySystems kernel → make_error kernel.queues name width count ≡ None
     → Begins kernel (with_system_queue kernel name width count)
 unfolding with_system_queue with_queue
 begins_queue kernel name width count s only none = record {
@@ -118,7 +118,7 @@ begins_both old middle new one other = record {
   disk = other.disk ∙ one.disk;
 }
 
-begins_first : (kernel : Kernel) → IsSound kernel → OnlyHas no_queues kernel
+begins_first : (kernel : Kernel) → IsSoundKernel kernel → OnlyHas no_queues kernel
     → Begins kernel (with_interpreter (lowest_free (with_command_queue kernel).dispatcher.procs) (with_command_queue kernel))
 begins_first kernel s only =
     let queued = begins_queue kernel command_queue 130 15 s only.systems (room_of kernel no_queues command_queue 130 15 only command_room) in
@@ -267,11 +267,11 @@ no_completions_picked afterwards kernel is none = record {
 -- a process that begins gets its console
 
 pub record AdmittedHere (kernel : Kernel) (p n : ℕ) : Type 0 where
-  pub sound : IsSound kernel
+  pub sound : IsSoundKernel kernel
   pub console : n < length kernel.units.consoles
   pub lives : Lives kernel.dispatcher.procs p
 
-pub admitted_here : (old now : Kernel) (p : ℕ) (new : NewProcess) → IsSound old → new.console < length old.units.consoles → lowest_free old.dispatcher.procs ≡ Some p
+pub admitted_here : (old now : Kernel) (p : ℕ) (new : NewProcess) → IsSoundKernel old → new.console < length old.units.consoles → lowest_free old.dispatcher.procs ≡ Some p
     → now ≡ dispatched (in_slot new (lowest_free old.dispatcher.procs)) old → AdmittedHere now p new.console
 admitted_here old now p new s below free is =
     let P : Kernel → Type 0 = λ kernel. AdmittedHere kernel p new.console in
@@ -281,16 +281,16 @@ admitted_here old now p new s below free is =
       lives = lives_begun old p new s free;
     })
 
-pub sound_begun : (old now : Kernel) (console p : ℕ) → AdmittedHere old p console → now ≡ given console None (Some p) old → IsSound now
-sound_begun old now console p a is = subst IsSound (sym is) (sound_gave console None (Some p) old a.sound a.console a.lives)
+pub sound_begun : (old now : Kernel) (console p : ℕ) → AdmittedHere old p console → now ≡ given console None (Some p) old → IsSoundKernel now
+sound_begun old now console p a is = subst IsSoundKernel (sym is) (sound_gave console None (Some p) old a.sound a.console a.lives)
 
 -- the system as it is reached
 
 pub command_fits : (kernel : Kernel) → OnlyHas no_queues kernel → make_error kernel.queues command_queue 130 15 ≡ None
 command_fits kernel only = room_of kernel no_queues command_queue 130 15 only command_room
 
-pub sound_queued : (kernel queued : Kernel) → IsSound kernel → OnlyHas no_queues kernel → queued ≡ with_command_queue kernel → IsSound queued
-sound_queued kernel queued s only is = subst IsSound (sym is) (begins_queue kernel command_queue 130 15 s only.systems (command_fits kernel only)).sound
+pub sound_queued : (kernel queued : Kernel) → IsSoundKernel kernel → OnlyHas no_queues kernel → queued ≡ with_command_queue kernel → IsSoundKernel queued
+sound_queued kernel queued s only is = subst IsSoundKernel (sym is) (begins_queue kernel command_queue 130 15 s only.systems (command_fits kernel only)).sound
 
 interpreter : NewProcess
 interpreter = resident_process (record { 0 = codes "cli     " }) 190 0

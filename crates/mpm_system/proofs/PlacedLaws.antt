@@ -37,7 +37,7 @@ use Rattle.mpm_kernel.proofs.HomeLaws.{aborts_admitted, opening_home}
 use Rattle.mpm_script.specs.declared.event.Timed.{Timed}
 use Rattle.mpm_script.specs.Events.{IsTimed}
 use Rattle.mpm_residents.specs.declared.native.Native.{Native}
-use Rattle.mpm_machine_file.specs.MachineFiles.{IsSegment}
+use Rattle.mpm_machine_file.specs.MachineFiles.{IsListedSegment}
 use Rattle.mpm_machine_file.specs.declared.machine_file.MachineFile.{MachineFile}
 use Rattle.mpm_banks.specs.Gates.{last_page}
 use Rattle.mpm_gate.specs.Gates.{IsHome}
@@ -152,12 +152,12 @@ whole_booted file events some few printers script memory = record {
   lived = λ p seg living there. absurd (false≢true (sym (nobody_lives p) ∙ living));
 }
 
-pub home_bare : (segments : List SegmentSpec) (seg : ℕ) → All IsSegment segments → seg < length segments → IsHome (new_memory segments) seg
+pub home_bare : (segments : List SegmentSpec) (seg : ℕ) → All IsListedSegment segments → seg < length segments → IsHome (new_memory segments) seg
 unfolding new_memory
 home_bare segments seg fit h =
     let none : SegmentSpec = record { base = 0; pages = 0 } in
     let spec = get_or segments seg none in
-    let fits : IsSegment spec = fit seg none h in
+    let fits : IsListedSegment spec = fit seg none h in
     let at : segment_of (new_memory segments) seg ≡ new_segment spec = get_or-map new_segment segments seg none no_segment h in
     record {
       exists = omega (arith, length-map segments new_segment, h);
@@ -258,7 +258,7 @@ booted_is_bare file events some few printers count script memory = record {
 
 -- a program can be placed into each segment of a machine in which nobody lives
 pub may_place_booted : (file : MachineFile) (events : List Timed) (seg console size : ℕ) → 1 ≤ file.consoles → file.consoles ≤ 8 → file.printers ≤ 4
-    → length file.segments ≤ 16 → All IsTimed events → All IsSegment file.segments → seg < length file.segments → console < file.consoles
+    → length file.segments ≤ 16 → All IsTimed events → All IsListedSegment file.segments → seg < length file.segments → console < file.consoles
     → size + 640 ≤ 256 * (get_or file.segments seg (record { base = 0; pages = 0 })).pages
     → MayPlace (booted file events) seg console size
 unfolding booted new_kernel new_dispatcher new_memory
@@ -302,8 +302,8 @@ pub may_place_first : (events : List Timed) (size : ℕ) → All IsTimed events 
 unfolding new_memory
 may_place_first events size script h =
     let whole : SegmentSpec = record { base = 0; pages = 192 } in
-    let fits : IsSegment whole = record { pages = omega arith; end = omega arith } in
-    may_place_booted program_file events 0 0 size (omega arith) (omega arith) (omega arith) (omega arith) script (All-cons IsSegment whole [] fits (All-nil IsSegment)) (omega arith) (omega arith) (omega arith)
+    let fits : IsListedSegment whole = record { pages = omega arith; end = omega arith } in
+    may_place_booted program_file events 0 0 size (omega arith) (omega arith) (omega arith) (omega arith) script (All-cons IsListedSegment whole [] fits (All-nil IsListedSegment)) (omega arith) (omega arith) (omega arith)
 
 pub may_place_program : (size : ℕ) → size ≤ 48512 → MayPlace (booted program_file []) 0 0 size
 may_place_program size h = may_place_first [] size (All-nil IsTimed) h

@@ -3,7 +3,7 @@ use Rattle.std.proofs.Common.{◌≡◌, ◌∙◌, ℕ, Bool, true, false, Opti
 use Rattle.mpm_base.specs.declared.number.Name8.{Name8}
 use Rattle.mpm_queues.specs.Queue.{new_queue, no_queue}
 use Rattle.mpm_queues.specs.Queues.{Queues, no_queues, found, lowest, lowest_free, make_error, made}
-use Rattle.mpm_kernel.specs.Kernel.{Kernel, IsSound}
+use Rattle.mpm_kernel.specs.Kernel.{Kernel, IsSoundKernel}
 use Rattle.mpm_kernel.specs.Queueing.{with_queue, with_system_queue, made_at}
 use Rattle.mpm_kernel.proofs.SystemQueues.{may_make_first, sound_system_queue, only_systems_again}
 use Rattle.mpm_system.specs.Opening.{command_queue, with_command_queue, spool_queue, stop_queue, with_spool_queues, schedule_queue, schedule_number, command_queues, spooling_queues, OnlyHas}
@@ -19,7 +19,7 @@ unfolding with_system_queue with_queue
 more_are kernel queues q name width count are free =
     ap (λ (t : Queues). made_at (lowest_free t) t name width count) are ∙ ap (λ (o : Option ℕ). made_at o queues name width count) free
 
-has_more : (kernel : Kernel) (queues : Queues) (q : ℕ) (name : Name8) (width count : ℕ) → IsSound kernel → OnlyHas queues kernel → lowest_free queues ≡ Some q
+has_more : (kernel : Kernel) (queues : Queues) (q : ℕ) (name : Name8) (width count : ℕ) → IsSoundKernel kernel → OnlyHas queues kernel → lowest_free queues ≡ Some q
     → OnlyHas (made queues q name width count) (with_system_queue kernel name width count)
 has_more kernel queues q name width count s only free =
     record { systems = only_systems_again kernel name width count s only.systems; are = more_are kernel queues q name width count only.are free }
@@ -33,7 +33,7 @@ first_number : lowest_free no_queues ≡ Some 0
 unfolding no_queues lowest
 first_number = refl
 
-pub has_command : (kernel : Kernel) → IsSound kernel → OnlyHas no_queues kernel → OnlyHas command_queues (with_command_queue kernel)
+pub has_command : (kernel : Kernel) → IsSoundKernel kernel → OnlyHas no_queues kernel → OnlyHas command_queues (with_command_queue kernel)
 has_command kernel s only = has_more kernel no_queues 0 command_queue 130 15 s only first_number
 
 -- the spooler's come after it
@@ -57,13 +57,13 @@ third_number : lowest_free first_spooling ≡ Some 2
 unfolding no_queues made lowest
 third_number = refl
 
-pub has_first_spooling : (kernel : Kernel) → IsSound kernel → OnlyHas command_queues kernel → OnlyHas first_spooling (with_system_queue kernel spool_queue 128 8)
+pub has_first_spooling : (kernel : Kernel) → IsSoundKernel kernel → OnlyHas command_queues kernel → OnlyHas first_spooling (with_system_queue kernel spool_queue 128 8)
 has_first_spooling kernel s only = has_more kernel command_queues 1 spool_queue 128 8 s only second_number
 
-pub sound_first_spooling : (kernel : Kernel) → IsSound kernel → OnlyHas command_queues kernel → IsSound (with_system_queue kernel spool_queue 128 8)
+pub sound_first_spooling : (kernel : Kernel) → IsSoundKernel kernel → OnlyHas command_queues kernel → IsSoundKernel (with_system_queue kernel spool_queue 128 8)
 sound_first_spooling kernel s only = sound_system_queue kernel spool_queue 128 8 s only.systems (room_of kernel command_queues spool_queue 128 8 only spool_room)
 
-pub has_spooling : (kernel : Kernel) → IsSound kernel → OnlyHas command_queues kernel → OnlyHas (spooling_queues true) (with_spool_queues kernel)
+pub has_spooling : (kernel : Kernel) → IsSoundKernel kernel → OnlyHas command_queues kernel → OnlyHas (spooling_queues true) (with_spool_queues kernel)
 has_spooling kernel s only =
     has_more (with_system_queue kernel spool_queue 128 8) first_spooling 2 stop_queue 1 1 (sound_first_spooling kernel s only) (has_first_spooling kernel s only) third_number
 
@@ -79,7 +79,7 @@ unfolding no_queues made lowest
 schedule_at false = refl
 schedule_at true = refl
 
-pub has_schedule : (kernel : Kernel) (spool : Bool) → IsSound kernel → OnlyHas (spooling_queues spool) kernel
+pub has_schedule : (kernel : Kernel) (spool : Bool) → IsSoundKernel kernel → OnlyHas (spooling_queues spool) kernel
     → OnlyHas (made (spooling_queues spool) (schedule_number spool) schedule_queue 128 8) (with_system_queue kernel schedule_queue 128 8)
 has_schedule kernel spool s only = has_more kernel (spooling_queues spool) (schedule_number spool) schedule_queue 128 8 s only (schedule_at spool)
 

@@ -1,7 +1,7 @@
 -- All residents of a machine as it is run: the interpreter, the terminal message processors, the spooler and the scheduler.
 use Rattle.std.proofs.Common.{◌≡◌, ◌∙◌, ℕ, zero, suc, ◌+◌, ◌<◌, ◌≤◌, Bool, true, false, is_some, None, List, [], ◌∷◌, ◌++◌, refl, sym, ap, subst, arith, add-one, length}
 use Rattle.mpm_queues.specs.Queues.{no_queues, make_error}
-use Rattle.mpm_kernel.specs.Kernel.{Kernel, IsSound, dispatched}
+use Rattle.mpm_kernel.specs.Kernel.{Kernel, IsSoundKernel, dispatched}
 use Rattle.mpm_procs.specs.declared.process.NewProcess.{NewProcess}
 use Rattle.mpm_residents.specs.declared.native.Native.{Native}
 use Rattle.mpm_kernel.specs.Queueing.{with_system_queue}
@@ -165,7 +165,7 @@ no_scheduler old true queue e = absurd (cc)
 -- the kernel with these queues is sound, and has as many consoles
 
 pub record Queued (queued : Kernel) : Type 0 where
-  pub sound : IsSound queued
+  pub sound : IsSoundKernel queued
   pub some : 0 < length queued.units.consoles
 
 pub spool_queued : (old : System) (queued : Kernel) → IsWhole old → OnlyHas command_queues old.kernel → queued ≡ with_spool_queues old.kernel → Queued queued

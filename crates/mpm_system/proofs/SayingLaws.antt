@@ -17,10 +17,10 @@ use Rattle.mpm_render.specs.declared.unit.Unit2.TheVariants.{Printer}
 use Rattle.mpm_render.specs.Outputs.{Said, said}
 use Rattle.mpm_render.proofs.Laws.{said_nil, said_cons}
 use Rattle.mpm_output.specs.Outside.{Outside}
-use Rattle.mpm_output.specs.Writing.{spoken, Wrote}
+use Rattle.mpm_output.specs.Writing.{spoken, CameOut}
 use Rattle.mpm_output.proofs.WritingLaws.{spoken_nil, spoke_nothing}
 use Rattle.mpm_system.specs.declared.system.System.{System}
-use Rattle.mpm_system.specs.Whole.{Change, silent, speaking}
+use Rattle.mpm_system.specs.Whole.{SystemChange, silent, speaking}
 use Rattle.mpm_system.specs.Saying.{call_text, printed, said_by, echo_of}
 use Rattle.mpm_system.specs.Loading.{is_console}
 use Rattle.mpm_system.specs.Residents.{text_told}
@@ -76,12 +76,12 @@ unfolding said_by
 said_printed call string p system byte is prints =
     let process = process_in system.kernel.dispatcher.procs p in
     ap (λ t. record (speaking process.console t system) { emitted = said (Printer process.printer) (printed call system.kernel) (speaking process.console t system).emitted }) is
-    ∙ ap (λ (spoke : Change). record spoke { emitted = said (Printer process.printer) (printed call system.kernel) spoke.emitted }) (speaks_nothing process.console system)
+    ∙ ap (λ (spoke : SystemChange). record spoke { emitted = said (Printer process.printer) (printed call system.kernel) spoke.emitted }) (speaks_nothing process.console system)
     ∙ ap (λ bytes. record { system = system; emitted = said (Printer process.printer) bytes [] }) prints
     ∙ ap (λ emitted. record { system = system; emitted = emitted }) (said_cons (Printer process.printer) byte [] [] ∙ said_nil (Printer process.printer) (Said (Printer process.printer) byte ∷ []))
 
 -- bytes come to a console, as it is reached
-abbrev pub writing : ℕ → List ℕ → System → Change
+abbrev pub writing : ℕ → List ℕ → System → SystemChange
 writing console text system = record { system = record system { kernel = spoke system.kernel console text }; emitted = spoken console text }
 
 speaking_is : (console : ℕ) (text : List ℕ) (system : System) → speaking console text system ≡ writing console text system
@@ -211,9 +211,9 @@ byte_printed call string p system printer byte is some at what =
 
 -- nothing comes out where its function echoes no key
 pub echoes_nothing : (console : ℕ) (o : Outside) (call : Taken) (kernel : Kernel) → does_echo call.function ≡ false
-    → Wrote o o (spoken console (echo_of call kernel))
+    → CameOut o o (spoken console (echo_of call kernel))
 echoes_nothing console o call kernel none =
-    let P : Bool → Type 0 = λ b. Wrote o o (spoken console (if b then kernel.echo else [])) in
+    let P : Bool → Type 0 = λ b. CameOut o o (spoken console (if b then kernel.echo else [])) in
     subst P (sym none) (spoke_nothing console o)
 
 -- a text of the system comes to the console that its call names, where that is there

@@ -10,13 +10,13 @@ use Rattle.mpm_banks.specs.declared.range.Space.{Space}
 use Rattle.mpm_banks.specs.declared.range.Space.TheVariants.{Common, InSegment}
 use Rattle.mpm_banks.specs.declared.segment.Segment.{Segment}
 use Rattle.mpm_banks.specs.declared.segment.Allocation.{Allocation}
-use Rattle.mpm_banks.specs.Memory.{Memory, Place, At, Nowhere, IsSegment, IsMemory, SameSegments, no_segment, segment_of, bytes_of, place_of, put_to, with_byte, with_bytes}
+use Rattle.mpm_banks.specs.Memory.{Memory, NamedByte, At, Nowhere, IsSegment, IsMemory, SameSegments, no_segment, segment_of, bytes_of, place_of, put_to, with_byte, with_bytes}
 use Rattle.mpm_banks.specs.MemoryLaws.{field_stays, length_stays}
 use Rattle.mpm_banks.specs.Actions.{memory_after}
 use Rattle.mpm_banks.specs.Allocations.{FitsBelowCommon, new_memory, allocated, all_released}
 use Rattle.mpm_banks.proofs.SegmentLaws.{count_allocated, same_bytes_allocated, all_released_is_memory, new_is_memory}
 use Rattle.mpm_gate.specs.Replies.{with_block, placed}
-use Rattle.mpm_machine_file.specs.MachineFiles.{IsSegment as HasPages}
+use Rattle.mpm_machine_file.specs.MachineFiles.{IsListedSegment as HasPages}
 
 -- no space grows or shrinks
 abbrev pub SameSizes : Memory → Memory → Type 0
@@ -25,7 +25,7 @@ SameSizes old new = (space : Space) → length (bytes_of new space) ≡ length (
 sizes_both : (old middle new : Memory) → SameSizes old middle → SameSizes middle new → SameSizes old new
 sizes_both old middle new first second space = second space ∙ first space
 
-put_sizes : (memory : Memory) (place : Place) (value : ℕ) → SameSizes memory (put_to memory place value)
+put_sizes : (memory : Memory) (place : NamedByte) (value : ℕ) → SameSizes memory (put_to memory place value)
 put_sizes memory (At space index) value other = length_stays memory space other (slice_set (bytes_of memory space) index value) (length-set (bytes_of memory space) index value)
 put_sizes memory Nowhere value other = refl
 

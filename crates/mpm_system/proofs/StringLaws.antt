@@ -6,18 +6,18 @@ use Rattle.mpm_gate.specs.Texts.{text_from, ends}
 use Rattle.mpm_gate.specs.declared.take.TextEnd.TheVariants.{Dollar}
 use Rattle.mpm_gate.proofs.BytesLaws.{length_bytes, bytes_more}
 use Rattle.mpm_gate.proofs.TextLaws.{text_more, text_goes_on}
-use Rattle.mpm_kernel.specs.Kernel.{Kernel, HasConsole}
+use Rattle.mpm_kernel.specs.Kernel.{Kernel, IsConsole}
 use Rattle.mpm_kernel.specs.Columns.{columns_after, tab_text, column_of, expanded, spoke}
 use Rattle.mpm_kernel.proofs.ColumnLaws.{expanded_nil, expanded_cons, expanded_byte, expanded_append}
 use Rattle.mpm_kernel.proofs.SpokeLaws.{column_spoke, spoke_none, spoke_both}
 use Rattle.mpm_output.specs.Outside.{Outside}
-use Rattle.mpm_output.specs.Writing.{spoken, Wrote, Stopped}
+use Rattle.mpm_output.specs.Writing.{spoken, CameOut, Stopped}
 use Rattle.mpm_output.proofs.WritingLaws.{spoke_nothing, spoke_more, stopped_more}
 
 -- a part of a string came out to a console, with tabs expanded
 pub record WrittenTo (console : ℕ) (kernel kernel' : Kernel) (o m : Outside) (part : List ℕ) : Type 0 where
   pub kernel_is : kernel' ≡ spoke kernel console (expanded (column_of kernel console) part)
-  pub wrote : Wrote o m (spoken console (expanded (column_of kernel console) part))
+  pub wrote : CameOut o m (spoken console (expanded (column_of kernel console) part))
 
 -- the string has one byte more, and goes on after it
 pub string_goes_on : (memory : ℕ → ℕ) (address k byte : ℕ) → text_from Dollar memory address k ≡ bytes_from memory address k → byte ≡ memory (onward address k)
@@ -36,14 +36,14 @@ string_goes_on memory address k byte whole here goes_on h =
 pub written_nothing : (console : ℕ) (kernel : Kernel) (o : Outside) → WrittenTo console kernel kernel o o []
 written_nothing console kernel o =
     let column = column_of kernel console in
-    let P : List ℕ → Type 0 = λ bytes. Wrote o o (spoken console bytes) in
+    let P : List ℕ → Type 0 = λ bytes. CameOut o o (spoken console bytes) in
     record {
       kernel_is = sym (spoke_none kernel console) ∙ ap (spoke kernel console) (sym (expanded_nil column));
       wrote = subst P (sym (expanded_nil column)) (spoke_nothing console o);
     }
 
 -- a part and one byte more, expanded, by the column at which the byte stands
-expanded_more : (console byte : ℕ) (kernel now : Kernel) (part : List ℕ) → HasConsole kernel console
+expanded_more : (console byte : ℕ) (kernel now : Kernel) (part : List ℕ) → IsConsole kernel console
     → now ≡ spoke kernel console (expanded (column_of kernel console) part)
     → expanded (column_of kernel console) (part ++ (byte ∷ []))
     ≡ expanded (column_of kernel console) part ++ tab_text (column_of now console) byte
@@ -54,9 +54,9 @@ expanded_more console byte kernel now part has e =
     expanded_append column part (byte ∷ [])
     ∙ ap (λ t. expanded column part ++ t) (ap (λ c. expanded c (byte ∷ [])) (sym at) ∙ expanded_byte (column_of now console) byte)
 
-pub written_more : (console byte : ℕ) (kernel now later : Kernel) (o m n : Outside) (part : List ℕ) → HasConsole kernel console
+pub written_more : (console byte : ℕ) (kernel now later : Kernel) (o m n : Outside) (part : List ℕ) → IsConsole kernel console
     → WrittenTo console kernel now o m part → later ≡ spoke now console (tab_text (column_of now console) byte)
-    → Wrote m n (spoken console (tab_text (column_of now console) byte)) → WrittenTo console kernel later o n (part ++ (byte ∷ []))
+    → CameOut m n (spoken console (tab_text (column_of now console) byte)) → WrittenTo console kernel later o n (part ++ (byte ∷ []))
 written_more console byte kernel now later o m n part has w is wrote =
     let column = column_of kernel console in
     let tab = tab_text (column_of now console) byte in
@@ -71,7 +71,7 @@ written_more console byte kernel now later o m n part has w is wrote =
 
 -- a byte of a string that stops, stops the string
 pub stopped_string : (console byte : ℕ) (kernel now : Kernel) (o m n : Outside) (part rest whole : List ℕ) → whole ≡ part ++ (byte ∷ rest)
-    → HasConsole kernel console → WrittenTo console kernel now o m part → Stopped m n (spoken console (tab_text (column_of now console) byte))
+    → IsConsole kernel console → WrittenTo console kernel now o m part → Stopped m n (spoken console (tab_text (column_of now console) byte))
     → Stopped o n (spoken console (expanded (column_of kernel console) whole))
 stopped_string console byte kernel now o m n part rest whole e has w stopped =
     let column = column_of kernel console in

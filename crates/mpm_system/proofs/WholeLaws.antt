@@ -8,7 +8,7 @@ use Rattle.mpm_procs.specs.Table.{lives, Lives, process_in, call_of, with_call}
 use Rattle.mpm_procs.specs.declared.process.Process.{Process}
 use Rattle.mpm_procs.proofs.MapLaws.{lives_below, lives_changed, process_changed, process_after, call_after, call_changed, lives_after}
 use Rattle.mpm_dispatcher.specs.Dispatch.{IsReady, with_procs}
-use Rattle.mpm_kernel.specs.Kernel.{Kernel, IsSound, CompletedLive, is_aborted, with_changed, dispatched}
+use Rattle.mpm_kernel.specs.Kernel.{Kernel, IsSoundKernel, CompletedLive, is_aborted, with_changed, dispatched}
 use Rattle.mpm_kernel.proofs.SoundLaws.{sound_process, sound_call, sound_called, lives_called, live_called, live_kept}
 use Rattle.mpm_kernel.proofs.HomeLaws.{SameHomes, homes_changed, homes_call, homes_called, call_called}
 use Rattle.mpm_gate.specs.Gates.{IsHome}
@@ -39,7 +39,7 @@ pub nobody_more : (old new : Kernel) → ((p : ℕ) → is_aborted new.dispatche
 nobody_more old new so none = λ p. not_now (is_aborted new.dispatcher.procs p) (is_aborted old.dispatcher.procs p) (so p) (none p)
 
 -- another kernel, whose processes live where some lived before
-pub whole_kernel : (system : System) (kernel : Kernel) → IsWhole system → IsSound kernel → CompletedLive kernel → SameHomes system.kernel kernel
+pub whole_kernel : (system : System) (kernel : Kernel) → IsWhole system → IsSoundKernel kernel → CompletedLive kernel → SameHomes system.kernel kernel
     → IsWhole (record system { kernel = kernel })
 whole_kernel system kernel w s live homes = record {
   sound = s;

@@ -4,7 +4,7 @@ use Rattle.std.proofs.lemmas.List.{at_drop_more}
 use Rattle.mpm_render.specs.Completions.{Completion}
 use Rattle.mpm_render.specs.Outputs.{Output, Completed}
 use Rattle.mpm_output.specs.Outside.{Outside, Device}
-use Rattle.mpm_output.specs.Writing.{Wrote, Fails}
+use Rattle.mpm_output.specs.Writing.{CameOut, DeviceFails}
 use Rattle.mpm_output.proofs.WritingLaws.{wrote_nothing, wrote_after, fails_within, fails_same}
 use Rattle.mpm_system.specs.Written.{recorded_behind}
 
@@ -19,7 +19,7 @@ recorded_after (call ∷ calls) outputs =
 -- they are written one after another: what is left of them after what came out so far
 pub record WrittenSo (calls rest : List Completion) (o m : Outside) : Type 0 where
   pub emitted : List Output
-  pub wrote : Wrote o m emitted
+  pub wrote : CameOut o m emitted
   pub so : recorded_behind calls [] ≡ recorded_behind rest emitted
 
 pub written_none : (calls : List Completion) (o : Outside) → WrittenSo calls calls o o
@@ -41,7 +41,7 @@ next_call calls items index call same below is =
     ∙ ap (λ (first : Completion). first ∷ drop (index + 1) calls) (sym (is ∙ ap (λ (list : List Completion). get_or list index call) same))
 
 pub written_more : (calls now rest : List Completion) (call : Completion) (o m n : Outside) → WrittenSo calls now o m → now ≡ call ∷ rest
-    → Wrote m n (Completed call ∷ []) → WrittenSo calls rest o n
+    → CameOut m n (Completed call ∷ []) → WrittenSo calls rest o n
 written_more calls now rest call o m n so is wrote = record {
   emitted = Completed call ∷ so.emitted;
   wrote = wrote_after o m n so.emitted (Completed call ∷ []) so.wrote wrote;
@@ -49,13 +49,13 @@ written_more calls now rest call o m n so is wrote = record {
 }
 
 pub written_fails : (device : Device) (calls now rest : List Completion) (call : Completion) (o m n : Outside) → WrittenSo calls now o m → now ≡ call ∷ rest
-    → Fails device m n (Completed call ∷ []) → Fails device o n (recorded_behind calls [])
+    → DeviceFails device m n (Completed call ∷ []) → DeviceFails device o n (recorded_behind calls [])
 written_fails device calls now rest call o m n so is failed =
     fails_same device o n _ _ (sym (left_out calls now rest call o m so is ∙ recorded_after rest (Completed call ∷ so.emitted)))
     (fails_within device o m n so.emitted (Completed call ∷ []) (recorded_behind rest []) so.wrote failed)
 
-pub written_all : (calls now : List Completion) (o m : Outside) → WrittenSo calls now o m → now ≡ [] → Wrote o m (recorded_behind calls [])
+pub written_all : (calls now : List Completion) (o m : Outside) → WrittenSo calls now o m → now ≡ [] → CameOut o m (recorded_behind calls [])
 unfolding recorded_behind
 written_all calls now o m so is =
-    let P : List Output → Type 0 = λ emitted. Wrote o m emitted in
+    let P : List Output → Type 0 = λ emitted. CameOut o m emitted in
     subst P (sym (so.so ∙ ap (λ (left : List Completion). recorded_behind left so.emitted) is)) so.wrote

@@ -10,10 +10,10 @@ use Rattle.mpm_kernel.specs.Kernel.{with_changed}
 use Rattle.mpm_kernel.specs.Called.{low_parameter}
 use Rattle.mpm_residents.specs.Natives.{native_in}
 use Rattle.mpm_output.specs.Texts.{error_text}
-use Rattle.mpm_functions.specs.declared.refusals.Extended.{Extended}
+use Rattle.mpm_file_functions.specs.declared.refusals.Extended.{Extended}
 use Rattle.mpm_directories.specs.Direct.{CallerChange, Stays, Selects, Resets}
 use Rattle.mpm_system.specs.declared.system.System.{System}
-use Rattle.mpm_system.specs.Whole.{Change, speaking}
+use Rattle.mpm_system.specs.Whole.{SystemChange, speaking}
 use Rattle.mpm_system.specs.Taking.{asked, keeping}
 use Rattle.mpm_system.specs.Answering.{popped, answering_call}
 use Rattle.mpm_system.specs.Residents.{asked_by, taking}
@@ -56,5 +56,5 @@ unfoldable pub file_replied : Answer → ℕ → System → System
 file_replied reply p system = reply_by (process_in system.kernel.dispatcher.procs p).seg reply p system
 
 -- the text of an extended error comes to its caller's console
-unfoldable pub error_told : Extended → ℕ → System → Change
+unfoldable pub error_told : Extended → ℕ → System → SystemChange
 error_told error p system = speaking (process_in system.kernel.dispatcher.procs p).console (error_text error.code error.drive) system

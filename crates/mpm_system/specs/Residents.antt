@@ -8,7 +8,7 @@ use Rattle.mpm_residents.specs.declared.native.Native.{Native}
 use Rattle.mpm_kernel.specs.Called.{low_parameter}
 use Rattle.mpm_kernel.specs.Columns.{column_of, expanded}
 use Rattle.mpm_system.specs.declared.system.System.{System}
-use Rattle.mpm_system.specs.Whole.{Change, silent, speaking}
+use Rattle.mpm_system.specs.Whole.{SystemChange, silent, speaking}
 use Rattle.mpm_system.specs.Calling.{asking}
 use Rattle.mpm_system.specs.Loading.{is_console, handed_over, handed_answer}
 
@@ -26,12 +26,12 @@ asked_by (Some native) p system = asking p (native_call native) system
 abbrev pub tells : Option Native → Taken → Bool
 tells native call = interprets_if_there native && call.function == PRINT_STRING
 
-abbrev pub text_told : Taken → System → Change
+abbrev pub text_told : Taken → System → SystemChange
 text_told call system =
     let console = low_parameter call in
     if is_console console system.kernel then speaking console (expanded (column_of system.kernel console) call.bytes) system else silent system
 
-unfoldable pub telling_step : Taken → ℕ → System → Change
+unfoldable pub telling_step : Taken → ℕ → System → SystemChange
 telling_step call p system =
     let spoke = text_told call system in
     record spoke { system = taking (answering 0) p spoke.system }

@@ -14,7 +14,7 @@ use Rattle.mpm_kernel.specs.ConsoleInput.{writes}
 use Rattle.mpm_render.specs.declared.unit.Unit2.TheVariants.{Printer}
 use Rattle.mpm_render.specs.Outputs.{said}
 use Rattle.mpm_system.specs.declared.system.System.{System}
-use Rattle.mpm_system.specs.Whole.{Change, speaking}
+use Rattle.mpm_system.specs.Whole.{SystemChange, speaking}
 
 -- what a call writes to its process's console: functions 2 and 9 with tabs expanded, the byte in E or a string, and
 -- functions 4 and 6 the byte in E as it is
@@ -33,7 +33,7 @@ abbrev pub string_of : Taken → ℕ → Memory → List ℕ
 string_of call seg memory = text_from Dollar (byte_at memory seg) call.word 65536
 
 -- the text of a call comes to its process's console, and its byte to its printer; a string is the one that is given
-unfoldable pub said_by : Taken → List ℕ → ℕ → System → Change
+unfoldable pub said_by : Taken → List ℕ → ℕ → System → SystemChange
 said_by call string p system =
     let process = process_in system.kernel.dispatcher.procs p in
     let spoke = speaking process.console (call_text call (column_of system.kernel process.console) string) system in

@@ -5,7 +5,7 @@ use Rattle.mpm_banks.specs.declared.segment.Allocation.TheVariants.{Occupied}
 use Rattle.mpm_procs.specs.Table.{Lives, process_in}
 use Rattle.mpm_gate.specs.Gates.{IsHome}
 use Rattle.mpm_script.specs.Events.{IsTimed}
-use Rattle.mpm_kernel.specs.Kernel.{Kernel, IsSound, CompletedLive, is_aborted}
+use Rattle.mpm_kernel.specs.Kernel.{Kernel, IsSoundKernel, CompletedLive, is_aborted}
 use Rattle.mpm_kernel.specs.Columns.{spoke}
 use Rattle.mpm_render.specs.Outputs.{Output}
 use Rattle.mpm_output.specs.Writing.{spoken}
@@ -13,16 +13,16 @@ use Rattle.mpm_system.specs.declared.system.System.{System}
 use Rattle.mpm_system.specs.Owing.{nobody_owes}
 
 -- what a part of a step makes of the system, and the outputs that it adds, newest first
-pub record Change : Type 0 where
+pub record SystemChange : Type 0 where
   pub system : System
   pub emitted : List Output
 
 -- nothing is said
-abbrev pub silent : System → Change
+abbrev pub silent : System → SystemChange
 silent system = record { system = system; emitted = [] }
 
 -- bytes come to a console as they are
-unfoldable pub speaking : ℕ → List ℕ → System → Change
+unfoldable pub speaking : ℕ → List ℕ → System → SystemChange
 speaking console bytes system =
     record { system = record system { kernel = spoke system.kernel console bytes }; emitted = spoken console bytes }
 
@@ -61,7 +61,7 @@ NobodyAborted kernel = (p : ℕ) → is_aborted kernel.dispatcher.procs p ≡ fa
 -- segment exists and is nobody's to reserve. Memory has its segments, each with as many bytes as its pages have. The script has events that
 -- there may be, and it is known where no end by an abort is put off
 pub record IsWhole (system : System) : Type 0 where
-  pub sound : IsSound system.kernel
+  pub sound : IsSoundKernel system.kernel
   pub live : CompletedLive system.kernel
   pub homes : (p seg : ℕ) → Lives system.kernel.dispatcher.procs p → (process_in system.kernel.dispatcher.procs p).seg ≡ Some seg → IsHome system.memory seg
   pub lived : (p seg : ℕ) → Lives system.kernel.dispatcher.procs p → (process_in system.kernel.dispatcher.procs p).seg ≡ Some seg → IsOccupied system.memory seg

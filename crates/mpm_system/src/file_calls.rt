@@ -4,7 +4,7 @@ ghost use Rattle.mpm_procs.specs.Table.{Lives, call_of, process_in};
 
 use crate::system::System;
 use mpm_base::{Pid, Reply, Seg, functions};
-use mpm_functions::Extended;
+use mpm_file_functions::Extended;
 
 /// Where the DMA address of a process begins: after the base page's first half.
 const FIRST_DMA: u8 = 0x80;
@@ -12,7 +12,7 @@ const FIRST_DMA: u8 = 0x80;
 impl System {
     ghost use Rattle.std.specs.Prelude.{is_none};
     ghost use Rattle.mpm_gate.specs.Gates.{IsHome};
-    ghost use Rattle.mpm_functions.specs.declared.refusals.Extended.{Extended};
+    ghost use Rattle.mpm_file_functions.specs.declared.refusals.Extended.{Extended};
     ghost use Rattle.mpm_directories.specs.Direct.{Resets};
     ghost use Rattle.mpm_system.specs.Whole.{IsWhole, HasRoom};
     ghost use Rattle.mpm_system.specs.FileCalling.{call_made, made_by, change_of, with_caller, first_dma, file_replied};

@@ -2,7 +2,7 @@ ghost use Rattle.std.specs.Prelude.{◌≡◌, ◌≤◌, ◌<◌, ◌*◌, leng
 ghost use Rattle.std.specs.Bool.{OnTrue, OnFalse};
 ghost use Rattle.mpm_banks.specs.Ranges.{range_of};
 ghost use Rattle.mpm_procs.specs.Table.{Lives, lowest_free, call_of};
-ghost use Rattle.mpm_kernel.specs.Kernel.{IsSound};
+ghost use Rattle.mpm_kernel.specs.Kernel.{IsSoundKernel};
 ghost use Rattle.mpm_kernel.specs.Called.{failure_code};
 ghost use Rattle.mpm_gate.specs.Gates.{IsHome};
 ghost use Rattle.mpm_system.specs.Loading.{moved, may_live as may_be_lived_in, is_slot, begun_for};
@@ -146,7 +146,7 @@ fn may_live(banks: &Banks, seg: Seg) -> bool
 
 /// A process begins, if a slot is free, and owns its console where the one that hands it over does. Answers whether it does.
 fn begin_for(kernel: &mut Kernel, p: Pid, new: NewProcess) -> bool
-    requires sound { IsSound kernel.old }
+    requires sound { IsSoundKernel kernel.old }
     requires lives { Lives kernel.old.dispatcher.procs p }
     requires console { new.console < length kernel.old.units.consoles }
     ensures answer { result ≡ is_slot (lowest_free kernel.old.dispatcher.procs) }

@@ -1,7 +1,7 @@
 ghost use Rattle.std.specs.Prelude.{◌≡◌, ◌+◌, ◌<◌, IfOk, false, None, ◌-◌, ◌≤◌, length, Some, IsSome, is_some, []};
 ghost use Rattle.mpm_banks.specs.Memory.{HasSegment, segment_of};
 ghost use Rattle.mpm_procs.specs.Table.{lowest_free};
-ghost use Rattle.mpm_kernel.specs.Kernel.{IsSound, dispatched};
+ghost use Rattle.mpm_kernel.specs.Kernel.{IsSoundKernel, dispatched};
 ghost use Rattle.mpm_dispatcher.specs.Dispatch.{admitted, picked};
 ghost use Rattle.mpm_kernel.specs.Consoling.{given};
 ghost use Rattle.mpm_service.specs.Disk.{no_service};
@@ -228,7 +228,7 @@ fn schedule_number(spool: bool) -> u8
 
 /// The spooler's queues are made.
 fn make_spool_queues(kernel: &mut Kernel)
-    requires sound { IsSound kernel.old }
+    requires sound { IsSoundKernel kernel.old }
     requires queues { OnlyHas command_queues kernel.old }
     ensures { kernel.new ≡ with_spool_queues kernel.old }
 {
@@ -238,7 +238,7 @@ fn make_spool_queues(kernel: &mut Kernel)
 
 /// The process of a resident begins, where a slot is free, and takes extended errors as answers.
 fn begin_process(kernel: &mut Kernel, new: NewProcess) -> bool
-    requires sound { IsSound kernel.old }
+    requires sound { IsSoundKernel kernel.old }
     requires console { new.console < length kernel.old.units.consoles }
     ensures kernel { kernel.new ≡ with_begun (lowest_free kernel.old.dispatcher.procs) new kernel.old }
     ensures begun { result ≡ is_some (lowest_free kernel.old.dispatcher.procs) }
@@ -358,7 +358,7 @@ fn placed_process(spec: SegmentSpec, seg: Seg, name: Name8, priority: u8, consol
 /// A process begins, for which there is a slot: it owns its console where nobody does, and the first of the ready list runs.
 #[tactic(auto, using(mpm_kernel::proofs::SoundLaws::sound_in_slot))]
 fn begin(kernel: &mut Kernel, new: NewProcess) -> Pid
-    requires sound { IsSound kernel.old }
+    requires sound { IsSoundKernel kernel.old }
     requires slot { IsSome (lowest_free kernel.old.dispatcher.procs) }
     requires console { new.console < length kernel.old.units.consoles }
     ensures slot { lowest_free kernel.old.dispatcher.procs ≡ Some result }

@@ -3,9 +3,9 @@ ghost use Rattle.mpm_gate.specs.Texts.{text_from};
 ghost use Rattle.mpm_gate.specs.declared.take.TextEnd.TheVariants.{Dollar};
 ghost use Rattle.mpm_banks.specs.Memory.{byte_at};
 ghost use Rattle.mpm_procs.specs.Table.{Lives, call_of};
-ghost use Rattle.mpm_kernel.specs.Kernel.{HasConsole};
+ghost use Rattle.mpm_kernel.specs.Kernel.{IsConsole};
 ghost use Rattle.mpm_kernel.specs.Columns.{tab_text, expanded, spoke, column_of};
-ghost use Rattle.mpm_output.specs.Writing.{spoken, Writes};
+ghost use Rattle.mpm_output.specs.Writing.{spoken, WritesAlone};
 
 use mpm_banks::Banks;
 use mpm_base::{Pid, Seg};
@@ -24,9 +24,9 @@ pub fn write_bytes<S: Sink>(
     sink: &mut S,
 ) -> Result<(), Failed>
     requires console { console < 8 }
-    requires exists { HasConsole kernel.old console }
+    requires exists { IsConsole kernel.old console }
     ensures kernel { kernel.new ≡ spoke kernel.old console bytes.now }
-    ensures wrote { Writes S.written S.faults render.old sink.old render.new sink.new (spoken console bytes.now) result }
+    ensures wrote { WritesAlone S.written S.faults render.old sink.old render.new sink.new (spoken console bytes.now) result }
 {
     move_column(kernel, console, bytes);
     put_bytes(console, bytes, render, sink)
@@ -35,7 +35,7 @@ pub fn write_bytes<S: Sink>(
 /// Moves a console's column after bytes that come to it as they are.
 fn move_column(kernel: &mut Kernel, console: u8, bytes: &[u8])
     requires console { console < 8 }
-    requires exists { HasConsole kernel.old console }
+    requires exists { IsConsole kernel.old console }
     ensures { kernel.new ≡ spoke kernel.old console bytes.now }
 {
     for &byte in bytes {
@@ -52,9 +52,9 @@ pub(crate) fn write_tabbed<S: Sink>(
     sink: &mut S,
 ) -> Result<(), Failed>
     requires console { console < 8 }
-    requires exists { HasConsole kernel.old console }
+    requires exists { IsConsole kernel.old console }
     ensures kernel { kernel.new ≡ spoke kernel.old console (tab_text (column_of kernel.old console) byte) }
-    ensures wrote { Writes S.written S.faults render.old sink.old render.new sink.new (spoken console (tab_text (column_of kernel.old console) byte)) result }
+    ensures wrote { WritesAlone S.written S.faults render.old sink.old render.new sink.new (spoken console (tab_text (column_of kernel.old console) byte)) result }
 {
     let spaces = kernel.write(Unit::Console { n: console }, byte, true);
     if spaces > 0 {
@@ -76,10 +76,10 @@ pub(crate) fn write_string<S: Sink>(
     sink: &mut S,
 ) -> Result<(), Failed>
     requires console { console < 8 }
-    requires exists { HasConsole kernel.old console }
+    requires exists { IsConsole kernel.old console }
     ensures kernel { OnOk result (kernel.new ≡ spoke kernel.old console
         (expanded (column_of kernel.old console) (text_from Dollar (byte_at banks.now seg) address 65536))) }
-    ensures wrote { Writes S.written S.faults render.old sink.old render.new sink.new (spoken console (expanded (column_of kernel.old console) (text_from Dollar (byte_at banks.now seg) address 65536))) result }
+    ensures wrote { WritesAlone S.written S.faults render.old sink.old render.new sink.new (spoken console (expanded (column_of kernel.old console) (text_from Dollar (byte_at banks.now seg) address 65536))) result }
 {
     for offset in 0..65_536u32 {
         let byte = banks.byte(seg, address.wrapping_add(offset as u16));
@@ -101,9 +101,9 @@ pub(crate) fn write_kept<S: Sink>(
 ) -> Result<(), Failed>
     requires lives { Lives kernel.old.dispatcher.procs p }
     requires console { console < 8 }
-    requires exists { HasConsole kernel.old console }
+    requires exists { IsConsole kernel.old console }
     ensures kernel { OnOk result (kernel.new ≡ spoke kernel.old console (expanded (column_of kernel.old console) (call_of kernel.old.dispatcher.procs p).bytes)) }
-    ensures wrote { Writes S.written S.faults render.old sink.old render.new sink.new (spoken console (expanded (column_of kernel.old console) (call_of kernel.old.dispatcher.procs p).bytes)) result }
+    ensures wrote { WritesAlone S.written S.faults render.old sink.old render.new sink.new (spoken console (expanded (column_of kernel.old console) (call_of kernel.old.dispatcher.procs p).bytes)) result }
 {
     for place in 0..kernel.kept_call(p).taken().len() {
         let byte = kernel.kept_call(p).byte(place);

@@ -11,7 +11,7 @@ impl System {
     ghost use Rattle.mpm_ready.specs.Tables.{list_at};
     ghost use Rattle.mpm_dispatcher.specs.Dispatch.{ready};
     ghost use Rattle.mpm_interrupts.specs.Interrupts.{due};
-    ghost use Rattle.mpm_kernel.specs.Kernel.{IsSound};
+    ghost use Rattle.mpm_kernel.specs.Kernel.{IsSoundKernel};
     ghost use Rattle.mpm_system.specs.Idling.{CanPass, later, IsIdle};
 
     /// The running process, where it is the first of the ready list, so that it runs on after each instruction.
@@ -87,7 +87,7 @@ impl System {
     /// So many steps are done, in which the disk's pass.
     #[tactic(auto, using(crate::proofs::IdlingLaws::passes_within))]
     pub fn pass(&mut self, steps: u64)
-        requires sound { IsSound self.old.kernel }
+        requires sound { IsSoundKernel self.old.kernel }
         requires room { self.old.steps + steps ≤ GREATEST_STEP }
         requires short { steps ≤ 4294967295 }
         requires passing { CanPass steps self.old.kernel.disk }

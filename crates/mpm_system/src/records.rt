@@ -1,5 +1,5 @@
 ghost use Rattle.std.specs.Prelude.{◌≡◌, ◌<◌, [], ◌∷◌, ◌++◌, length};
-ghost use Rattle.mpm_output.specs.Writing.{Writes};
+ghost use Rattle.mpm_output.specs.Writing.{WritesAlone};
 ghost use Rattle.z80_regs.specs.Words.{word_of};
 ghost use Rattle.mpm_render.specs.Completions.{completion};
 ghost use Rattle.mpm_render.specs.Outputs.{Completed};
@@ -32,7 +32,7 @@ impl Model for Record {
 impl Record {
     /// The record comes out.
     pub(crate) fn write<S: Sink>(&self, render: &mut Render, sink: &mut S) -> Result<(), Failed>
-        ensures { Writes S.written S.faults render.old sink.old render.new sink.new (Completed self.now ∷ []) result }
+        ensures { WritesAlone S.written S.faults render.old sink.old render.new sink.new (Completed self.now ∷ []) result }
     {
         let regs = &self.regs;
         render.trace(
@@ -95,7 +95,7 @@ impl Records {
 
     /// They come out, in order.
     pub(crate) fn write<S: Sink>(&self, render: &mut Render, sink: &mut S) -> Result<(), Failed>
-        ensures { Writes S.written S.faults render.old sink.old render.new sink.new (recorded_behind self.now []) result }
+        ensures { WritesAlone S.written S.faults render.old sink.old render.new sink.new (recorded_behind self.now []) result }
     {
         for call in self.as_slice() {
             if let Err(Failed) = call.write(render, sink) {

@@ -1,19 +1,19 @@
 ghost use Rattle.std.specs.Prelude.{◌≡◌, ◌<◌, OnOk, ◌≢◌, List, ℕ, ◌%◌};
 ghost use Rattle.mpm_procs.specs.Table.{Lives, call_of, process_in};
-ghost use Rattle.mpm_output.specs.Writing.{Writes, spoken};
+ghost use Rattle.mpm_output.specs.Writing.{WritesAlone, spoken};
 ghost use Rattle.mpm_base.specs.declared.functions.TheConstants.{PRINT_STRING};
 
 use crate::output::{write_bytes, write_kept, write_string, write_tabbed};
 use crate::system::System;
 use mpm_base::{Pid, Reply, Seg, functions};
 use mpm_consoles::{AWAIT_KEY, echoes};
-use mpm_functions::Extended;
+use mpm_file_functions::Extended;
 use mpm_output::{error_text, put_bytes};
 use mpm_port::{Failed, Sink};
 use mpm_render::{Render, Unit2};
 
 impl System {
-    ghost use Rattle.mpm_functions.specs.declared.refusals.Extended.{Extended};
+    ghost use Rattle.mpm_file_functions.specs.declared.refusals.Extended.{Extended};
     ghost use Rattle.mpm_system.specs.Whole.{IsWhole};
     ghost use Rattle.mpm_system.specs.Saying.{string_of, said_by, echo_of};
     ghost use Rattle.mpm_system.specs.Residents.{telling_step, text_told};
@@ -32,7 +32,7 @@ impl System {
         requires whole { IsWhole self.old }
         requires lives { Lives self.old.kernel.dispatcher.procs p }
         ensures system { OnOk result (self.new ≡ (said_by (call_of self.old.kernel.dispatcher.procs p) (string_of (call_of self.old.kernel.dispatcher.procs p) seg self.old.memory) p self.old).system) }
-        ensures wrote { Writes S.written S.faults render.old sink.old render.new sink.new (said_by (call_of self.old.kernel.dispatcher.procs p) (string_of (call_of self.old.kernel.dispatcher.procs p) seg self.old.memory) p self.old).emitted result }
+        ensures wrote { WritesAlone S.written S.faults render.old sink.old render.new sink.new (said_by (call_of self.old.kernel.dispatcher.procs p) (string_of (call_of self.old.kernel.dispatcher.procs p) seg self.old.memory) p self.old).emitted result }
     {
         let call = self.kernel.kept_call(p);
         if functions::READ_CONSOLE_BUFFER < call.function {
@@ -54,7 +54,7 @@ impl System {
         requires whole { IsWhole self.old }
         requires lives { Lives self.old.kernel.dispatcher.procs p }
         ensures system { OnOk result (self.new ≡ (said_by (call_of self.old.kernel.dispatcher.procs p) (string_of (call_of self.old.kernel.dispatcher.procs p) seg self.old.memory) p self.old).system) }
-        ensures wrote { Writes S.written S.faults render.old sink.old render.new sink.new (said_by (call_of self.old.kernel.dispatcher.procs p) (string_of (call_of self.old.kernel.dispatcher.procs p) seg self.old.memory) p self.old).emitted result }
+        ensures wrote { WritesAlone S.written S.faults render.old sink.old render.new sink.new (said_by (call_of self.old.kernel.dispatcher.procs p) (string_of (call_of self.old.kernel.dispatcher.procs p) seg self.old.memory) p self.old).emitted result }
     {
         let call = self.kernel.kept_call(p);
         if call.function == functions::PRINT_STRING {
@@ -85,7 +85,7 @@ impl System {
         requires lives { Lives self.old.kernel.dispatcher.procs p }
         requires byte { (call_of self.old.kernel.dispatcher.procs p).function ≢ PRINT_STRING }
         ensures system { (string : List ℕ) → OnOk result (self.new ≡ (said_by (call_of self.old.kernel.dispatcher.procs p) string p self.old).system) }
-        ensures wrote { (string : List ℕ) → Writes S.written S.faults render.old sink.old render.new sink.new (said_by (call_of self.old.kernel.dispatcher.procs p) string p self.old).emitted result }
+        ensures wrote { (string : List ℕ) → WritesAlone S.written S.faults render.old sink.old render.new sink.new (said_by (call_of self.old.kernel.dispatcher.procs p) string p self.old).emitted result }
     {
         let call = self.kernel.kept_call(p);
         if functions::DIRECT_CONSOLE_IO < call.function {
@@ -106,7 +106,7 @@ impl System {
         requires lives { Lives self.old.kernel.dispatcher.procs p }
         requires byte { (call_of self.old.kernel.dispatcher.procs p).function ≢ PRINT_STRING }
         ensures system { (string : List ℕ) → OnOk result (self.new ≡ (said_by (call_of self.old.kernel.dispatcher.procs p) string p self.old).system) }
-        ensures wrote { (string : List ℕ) → Writes S.written S.faults render.old sink.old render.new sink.new (said_by (call_of self.old.kernel.dispatcher.procs p) string p self.old).emitted result }
+        ensures wrote { (string : List ℕ) → WritesAlone S.written S.faults render.old sink.old render.new sink.new (said_by (call_of self.old.kernel.dispatcher.procs p) string p self.old).emitted result }
     {
         let process = self.kernel.living(p);
         let console = process.console;
@@ -150,7 +150,7 @@ impl System {
     pub fn put_echo<S: Sink>(&self, p: Pid, render: &mut Render, sink: &mut S) -> Result<(), Failed>
         requires whole { IsWhole self.now }
         requires lives { Lives self.now.kernel.dispatcher.procs p }
-        ensures wrote { Writes S.written S.faults render.old sink.old render.new sink.new (spoken (process_in self.now.kernel.dispatcher.procs p).console (echo_of (call_of self.now.kernel.dispatcher.procs p) self.now.kernel)) result }
+        ensures wrote { WritesAlone S.written S.faults render.old sink.old render.new sink.new (spoken (process_in self.now.kernel.dispatcher.procs p).console (echo_of (call_of self.now.kernel.dispatcher.procs p) self.now.kernel)) result }
     {
         let call = self.kernel.kept_call(p);
         if functions::READ_CONSOLE_BUFFER < call.function {
@@ -170,7 +170,7 @@ impl System {
     ) -> Result<(), Failed>
         requires whole { IsWhole self.now }
         requires lives { Lives self.now.kernel.dispatcher.procs p }
-        ensures wrote { Writes S.written S.faults render.old sink.old render.new sink.new (spoken (process_in self.now.kernel.dispatcher.procs p).console (echo_of (call_of self.now.kernel.dispatcher.procs p) self.now.kernel)) result }
+        ensures wrote { WritesAlone S.written S.faults render.old sink.old render.new sink.new (spoken (process_in self.now.kernel.dispatcher.procs p).console (echo_of (call_of self.now.kernel.dispatcher.procs p) self.now.kernel)) result }
     {
         if !echoes(self.kernel.kept_call(p).function) {
             return Ok(());
@@ -191,7 +191,7 @@ impl System {
         requires whole { IsWhole self.old }
         requires lives { Lives self.old.kernel.dispatcher.procs p }
         ensures system { OnOk result (self.new ≡ (telling_step (call_of self.old.kernel.dispatcher.procs p) p self.old).system) }
-        ensures wrote { Writes S.written S.faults render.old sink.old render.new sink.new (telling_step (call_of self.old.kernel.dispatcher.procs p) p self.old).emitted result }
+        ensures wrote { WritesAlone S.written S.faults render.old sink.old render.new sink.new (telling_step (call_of self.old.kernel.dispatcher.procs p) p self.old).emitted result }
     {
         self.put_text(p, render, sink)?;
         reply.answer(0);
@@ -204,7 +204,7 @@ impl System {
         requires whole { IsWhole self.old }
         requires lives { Lives self.old.kernel.dispatcher.procs p }
         ensures system { OnOk result (self.new ≡ (text_told (call_of self.old.kernel.dispatcher.procs p) self.old).system) }
-        ensures wrote { Writes S.written S.faults render.old sink.old render.new sink.new (text_told (call_of self.old.kernel.dispatcher.procs p) self.old).emitted result }
+        ensures wrote { WritesAlone S.written S.faults render.old sink.old render.new sink.new (text_told (call_of self.old.kernel.dispatcher.procs p) self.old).emitted result }
     {
         let console = self.console_told(p);
         if console < self.kernel.consoles() {
@@ -223,7 +223,7 @@ impl System {
         requires whole { IsWhole self.old }
         requires lives { Lives self.old.kernel.dispatcher.procs p }
         ensures system { OnOk result (self.new ≡ (said_by (call_of self.old.kernel.dispatcher.procs p) (call_of self.old.kernel.dispatcher.procs p).bytes p self.old).system) }
-        ensures wrote { Writes S.written S.faults render.old sink.old render.new sink.new (said_by (call_of self.old.kernel.dispatcher.procs p) (call_of self.old.kernel.dispatcher.procs p).bytes p self.old).emitted result }
+        ensures wrote { WritesAlone S.written S.faults render.old sink.old render.new sink.new (said_by (call_of self.old.kernel.dispatcher.procs p) (call_of self.old.kernel.dispatcher.procs p).bytes p self.old).emitted result }
     {
         if self.kernel.kept_call(p).function == functions::PRINT_STRING {
             let console = self.kernel.living(p).console;
@@ -244,7 +244,7 @@ impl System {
         requires whole { IsWhole self.old }
         requires lives { Lives self.old.kernel.dispatcher.procs p }
         ensures system { self.new ≡ (error_told error p self.old).system }
-        ensures wrote { Writes S.written S.faults render.old sink.old render.new sink.new (error_told error p self.old).emitted result }
+        ensures wrote { WritesAlone S.written S.faults render.old sink.old render.new sink.new (error_told error p self.old).emitted result }
     {
         let console = self.kernel.living(p).console;
         let text = error_text(error.code, error.drive);
@@ -259,7 +259,7 @@ impl System {
         sink: &mut S,
     ) -> Result<(), Failed>
         ensures system { OnOk result (self.new ≡ (records_out self.old).system) }
-        ensures wrote { Writes S.written S.faults render.old sink.old render.new sink.new (records_out self.old).emitted result }
+        ensures wrote { WritesAlone S.written S.faults render.old sink.old render.new sink.new (records_out self.old).emitted result }
     {
         self.records.write(render, sink)?;
         self.records.clear();

@@ -26,9 +26,9 @@ use Rattle.mpm_machine.specs.Files.{Between, StandsForFiles}
 use Rattle.mpm_machine.specs.Mounting.{HasDrives, HasNoDrive, OpensOn, untouched}
 use Rattle.mpm_machine.proofs.MountedLaws.{none_mounted}
 use Rattle.mpm_machine.proofs.DriveLaws.{nothing_mounted}
-use Rattle.mpm_drives.specs.Stopping.{Failures, IsFaultless, StopsAt, IsFirst, Stops}
+use Rattle.mpm_drives.specs.Stopping.{Failures, IsFaultless, StopsMounting, IsFirst, Stops}
 use Rattle.mpm_top.proofs.StatusLaws.{always_disk}
-use Rattle.mpm_top.specs.Beginnings.{Host, Failed, system_of, script_name, drives_listed, begun, input_of, Holds, Scripted, Starts, StartsOf, Begins, BeginsOf}
+use Rattle.mpm_top.specs.Beginnings.{Host, FailedSoFar, system_of, script_name, drives_listed, begun, input_of, Holds, Scripted, Starts, StartsOf, BeginsCommand, BeginsOf}
 use Rattle.mpm_top.specs.Endings.{Unread, LacksScript, LacksDrive, Ends, EndsAfter, IsNoMachine, IsRefusal, IsEarly, status_of, UnlessDiskFault}
 
 pub no_system : (bytes : List ℕ) (events : List Timed) → machine_of_text bytes ≡ None → system_of Run bytes events ≡ None
@@ -97,7 +97,7 @@ starts_of_file host bytes file events system x kept is scripted was opens listed
 
 -- the script that a machine file names wasn't read
 
-by_status : (disks : Disks) (host : Host) (bytes name : List ℕ) (old new : Failed) (status : Status) → script_name Run bytes ≡ Some name
+by_status : (disks : Disks) (host : Host) (bytes name : List ℕ) (old new : FailedSoFar) (status : Status) → script_name Run bytes ≡ Some name
     → Unread host.contents name old.files new.files status → EndsAfter disks host Run (λ content. content ≡ bytes) old new status
 by_status disks host bytes name old new Ran is unread = absurd unread
 by_status disks host bytes name old new Usage is unread = absurd unread
@@ -110,19 +110,19 @@ by_status disks host bytes name old new (DiskFault step) is unread = absurd unre
 by_status disks host bytes name old new (WriteFault step) is unread = absurd unread
 by_status disks host bytes name old new OutOfMemory is unread = unread
 
-unread_after : (disks : Disks) (host : Host) (bytes : List ℕ) (script : Option (List ℕ)) (old new : Failed) (status : Status) → script_name Run bytes ≡ script
+unread_after : (disks : Disks) (host : Host) (bytes : List ℕ) (script : Option (List ℕ)) (old new : FailedSoFar) (status : Status) → script_name Run bytes ≡ script
     → IsSome script → IfSome script (λ name. Unread host.contents name old.files new.files status) → EndsAfter disks host Run (λ content. content ≡ bytes) old new status
 unread_after disks host bytes None old new status is some unread = absurd (cc)
 unread_after disks host bytes (Some name) old new status is some unread = by_status disks host bytes name old new status is unread
 
-pub ends_unread : (disks : Disks) (host : Host) (bytes : List ℕ) (file : MachineFile) (old new : Failed) (status : Status) → machine_of_text bytes ≡ Some file
+pub ends_unread : (disks : Disks) (host : Host) (bytes : List ℕ) (file : MachineFile) (old new : FailedSoFar) (status : Status) → machine_of_text bytes ≡ Some file
     → IsSome file.script → IfSome file.script (λ name. Unread host.contents name old.files new.files status) → EndsAfter disks host Run (λ content. content ≡ bytes) old new status
 ends_unread disks host bytes file old new status is some unread =
     unread_after disks host bytes file.script old new status (script_of_file bytes file is) some unread
 
 -- its drives weren't mounted
 
-lacks_drive : (disks : Disks) (host : Host) (bytes : List ℕ) (file : MachineFile) (events : List Timed) (old new : Failed) (error : BootError) → machine_of_text bytes ≡ Some file
+lacks_drive : (disks : Disks) (host : Host) (bytes : List ℕ) (file : MachineFile) (events : List Timed) (old new : FailedSoFar) (error : BootError) → machine_of_text bytes ≡ Some file
     → Scripted host.contents file.script events → Stops disks host.images file.drives old.drives new.drives error
     → LacksDrive disks host Run (λ content. content ≡ bytes) old new error
 lacks_drive disks host bytes file events old new error is scripted stops = record {
@@ -135,7 +135,7 @@ lacks_drive disks host bytes file events old new error is scripted stops = recor
   stops = subst (λ (specs : List DriveSpec). Stops disks host.images specs old.drives new.drives error) (sym (drives_of_file bytes file is)) stops;
 }
 
-ends_by : (disks : Disks) (host : Host) (bytes : List ℕ) (file : MachineFile) (events : List Timed) (old new : Failed) (error : BootError) → machine_of_text bytes ≡ Some file
+ends_by : (disks : Disks) (host : Host) (bytes : List ℕ) (file : MachineFile) (events : List Timed) (old new : FailedSoFar) (error : BootError) → machine_of_text bytes ≡ Some file
     → Scripted host.contents file.script events → Stops disks host.images file.drives old.drives new.drives error
     → EndsAfter disks host Run (λ content. content ≡ bytes) old new (status_of error)
 ends_by disks host bytes file events old new (Image drive cause place) is scripted stops =
@@ -143,7 +143,7 @@ ends_by disks host bytes file events old new (Image drive cause place) is script
 ends_by disks host bytes file events old new DriveFailed is scripted stops = inl (refl, lacks_drive disks host bytes file events old new DriveFailed is scripted stops)
 ends_by disks host bytes file events old new NoMemory is scripted stops = tt
 
-pub ends_unmounted : (disks : Disks) (host : Host) (bytes : List ℕ) (file : MachineFile) (events : List Timed) (old new : Failed) (error : BootError) (status : Status)
+pub ends_unmounted : (disks : Disks) (host : Host) (bytes : List ℕ) (file : MachineFile) (events : List Timed) (old new : FailedSoFar) (error : BootError) (status : Status)
     → status ≡ status_of error → machine_of_text bytes ≡ Some file → Scripted host.contents file.script events
     → Stops disks host.images file.drives old.drives new.drives error → EndsAfter disks host Run (λ content. content ≡ bytes) old new status
 ends_unmounted disks host bytes file events old new error status same is scripted stops =
@@ -151,7 +151,7 @@ ends_unmounted disks host bytes file events old new error status same is scripte
 
 -- where an image has a fault, no drive failed
 first_same : (disks : Disks) (images : Images) (specs : List DriveSpec) (old new : Failures) (drive cause place : ℕ)
-    → IsFirst (IsFaultless disks images) (λ spec. StopsAt disks images spec old new (Image drive cause place)) specs → new ≡ old
+    → IsFirst (IsFaultless disks images) (λ spec. StopsMounting disks images spec old new (Image drive cause place)) specs → new ≡ old
 unfolding IsFirst
 first_same disks images [] old new drive cause place first = absurd first
 first_same disks images (spec ∷ specs) old new drive cause place (inl stops) = stops.2
@@ -210,7 +210,7 @@ starts_with_contents host form which name bytes disks (Ok machine) is from_file 
 -- so it is of how it ends
 
 begins_of_contents : (host : Host) (form : Form) (name bytes : List ℕ) (s : State) → Holds host.contents (input_of form) name bytes
-    → BeginsOf host form (λ content. content ≡ bytes) s → Begins host form name s
+    → BeginsOf host form (λ content. content ≡ bytes) s → BeginsCommand host form name s
 begins_of_contents host form name bytes s from_file begins = record {
   bytes = begins.bytes;
   events = begins.events;
@@ -233,7 +233,7 @@ script_lacks host form name bytes old new status from_file lacks = record {
   unread = lacks.unread;
 }
 
-drive_lacks : (disks : Disks) (host : Host) (form : Form) (name bytes : List ℕ) (old new : Failed) (error : BootError) → Holds host.contents (input_of form) name bytes
+drive_lacks : (disks : Disks) (host : Host) (form : Form) (name bytes : List ℕ) (old new : FailedSoFar) (error : BootError) → Holds host.contents (input_of form) name bytes
     → LacksDrive disks host form (λ content. content ≡ bytes) old new error → LacksDrive disks host form (Holds host.contents (input_of form) name) old new error
 drive_lacks disks host form name bytes old new error from_file lacks = record {
   bytes = lacks.bytes;
@@ -245,7 +245,7 @@ drive_lacks disks host form name bytes old new error from_file lacks = record {
   stops = lacks.stops;
 }
 
-ends_after : (disks : Disks) (host : Host) (form : Form) (name bytes : List ℕ) (old new : Failed) (status : Status) → Holds host.contents (input_of form) name bytes
+ends_after : (disks : Disks) (host : Host) (form : Form) (name bytes : List ℕ) (old new : FailedSoFar) (status : Status) → Holds host.contents (input_of form) name bytes
     → EndsAfter disks host form (λ content. content ≡ bytes) old new status → EndsAfter disks host form (Holds host.contents (input_of form) name) old new status
 unfolding begins_of_contents
 ends_after disks host form name bytes old new Ran from_file ends = (ends.0, begins_of_contents host form name bytes ends.0 from_file ends.1)
@@ -267,7 +267,7 @@ ends_after disks host form name bytes old new (DiskFault step) from_file (inr lo
 ends_after disks host form name bytes old new (WriteFault step) from_file ends = (ends.0, begins_of_contents host form name bytes ends.0 from_file ends.1)
 ends_after disks host form name bytes old new OutOfMemory from_file ends = tt
 
-pub ends_with_contents : (disks : Disks) (host : Host) (form which : Form) (name bytes : List ℕ) (old new : Failed) {M : Type 0} (result : Result M Status) → form ≡ which
+pub ends_with_contents : (disks : Disks) (host : Host) (form which : Form) (name bytes : List ℕ) (old new : FailedSoFar) {M : Type 0} (result : Result M Status) → form ≡ which
     → Holds host.contents (input_of form) name bytes
     → IfErr result (λ status. EndsAfter disks host which (λ content. content ≡ bytes) old new status) → IfErr result (λ status. Ends disks host form name old new status)
 ends_with_contents disks host form which name bytes old new (Ok machine) is from_file ends = tt

@@ -26,7 +26,7 @@ use Rattle.mpm_mount.proofs.LookedUp.{extent_found, extent_missing}
 use Rattle.mpm_mount.proofs.Ranges.{map_at}
 use Rattle.mpm_mount.proofs.Sound.{block_within}
 use Rattle.mpm_mount.proofs.Still.{has_own, file_injective}
-use Rattle.mpm_requests.specs.Asking.{StandsWhere}
+use Rattle.mpm_refusals.specs.Asking.{StandsWhere}
 use Rattle.mpm_bdos.specs.Serving.{StandEach}
 use Rattle.mpm_directories.specs.Places.{directory_at}
 use Rattle.mpm_bdos.specs.Turns.{labelled, images_of}

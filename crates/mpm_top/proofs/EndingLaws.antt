@@ -25,9 +25,9 @@ use Rattle.mpm_drives.specs.declared.error.BootError.TheVariants.{Image, DiskFau
 use Rattle.mpm_port.specs.Disks.{Disks, ToldImage, Untold, Missing, Bytes, Brings}
 use Rattle.mpm_drives.specs.Images.{Images, HasFiles}
 use Rattle.mpm_drives.specs.Mounted.{NumberedDrive, AreDrivesOf, number_of}
-use Rattle.mpm_drives.specs.Stopping.{Failures, IsFaultless, StopsAt, IsFirst}
+use Rattle.mpm_drives.specs.Stopping.{Failures, IsFaultless, StopsMounting, IsFirst}
 use Rattle.mpm_machine.specs.State.{State}
-use Rattle.mpm_top.specs.Beginnings.{Contents, Host, Failed, command_on, input_of, room_for, system_of, script_name, drives_listed, Holds, Scripted, Begins}
+use Rattle.mpm_top.specs.Beginnings.{Contents, Host, FailedSoFar, command_on, input_of, room_for, system_of, script_name, drives_listed, Holds, Scripted, BeginsCommand}
 use Rattle.mpm_top.specs.Promises.{Seen, EndsKnown}
 use Rattle.mpm_top.specs.Endings.{Unread, IsNoMachine, LacksScript, LacksDrive, Ends, EndsAs, ending_mounted, ending_attached, ending_drives, ending_read, ending_told, ending_scripted, ending_stood, ending_by_contents, ending}
 
@@ -154,7 +154,7 @@ attached_fault spec (Bytes bytes) (Some image) fault rest status has e =
     (sym (ap (λ (r : Result Drive FaultOfImage). ending_mounted spec r rest) (ap (λ b. files_of b spec.kind) (sym has.0) ∙ has.1)) ∙ e)
 
 first_fault_is : (disks : Disks) (images : Images) (specs : List DriveSpec) (old new : Failures) (drive cause place : ℕ) (status : Status)
-    → IsFirst (IsFaultless disks images) (λ spec. StopsAt disks images spec old new (Image drive cause place)) specs → ending_drives images specs ≡ Some status
+    → IsFirst (IsFaultless disks images) (λ spec. StopsMounting disks images spec old new (Image drive cause place)) specs → ending_drives images specs ≡ Some status
     → ImageFault drive cause place ≡ status
 unfolding ending_drives IsFirst
 first_fault_is disks images [] old new drive cause place status first e = absurd first
@@ -173,7 +173,7 @@ first_never (spec ∷ specs) Before P never (inl stops) = never spec stops
 first_never (spec ∷ specs) Before P never (inr later) = first_never specs Before P never later.1
 
 no_drive_stops : (disks : Disks) (images : Images) (spec : DriveSpec) (old new : Failures) → new.names ≡ old.names → (Rose old.faults new.faults → ⊥)
-    → StopsAt disks images spec old new DriveFailed → ⊥
+    → StopsMounting disks images spec old new DriveFailed → ⊥
 no_drive_stops disks images spec old new same sound (inl joined) = nothing_joins old.names spec.image (sym same ∙ joined.0)
 no_drive_stops disks images spec old new same sound (inr rose) = sound rose.1
 
@@ -226,13 +226,13 @@ read_says host form name file bytes events system status holds scripted stands t
     events_read host.contents drives (script_name form bytes) events status scripted
     (sym (ending_fits host form name bytes told_bytes holds.fits ∙ stood host.contents drives (script_name form bytes) (system_of form bytes []) some) ∙ e)
 
-begins_says : (host : Host) (form : Form) (name file : List ℕ) (s : State) (status : Status) → Begins host form name s
+begins_says : (host : Host) (form : Form) (name file : List ℕ) (s : State) (status : Status) → BeginsCommand host form name s
     → host.contents name ≡ Some file → ending host form name ≡ Some status → status ≡ Ran
 begins_says host form name file s status begins told e =
     drives_run host.images (drives_listed form begins.bytes) begins.on status begins.drives
     (read_says host form name file begins.bytes begins.events s.system status begins.contents_are begins.scripted begins.is told e)
 
-image_says : (disks : Disks) (host : Host) (form : Form) (name file : List ℕ) (old new : Failed) (drive cause place : ℕ) (status : Status)
+image_says : (disks : Disks) (host : Host) (form : Form) (name file : List ℕ) (old new : FailedSoFar) (drive cause place : ℕ) (status : Status)
     → LacksDrive disks host form (Holds host.contents (input_of form) name) old new (Image drive cause place) → host.contents name ≡ Some file
     → ending host form name ≡ Some status → ImageFault drive cause place ≡ status
 image_says disks host form name file old new drive cause place status lacks told e =
@@ -255,7 +255,7 @@ file_told host form name status e = was_some (host.contents name) (ending_by_con
 
 -- an ending that has its reason is the one that files and images tell, where it is none by a device
 
-told_ending : (disks : Disks) (host : Host) (form : Form) (name : List ℕ) (old new : Failed) (status result : Status)
+told_ending : (disks : Disks) (host : Host) (form : Form) (name : List ℕ) (old new : FailedSoFar) (status result : Status)
     → Ends disks host form name old new result → ending host form name ≡ Some status → new.files ≡ old.files
     → ((step : ℕ) → result ≡ DiskFault step → EndsAs status result) → ((step : ℕ) → result ≡ WriteFault step → EndsAs status result) → EndsAs status result
 told_ending disks host form name old new status Ran (inl nothing) e same disk write = absurd nothing
@@ -294,14 +294,14 @@ told_ending disks host form name old new status OutOfMemory ends e same disk wri
 
 -- a drive failed at an ending by one
 
-disk_failed : (disks : Disks) (host : Host) (form : Form) (name : List ℕ) (old new : Failed) (step : ℕ) → Ends disks host form name old new (DiskFault step)
+disk_failed : (disks : Disks) (host : Host) (form : Form) (name : List ℕ) (old new : FailedSoFar) (step : ℕ) → Ends disks host form name old new (DiskFault step)
     → new.drives.names ≡ old.drives.names → (Rose old.drives.faults new.drives.faults → ⊥) → ⊥
 disk_failed disks host form name old new step (inl nothing) same sound = absurd nothing
 disk_failed disks host form name old new step (inr (inl lacks)) same sound =
     first_never (drives_listed form lacks.1.bytes) _ _ (λ spec. no_drive_stops disks host.images spec old.drives new.drives same sound) lacks.1.stops
 disk_failed disks host form name old new step (inr (inr loses)) same sound = sound loses.rose
 
-no_disk_fault : (disks : Disks) (host : Host) (form : Form) (name : List ℕ) (old new : Failed) (result : Status) (step : ℕ) → Ends disks host form name old new result
+no_disk_fault : (disks : Disks) (host : Host) (form : Form) (name : List ℕ) (old new : FailedSoFar) (result : Status) (step : ℕ) → Ends disks host form name old new result
     → result ≡ DiskFault step → new.drives.names ≡ old.drives.names → (Rose old.drives.faults new.drives.faults → ⊥) → ⊥
 no_disk_fault disks host form name old new result step ends is same sound =
     disk_failed disks host form name old new step (subst (λ (s : Status). Ends disks host form name old new s) is ends) same sound
@@ -311,7 +311,7 @@ no_disk_fault disks host form name old new result step ends is same sound =
 zero_is : (step : ℕ) → step ≡ 0 → DiskFault step ≡ DiskFault 0
 zero_is step is = ap (λ (n : ℕ). DiskFault n) is
 
-missing_disk : (disks : Disks) (host : Host) (form : Form) (name : List ℕ) (old new : Failed) (step : ℕ) → Ends disks host form name old new (DiskFault step)
+missing_disk : (disks : Disks) (host : Host) (form : Form) (name : List ℕ) (old new : FailedSoFar) (step : ℕ) → Ends disks host form name old new (DiskFault step)
     → ending host form name ≡ Some (DiskFault 0) → DiskFault step ≡ DiskFault 0
 missing_disk disks host form name old new step (inl nothing) e = absurd nothing
 missing_disk disks host form name old new step (inr (inl lacks)) e = zero_is step lacks.0
@@ -320,7 +320,7 @@ missing_disk disks host form name old new step (inr (inr loses)) e =
     let none : DiskFault 0 ≡ Ran = begins_says host form name found.0 loses.start (DiskFault 0) loses.begins found.1 e in
     absurd (cc)
 
-missing_write : (disks : Disks) (host : Host) (form : Form) (name : List ℕ) (old new : Failed) (step : ℕ) → Ends disks host form name old new (WriteFault step)
+missing_write : (disks : Disks) (host : Host) (form : Form) (name : List ℕ) (old new : FailedSoFar) (step : ℕ) → Ends disks host form name old new (WriteFault step)
     → ending host form name ≡ Some (DiskFault 0) → ⊥
 missing_write disks host form name old new step (inl nothing) e = absurd nothing
 missing_write disks host form name old new step (inr begun) e =
@@ -328,7 +328,7 @@ missing_write disks host form name old new step (inr begun) e =
     let none : DiskFault 0 ≡ Ran = begins_says host form name found.0 begun.0 (DiskFault 0) begun.1 found.1 e in
     absurd (cc)
 
-missing_image : (disks : Disks) (host : Host) (form : Form) (name : List ℕ) (old new : Failed) (result : Status) → Ends disks host form name old new result
+missing_image : (disks : Disks) (host : Host) (form : Form) (name : List ℕ) (old new : FailedSoFar) (result : Status) → Ends disks host form name old new result
     → ending host form name ≡ Some (DiskFault 0) → new.files ≡ old.files → EndsAs (DiskFault 0) result
 missing_image disks host form name old new result ends e same =
     let P : Status → Type 0 = λ s. Ends disks host form name old new s in

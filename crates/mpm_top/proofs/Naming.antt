@@ -13,7 +13,7 @@ use Rattle.mpm_mount.specs.Images.{files_of}
 use Rattle.mpm_mount.proofs.Mounts.{mounts}
 use Rattle.mpm_drives.specs.Images.{Images}
 use Rattle.mpm_drives.specs.Mounted.{number_of}
-use Rattle.mpm_requests.specs.Asking.{StandsWhere}
+use Rattle.mpm_refusals.specs.Asking.{StandsWhere}
 use Rattle.mpm_directories.specs.Places.{directory_at}
 use Rattle.mpm_bdos.specs.Turns.{has_directory, labelled, images_of}
 use Rattle.mpm_bdos.proofs.NextTurns.{image_told}

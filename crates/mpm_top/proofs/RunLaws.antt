@@ -4,34 +4,34 @@ use Rattle.std.specs.Prelude.{OnOk, OnErr}
 use Rattle.mpm_port.specs.Causes.{Rose, HasCause}
 use Rattle.mpm_port.specs.Disks.{Disks}
 use Rattle.mpm_mount.specs.Drives.{Drive}
-use Rattle.mpm_render.specs.Shown.{Kept, Shows, EndsBetween}
+use Rattle.mpm_render.specs.Shown.{KeptLines, Shows, EndsBetween}
 use Rattle.mpm_render.specs.Outputs.{Output, rendered, closed}
 use Rattle.mpm_drives.specs.Mounted.{NumberedDrive}
 use Rattle.mpm_machine.specs.declared.machine.Machine.{Machine}
 use Rattle.mpm_machine.specs.declared.machine.StepFault.{StepFault}
 use Rattle.mpm_machine.specs.declared.machine.StepFault.TheVariants.{WriteFault as SinkFailed, DiskFault as SyncFailed}
-use Rattle.mpm_machine.specs.Faults.{Counts, HasFailed}
+use Rattle.mpm_machine.specs.Faults.{FailureCounts, HasFailed}
 use Rattle.mpm_machine.specs.State.{State, StandsWithDrives}
-use Rattle.mpm_machine.specs.Files.{Files, StandsForFiles}
+use Rattle.mpm_machine.specs.Files.{FilesInService, StandsForFiles}
 use Rattle.mpm_bdos.specs.Serving.{Kept as Filed}
 use Rattle.mpm_machine.specs.Failing.{Left, HaveImages, StopsOn}
 use Rattle.mpm_machine.specs.Settling.{carried}
-use Rattle.mpm_machine.specs.AtEnd.{Called, StopsAtEnd}
+use Rattle.mpm_machine.specs.AtEnd.{DriveCalls, StopsAtEnd}
 use Rattle.mpm_machine.specs.After.{next, after, ShowsBefore, EndsInStep}
 use Rattle.mpm_machine.proofs.NextLaws.{after_more}
 use Rattle.mpm_system.specs.declared.system.System.{System}
 use Rattle.mpm_top.specs.declared.words.Form.{Form}
 use Rattle.mpm_top.specs.declared.status.Status.{Status}
-use Rattle.mpm_top.specs.Beginnings.{Host, Failed, Begins}
-use Rattle.mpm_top.specs.Runs.{Printed, drives_of, drives_left, StopsRun, Closes, ClosesAfter, Causes}
+use Rattle.mpm_top.specs.Beginnings.{Host, FailedSoFar, BeginsCommand}
+use Rattle.mpm_top.specs.Runs.{Printed, drives_of, drives_left, StopsRunBy, Closes, ClosesAfter, Causes}
 use Rattle.mpm_top.specs.Endings.{Ends, ended_by}
 
 -- a machine that begins, and a renderer that shows nothing yet, stand for its beginning
 
-abbrev pub first_state : System → Files → State
+abbrev pub first_state : System → FilesInService → State
 first_state system files = record { system = system; outputs = []; files = files }
 
-pub stands_first : (machine : Machine) (files : Files) (kept : Kept) (written : List ℕ) (disks : Disks) → Shows kept written [] written
+pub stands_first : (machine : Machine) (files : FilesInService) (kept : KeptLines) (written : List ℕ) (disks : Disks) → Shows kept written [] written
     → StandsForFiles machine.system.kernel.disk machine.bdos disks files → StandsWithDrives machine kept written disks (first_state machine.system files) written
 stands_first machine files kept written disks shows stand = record { system = record { parts = refl; shown = shows }; files = stand }
 
@@ -55,7 +55,7 @@ pub stops_in_step : (Stand : List (Option Drive) → Type 0) (fault : StepFault)
     → (fault ≡ SinkFailed → new.text ≡ written) → trace ≡ trace' → EndsInStep fault trace' written old.text s steps step
     → ClosesAfter fault trace (after (step - 1 - s.system.steps) s) old new
     → StopsOn fault (after (step - 1 - s.system.steps) s).system (after (step - 1 - s.system.steps) s).files drives → Stand drives
-    → StopsRun Stand fault trace s steps old new step
+    → StopsRunBy Stand fault trace s steps old new step
 stops_in_step Stand SinkFailed trace trace' s steps old new written step drives same traces ends closes on stand =
     let P : List ℕ → Type 0 = λ w. EndsInStep SinkFailed trace w old.text s steps step in
     let Q : Bool → Type 0 = λ t. EndsInStep SinkFailed t written old.text s steps step in
@@ -64,10 +64,10 @@ stops_in_step Stand SyncFailed trace trace' s steps old new written step drives 
     inl (record { later = ends.later; within = ends.within; text = closes; left = record { drives = drives; fails = on; stand = stand } })
 
 -- or at the end: as the sink failed, or a drive in a turn of the call in service, or as it was synced
-pub stops_at_end : (Stand : List (Option Drive) → Type 0) (fault : StepFault) (trace : Bool) (s : State) (steps : ℕ) (old new : Printed) (left : Left) (kept : Filed) (before behind : Called)
+pub stops_at_end : (Stand : List (Option Drive) → Type 0) (fault : StepFault) (trace : Bool) (s : State) (steps : ℕ) (old new : Printed) (left : Left) (kept : Filed) (before behind : DriveCalls)
     → (fault ≡ SinkFailed → new.text ≡ left.written) → left.kept.trace ≡ trace → ((t : State) → ShowsBefore fault left.kept left.written t old.text → ClosesAfter fault trace t old new)
     → ((drives : List (Option Drive)) → HaveImages left.disks left.mounted drives → Stand drives) → StopsAtEnd fault left kept before behind (after steps s) old.text
-    → StopsRun Stand fault trace s steps old new steps
+    → StopsRunBy Stand fault trace s steps old new steps
 stops_at_end Stand SinkFailed trace s steps old new left kept before behind same traces closes stand stops =
     let P : List ℕ → Type 0 = λ w. EndsBetween w old.text (rendered trace (after steps s).outputs) (closed trace (carried (after steps s)).outputs) in
     let Q : Bool → Type 0 = λ t. EndsBetween left.written old.text (rendered t (after steps s).outputs) (closed t (carried (after steps s)).outputs) in
@@ -88,7 +88,7 @@ closes_by : {A E : Type 0} (r : Result A E) (trace : Bool) (s : State) (old new 
 closes_by (Ok x) trace s old new cause ok err = inl ok
 closes_by (Err e) trace s old new cause ok err = inr (cause.failed, err)
 
-pub closes_after : {A E : Type 0} (r : Result A E) (fault : StepFault) (kept : Kept) (s : State) (first written : List ℕ) (before : ℕ) (new : Printed)
+pub closes_after : {A E : Type 0} (r : Result A E) (fault : StepFault) (kept : KeptLines) (s : State) (first written : List ℕ) (before : ℕ) (new : Printed)
     → ShowsBefore fault kept written s first → HasCause before new.faults r
     → ((os : List Output) (f : List ℕ) → Shows kept written os f → OnOk r (new.text ≡ f ++ closed kept.trace os))
     → ((os : List Output) (f : List ℕ) → Shows kept written os f → OnErr r (EndsBetween new.text f (rendered kept.trace os) (closed kept.trace os)))
@@ -104,19 +104,19 @@ closed_alike SyncFailed trace trace' s first before before' new traces counts cl
     let P : ℕ → Type 0 = λ n. Closes trace s (record { text = first; faults = n }) new in
     subst (λ t. Closes t s (record { text = first; faults = before' }) new) traces (subst P (counts refl) closes)
 
-pub sink_stays : (fault : StepFault) (old new : Counts) → HasFailed fault old new → fault ≡ SyncFailed → new.sink ≡ old.sink
+pub sink_stays : (fault : StepFault) (old new : FailureCounts) → HasFailed fault old new → fault ≡ SyncFailed → new.sink ≡ old.sink
 sink_stays SinkFailed old new failed is = absurd (cc)
 sink_stays SyncFailed old new failed is = failed.1
 
 -- which count rose
 
-pub causes_stopped : (fault : StepFault) (old mid new : Counts) → mid.drives ≡ old.drives → mid.sink ≡ old.sink
+pub causes_stopped : (fault : StepFault) (old mid new : FailureCounts) → mid.drives ≡ old.drives → mid.sink ≡ old.sink
     → HasFailed fault mid new → Causes fault old new
 causes_stopped SinkFailed old mid new drives sink failed =
     (subst (λ n. Rose n new.sink) sink failed.0, failed.1 ∙ drives)
 causes_stopped SyncFailed old mid new drives sink failed = subst (λ n. Rose n new.drives) drives failed.0
 
-pub causes_closed : (fault : StepFault) (old new : Counts) (now : ℕ) → (fault ≡ SinkFailed → now ≡ new.sink) → Causes fault old new
+pub causes_closed : (fault : StepFault) (old new : FailureCounts) (now : ℕ) → (fault ≡ SinkFailed → now ≡ new.sink) → Causes fault old new
     → Causes fault old (record { sink = now; drives = new.drives })
 causes_closed SinkFailed old new now same causes = (subst (λ n. Rose old.sink n) (sym (same refl)) causes.0, causes.1)
 causes_closed SyncFailed old new now same causes = causes
@@ -127,7 +127,7 @@ some_drive : (on : List NumberedDrive) → (on ≡ [] → ⊥) → 0 < length on
 some_drive [] none = absurd (none refl)
 some_drive (d ∷ on) none = omega arith
 
-ends_stopped : (disks : Disks) (host : Host) (form : Form) (name : List ℕ) (s : State) (old new : Failed) (fault : StepFault) (step sink sink' : ℕ) (begins : Begins host form name s)
+ends_stopped : (disks : Disks) (host : Host) (form : Form) (name : List ℕ) (s : State) (old new : FailedSoFar) (fault : StepFault) (step sink sink' : ℕ) (begins : BeginsCommand host form name s)
     → (begins.on ≡ [] → fault ≡ SinkFailed) → Causes fault (record { sink = sink; drives = old.drives.faults }) (record { sink = sink'; drives = new.drives.faults })
     → new.drives.names ≡ old.drives.names → Ends disks host form name old new (ended_by fault step)
 ends_stopped disks host form name s old new SinkFailed step sink sink' begins some causes names = inr (s, begins)
@@ -137,8 +137,8 @@ ends_stopped disks host form name s old new SyncFailed step sink sink' begins so
     no_sink : SyncFailed ≡ SinkFailed → ⊥
     no_sink e = cc
 
-pub ends_by_fault : (disks : Disks) (host : Host) (form : Form) (name : List ℕ) (s : State) (old new : Failed) (fault : StepFault) (step sink sink' : ℕ) (status : Status)
-    → status ≡ ended_by fault step → (begins : Begins host form name s) → (begins.on ≡ [] → fault ≡ SinkFailed)
+pub ends_by_fault : (disks : Disks) (host : Host) (form : Form) (name : List ℕ) (s : State) (old new : FailedSoFar) (fault : StepFault) (step sink sink' : ℕ) (status : Status)
+    → status ≡ ended_by fault step → (begins : BeginsCommand host form name s) → (begins.on ≡ [] → fault ≡ SinkFailed)
     → Causes fault (record { sink = sink; drives = old.drives.faults }) (record { sink = sink'; drives = new.drives.faults })
     → new.drives.names ≡ old.drives.names → Ends disks host form name old new status
 ends_by_fault disks host form name s old new fault step sink sink' status is begins some causes names =

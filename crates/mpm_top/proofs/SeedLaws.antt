@@ -22,7 +22,7 @@ use Rattle.mpm_mount.specs.declared.errors.ImageFault.{ImageFault as FaultOfImag
 use Rattle.mpm_drives.specs.declared.error.BootError.{BootError}
 use Rattle.mpm_drives.specs.declared.error.BootError.TheVariants.{Image}
 use Rattle.mpm_drives.specs.Images.{Images}
-use Rattle.mpm_drives.specs.Stopping.{Failures, IsFaultless, StopsAt, IsFirst, Stops}
+use Rattle.mpm_drives.specs.Stopping.{Failures, IsFaultless, StopsMounting, IsFirst, Stops}
 use Rattle.mpm_drives.specs.Mounted.{NumberedDrive, AreMounted, IsDriveOf, IsMountedAs, placed}
 use Rattle.mpm_bdos.specs.Serving.{Kept as Filed}
 use Rattle.mpm_directories.specs.Places.{directory_at}
@@ -142,7 +142,7 @@ at_no_fault (Some brought) told image files fault there are has =
     apart files fault (files_of image Hd4) are (subst (λ b. files_of b Hd4 ≡ Err fault) (brought_is told image brought there has.0) has.1)
 
 fault_nowhere : (disks : Disks) (images : Images) (image : List ℕ) (files : Drive) (old new : Failures) (drive cause place : ℕ) → images name_of_image ≡ Bytes image
-    → files_of image Hd4 ≡ Ok files → IsFirst (IsFaultless disks images) (λ spec. StopsAt disks images spec old new (Image drive cause place)) (its_drive ∷ []) → ⊥
+    → files_of image Hd4 ≡ Ok files → IsFirst (IsFaultless disks images) (λ spec. StopsMounting disks images spec old new (Image drive cause place)) (its_drive ∷ []) → ⊥
 unfolding IsFirst
 fault_nowhere disks images image files old new drive cause place there are (inl stops) =
     at_no_fault (disks.image 0) (images name_of_image) image files (record { cause = cause; place = place }) there are stops.1

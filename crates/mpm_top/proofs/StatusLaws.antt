@@ -7,8 +7,8 @@ use Rattle.mpm_top.specs.declared.status.Status.{Status}
 use Rattle.mpm_top.specs.declared.status.Status.TheVariants.{Ran, Usage, MachineFault, ScriptFault, ImageFault, TooLong, ReadFault, DiskFault, WriteFault, OutOfMemory}
 use Rattle.mpm_top.specs.declared.status.Input.TheVariants.{ScriptText}
 use Rattle.mpm_top.specs.Words.{Command}
-use Rattle.mpm_top.specs.Beginnings.{Contents, Begins, drives_listed}
-use Rattle.mpm_top.specs.Runs.{StandFor, KeepsOthers, StopsRun, Causes}
+use Rattle.mpm_top.specs.Beginnings.{Contents, BeginsCommand, drives_listed}
+use Rattle.mpm_top.specs.Runs.{StandFor, KeepsOthers, StopsRunBy, Causes}
 use Rattle.mpm_top.specs.Endings.{Unfetched, Unread, IsEarly, IsRefusal, by_fault, UnlessReadFault, UnlessDiskFault, UnlessWriteFault, ended_by}
 use Rattle.mpm_top.specs.Promises.{Seen, WritesNothing, Writes, Fails}
 
@@ -92,9 +92,9 @@ refuses SyncFailed step refusal = refusal
 pub ended_refusal : (fault : StepFault) (step : ℕ) (status : Status) → status ≡ ended_by fault step → IsRefusal status → ⊥
 ended_refusal fault step status is refusal = refuses fault step (subst IsRefusal is refusal)
 
-writes_by : (Same : Type 0) (command : Command) (old new : Seen) (s : State) (fault : StepFault) (step : ℕ) (begins : Begins old.host command.form command.name s)
+writes_by : (Same : Type 0) (command : Command) (old new : Seen) (s : State) (fault : StepFault) (step : ℕ) (begins : BeginsCommand old.host command.form command.name s)
     → step ≤ command.steps
-    → StopsRun (StandFor new.disks new.host.images (drives_listed command.form begins.bytes)) fault command.trace s command.steps old.printed new.printed step
+    → StopsRunBy (StandFor new.disks new.host.images (drives_listed command.form begins.bytes)) fault command.trace s command.steps old.printed new.printed step
     → KeepsOthers old.host.images new.host.images old.disks new.disks (drives_listed command.form begins.bytes) → (step ≡ 0 → new.host.images ≡ old.host.images)
     → Writes Same command old new (ended_by fault step)
 writes_by Same command old new s SinkFailed step begins within stops others early =
@@ -103,8 +103,8 @@ writes_by Same command old new s SyncFailed step begins within stops others earl
     inr (record { start = s; begins = begins; within = within; stops = stops; others = others; early = early })
 
 pub writes_stopped : (Same : Type 0) (command : Command) (old new : Seen) (s : State) (fault : StepFault) (step : ℕ) (status : Status) → status ≡ ended_by fault step
-    → (begins : Begins old.host command.form command.name s) → step ≤ command.steps
-    → StopsRun (StandFor new.disks new.host.images (drives_listed command.form begins.bytes)) fault command.trace s command.steps old.printed new.printed step
+    → (begins : BeginsCommand old.host command.form command.name s) → step ≤ command.steps
+    → StopsRunBy (StandFor new.disks new.host.images (drives_listed command.form begins.bytes)) fault command.trace s command.steps old.printed new.printed step
     → KeepsOthers old.host.images new.host.images old.disks new.disks (drives_listed command.form begins.bytes) → (step ≡ 0 → new.host.images ≡ old.host.images)
     → Writes Same command old new status
 writes_stopped Same command old new s fault step status is begins within stops others early =

@@ -10,7 +10,7 @@ use Rattle.mpm_machine_file.specs.declared.lists.DriveSpec.{DriveSpec}
 use Rattle.mpm_mount.specs.Directories.{Directory}
 use Rattle.mpm_drives.specs.Mounted.{number_of, SameBeside}
 use Rattle.mpm_directories.specs.Places.{directory_at}
-use Rattle.mpm_bdos.specs.Syncing.{AreSynced}
+use Rattle.mpm_bdos.specs.Syncing.{AreMountedSynced}
 use Rattle.mpm_bdos.specs.Turns.{StaysBeside, labelled}
 use Rattle.mpm_machine.specs.declared.machine.Machine.{Machine}
 use Rattle.mpm_machine.specs.Mounting.{HasNoDrive, IsInPlace, HasDrives}
@@ -44,7 +44,7 @@ if_there (Some d) None P same p = absurd (none-some _ same)
 if_there (Some d) (Some e) P same p = p
 
 pub synced_before : (unsynced : ℕ → Bool) (old new : List (Option Directory)) → ((number : ℕ) → option_map labelled (directory_at new number) ≡ option_map labelled (directory_at old number))
-    → AreSynced unsynced new → AreSynced unsynced old
+    → AreMountedSynced unsynced new → AreMountedSynced unsynced old
 synced_before unsynced old new labels synced number =
     if_there (directory_at old number) (directory_at new number) (unsynced number ≡ false) (labels number) (synced number)
 
@@ -55,7 +55,7 @@ where_labelled None label P is p = absurd (none-some _ is)
 where_labelled (Some d) label P is p = p
 
 pub listed_synced : (disks : Disks) (mounted : List (Option Directory)) (unsynced : ℕ → Bool) (specs : List DriveSpec) → AllByRecursion (IsInPlace disks mounted) specs
-    → AreSynced unsynced mounted → AreSyncedOf unsynced specs
+    → AreMountedSynced unsynced mounted → AreSyncedOf unsynced specs
 listed_synced disks mounted unsynced [] each synced = tt
 listed_synced disks mounted unsynced (spec ∷ specs) each synced = (
   where_labelled (directory_at mounted (number_of spec)) (number_of spec, spec.kind) (unsynced (number_of spec) ≡ false) each.0.label (synced (number_of spec)),
@@ -69,7 +69,7 @@ attached_or_synced None P Q free synced = inl (free refl)
 attached_or_synced (Some d) P Q free synced = inr synced
 
 pub syncs_attached : (disks middle now : Disks) (unsynced : ℕ → Bool) (mounted : List (Option Directory)) → KeepsUnmounted disks middle mounted
-    → ((number : ℕ) → IsAttachedAs middle now number) → AreSynced unsynced mounted → SyncsAttached disks now unsynced
+    → ((number : ℕ) → IsAttachedAs middle now number) → AreMountedSynced unsynced mounted → SyncsAttached disks now unsynced
 syncs_attached disks middle now unsynced mounted keeps attached synced number =
     attached_or_synced (directory_at mounted number) (IsAttachedAs disks now number) (unsynced number ≡ false)
     (λ free. ((attached number).0 ∙ keeps.names number free, (attached number).1 ∙ ap (option_map length) (keeps.images number free))) (synced number)
@@ -91,6 +91,6 @@ nothing_called (Ok machine) disks = record { images = λ number free. refl; name
 -- where none is mounted all are synced
 
 pub none_synced : {E : Type 0} (result : Result Machine E) (unsynced : ℕ → Bool) → IfOk result (λ machine. HasNoDrive machine.bdos.mounted)
-    → IfOk result (λ machine. AreSynced unsynced machine.bdos.mounted)
+    → IfOk result (λ machine. AreMountedSynced unsynced machine.bdos.mounted)
 none_synced (Err error) unsynced none = tt
 none_synced (Ok machine) unsynced none = λ number. subst (λ (directory : Option Directory). IfSome directory (λ d. unsynced number ≡ false)) (sym (none number)) tt

@@ -32,7 +32,7 @@ pub record Host : Type 0 where
   pub images : Images
 
 -- what failed so far: the names of files that couldn't be fetched, oldest first, and the drives' failures
-pub record Failed : Type 0 where
+pub record FailedSoFar : Type 0 where
   pub files : List (List ℕ)
   pub drives : Failures
 
@@ -53,7 +53,7 @@ host contents told files drives = record { contents = contents files; images = t
 abbrev pub failures : {D : Type 0} → (D → ℕ) → (D → List (List ℕ)) → D → Failures
 failures faults names drives = record { faults = faults drives; names = names drives }
 
-abbrev pub failed : {F D : Type 0} → (F → List (List ℕ)) → (D → ℕ) → (D → List (List ℕ)) → F → D → Failed
+abbrev pub failed : {F D : Type 0} → (F → List (List ℕ)) → (D → ℕ) → (D → List (List ℕ)) → F → D → FailedSoFar
 failed of_files faults names files drives = record { files = of_files files; drives = failures faults names drives }
 
 -- what is asked of a file of a name
@@ -110,8 +110,8 @@ pub record BeginsOf (host : Host) (form : Form) (Of : List ℕ → Type 0) (s : 
   pub outputs : s.outputs ≡ []
 
 -- a command of a form and a file begins with that state
-abbrev pub Begins : Host → Form → List ℕ → State → Type 0
-Begins host form name s = BeginsOf host form (Holds host.contents (input_of form) name) s
+abbrev pub BeginsCommand : Host → Form → List ℕ → State → Type 0
+BeginsCommand host form name s = BeginsOf host form (Holds host.contents (input_of form) name) s
 
 -- with that a machine begins: what is kept of files, and the images, stand for what is on the drives; and no call is in service
 pub record StartsOf (host : Host) (form : Form) (Of : List ℕ → Type 0) (system : System) (kept : Filed) (disks : Disks) : Type 0 where

@@ -23,7 +23,7 @@ use Rattle.mpm_top.specs.declared.status.Input.{Input}
 use Rattle.mpm_top.specs.declared.status.Input.TheVariants.{ScriptText}
 use Rattle.mpm_top.specs.declared.status.Status.{Status}
 use Rattle.mpm_top.specs.declared.status.Status.TheVariants.{Ran, Usage, MachineFault, ScriptFault, ImageFault, TooLong, ReadFault, DiskFault, WriteFault, OutOfMemory}
-use Rattle.mpm_top.specs.Beginnings.{Contents, Host, Failed, input_of, room_for, system_of, script_name, drives_listed, Holds, Scripted, BeginsOf}
+use Rattle.mpm_top.specs.Beginnings.{Contents, Host, FailedSoFar, input_of, room_for, system_of, script_name, drives_listed, Holds, Scripted, BeginsOf}
 
 -- why a file wasn't fetched as an input: it is longer than it may be, its name joined the failed names, or there was no
 -- memory. A file that isn't known may have been longer
@@ -73,7 +73,7 @@ pub record LacksScript (contents : Contents) (form : Form) (Of : List ℕ → Ty
   pub unread : Unread contents script old new status
 
 -- they are a machine file, and its script, if it names one, was read; but its drives weren't mounted, which left these images
-pub record LacksDrive (disks : Disks) (host : Host) (form : Form) (Of : List ℕ → Type 0) (old new : Failed) (error : BootError) : Type 0 where
+pub record LacksDrive (disks : Disks) (host : Host) (form : Form) (Of : List ℕ → Type 0) (old new : FailedSoFar) (error : BootError) : Type 0 where
   pub bytes : List ℕ
   pub events : List Timed
   pub system : System
@@ -83,7 +83,7 @@ pub record LacksDrive (disks : Disks) (host : Host) (form : Form) (Of : List ℕ
   pub stops : Stops disks host.images (drives_listed form bytes) old.drives new.drives error
 
 -- it began, and one of its drives failed later, which adds no failed name
-pub record LosesDrive (host : Host) (form : Form) (Of : List ℕ → Type 0) (old new : Failed) : Type 0 where
+pub record LosesDrive (host : Host) (form : Form) (Of : List ℕ → Type 0) (old new : FailedSoFar) : Type 0 where
   pub start : State
   pub begins : BeginsOf host form Of start
   pub some : 0 < length begins.on
@@ -91,7 +91,7 @@ pub record LosesDrive (host : Host) (form : Form) (Of : List ℕ → Type 0) (ol
   pub names : new.drives.names ≡ old.drives.names
 
 -- how such a command ends, by the images that its drives have then
-abbrev pub EndsAfter : Disks → Host → Form → (List ℕ → Type 0) → Failed → Failed → Status → Type 0
+abbrev pub EndsAfter : Disks → Host → Form → (List ℕ → Type 0) → FailedSoFar → FailedSoFar → Status → Type 0
 EndsAfter disks host form Of old new Ran = (s : State) × BeginsOf host form Of s
 EndsAfter disks host form Of old new Usage = ⊥
 EndsAfter disks host form Of old new MachineFault = IsNoMachine form Of
@@ -104,7 +104,7 @@ EndsAfter disks host form Of old new (WriteFault step) = (s : State) × BeginsOf
 EndsAfter disks host form Of old new OutOfMemory = Unit {0}
 
 -- how a command of a form and a file ends: the file wasn't fetched, or it was, and then by its bytes
-abbrev pub Ends : Disks → Host → Form → List ℕ → Failed → Failed → Status → Type 0
+abbrev pub Ends : Disks → Host → Form → List ℕ → FailedSoFar → FailedSoFar → Status → Type 0
 Ends disks host form name old new status =
     Unfetched host.contents (input_of form) name old.files new.files status
     ⊎ EndsAfter disks host form (Holds host.contents (input_of form) name) old new status

@@ -12,7 +12,7 @@ use Rattle.mpm_machine.specs.Settling.{carried}
 use Rattle.mpm_top.specs.declared.status.Status.{Status}
 use Rattle.mpm_top.specs.declared.status.Status.TheVariants.{Ran, Usage, MachineFault, ScriptFault, ImageFault, TooLong, ReadFault, DiskFault, WriteFault, OutOfMemory}
 use Rattle.mpm_top.specs.Words.{Command}
-use Rattle.mpm_top.specs.Beginnings.{Contents, Host, Failed, host, failed, input_of, room_for, script_name, drives_listed, Begins}
+use Rattle.mpm_top.specs.Beginnings.{Contents, Host, FailedSoFar, host, failed, input_of, room_for, script_name, drives_listed, BeginsCommand}
 use Rattle.mpm_top.specs.Runs.{Printed, printed, StandFor, AreSyncedOf, KeepsOthers, StopsAt, ClosesAt, drives_left}
 use Rattle.mpm_top.specs.Endings.{UnlessReadFault, UnlessDiskFault, UnlessWriteFault, Ends, EndsAs, ending}
 
@@ -22,7 +22,7 @@ pub record Seen : Type 0 where
   pub host : Host
   pub disks : Disks
   pub unsynced : ℕ → Bool
-  pub failed : Failed
+  pub failed : FailedSoFar
   pub printed : Printed
 
 abbrev pub seen : {F D S : Type 0} → (F → Contents) → (F → List (List ℕ)) → (D → Disks) → (D → Images) → (D → ℕ → Bool) → (D → ℕ) → (D → List (List ℕ))
@@ -42,7 +42,7 @@ seen contents unfetched disks told unsynced faults unattached written failures f
 -- the end, and is synced. The image of a drive that it doesn't list is as it was, unless it has the name of a listed one
 pub record WritesAll (command : Command) (old new : Seen) : Type 0 where
   pub start : State
-  pub begins : Begins old.host command.form command.name start
+  pub begins : BeginsCommand old.host command.form command.name start
   pub text : new.printed.text ≡ old.printed.text ++ closed command.trace (carried (after command.steps start)).outputs
   pub images : StandFor new.disks new.host.images (drives_listed command.form begins.bytes) (drives_left (after command.steps start))
   pub synced : AreSyncedOf new.unsynced (drives_listed command.form begins.bytes)
@@ -52,7 +52,7 @@ pub record WritesAll (command : Command) (old new : Seen) : Type 0 where
 -- each image stands for what is on its drive after it. Or it failed so in the end, after all steps
 pub record WritesPart (command : Command) (old new : Seen) (step : ℕ) : Type 0 where
   pub start : State
-  pub begins : Begins old.host command.form command.name start
+  pub begins : BeginsCommand old.host command.form command.name start
   pub within : step ≤ command.steps
   pub stops : StopsAt (StandFor new.disks new.host.images (drives_listed command.form begins.bytes)) command.trace start command.steps old.printed new.printed step
   pub others : KeepsOthers old.host.images new.host.images old.disks new.disks (drives_listed command.form begins.bytes)
@@ -61,7 +61,7 @@ pub record WritesPart (command : Command) (old new : Seen) (step : ℕ) : Type 0
 -- is the text of all before. Each image stands for what was then on its drive, and that of the call which failed for what is within a turn
 pub record WritesClosed (command : Command) (old new : Seen) (step : ℕ) : Type 0 where
   pub start : State
-  pub begins : Begins old.host command.form command.name start
+  pub begins : BeginsCommand old.host command.form command.name start
   pub within : step ≤ command.steps
   pub stops : ClosesAt (StandFor new.disks new.host.images (drives_listed command.form begins.bytes)) command.trace start command.steps old.printed new.printed step
   pub others : KeepsOthers old.host.images new.host.images old.disks new.disks (drives_listed command.form begins.bytes)

@@ -17,7 +17,7 @@ use Rattle.mpm_machine.specs.Files.{drives_in, filing_in}
 use Rattle.mpm_machine.specs.After.{after, EndsInStep}
 use Rattle.mpm_machine.specs.Failing.{FailsWithin, StopsOn}
 use Rattle.mpm_machine.specs.Settling.{carried, left_of}
-use Rattle.mpm_machine.specs.Faults.{Counts}
+use Rattle.mpm_machine.specs.Faults.{FailureCounts}
 use Rattle.mpm_machine.specs.declared.machine.StepFault.{StepFault}
 use Rattle.mpm_machine.specs.declared.machine.StepFault.TheVariants.{WriteFault as SinkFailed, DiskFault as SyncFailed}
 
@@ -144,11 +144,11 @@ ClosesAt Stand trace s steps old new step =
     ClosesBefore Stand trace s steps old new step ⊎ (ClosesInTurn Stand trace s steps old new step ⊎ ClosesInSync Stand trace s steps old new step)
 
 -- by the fault
-abbrev pub StopsRun : (List (Option Drive) → Type 0) → StepFault → Bool → State → ℕ → Printed → Printed → ℕ → Type 0
-StopsRun Stand SinkFailed trace s steps old new step = StopsAt Stand trace s steps old new step
-StopsRun Stand SyncFailed trace s steps old new step = ClosesAt Stand trace s steps old new step
+abbrev pub StopsRunBy : (List (Option Drive) → Type 0) → StepFault → Bool → State → ℕ → Printed → Printed → ℕ → Type 0
+StopsRunBy Stand SinkFailed trace s steps old new step = StopsAt Stand trace s steps old new step
+StopsRunBy Stand SyncFailed trace s steps old new step = ClosesAt Stand trace s steps old new step
 
 -- which count rose where a run stopped
-abbrev pub Causes : StepFault → Counts → Counts → Type 0
+abbrev pub Causes : StepFault → FailureCounts → FailureCounts → Type 0
 Causes SinkFailed old new = Rose old.sink new.sink × (new.drives ≡ old.drives)
 Causes SyncFailed old new = Rose old.drives new.drives

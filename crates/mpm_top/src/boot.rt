@@ -1,6 +1,6 @@
 ghost use Rattle.std.specs.Prelude.{◌≡◌, ◌≤◌, ◌↔◌, ℕ, List, Some, IsSome, IfSome, IfOk, IfErr, MatchResult, length};
 ghost use Rattle.mpm_drives.specs.Mounted.{AsksNoWrite};
-ghost use Rattle.mpm_bdos.specs.Syncing.{AreSynced};
+ghost use Rattle.mpm_bdos.specs.Syncing.{AreMountedSynced};
 ghost use Rattle.mpm_system.specs.Whole.{IsWhole, NoCompletions};
 ghost use Rattle.mpm_machine.specs.Holding.{HoldsDrives};
 ghost use Rattle.mpm_machine.specs.Mounting.{HasNoDrive};
@@ -40,7 +40,7 @@ pub(crate) fn boot<F: Files, D: Drives>(
     ensures holds { IfOk result (λ machine. HoldsDrives D.disks machine.system.kernel machine.bdos drives.new) }
     ensures beside { IfOk result (λ machine. KeepsUnmounted (D.disks drives.old) (D.disks drives.new) machine.bdos.mounted) }
     ensures asks { AsksNoWrite (D.unsynced drives.old) (D.unsynced drives.new) }
-    ensures fresh { IfOk result (λ machine. AreSynced (D.unsynced drives.new) machine.bdos.mounted) }
+    ensures fresh { IfOk result (λ machine. AreMountedSynced (D.unsynced drives.new) machine.bdos.mounted) }
     ensures whole { IfOk result (λ machine. IsWhole machine.system) }
     ensures no_completions { IfOk result (λ machine. NoCompletions machine.system) }
     ensures start { IfOk result (λ machine. machine.system.steps ≡ 0) }
@@ -124,7 +124,7 @@ fn boot_machine<F: Files, D: Drives>(
     ensures holds { IfOk result (λ machine. HoldsDrives D.disks machine.system.kernel machine.bdos drives.new) }
     ensures beside { IfOk result (λ machine. KeepsUnmounted (D.disks drives.old) (D.disks drives.new) machine.bdos.mounted) }
     ensures asks { AsksNoWrite (D.unsynced drives.old) (D.unsynced drives.new) }
-    ensures fresh { IfOk result (λ machine. AreSynced (D.unsynced drives.new) machine.bdos.mounted) }
+    ensures fresh { IfOk result (λ machine. AreMountedSynced (D.unsynced drives.new) machine.bdos.mounted) }
     ensures whole { IfOk result (λ machine. IsWhole machine.system) }
     ensures no_completions { IfOk result (λ machine. NoCompletions machine.system) }
     ensures start { IfOk result (λ machine. machine.system.steps ≡ 0) }

@@ -2,7 +2,7 @@ ghost use Rattle.std.specs.Prelude.{◌≡◌, ◌≢◌, ◌≤◌, ◌<◌, �
 ghost use Rattle.mpm_script.specs.declared.line.TheConstants.{GREATEST_STEP};
 ghost use Rattle.mpm_machine_file.specs.declared.lists.DriveSpec.{DriveSpec};
 ghost use Rattle.mpm_drives.specs.Mounted.{NumberedDrive, placed};
-ghost use Rattle.mpm_bdos.specs.Syncing.{AreSynced};
+ghost use Rattle.mpm_bdos.specs.Syncing.{AreMountedSynced};
 ghost use Rattle.mpm_system.specs.Whole.{IsWhole, NoCompletions};
 ghost use Rattle.mpm_machine.specs.State.{State};
 ghost use Rattle.mpm_machine.specs.Files.{Between, StandsForFiles};
@@ -12,7 +12,7 @@ ghost use Rattle.mpm_machine.specs.Mounting.{HasDrives, HasNoDrive, untouched};
 ghost use Rattle.mpm_machine.specs.After.{ShowsBefore};
 ghost use Rattle.mpm_top.specs.Words.{Command, texts, command_of};
 ghost use Rattle.mpm_top.specs.Beginnings.{command_on, input_of as input_said, room_for, script_name, host, failed, begun};
-ghost use Rattle.mpm_top.specs.Runs.{printed, StandFor, KeepsOthers, IsAttachedAs, SyncsAttached, RunsOut, StopsRun, ClosesAfter, Causes};
+ghost use Rattle.mpm_top.specs.Runs.{printed, StandFor, KeepsOthers, IsAttachedAs, SyncsAttached, RunsOut, StopsRunBy, ClosesAfter, Causes};
 ghost use Rattle.mpm_top.specs.Endings.{stopped_by, Ends, EndsAs, IsRefusal};
 ghost use Rattle.mpm_top.specs.Promises.{seen, Writes, Fails, Promises};
 ghost use Rattle.mpm_top.specs.Seeds.{seeded_of, EndsSeeded};
@@ -165,11 +165,11 @@ fn run_to_end<D: Drives, S: Sink, L: Ledger>(
         (printed S.written S.faults sink.old) (printed S.written S.faults sink.new)) }
     ensures stops { (specs : List DriveSpec) (on : List NumberedDrive) → HasDrives (D.disks drives.old) specs machine.old.bdos.mounted
         → StandsForFiles machine.old.system.kernel.disk machine.old.bdos (D.disks drives.old) (Between (untouched (placed on)))
-        → IfErr result (λ error. StopsRun (StandFor (D.disks drives.new) (D.told drives.new) specs) error.fault asked.trace (begun machine.old.system on) asked.steps
+        → IfErr result (λ error. StopsRunBy (StandFor (D.disks drives.new) (D.told drives.new) specs) error.fault asked.trace (begun machine.old.system on) asked.steps
         (printed S.written S.faults sink.old) (printed S.written S.faults sink.new) error.step) }
     ensures others { (specs : List DriveSpec) → HasDrives (D.disks drives.old) specs machine.old.bdos.mounted
         → KeepsOthers (D.told drives.old) (D.told drives.new) (D.disks drives.old) (D.disks drives.new) specs }
-    ensures synced { OnOk result (AreSynced (D.unsynced drives.new) machine.old.bdos.mounted) }
+    ensures synced { OnOk result (AreMountedSynced (D.unsynced drives.new) machine.old.bdos.mounted) }
     ensures attached { (number : ℕ) → IsAttachedAs (D.disks drives.old) (D.disks drives.new) number }
     ensures within { IfErr result (λ error. error.step ≤ asked.steps) }
     ensures early { IfErr result (λ error. error.step ≡ 0 → D.told drives.new ≡ D.told drives.old) }

@@ -7,7 +7,7 @@ ghost use Rattle.mpm_blocks.specs.Geometries.{geometry_of};
 
 use mpm_base::Kind;
 use mpm_blocks::geometry;
-use mpm_images::{Entry, directory_sector, entry_in, layout_of, place, record_at};
+use mpm_images::{EntryBytes, directory_sector, entry_in, layout_of, place, record_at};
 use mpm_port::{Drives, MemoryDrives};
 use std::alloc::Global;
 use std::test::Fail;
@@ -50,7 +50,7 @@ fn empty_block(drives: &mut MemoryDrives, kind: Kind, block: u16)
 }
 
 /// Puts the first eight slots of drive 0 as they were, and the first three blocks of files and the last.
-pub(crate) fn restore(drives: &mut MemoryDrives, kind: Kind, entries: &[Entry])
+pub(crate) fn restore(drives: &mut MemoryDrives, kind: Kind, entries: &[EntryBytes])
     requires { size_of (disks_of drives.old) 0 ≡ Some (geometry_of kind).bytes }
     ensures { size_of (disks_of drives.new) 0 ≡ Some (geometry_of kind).bytes }
 {
@@ -64,7 +64,7 @@ pub(crate) fn restore(drives: &mut MemoryDrives, kind: Kind, entries: &[Entry])
 }
 
 /// The entries of the first eight slots of drive 0.
-pub(crate) fn entries(drives: &mut MemoryDrives, kind: Kind) -> [Entry; 8]
+pub(crate) fn entries(drives: &mut MemoryDrives, kind: Kind) -> [EntryBytes; 8]
     requires { size_of (disks_of drives.old) 0 ≡ Some (geometry_of kind).bytes }
     ensures { size_of (disks_of drives.new) 0 ≡ Some (geometry_of kind).bytes }
 {
@@ -78,7 +78,7 @@ pub(crate) fn entries(drives: &mut MemoryDrives, kind: Kind) -> [Entry; 8]
 }
 
 /// Where after the system's tracks the record of a number is, if the entry is of the file of user 0 with that letter and has it.
-fn record_of(kind: Kind, entry: &Entry, letter: u8, number: u32) -> Option<u32> {
+fn record_of(kind: Kind, entry: &EntryBytes, letter: u8, number: u32) -> Option<u32> {
     let covered = layout_of(kind).entry;
     let last = 32 * u32::from(entry[14]) + u32::from(entry[12]);
     if entry[0] != 0 || entry[1] % 128 != letter {
@@ -94,7 +94,7 @@ fn record_of(kind: Kind, entry: &Entry, letter: u8, number: u32) -> Option<u32> 
 }
 
 /// Where after the system's tracks the record of a number is, if one of the entries has it.
-fn record_among(kind: Kind, entries: &[Entry; 8], letter: u8, number: u32) -> Option<u32> {
+fn record_among(kind: Kind, entries: &[EntryBytes; 8], letter: u8, number: u32) -> Option<u32> {
     for entry in entries {
         if let Some(at) = record_of(kind, entry, letter, number) {
             return Some(at);
@@ -124,7 +124,7 @@ pub const NO_RECORD: u8 = b'-';
 pub(crate) fn record(
     drives: &mut MemoryDrives,
     kind: Kind,
-    entries: &[Entry; 8],
+    entries: &[EntryBytes; 8],
     letter: u8,
     number: u32,
 ) -> u8

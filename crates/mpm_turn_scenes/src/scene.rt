@@ -3,7 +3,7 @@
 use crate::disks::NO_RECORD;
 use mpm_base::Kind;
 use mpm_files::Job;
-use mpm_images::{Entry, UNUSED};
+use mpm_images::{EntryBytes, UNUSED};
 
 /// What is looked at of a slot: the first byte, which is the user or the sort, and that of the name. Of a file its EX and RC are looked at,
 /// of an XFCB or a label its mode and the first bytes of its password and its two stamps.
@@ -13,7 +13,7 @@ pub type Slot = [u8; 6];
 pub const FREE: Slot = [0xE5, 0, 0, 0, 0, 0];
 
 /// What is looked at of an entry.
-pub(crate) fn slot_of(entry: &Entry) -> Slot {
+pub(crate) fn slot_of(entry: &EntryBytes) -> Slot {
     if entry[0] == 0xE5 {
         FREE
     } else if entry[0] < 16 {
@@ -61,7 +61,7 @@ pub struct Scene<'a> {
     /// The kind of the disk.
     pub kind: Kind,
     /// The entries from slot 0 on.
-    pub entries: &'a [Entry],
+    pub entries: &'a [EntryBytes],
     /// The jobs, one after the other.
     pub jobs: &'a [Job],
     /// The first of the sixteen records.

@@ -1,7 +1,7 @@
 //! Calls that change directory entries, XFCBs and the label, on each kind of disk: each call of the drive fails once, and then none.
 use mpm_base::Kind;
 use mpm_files::{Job, JobKind};
-use mpm_images::{Entry, UNUSED, file, layout_of, other, xfcb};
+use mpm_images::{EntryBytes, UNUSED, file, layout_of, other, xfcb};
 use mpm_turn_scenes::{Came, Does, FREE, KINDS, Left, Scene, Slot, first_other, job};
 use std::alloc::Global;
 use std::test::Fail;
@@ -31,7 +31,7 @@ fn an_xfcb(letter: u8) -> Slot {
 }
 
 /// Three entries of a file and its XFCB, in two sectors, and another file.
-fn three(kind: Kind) -> [Entry; 5] {
+fn three(kind: Kind) -> [EntryBytes; 5] {
     [
         file(b'A', ex(kind, 2), 0),
         other(kind),
@@ -45,7 +45,7 @@ fn three(kind: Kind) -> [Entry; 5] {
 fn played(
     alloc: Global,
     kind: Kind,
-    entries: &[Entry],
+    entries: &[EntryBytes],
     job: Job,
     calls: &[Does],
     turns: u32,
@@ -152,7 +152,7 @@ fn protection(first: u8, letter: u8) -> Slot {
 fn protected(
     alloc: Global,
     kind: Kind,
-    entries: &[Entry],
+    entries: &[EntryBytes],
     job: Job,
     calls: &[Does],
     turns: u32,

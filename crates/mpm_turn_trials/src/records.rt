@@ -1,7 +1,7 @@
 //! Calls that read, write, or test and write records, on each kind of disk: each call of the drive fails once, and then none.
 use mpm_base::Kind;
 use mpm_files::{Job, JobKind, RecordError};
-use mpm_images::{Entry, UNUSED, file, held, layout_of, other, xfcb};
+use mpm_images::{EntryBytes, UNUSED, file, held, layout_of, other, xfcb};
 use mpm_turn_scenes::{Came, Does, KINDS, Left, Scene, first_other, job};
 use std::alloc::Global;
 use std::test::Fail;
@@ -82,7 +82,7 @@ fn records_are_written_one_after_the_other_on_hd8(rt: HostRuntime) -> Result<(),
 }
 
 /// A file whose first entry lacks eight records, of which the last block is held.
-fn lacking(kind: Kind) -> Entry {
+fn lacking(kind: Kind) -> EntryBytes {
     let layout = layout_of(kind);
     let index = (layout.entry / layout.block).saturating_sub(1);
     let ex = (layout.entry / 128).saturating_sub(1) % 32;
@@ -136,7 +136,7 @@ fn records_are_written_into_a_further_entry_on_hd8(rt: HostRuntime) -> Result<()
 }
 
 /// An entry of `B.TXT` by its number, of the blocks from one to before another.
-fn filled(kind: Kind, number: u32, from: u16, to: u16) -> Entry {
+fn filled(kind: Kind, number: u32, from: u16, to: u16) -> EntryBytes {
     let layout = layout_of(kind);
     let records = u32::from(to.saturating_sub(from)).saturating_mul(layout.block);
     let last = number
@@ -153,7 +153,7 @@ fn filled(kind: Kind, number: u32, from: u16, to: u16) -> Entry {
 }
 
 /// A disk of which the last block alone is free, with a file that has no record.
-fn nearly_full(alloc: Global, kind: Kind) -> Result<Vec<Entry>, Fail> {
+fn nearly_full(alloc: Global, kind: Kind) -> Result<Vec<EntryBytes>, Fail> {
     let layout = layout_of(kind);
     let blocks: u16 = if layout.is_wide { 8 } else { 16 };
     let mut entries = Vec::new(alloc);
@@ -208,7 +208,7 @@ fn stamping() -> Job {
 fn two_written(
     alloc: Global,
     kind: Kind,
-    entries: &[Entry],
+    entries: &[EntryBytes],
     calls: &[Does],
 ) -> Result<Option<(u64, Left)>, Fail> {
     let scene = Scene {
@@ -273,7 +273,7 @@ fn a_stamp_in_another_sector_is_written_last(rt: HostRuntime) -> Result<(), Fail
 }
 
 /// A file with its first sixteen records.
-fn with_sixteen(kind: Kind) -> Entry {
+fn with_sixteen(kind: Kind) -> EntryBytes {
     let first = layout_of(kind).first.saturating_add(1);
     let entry = held(kind, file(b'A', 0, 16), 0, first);
     if kind == Kind::Ibm3740 {

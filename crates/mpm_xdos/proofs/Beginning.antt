@@ -9,13 +9,13 @@ use Rattle.mpm_procs.specs.Table.{HasSlots, living, lowest_free, free_slots, pro
 use Rattle.mpm_procs.specs.declared.process.NewProcess.{NewProcess}
 use Rattle.mpm_procs.proofs.MapLaws.{free_below, free_is_dead, slots_added}
 use Rattle.mpm_procs.proofs.CountLaws.{living_added, living_and_free, full_from_none}
-use Rattle.mpm_kernel.specs.Kernel.{Kernel, IsSound, dispatched}
+use Rattle.mpm_kernel.specs.Kernel.{Kernel, IsSoundKernel, dispatched}
 use Rattle.mpm_dispatcher.specs.Dispatch.{in_slot}
 use Rattle.mpm_kernel.proofs.SoundLaws.{sound_in_slot}
 use Rattle.mpm_xdos.specs.Creating.{children_of, has_console, may_create, all_admitted, created}
 
-sound_all : (children : List NewProcess) (kernel : Kernel) → IsSound kernel → list_all (has_console (length kernel.units.consoles)) children ≡ true
-    → IsSound (all_admitted children kernel)
+sound_all : (children : List NewProcess) (kernel : Kernel) → IsSoundKernel kernel → list_all (has_console (length kernel.units.consoles)) children ≡ true
+    → IsSoundKernel (all_admitted children kernel)
 unfolding all_admitted
 sound_all [] kernel s consoles = s
 sound_all (new ∷ more) kernel s consoles =
@@ -26,11 +26,11 @@ sound_all (new ∷ more) kernel s consoles =
     sound_all more next (sound_in_slot kernel new slot s refl (grind (arith, nat_tests, here)))
     parts.1
 
-pub sound_created : (kernel : Kernel) (p base : ℕ) → IsSound kernel → IsSound (created kernel p base)
+pub sound_created : (kernel : Kernel) (p base : ℕ) → IsSoundKernel kernel → IsSoundKernel (created kernel p base)
 unfolding created may_create
 sound_created kernel p base s =
     let children = children_of (process_in kernel.dispatcher.procs p) base (call_of kernel.dispatcher.procs p).bytes in
-    either IsSound (may_create kernel children) _ _ (λ may. sound_all children kernel s (and_parts (nat_le (length children) (free_slots kernel.dispatcher.procs)) _ may).1) (λ _. s)
+    either IsSoundKernel (may_create kernel children) _ _ (λ may. sound_all children kernel s (and_parts (nat_le (length children) (free_slots kernel.dispatcher.procs)) _ may).1) (λ _. s)
 
 -- a process begins where a slot is free
 one_begins : (kernel : Kernel) (new : NewProcess) (slot : Option ℕ) → HasSlots kernel.dispatcher.procs → lowest_free kernel.dispatcher.procs ≡ slot → 1 ≤ free_slots kernel.dispatcher.procs

@@ -9,7 +9,7 @@ use Rattle.mpm_base.proofs.Choices.{either}
 use Rattle.mpm_procs.specs.Table.{Lives, process_in, call_of, lowest_free}
 use Rattle.mpm_procs.specs.declared.process.NewProcess.{NewProcess}
 use Rattle.mpm_kernel.specs.Awaiting.{AwaitsIn}
-use Rattle.mpm_kernel.specs.Kernel.{Kernel, IsSound, dispatched}
+use Rattle.mpm_kernel.specs.Kernel.{Kernel, IsSoundKernel, dispatched}
 use Rattle.mpm_dispatcher.specs.Dispatch.{in_slot}
 use Rattle.mpm_kernel.proofs.AwaitingEnds.{awaits_in_slot}
 use Rattle.mpm_kernel.proofs.SoundLaws.{sound_in_slot, completed_in_slot}
@@ -18,7 +18,7 @@ use Rattle.mpm_xdos.specs.Creating.{descriptor_count, child_of, child_at, childr
 
 -- what one process more, or several, leave of the kernel before
 pub record Made (old new : Kernel) : Type 0 where
-  pub sound : IsSound new
+  pub sound : IsSoundKernel new
   pub consoles : length new.units.consoles ≡ length old.units.consoles
   pub completed : new.dispatcher.completed ≡ old.dispatcher.completed
   pub homes : SameHomes old new
@@ -27,7 +27,7 @@ pub record Made (old new : Kernel) : Type 0 where
   pub process : (q : ℕ) → Lives old.dispatcher.procs q → process_in new.dispatcher.procs q ≡ process_in old.dispatcher.procs q
   pub awaits : (k q : ℕ) → AwaitsIn k q old → AwaitsIn k q new
 
-made_none : (kernel : Kernel) → IsSound kernel → Made kernel kernel
+made_none : (kernel : Kernel) → IsSoundKernel kernel → Made kernel kernel
 made_none kernel s = record {
   sound = s;
   consoles = refl;
@@ -52,7 +52,7 @@ made_both old middle new a b = record {
 }
 
 -- one more, in the segment of a process that lives
-made_one : (kernel : Kernel) (p : ℕ) (new : NewProcess) → IsSound kernel → Lives kernel.dispatcher.procs p → new.seg ≡ (process_in kernel.dispatcher.procs p).seg
+made_one : (kernel : Kernel) (p : ℕ) (new : NewProcess) → IsSoundKernel kernel → Lives kernel.dispatcher.procs p → new.seg ≡ (process_in kernel.dispatcher.procs p).seg
     → new.console < length kernel.units.consoles → Made kernel (dispatched (in_slot new (lowest_free kernel.dispatcher.procs)) kernel)
 made_one kernel p new s h same console =
     let slot = lowest_free kernel.dispatcher.procs in
@@ -68,7 +68,7 @@ made_one kernel p new s h same console =
     }
 
 -- several, each in that segment
-made_all : (f : ℕ → NewProcess) (numbers : List ℕ) (kernel : Kernel) (p : ℕ) → IsSound kernel → Lives kernel.dispatcher.procs p
+made_all : (f : ℕ → NewProcess) (numbers : List ℕ) (kernel : Kernel) (p : ℕ) → IsSoundKernel kernel → Lives kernel.dispatcher.procs p
     → ((n : ℕ) → (f n).seg ≡ (process_in kernel.dispatcher.procs p).seg) → AllPass (has_console (length kernel.units.consoles)) (map f numbers)
     → Made kernel (all_admitted (map f numbers) kernel)
 unfolding all_admitted
@@ -81,7 +81,7 @@ made_all f (n ∷ numbers) kernel p s h same consoles =
     made_both kernel next _ first
     (made_all f numbers next p first.sound (first.lives p h) (λ k. same k ∙ ap (λ x. x.seg) (sym (first.process p h))) (subst P (sym first.consoles) (λ k d below. consoles (suc k) d (omega arith))))
 
-pub made_created : (kernel : Kernel) (p base : ℕ) → IsSound kernel → Lives kernel.dispatcher.procs p → Made kernel (created kernel p base)
+pub made_created : (kernel : Kernel) (p base : ℕ) → IsSoundKernel kernel → Lives kernel.dispatcher.procs p → Made kernel (created kernel p base)
 unfolding created may_create children_of child_of
 made_created kernel p base s h =
     let parent = process_in kernel.dispatcher.procs p in

@@ -3,7 +3,7 @@ ghost use Rattle.std.specs.List.{list_all};
 ghost use Rattle.mpm_banks.specs.Memory.{HasSegment};
 ghost use Rattle.mpm_base.specs.Calls.{answering};
 ghost use Rattle.mpm_procs.specs.Table.{Lives, process_in, call_of};
-ghost use Rattle.mpm_kernel.specs.Kernel.{IsSound};
+ghost use Rattle.mpm_kernel.specs.Kernel.{IsSoundKernel};
 ghost use Rattle.mpm_xdos.specs.Creating.{child_of as child_asked_for, child_at as child_asked_at, children_of, home_base, created, create_answer, may_create as may_be_created, all_admitted, has_console};
 
 use arrayvec::ArrayVec;
@@ -19,13 +19,13 @@ const DESCRIPTOR: usize = 18;
 /// slot or a console lacks, none.
 #[tactic(auto, unfolding(crate::specs::Creating::created, crate::specs::Creating::create_answer))]
 pub fn create(kernel: &mut Kernel, banks: &Banks, p: Pid, reply: &mut Reply)
-    requires sound { IsSound kernel.old }
+    requires sound { IsSoundKernel kernel.old }
     requires lives { Lives kernel.old.dispatcher.procs p }
     requires segment { (seg : ℕ) → (process_in kernel.old.dispatcher.procs p).seg ≡ Some seg → HasSegment banks.now seg }
     requires few { length (call_of kernel.old.dispatcher.procs p).bytes ≤ 576 }
     ensures kernel { kernel.new ≡ created kernel.old p (home_base banks.now (process_in kernel.old.dispatcher.procs p).seg) }
     ensures reply { reply.new ≡ answering (create_answer kernel.old p (home_base banks.now (process_in kernel.old.dispatcher.procs p).seg)) }
-    ensures sound { IsSound kernel.new }
+    ensures sound { IsSoundKernel kernel.new }
 {
     let base = base_of(banks, kernel.segment(p));
     let parent = *kernel.living(p);
@@ -87,10 +87,10 @@ fn have_consoles(consoles: u8, parent: &Process, base: u8, descriptors: &[u8]) -
 
 /// Adds the processes that descriptors ask for, for which there are slots and consoles, one after the other.
 fn admit_all(kernel: &mut Kernel, parent: &Process, base: u8, descriptors: &[u8])
-    requires sound { IsSound kernel.old }
+    requires sound { IsSoundKernel kernel.old }
     requires consoles { list_all (has_console (length kernel.old.units.consoles)) (children_of parent.now base descriptors.now) ≡ true }
     ensures kernel { kernel.new ≡ all_admitted (children_of parent.now base descriptors.now) kernel.old }
-    ensures sound { IsSound kernel.new }
+    ensures sound { IsSoundKernel kernel.new }
 {
     for number in 0..descriptors.len() / DESCRIPTOR {
         let _admitted = kernel.admit(child_at(parent, base, descriptors, number));

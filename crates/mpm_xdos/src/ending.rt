@@ -1,7 +1,7 @@
 ghost use Rattle.std.specs.Prelude.{◌≡◌, ◌&&◌, ℕ, Some};
 ghost use Rattle.mpm_banks.specs.Memory.{HasSegment};
 ghost use Rattle.mpm_procs.specs.Table.{Lives, lives, process_in};
-ghost use Rattle.mpm_kernel.specs.Kernel.{IsSound, CompletedLive};
+ghost use Rattle.mpm_kernel.specs.Kernel.{IsSoundKernel, CompletedLive};
 ghost use Rattle.mpm_kernel.specs.Ending.{discharged};
 ghost use Rattle.mpm_xdos.specs.Ending.{memory_without, vacated_if_empty, is_home as is_home_in, lives_in as lives_in_segment};
 
@@ -13,12 +13,12 @@ use mpm_kernel::Kernel;
 /// gives back the segments that it reserved, and its own where nobody else lives there.
 #[tactic(auto, using(mpm_banks::proofs::SegmentLaws::count_all_released, crate::proofs::Homes::vacated_if_empty_none), unfolding(crate::specs::Ending::memory_without))]
 pub fn end(kernel: &mut Kernel, banks: &mut Banks, p: Pid)
-    requires sound { IsSound kernel.old }
+    requires sound { IsSoundKernel kernel.old }
     requires lives { Lives kernel.old.dispatcher.procs p }
     requires segment { (seg : ℕ) → (process_in kernel.old.dispatcher.procs p).seg ≡ Some seg → HasSegment banks.old seg }
     ensures kernel { kernel.new ≡ discharged kernel.old p }
     ensures memory { banks.new ≡ memory_without banks.old kernel.old p }
-    ensures sound { IsSound kernel.new }
+    ensures sound { IsSoundKernel kernel.new }
     ensures live { CompletedLive kernel.new }
 {
     let home = kernel.segment(p);

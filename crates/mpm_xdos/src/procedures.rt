@@ -1,7 +1,7 @@
 ghost use Rattle.std.specs.Prelude.{◌≡◌, ℕ, Some, IsSome};
 ghost use Rattle.mpm_banks.specs.Memory.{HasSegment};
 ghost use Rattle.mpm_procs.specs.Table.{Lives, process_in};
-ghost use Rattle.mpm_kernel.specs.Kernel.{IsSound};
+ghost use Rattle.mpm_kernel.specs.Kernel.{IsSoundKernel};
 ghost use Rattle.mpm_xdos.specs.Procedures.{entered, entry_reply, returned_from_procedure, page_of_home as page_of};
 
 use mpm_banks::{Banks, RETURN_GATE, last_page};
@@ -16,7 +16,7 @@ pub fn enter_procedure(kernel: &mut Kernel, banks: &Banks, p: Pid, reply: &mut R
     requires segment { (seg : ℕ) → (process_in kernel.old.dispatcher.procs p).seg ≡ Some seg → HasSegment banks.now seg }
     ensures kernel { kernel.new ≡ entered p kernel.old }
     ensures reply { reply.new ≡ entry_reply banks.now (process_in kernel.old.dispatcher.procs p) }
-    ensures sound { IsSound kernel.old → IsSound kernel.new }
+    ensures sound { IsSoundKernel kernel.old → IsSoundKernel kernel.new }
 {
     enter(kernel, banks, p, reply);
 }
@@ -57,11 +57,11 @@ fn page_of_home(banks: &Banks, home: Option<Seg>) -> u8
 /// A process leaves the resident procedure that it is in: its message is written back, and the process goes on where it
 /// called the procedure, with HL as it is and the same in A and B.
 pub fn leave_procedure(kernel: &mut Kernel, p: Pid)
-    requires sound { IsSound kernel.old }
+    requires sound { IsSoundKernel kernel.old }
     requires lives { Lives kernel.old.dispatcher.procs p }
     requires inside { IsSome (process_in kernel.old.dispatcher.procs p).procedure }
     ensures kernel { kernel.new ≡ returned_from_procedure p kernel.old }
-    ensures sound { IsSound kernel.new }
+    ensures sound { IsSoundKernel kernel.new }
 {
     leave(kernel, p);
 }
@@ -69,7 +69,7 @@ pub fn leave_procedure(kernel: &mut Kernel, p: Pid)
 /// A process goes on after its procedure.
 #[tactic(auto, using(mpm_kernel::proofs::ProcedureLaws::lives_given_back), unfolding(crate::specs::Procedures::returned_from_procedure, crate::specs::Procedures::leaving))]
 fn leave(kernel: &mut Kernel, p: Pid)
-    requires sound { IsSound kernel.old }
+    requires sound { IsSoundKernel kernel.old }
     requires lives { Lives kernel.old.dispatcher.procs p }
     requires inside { IsSome (process_in kernel.old.dispatcher.procs p).procedure }
     ensures { kernel.new ≡ returned_from_procedure p kernel.old }

@@ -1,6 +1,6 @@
 -- A plain instruction looks at neither R, the shadow of an EI nor a HALT, and leaves them as they are.
 use Rattle.std.proofs.Common.{◌≡◌, ◌∙◌, ℕ, Bool, true, false, Option, None, Some, refl, ap}
-use Rattle.z80_regs.specs.Outcome.{Outcome}
+use Rattle.z80_regs.specs.Outcome.{StepOutcome}
 use Rattle.z80_regs.specs.declared.regs.Regs.{Regs}
 use Rattle.z80_decode.specs.declared.instr.Instr.{Instr}
 use Rattle.z80_decode.specs.declared.forms.Form.{Form}
@@ -26,7 +26,7 @@ use Rattle.z80_exec.specs.Performing.{behind, number, performed, outcome_by, is_
 abbrev pub beside : ℕ → Bool → Bool → Regs → Regs
 beside x s h regs = record regs { r = x; shadow = s; halted = h }
 
-abbrev pub outcome_beside : ℕ → Bool → Bool → Outcome → Outcome
+abbrev pub outcome_beside : ℕ → Bool → Bool → StepOutcome → StepOutcome
 outcome_beside x s h outcome = record outcome { registers = beside x s h outcome.registers }
 
 pub byte_beside : (operand : Operand) (x : ℕ) (s h : Bool) (regs : Regs) (memory : ℕ → ℕ) → operand_byte operand (beside x s h regs) memory ≡ operand_byte operand regs memory

@@ -2,7 +2,7 @@
 -- Arithmetic Group", "General-Purpose Arithmetic and CPU Control Groups", "16-Bit Arithmetic Group".)
 use Rattle.std.specs.Prelude.{ℕ, ◌-◌, false}
 use Rattle.z80_regs.specs.declared.regs.Regs.{Regs}
-use Rattle.z80_regs.specs.Outcome.{Outcome}
+use Rattle.z80_regs.specs.Outcome.{StepOutcome}
 use Rattle.z80_alu.specs.declared.kinds.Logic.TheVariants as logic
 use Rattle.z80_alu.specs.declared.kinds.Rotate.{Rotate}
 use Rattle.z80_alu.specs.declared.kinds.Rotate.TheVariants.{Rlc, Rrc, Rl, Rr}
@@ -40,11 +40,11 @@ calculated Or byte regs =
 calculated Compare byte regs = record regs { f = difference_flags regs.a byte false regs.f }
 
 -- INC and DEC of an operand whose byte is known
-abbrev pub incremented : Operand → ℕ → Regs → Outcome
+abbrev pub incremented : Operand → ℕ → Regs → StepOutcome
 incremented operand byte regs =
     with_operand operand (sum_of byte 1 false) (record regs { f = increment_flags byte regs.f })
 
-abbrev pub decremented : Operand → ℕ → Regs → Outcome
+abbrev pub decremented : Operand → ℕ → Regs → StepOutcome
 decremented operand byte regs =
     with_operand operand (difference_of byte 1 false) (record regs { f = decrement_flags byte regs.f })
 

@@ -1,7 +1,7 @@
 -- Jumps, calls and returns; PC stands after the instruction. (UM0080, "Jump Group", "Call and Return Group".)
 use Rattle.std.specs.Prelude.{ℕ, ◌+◌, ◌-◌, ◌%◌, ◌==◌, Bool, true, false, not, nat_lt, if◌then◌else◌}
 use Rattle.z80_regs.specs.Words.{onward, back, word_from}
-use Rattle.z80_regs.specs.Outcome.{Outcome}
+use Rattle.z80_regs.specs.Outcome.{StepOutcome}
 use Rattle.z80_regs.specs.declared.regs.Regs.{Regs}
 use Rattle.z80_exec.specs.Operands.{quiet}
 use Rattle.z80_exec.specs.StackPairs.{pushed}
@@ -26,14 +26,14 @@ decrement_jumped displacement regs =
     jumped_if (not ((counted_down regs).b == 0)) (relative regs.pc displacement) (counted_down regs)
 
 -- a call: PC is pushed, and is then an address
-abbrev pub called : ℕ → Regs → Outcome
+abbrev pub called : ℕ → Regs → StepOutcome
 called target regs = record {
   registers = record regs { pc = target; sp = back regs.sp 2 };
   actions = pushed regs.pc regs;
 }
 
 -- the same where a condition holds
-abbrev pub called_if : Bool → ℕ → Regs → Outcome
+abbrev pub called_if : Bool → ℕ → Regs → StepOutcome
 called_if true target regs = called target regs
 called_if false target regs = quiet regs
 

@@ -2,7 +2,7 @@
 -- Group", "Input and Output Group".)
 use Rattle.std.specs.Prelude.{ℕ, List, [], ◌∷◌}
 use Rattle.z80_regs.specs.Words.{onward, back, low, high, word_from}
-use Rattle.z80_regs.specs.Outcome.{Action, Write, Input, Outcome}
+use Rattle.z80_regs.specs.Outcome.{Action, Write, Input, StepOutcome}
 use Rattle.z80_regs.specs.declared.regs.Regs.{Regs}
 use Rattle.z80_decode.specs.declared.forms.Pair.TheVariants.{HL}
 use Rattle.z80_decode.specs.declared.forms.StackPair.{StackPair}
@@ -13,7 +13,7 @@ use Rattle.z80_exec.specs.StackPairs.{stack_pair_word, with_stack_pair, pushed}
 abbrev pub word_written : ℕ → ℕ → List Action
 word_written address word = Write address (low word) ∷ Write (onward address 1) (high word) ∷ []
 
-abbrev pub word_stored : ℕ → ℕ → Regs → Outcome
+abbrev pub word_stored : ℕ → ℕ → Regs → StepOutcome
 word_stored address word regs = record { registers = regs; actions = word_written address word }
 
 -- EX AF,AF'
@@ -46,14 +46,14 @@ abbrev pub top_replaced : ℕ → Regs → List Action
 top_replaced word regs = Write (onward regs.sp 1) (high word) ∷ Write regs.sp (low word) ∷ []
 
 -- EX (SP),HL: both bytes are read before one is written
-abbrev pub stack_exchanged : Regs → (ℕ → ℕ) → Outcome
+abbrev pub stack_exchanged : Regs → (ℕ → ℕ) → StepOutcome
 stack_exchanged regs memory = record {
   registers = with_pair HL (word_from memory regs.sp) regs;
   actions = top_replaced (hl_of regs) regs;
 }
 
 -- PUSH qq
-abbrev pub pair_pushed : StackPair → Regs → Outcome
+abbrev pub pair_pushed : StackPair → Regs → StepOutcome
 pair_pushed pair regs = record {
   registers = record regs { sp = back regs.sp 2 };
   actions = pushed (stack_pair_word pair regs) regs;
@@ -65,7 +65,7 @@ pair_popped pair regs memory =
     with_stack_pair pair (word_from memory regs.sp) (record regs { sp = onward regs.sp 2 })
 
 -- IN A,(n)
-abbrev pub a_input : ℕ → Regs → (ℕ → ℕ) → Outcome
+abbrev pub a_input : ℕ → Regs → (ℕ → ℕ) → StepOutcome
 a_input port regs ports = record {
   registers = record regs { a = ports port };
   actions = Input port ∷ [];

@@ -1,7 +1,7 @@
 -- The operands of the instructions. (UM0080, "Z80 Instruction Description".)
 use Rattle.std.specs.Prelude.{ℕ, [], ◌∷◌}
 use Rattle.z80_regs.specs.Words.{word_of, low, high}
-use Rattle.z80_regs.specs.Outcome.{Write, Outcome}
+use Rattle.z80_regs.specs.Outcome.{Write, StepOutcome}
 use Rattle.z80_regs.specs.declared.regs.Regs.{Regs}
 use Rattle.z80_decode.specs.declared.forms.Pair.{Pair}
 use Rattle.z80_decode.specs.declared.forms.Pair.TheVariants.{BC, DE, HL, SP}
@@ -9,11 +9,11 @@ use Rattle.z80_decode.specs.declared.forms.Operand.{Operand}
 use Rattle.z80_decode.specs.declared.forms.Operand.TheVariants.{B, C, D, E, H, L, Memory, A}
 
 -- the bus stays as it is
-abbrev pub quiet : Regs → Outcome
+abbrev pub quiet : Regs → StepOutcome
 quiet regs = record { registers = regs; actions = [] }
 
 -- the registers stay, and a byte is written to memory
-abbrev pub stored : ℕ → ℕ → Regs → Outcome
+abbrev pub stored : ℕ → ℕ → Regs → StepOutcome
 stored address byte regs = record { registers = regs; actions = Write address byte ∷ [] }
 
 -- HL
@@ -46,7 +46,7 @@ operand_byte Memory regs memory = memory (hl_of regs)
 operand_byte A regs memory = regs.a
 
 -- a byte goes to an operand
-abbrev pub with_operand : Operand → ℕ → Regs → Outcome
+abbrev pub with_operand : Operand → ℕ → Regs → StepOutcome
 with_operand B byte regs = quiet (record regs { b = byte })
 with_operand C byte regs = quiet (record regs { c = byte })
 with_operand D byte regs = quiet (record regs { d = byte })

@@ -2,7 +2,7 @@
 -- before. (UM0080, "Z80 Instruction Description".)
 use Rattle.std.specs.Prelude.{ℕ, Bool, Option, None, Some, true, false}
 use Rattle.z80_regs.specs.Words.{onward, back, low, word_from}
-use Rattle.z80_regs.specs.Outcome.{Outcome}
+use Rattle.z80_regs.specs.Outcome.{StepOutcome}
 use Rattle.z80_regs.specs.declared.regs.Regs.{Regs}
 use Rattle.z80_alu.specs.Single.{carry_set_flags, carry_complemented_flags}
 use Rattle.z80_decode.specs.declared.instr.Instr.{Instr}
@@ -27,7 +27,7 @@ abbrev pub number : Instr → ℕ
 number instr = low instr.operand
 
 -- a form's instruction
-unfoldable pub performed : Form → Instr → Regs → (ℕ → ℕ) → (ℕ → ℕ) → Outcome
+unfoldable pub performed : Form → Instr → Regs → (ℕ → ℕ) → (ℕ → ℕ) → StepOutcome
 performed Nop instr regs memory ports = quiet regs
 performed Halt instr regs memory ports = quiet (record regs { halted = true })
 performed DisableInterrupts instr regs memory ports = quiet (record regs { iff1 = false; iff2 = false })
@@ -85,16 +85,16 @@ performed Input instr regs memory ports = a_input (number instr) regs ports
 performed Output instr regs memory ports = quiet regs
 
 -- an instruction by its form: PC goes past it first; where there is no form nothing changes
-abbrev pub outcome_by : Option Form → Instr → Regs → (ℕ → ℕ) → (ℕ → ℕ) → Outcome
+abbrev pub outcome_by : Option Form → Instr → Regs → (ℕ → ℕ) → (ℕ → ℕ) → StepOutcome
 outcome_by None instr regs memory ports = quiet regs
 outcome_by (Some form) instr regs memory ports = performed form instr (behind instr.length regs) memory ports
 
 -- an instruction without prefix
-unfoldable pub main_outcome : Instr → Regs → (ℕ → ℕ) → (ℕ → ℕ) → Outcome
+unfoldable pub main_outcome : Instr → Regs → (ℕ → ℕ) → (ℕ → ℕ) → StepOutcome
 main_outcome instr regs memory ports = outcome_by (form_of instr.opcode) instr regs memory ports
 
 -- the same of a form, by the opcode and the two bytes after it
-abbrev pub next_with : Form → ℕ → ℕ → ℕ → Regs → (ℕ → ℕ) → (ℕ → ℕ) → Outcome
+abbrev pub next_with : Form → ℕ → ℕ → ℕ → Regs → (ℕ → ℕ) → (ℕ → ℕ) → StepOutcome
 next_with form opcode first second regs memory ports =
     let instr = instr_with (tail_of form) Main 1 opcode first second in
     performed form instr (behind instr.length regs) memory ports

@@ -1,5 +1,5 @@
 ghost use Rattle.std.specs.Prelude.{◌≡◌};
-ghost use Rattle.z80_regs.specs.Outcome.{Leaves};
+ghost use Rattle.z80_regs.specs.Outcome.{LeavesBus};
 ghost use Rattle.z80_exec.specs.Flow.{relative, jumped_if, decrement_jumped, called, returned, returned_if};
 
 use crate::loads::push;
@@ -40,7 +40,7 @@ pub fn decrement_jump(displacement: u8, regs: &mut Regs)
 #[inline(always)]
 pub fn call<B: Bus>(target: u16, regs: &mut Regs, bus: &mut B)
     ensures registers { regs.new ≡ (called target regs.old).registers }
-    ensures bus { Leaves B.wrote B.took (called target regs.old).actions bus.old bus.new }
+    ensures bus { LeavesBus B.wrote B.took (called target regs.old).actions bus.old bus.new }
 {
     push(regs.pc, regs, bus);
     regs.pc = target;
@@ -50,7 +50,7 @@ pub fn call<B: Bus>(target: u16, regs: &mut Regs, bus: &mut B)
 #[inline(always)]
 pub fn restart<B: Bus>(address: u8, regs: &mut Regs, bus: &mut B)
     ensures registers { regs.new ≡ (called address regs.old).registers }
-    ensures bus { Leaves B.wrote B.took (called address regs.old).actions bus.old bus.new }
+    ensures bus { LeavesBus B.wrote B.took (called address regs.old).actions bus.old bus.new }
 {
     match address {
         0x00 => call(0x00, regs, bus),

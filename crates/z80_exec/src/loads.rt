@@ -1,6 +1,6 @@
 ghost use Rattle.std.specs.Prelude.{◌≡◌};
 ghost use Rattle.z80_regs.specs.Words.{back, word_from};
-ghost use Rattle.z80_regs.specs.Outcome.{Leaves};
+ghost use Rattle.z80_regs.specs.Outcome.{LeavesBus};
 ghost use Rattle.z80_exec.specs.Operands.{stored, operand_byte, with_operand};
 ghost use Rattle.z80_exec.specs.StackPairs.{pushed};
 ghost use Rattle.z80_exec.specs.Loads.{
@@ -21,9 +21,9 @@ use z80_regs::{Bus, Regs};
 
 /// Writes a word to memory, low byte first, as LD (nn),HL and its kin do.
 #[inline(always)]
-#[tactic(auto, unfolding(z80_regs::specs::Outcome::Leaves))]
+#[tactic(auto, unfolding(z80_regs::specs::Outcome::LeavesBus))]
 pub fn store_word<B: Bus>(address: u16, word: u16, bus: &mut B)
-    ensures { Leaves B.wrote B.took (word_written address word) bus.old bus.new }
+    ensures { LeavesBus B.wrote B.took (word_written address word) bus.old bus.new }
 {
     let [low, high] = word.to_le_bytes();
     bus.write(address, low);
@@ -33,9 +33,9 @@ pub fn store_word<B: Bus>(address: u16, word: u16, bus: &mut B)
 /// An operand's byte goes to an address: LD (HL),r and LD (IX+d),r. Each row writes by itself, so that it is known where a
 /// step has jumped by its opcode.
 #[inline(always)]
-#[tactic(auto, unfolding(z80_regs::specs::Outcome::Leaves))]
+#[tactic(auto, unfolding(z80_regs::specs::Outcome::LeavesBus))]
 pub fn store_operand<B: Bus>(from: Operand, address: u16, regs: &Regs, bus: &mut B)
-    ensures { Leaves B.wrote B.took (stored address (operand_byte from regs.now (B.byte bus.old)) regs.now).actions bus.old bus.new }
+    ensures { LeavesBus B.wrote B.took (stored address (operand_byte from regs.now (B.byte bus.old)) regs.now).actions bus.old bus.new }
 {
     match from {
         Operand::B => bus.write(address, regs.b),
@@ -55,10 +55,10 @@ pub fn store_operand<B: Bus>(from: Operand, address: u16, regs: &Regs, bus: &mut
 /// LD r,r', LD r,(HL) and LD (HL),r. Each operand that is set reads the other by itself, so that both are known where a
 /// step has jumped by its opcode.
 #[inline(always)]
-#[tactic(auto, unfolding(z80_regs::specs::Outcome::Leaves))]
+#[tactic(auto, unfolding(z80_regs::specs::Outcome::LeavesBus))]
 pub fn load<B: Bus>(to: Operand, from: Operand, regs: &mut Regs, bus: &mut B)
     ensures registers { regs.new ≡ (with_operand to (operand_byte from regs.old (B.byte bus.old)) regs.old).registers }
-    ensures bus { Leaves B.wrote B.took (with_operand to (operand_byte from regs.old (B.byte bus.old)) regs.old).actions
+    ensures bus { LeavesBus B.wrote B.took (with_operand to (operand_byte from regs.old (B.byte bus.old)) regs.old).actions
         bus.old bus.new }
 {
     match to {
@@ -106,10 +106,10 @@ pub fn exchange_de(regs: &mut Regs)
 
 /// Writes a word in the place of that on the stack, high byte first, and answers the one that stood there.
 #[inline(always)]
-#[tactic(auto, unfolding(z80_regs::specs::Outcome::Leaves))]
+#[tactic(auto, unfolding(z80_regs::specs::Outcome::LeavesBus))]
 pub fn replace_top<B: Bus>(word: u16, regs: &Regs, bus: &mut B) -> u16
     ensures value { result ≡ word_from (B.byte bus.old) regs.now.sp }
-    ensures bus { Leaves B.wrote B.took (top_replaced word regs.now) bus.old bus.new }
+    ensures bus { LeavesBus B.wrote B.took (top_replaced word regs.now) bus.old bus.new }
 {
     let sp = regs.sp;
     let top = word_at(bus, sp);
@@ -123,7 +123,7 @@ pub fn replace_top<B: Bus>(word: u16, regs: &Regs, bus: &mut B) -> u16
 #[inline(always)]
 pub fn exchange_stack<B: Bus>(regs: &mut Regs, bus: &mut B)
     ensures registers { regs.new ≡ (stack_exchanged regs.old (B.byte bus.old)).registers }
-    ensures bus { Leaves B.wrote B.took (stack_exchanged regs.old (B.byte bus.old)).actions bus.old bus.new }
+    ensures bus { LeavesBus B.wrote B.took (stack_exchanged regs.old (B.byte bus.old)).actions bus.old bus.new }
 {
     let top = replace_top(hl(regs), regs, bus);
     set_pair(regs, Pair::HL, top);
@@ -131,10 +131,10 @@ pub fn exchange_stack<B: Bus>(regs: &mut Regs, bus: &mut B)
 
 /// Writes a word below SP, high byte first.
 #[inline(always)]
-#[tactic(auto, unfolding(z80_regs::specs::Outcome::Leaves))]
+#[tactic(auto, unfolding(z80_regs::specs::Outcome::LeavesBus))]
 pub fn push<B: Bus>(word: u16, regs: &mut Regs, bus: &mut B)
     ensures registers { regs.new ≡ record regs.old { sp = back regs.old.sp 2 } }
-    ensures bus { Leaves B.wrote B.took (pushed word regs.old) bus.old bus.new }
+    ensures bus { LeavesBus B.wrote B.took (pushed word regs.old) bus.old bus.new }
 {
     let [low, high] = word.to_le_bytes();
     bus.write(regs.sp.wrapping_sub(1), high);
@@ -146,7 +146,7 @@ pub fn push<B: Bus>(word: u16, regs: &mut Regs, bus: &mut B)
 #[inline(always)]
 pub fn push_pair<B: Bus>(pair: StackPair, regs: &mut Regs, bus: &mut B)
     ensures registers { regs.new ≡ (pair_pushed pair regs.old).registers }
-    ensures bus { Leaves B.wrote B.took (pair_pushed pair regs.old).actions bus.old bus.new }
+    ensures bus { LeavesBus B.wrote B.took (pair_pushed pair regs.old).actions bus.old bus.new }
 {
     push(stack_pair_at(regs, pair), regs, bus);
 }
@@ -176,10 +176,10 @@ pub fn pop_pair<B: Bus>(pair: StackPair, regs: &mut Regs, bus: &B)
 
 /// IN A,(n).
 #[inline(always)]
-#[tactic(auto, unfolding(z80_regs::specs::Outcome::Leaves))]
+#[tactic(auto, unfolding(z80_regs::specs::Outcome::LeavesBus))]
 pub fn input_a<B: Bus>(port: u8, regs: &mut Regs, bus: &mut B)
     ensures registers { regs.new ≡ (a_input port regs.old (B.port_byte bus.old)).registers }
-    ensures bus { Leaves B.wrote B.took (a_input port regs.old (B.port_byte bus.old)).actions bus.old bus.new }
+    ensures bus { LeavesBus B.wrote B.took (a_input port regs.old (B.port_byte bus.old)).actions bus.old bus.new }
 {
     regs.a = bus.input(port);
 }

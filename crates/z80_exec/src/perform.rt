@@ -1,6 +1,6 @@
 ghost use Rattle.std.specs.Prelude.{◌≡◌, true, false, Some};
 ghost use Rattle.std.specs.Bool.{OnTrue, OnFalse};
-ghost use Rattle.z80_regs.specs.Outcome.{Leaves};
+ghost use Rattle.z80_regs.specs.Outcome.{LeavesBus};
 ghost use Rattle.z80_exec.specs.Performing.{performed, main_outcome, next_with, is_plain};
 
 use crate::calculations::{
@@ -19,10 +19,10 @@ use z80_regs::{Bus, Regs};
 
 /// Acts as a form's instruction, which PC is past.
 #[inline(always)]
-#[tactic(auto, unfolding(crate::specs::Performing::performed, z80_regs::specs::Outcome::Leaves))]
+#[tactic(auto, unfolding(crate::specs::Performing::performed, z80_regs::specs::Outcome::LeavesBus))]
 fn perform<S: Source, B: Bus>(form: Form, source: &S, regs: &mut Regs, bus: &mut B)
     ensures registers { regs.new ≡ (performed form (S.instr source.now form) regs.old (B.byte bus.old) (B.port_byte bus.old)).registers }
-    ensures bus { Leaves B.wrote B.took (performed form (S.instr source.now form) regs.old (B.byte bus.old) (B.port_byte bus.old)).actions
+    ensures bus { LeavesBus B.wrote B.took (performed form (S.instr source.now form) regs.old (B.byte bus.old) (B.port_byte bus.old)).actions
         bus.old bus.new }
 {
     match form {
@@ -82,11 +82,11 @@ fn perform<S: Source, B: Bus>(form: Form, source: &S, regs: &mut Regs, bus: &mut
 /// Acts as an instruction without prefix: PC goes past it, and what it does is done. Where its opcode is a prefix
 /// nothing changes. (UM0080, "Z80 Instruction Description".)
 #[inline(always)]
-#[tactic(auto, unfolding(crate::specs::Performing::main_outcome, z80_regs::specs::Outcome::Leaves))]
+#[tactic(auto, unfolding(crate::specs::Performing::main_outcome, z80_regs::specs::Outcome::LeavesBus))]
 pub fn main_page<B: Bus>(instr: &Instr, regs: &mut Regs, bus: &mut B)
     requires { instr.now.page ≡ Page.Main }
     ensures registers { regs.new ≡ (main_outcome instr.now regs.old (B.byte bus.old) (B.port_byte bus.old)).registers }
-    ensures bus { Leaves B.wrote B.took (main_outcome instr.now regs.old (B.byte bus.old) (B.port_byte bus.old)).actions
+    ensures bus { LeavesBus B.wrote B.took (main_outcome instr.now regs.old (B.byte bus.old) (B.port_byte bus.old)).actions
         bus.old bus.new }
 {
     match main_form(instr.opcode) {
@@ -112,11 +112,11 @@ fn is_plain_form(form: Form) -> bool
 /// Acts as the instruction of a form whose opcode and the two bytes after it were fetched at PC, where it is plain. Where it is
 /// HALT or EI the answer is false, and nothing changes. (UM0080, "Z80 Instruction Description".)
 #[inline(always)]
-#[tactic(auto, unfolding(z80_regs::specs::Outcome::Leaves))]
+#[tactic(auto, unfolding(z80_regs::specs::Outcome::LeavesBus))]
 pub fn plain_next<B: Bus>(form: Form, fetched: Fetched, regs: &mut Regs, bus: &mut B) -> bool
     ensures plain { result ≡ is_plain (Some form) }
     ensures registers { OnTrue result (regs.new ≡ (next_with form fetched.opcode fetched.first fetched.second regs.old (B.byte bus.old) (B.port_byte bus.old)).registers) }
-    ensures bus { OnTrue result (Leaves B.wrote B.took
+    ensures bus { OnTrue result (LeavesBus B.wrote B.took
         (next_with form fetched.opcode fetched.first fetched.second regs.old (B.byte bus.old) (B.port_byte bus.old)).actions bus.old bus.new) }
     ensures registers_stay { OnFalse result (regs.new ≡ regs.old) }
     ensures bus_stays { OnFalse result (bus.new ≡ bus.old) }

@@ -2,7 +2,7 @@
 use Rattle.std.proofs.Common.{◌≡◌, ◌∙◌, ℕ, ◌+◌, ◌*◌, ◌/◌, ◌%◌, ◌==◌, ◌&&◌, true, false, Option, None, Some, if◌then◌else◌, refl, sym, ap, arith}
 use Rattle.std.proofs.lemmas.Bool.{eqb-true, false_from_ne_true}
 use Rattle.z80_regs.specs.Words.{refreshed}
-use Rattle.z80_regs.specs.Outcome.{Outcome}
+use Rattle.z80_regs.specs.Outcome.{StepOutcome}
 use Rattle.z80_regs.specs.declared.regs.Regs.{Regs}
 use Rattle.z80_decode.specs.declared.instr.Instr.{Instr}
 use Rattle.z80_decode.specs.Decoding.{instr_of}
@@ -42,19 +42,19 @@ stays regs memory ports plain =
 
 pub unbegun_runs : (regs : Regs) (memory ports : ℕ → ℕ) → is_plain_at regs memory ≡ true
     → (unbegun regs memory ports).registers.halted ≡ regs.halted
-unbegun_runs regs memory ports plain = ap (λ (o : Outcome). o.registers.halted) (stays regs memory ports plain)
+unbegun_runs regs memory ports plain = ap (λ (o : StepOutcome). o.registers.halted) (stays regs memory ports plain)
 
 -- other beginnings before it are other beginnings after it
 begins_behind : (n : ℕ) (regs : Regs) (memory ports : ℕ → ℕ) → is_plain_at regs memory ≡ true
     → unbegun_of (instr_of (four_from memory regs.pc)) (begun_times n regs) memory ports
     ≡ record (unbegun regs memory ports) { registers = begun_times n (unbegun regs memory ports).registers }
 begins_behind n regs memory ports plain =
-    let left : Outcome = unbegun regs memory ports in
+    let left : StepOutcome = unbegun regs memory ports in
     let same = stays regs memory ports plain in
     plain_beside (instr_of (four_from memory regs.pc)) (refreshed_times n regs.r) ((n == 0) && regs.shadow) regs.halted regs memory ports plain
-    ∙ ap (λ x. outcome_beside (refreshed_times n x) ((n == 0) && regs.shadow) regs.halted left) (sym (ap (λ (o : Outcome). o.registers.r) same))
-    ∙ ap (λ s. outcome_beside (refreshed_times n left.registers.r) ((n == 0) && s) regs.halted left) (sym (ap (λ (o : Outcome). o.registers.shadow) same))
-    ∙ ap (λ h. outcome_beside (refreshed_times n left.registers.r) ((n == 0) && left.registers.shadow) h left) (sym (ap (λ (o : Outcome). o.registers.halted) same))
+    ∙ ap (λ x. outcome_beside (refreshed_times n x) ((n == 0) && regs.shadow) regs.halted left) (sym (ap (λ (o : StepOutcome). o.registers.r) same))
+    ∙ ap (λ s. outcome_beside (refreshed_times n left.registers.r) ((n == 0) && s) regs.halted left) (sym (ap (λ (o : StepOutcome). o.registers.shadow) same))
+    ∙ ap (λ h. outcome_beside (refreshed_times n left.registers.r) ((n == 0) && left.registers.shadow) h left) (sym (ap (λ (o : StepOutcome). o.registers.halted) same))
 
 begins : (instr : Option Instr) (regs : Regs) (memory ports : ℕ → ℕ) → is_plain_instr instr ≡ true
     → outcome_of instr regs memory ports ≡ Some (unbegun_of instr (begun regs) memory ports)

@@ -3,7 +3,7 @@ use Rattle.std.proofs.Common.{◌≡◌, ℕ, Bool, true, false, Option, None, S
 use Rattle.std.specs.Prelude.{IsNone, ◌↔◌, is_some}
 use Rattle.std.proofs.lemmas.Grind.{common_steps}
 use Rattle.z80_regs.specs.Words.{onward}
-use Rattle.z80_regs.specs.Outcome.{Outcome}
+use Rattle.z80_regs.specs.Outcome.{StepOutcome}
 use Rattle.z80_regs.specs.declared.regs.Regs.{Regs}
 use Rattle.z80_decode.specs.declared.instr.Instr.{Instr}
 use Rattle.z80_decode.specs.declared.instr.Page.{Page}
@@ -123,7 +123,7 @@ unlisted_exactly regs memory ports = by_halt regs.halted (instr_of (four_from me
 
 -- in a HALT R rises, and that is all
 
-rests : (b : Bool) (outcome : Option Outcome) (regs : Regs) → b ≡ true → registers_after (if b then Some (quiet (risen regs)) else outcome) regs ≡ risen regs
+rests : (b : Bool) (outcome : Option StepOutcome) (regs : Regs) → b ≡ true → registers_after (if b then Some (quiet (risen regs)) else outcome) regs ≡ risen regs
 rests true outcome regs halted = refl
 rests false outcome regs halted = absurd (cc)
 

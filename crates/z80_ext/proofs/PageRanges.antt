@@ -6,7 +6,7 @@ use Rattle.std.proofs.Math.Pow.{pow-lt}
 use Rattle.std.proofs.lemmas.Nat.{and_le_l, or_of_8}
 use Rattle.std.proofs.lemmas.List.Elements.{All-nil, All-cons}
 use Rattle.std.proofs.lemmas.Grind.{common_steps}
-use Rattle.z80_regs.specs.Outcome.{Input, Outcome}
+use Rattle.z80_regs.specs.Outcome.{Input, StepOutcome}
 use Rattle.z80_regs.specs.Ranges.{RegistersFit, ReadsBytes, ActionFits}
 use Rattle.z80_regs.specs.declared.regs.Regs.{Regs}
 use Rattle.z80_alu.specs.Flags.{has}
@@ -112,7 +112,7 @@ bits_fit instr regs memory fit reads =
     (byte_fits (operand_of (instr.opcode % 8)) regs memory fit reads)
 
 -- what is done after the reading of a port
-input_fits : (port : ℕ) (outcome : Outcome) → port < 256 → All ActionFits outcome.actions →
+input_fits : (port : ℕ) (outcome : StepOutcome) → port < 256 → All ActionFits outcome.actions →
     All ActionFits (after_input port outcome).actions
 input_fits port outcome small fits = All-cons ActionFits (Input port) outcome.actions small fits
 

@@ -1,7 +1,7 @@
 -- Rotations, shifts, and the single bits of a byte. (UM0080, "Rotate and Shift Group", "Bit Set, Reset, and Test
 -- Group".)
 use Rattle.std.specs.Prelude.{ℕ, ◌-◌, ◌%◌, ◌==◌, bit_and, bit_or}
-use Rattle.z80_regs.specs.Outcome.{Outcome}
+use Rattle.z80_regs.specs.Outcome.{StepOutcome}
 use Rattle.z80_regs.specs.declared.regs.Regs.{Regs}
 use Rattle.z80_alu.specs.declared.kinds.Rotate.{Rotate}
 use Rattle.z80_alu.specs.declared.kinds.Rotate.TheVariants.{Rlc, Rrc, Rl, Rr, Sla, Sra, Srl, Sll}
@@ -53,19 +53,19 @@ abbrev pub bit_tested : ℕ → ℕ → Regs → Regs
 bit_tested weight byte regs = record regs { f = bit_test_flags (bit_and byte weight == 0) regs.f }
 
 -- the instructions of an operand whose byte is known
-abbrev pub operand_bits : BitForm → Operand → ℕ → Regs → Outcome
+abbrev pub operand_bits : BitForm → Operand → ℕ → Regs → StepOutcome
 operand_bits (Test weight) operand byte regs = quiet (bit_tested weight byte regs)
 operand_bits (Change change) operand byte regs =
     with_operand operand (changed_byte change byte regs.f) (bits_changed change byte regs)
 
 -- the instructions of the byte at an address
-abbrev pub memory_bits : BitForm → ℕ → ℕ → Regs → Outcome
+abbrev pub memory_bits : BitForm → ℕ → ℕ → Regs → StepOutcome
 memory_bits (Test weight) address byte regs = quiet (bit_tested weight byte regs)
 memory_bits (Change change) address byte regs =
     stored address (changed_byte change byte regs.f) (bits_changed change byte regs)
 
 -- an instruction after CBh
-unfoldable pub bits_outcome : Instr → Regs → (ℕ → ℕ) → Outcome
+unfoldable pub bits_outcome : Instr → Regs → (ℕ → ℕ) → StepOutcome
 bits_outcome instr regs memory =
     let operand = operand_of (instr.opcode % 8) in
     operand_bits (bit_form_of instr.opcode) operand (operand_byte operand regs memory) (behind instr.length regs)

@@ -2,7 +2,7 @@
 -- Group".)
 use Rattle.std.specs.Prelude.{ℕ, ◌∷◌, ◌==◌, ◌&&◌, Bool, true, false, not}
 use Rattle.z80_regs.specs.Words.{onward, back}
-use Rattle.z80_regs.specs.Outcome.{Input, Outcome}
+use Rattle.z80_regs.specs.Outcome.{Input, StepOutcome}
 use Rattle.z80_regs.specs.declared.regs.Regs.{Regs}
 use Rattle.z80_alu.specs.Single.{block_load_flags_of, block_compare_flags_of, block_port_flags_of}
 use Rattle.z80_decode.specs.declared.forms.Pair.TheVariants.{BC, DE, HL}
@@ -46,7 +46,7 @@ load_stepped direction regs = record (with_pair DE (walked direction (pair_word 
 }
 
 -- LDI, LDD, LDIR, LDDR: the byte at HL goes to DE
-abbrev pub block_loaded : Direction → Bool → Regs → (ℕ → ℕ) → Outcome
+abbrev pub block_loaded : Direction → Bool → Regs → (ℕ → ℕ) → StepOutcome
 block_loaded direction repeats regs memory =
     stored (pair_word DE regs) (memory (hl_of regs)) (again_if (repeats && has_more regs) (load_stepped direction regs))
 
@@ -73,16 +73,16 @@ port_repeated direction repeats regs =
     again_if (repeats && not ((counted_down regs).b == 0)) (port_stepped direction regs)
 
 -- a port is read before what else an instruction does
-abbrev pub after_input : ℕ → Outcome → Outcome
+abbrev pub after_input : ℕ → StepOutcome → StepOutcome
 after_input port outcome = record { registers = outcome.registers; actions = Input port ∷ outcome.actions }
 
 -- INI, IND, INIR, INDR: the byte of the port C goes to HL
-abbrev pub block_input : Direction → Bool → Regs → (ℕ → ℕ) → Outcome
+abbrev pub block_input : Direction → Bool → Regs → (ℕ → ℕ) → StepOutcome
 block_input direction repeats regs ports =
     after_input regs.c (stored (hl_of regs) (ports regs.c) (port_repeated direction repeats regs))
 
 -- the block instructions; OUTI, OUTD, OTIR, OTDR change registers alone
-abbrev pub block_performed : Transfer → Direction → Bool → Regs → (ℕ → ℕ) → (ℕ → ℕ) → Outcome
+abbrev pub block_performed : Transfer → Direction → Bool → Regs → (ℕ → ℕ) → (ℕ → ℕ) → StepOutcome
 block_performed transfer.Load direction repeats regs memory ports = block_loaded direction repeats regs memory
 block_performed transfer.Compare direction repeats regs memory ports =
     quiet (block_compared direction repeats (memory (hl_of regs)) regs)

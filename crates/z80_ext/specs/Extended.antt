@@ -1,7 +1,7 @@
 -- What the instructions after EDh do. (UM0080, "8-Bit Load Group", "16-Bit Load Group", "16-Bit Arithmetic Group",
 -- "Rotate and Shift Group", "Call and Return Group", "Input and Output Group".)
 use Rattle.std.specs.Prelude.{ℕ, ◌+◌, ◌*◌, ◌/◌, ◌%◌, false, Option, None, Some}
-use Rattle.z80_regs.specs.Outcome.{Outcome}
+use Rattle.z80_regs.specs.Outcome.{StepOutcome}
 use Rattle.z80_regs.specs.declared.regs.Regs.{Regs}
 use Rattle.z80_alu.specs.Flags.{has}
 use Rattle.z80_alu.specs.Bytes.{difference_of, difference_flags}
@@ -22,7 +22,7 @@ use Rattle.z80_exec.specs.Performing.{behind}
 use Rattle.z80_ext.specs.Block.{after_input, block_performed}
 
 -- IN r,(C): the port C, the low byte alone
-abbrev pub operand_input : Operand → Regs → (ℕ → ℕ) → Outcome
+abbrev pub operand_input : Operand → Regs → (ℕ → ℕ) → StepOutcome
 operand_input operand regs ports = after_input regs.c
     (with_operand operand (ports regs.c) (record regs { f = byte_flags (ports regs.c) regs.f }))
 
@@ -54,19 +54,19 @@ a_loaded value regs = record regs { a = value; f = interrupt_load_flags value re
 
 -- the low digit of A and the two digits of a byte, of four bits each: RRD moves them to the right, so that A has the
 -- byte's low one and the byte has A's, then its own high one
-abbrev pub digits_right : ℕ → Regs → Outcome
+abbrev pub digits_right : ℕ → Regs → StepOutcome
 digits_right byte regs =
     let a = regs.a / 16 * 16 + byte % 16 in
     stored (hl_of regs) (regs.a % 16 * 16 + byte / 16) (record regs { a = a; f = byte_flags a regs.f })
 
 -- RLD moves them to the left: A has the byte's high one and the byte has its own low one, then A's
-abbrev pub digits_left : ℕ → Regs → Outcome
+abbrev pub digits_left : ℕ → Regs → StepOutcome
 digits_left byte regs =
     let a = regs.a / 16 * 16 + byte / 16 in
     stored (hl_of regs) (byte % 16 * 16 + regs.a % 16) (record regs { a = a; f = byte_flags a regs.f })
 
 -- a form's instruction
-unfoldable pub extended_performed : ExtendedForm → Instr → Regs → (ℕ → ℕ) → (ℕ → ℕ) → Outcome
+unfoldable pub extended_performed : ExtendedForm → Instr → Regs → (ℕ → ℕ) → (ℕ → ℕ) → StepOutcome
 extended_performed (extended.Input operand) instr regs memory ports = operand_input operand regs ports
 extended_performed (extended.Output operand) instr regs memory ports = quiet regs
 extended_performed (extended.SubtractPair pair) instr regs memory ports = quiet (pair_subtracted pair regs)
@@ -89,11 +89,11 @@ extended_performed (extended.Block transfer direction repeats) instr regs memory
     block_performed transfer direction repeats regs memory ports
 
 -- an instruction by its form
-abbrev pub extended_by : Option ExtendedForm → Instr → Regs → (ℕ → ℕ) → (ℕ → ℕ) → Outcome
+abbrev pub extended_by : Option ExtendedForm → Instr → Regs → (ℕ → ℕ) → (ℕ → ℕ) → StepOutcome
 extended_by None instr regs memory ports = quiet regs
 extended_by (Some form) instr regs memory ports =
     extended_performed form instr (behind instr.length regs) memory ports
 
 -- an instruction after EDh
-unfoldable pub extended_outcome : Instr → Regs → (ℕ → ℕ) → (ℕ → ℕ) → Outcome
+unfoldable pub extended_outcome : Instr → Regs → (ℕ → ℕ) → (ℕ → ℕ) → StepOutcome
 extended_outcome instr regs memory ports = extended_by (extended_form_of instr.opcode) instr regs memory ports

@@ -2,7 +2,7 @@
 -- (HL). (UM0080, "Z80 Instruction Description", "Indexed Addressing"; for the halves "The Undocumented Z80 Documented".)
 use Rattle.std.specs.Prelude.{ℕ, ◌==◌, if◌then◌else◌, false, Option, None, Some}
 use Rattle.z80_regs.specs.Words.{onward, back, word_of, low, high, word_from}
-use Rattle.z80_regs.specs.Outcome.{Outcome}
+use Rattle.z80_regs.specs.Outcome.{StepOutcome}
 use Rattle.z80_regs.specs.declared.regs.Regs.{Regs}
 use Rattle.z80_alu.specs.Bytes.{sum_of, difference_of, increment_flags, decrement_flags}
 use Rattle.z80_alu.specs.Pairs.{word_sum_of, word_add_flags}
@@ -77,7 +77,7 @@ index_byte index operand.Memory address regs memory = memory address
 index_byte index other address regs memory = operand_byte other regs memory
 
 -- a byte in an operand
-abbrev pub with_index_byte : IndexRegister → Operand → ℕ → ℕ → Regs → Outcome
+abbrev pub with_index_byte : IndexRegister → Operand → ℕ → ℕ → Regs → StepOutcome
 with_index_byte index operand.H address byte regs =
     quiet (with_index index (word_of (low (index_word index regs)) byte) regs)
 with_index_byte index operand.L address byte regs =
@@ -86,23 +86,23 @@ with_index_byte index operand.Memory address byte regs = stored address byte reg
 with_index_byte index other address byte regs = with_operand other byte regs
 
 -- INC and DEC of an operand whose byte is known
-abbrev pub byte_incremented : IndexRegister → Operand → ℕ → ℕ → Regs → Outcome
+abbrev pub byte_incremented : IndexRegister → Operand → ℕ → ℕ → Regs → StepOutcome
 byte_incremented index operand address byte regs =
     with_index_byte index operand address (sum_of byte 1 false) (record regs { f = increment_flags byte regs.f })
 
-abbrev pub byte_decremented : IndexRegister → Operand → ℕ → ℕ → Regs → Outcome
+abbrev pub byte_decremented : IndexRegister → Operand → ℕ → ℕ → Regs → StepOutcome
 byte_decremented index operand address byte regs =
     with_index_byte index operand address (difference_of byte 1 false) (record regs { f = decrement_flags byte regs.f })
 
 -- EX (SP),IX
-abbrev pub index_exchanged : IndexRegister → Regs → (ℕ → ℕ) → Outcome
+abbrev pub index_exchanged : IndexRegister → Regs → (ℕ → ℕ) → StepOutcome
 index_exchanged index regs memory = record {
   registers = with_index index (word_from memory regs.sp) regs;
   actions = top_replaced (index_word index regs) regs;
 }
 
 -- PUSH IX
-abbrev pub index_pushed : IndexRegister → Regs → Outcome
+abbrev pub index_pushed : IndexRegister → Regs → StepOutcome
 index_pushed index regs = record {
   registers = record regs { sp = back regs.sp 2 };
   actions = pushed (index_word index regs) regs;
@@ -113,7 +113,7 @@ abbrev pub index_popped : IndexRegister → Regs → (ℕ → ℕ) → Regs
 index_popped index regs memory = with_index index (word_from memory regs.sp) (record regs { sp = onward regs.sp 2 })
 
 -- a form's instruction; the loads between H or L and (IX+d) or (IY+d) are of H and L themselves
-unfoldable pub index_performed : IndexForm → IndexRegister → Instr → Regs → (ℕ → ℕ) → Outcome
+unfoldable pub index_performed : IndexForm → IndexRegister → Instr → Regs → (ℕ → ℕ) → StepOutcome
 index_performed (AddPair pair) index instr regs memory = quiet (index_added index pair regs)
 index_performed LoadNumber index instr regs memory = quiet (with_index index instr.operand regs)
 index_performed Store index instr regs memory = word_stored instr.operand (index_word index regs) regs
@@ -145,21 +145,21 @@ index_performed Jump index instr regs memory = quiet (record regs { pc = index_w
 index_performed LoadSp index instr regs memory = quiet (record regs { sp = index_word index regs })
 
 -- an instruction by its form
-abbrev pub index_by : Option IndexForm → IndexRegister → Instr → Regs → (ℕ → ℕ) → Outcome
+abbrev pub index_by : Option IndexForm → IndexRegister → Instr → Regs → (ℕ → ℕ) → StepOutcome
 index_by None index instr regs memory = quiet regs
 index_by (Some form) index instr regs memory = index_performed form index instr (behind instr.length regs) memory
 
 -- an instruction after DDh or FDh
-unfoldable pub index_outcome : IndexRegister → Instr → Regs → (ℕ → ℕ) → Outcome
+unfoldable pub index_outcome : IndexRegister → Instr → Regs → (ℕ → ℕ) → StepOutcome
 index_outcome index instr regs memory = index_by (index_form_of instr.opcode) index instr regs memory
 
 -- an instruction after DDh CBh or FDh CBh by its form
-abbrev pub index_bits_by : Option BitForm → IndexRegister → Instr → Regs → (ℕ → ℕ) → Outcome
+abbrev pub index_bits_by : Option BitForm → IndexRegister → Instr → Regs → (ℕ → ℕ) → StepOutcome
 index_bits_by None index instr regs memory = quiet regs
 index_bits_by (Some form) index instr regs memory =
     let address = indexed_address index instr regs in
     memory_bits form address (memory address) (behind instr.length regs)
 
 -- an instruction after DDh CBh or FDh CBh
-unfoldable pub index_bits_outcome : IndexRegister → Instr → Regs → (ℕ → ℕ) → Outcome
+unfoldable pub index_bits_outcome : IndexRegister → Instr → Regs → (ℕ → ℕ) → StepOutcome
 index_bits_outcome index instr regs memory = index_bits_by (indexed_bit_form_of instr.opcode) index instr regs memory

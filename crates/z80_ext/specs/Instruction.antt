@@ -2,7 +2,7 @@
 -- Description" and "HALT".)
 use Rattle.std.specs.Prelude.{◌≡◌, ◌==◌, ◌&&◌, ◌+◌, ◌*◌, ◌/◌, ◌%◌, ℕ, Bool, List, [], ◌∷◌, Option, None, Some, true, false, if◌then◌else◌}
 use Rattle.z80_regs.specs.Words.{onward, refreshed}
-use Rattle.z80_regs.specs.Outcome.{Action, Outcome}
+use Rattle.z80_regs.specs.Outcome.{Action, StepOutcome}
 use Rattle.z80_regs.specs.declared.regs.Regs.{Regs}
 use Rattle.z80_decode.specs.declared.instr.Instr.{Instr}
 use Rattle.z80_decode.specs.declared.instr.Page.{Page}
@@ -41,7 +41,7 @@ four_from memory address =
     memory address ∷ memory (onward address 1) ∷ memory (onward address 2) ∷ memory (onward address 3) ∷ []
 
 -- the outcome of an instruction, by its page
-abbrev pub page_outcome : Page → Instr → Regs → (ℕ → ℕ) → (ℕ → ℕ) → Outcome
+abbrev pub page_outcome : Page → Instr → Regs → (ℕ → ℕ) → (ℕ → ℕ) → StepOutcome
 page_outcome Main instr regs memory ports = main_outcome instr regs memory ports
 page_outcome Cb instr regs memory ports = bits_outcome instr regs memory
 page_outcome Ed instr regs memory ports = extended_outcome instr regs memory ports
@@ -51,24 +51,24 @@ page_outcome IxCb instr regs memory ports = index_bits_outcome index.Ix instr re
 page_outcome IyCb instr regs memory ports = index_bits_outcome index.Iy instr regs memory
 
 -- the outcome of an instruction, where there is one
-abbrev pub outcome_of : Option Instr → Regs → (ℕ → ℕ) → (ℕ → ℕ) → Option Outcome
+abbrev pub outcome_of : Option Instr → Regs → (ℕ → ℕ) → (ℕ → ℕ) → Option StepOutcome
 outcome_of None regs memory ports = None
 outcome_of (Some instr) regs memory ports = Some (page_outcome instr.page instr (begun regs) memory ports)
 
 -- the outcome of a step, from the registers, what each address reads and what each port reads as the step begins:
 -- no byte is read after a write of the same step; None where no listed instruction is at PC
-unfoldable pub instruction : Regs → (ℕ → ℕ) → (ℕ → ℕ) → Option Outcome
+unfoldable pub instruction : Regs → (ℕ → ℕ) → (ℕ → ℕ) → Option StepOutcome
 instruction regs memory ports =
     if regs.halted then Some (quiet (risen regs))
     else (outcome_of (instr_of (four_from memory regs.pc)) regs memory ports)
 
 -- what an instruction does, but for how it begins; nothing where there is none
-abbrev pub unbegun_of : Option Instr → Regs → (ℕ → ℕ) → (ℕ → ℕ) → Outcome
+abbrev pub unbegun_of : Option Instr → Regs → (ℕ → ℕ) → (ℕ → ℕ) → StepOutcome
 unbegun_of None regs memory ports = quiet regs
 unbegun_of (Some instr) regs memory ports = page_outcome instr.page instr regs memory ports
 
 -- what the instruction at PC does, but for how it begins
-abbrev pub unbegun : Regs → (ℕ → ℕ) → (ℕ → ℕ) → Outcome
+abbrev pub unbegun : Regs → (ℕ → ℕ) → (ℕ → ℕ) → StepOutcome
 unbegun regs memory ports = unbegun_of (instr_of (four_from memory regs.pc)) regs memory ports
 
 -- after EDh, ADC HL,ss, SBC HL,ss, LD (nn),dd and LD dd,(nn)
@@ -95,12 +95,12 @@ abbrev pub is_plain_at : Regs → (ℕ → ℕ) → Bool
 is_plain_at regs memory = is_plain_instr (instr_of (four_from memory regs.pc))
 
 -- the registers after a step: as they were where it had no outcome
-abbrev pub registers_after : Option Outcome → Regs → Regs
+abbrev pub registers_after : Option StepOutcome → Regs → Regs
 registers_after None regs = regs
 registers_after (Some outcome) regs = outcome.registers
 
 -- what a step does to the bus: nothing where it had no outcome
-abbrev pub actions_of : Option Outcome → List Action
+abbrev pub actions_of : Option StepOutcome → List Action
 actions_of None = []
 actions_of (Some outcome) = outcome.actions
 

@@ -1,5 +1,5 @@
 ghost use Rattle.std.specs.Prelude.{◌≡◌};
-ghost use Rattle.z80_regs.specs.Outcome.{Leaves};
+ghost use Rattle.z80_regs.specs.Outcome.{LeavesBus};
 ghost use Rattle.z80_decode.specs.Decoding.{bit_instr_of};
 ghost use Rattle.z80_decode.specs.declared.page_forms.BitChange.TheVariants as changes;
 ghost use Rattle.z80_decode.specs.declared.page_forms.BitForm.TheVariants.{Change};
@@ -51,10 +51,10 @@ fn test_bit(weight: u8, byte: u8, regs: &mut Regs)
 
 /// A change of an operand. Each row reads and sets its operand by itself, so that both are known by one jump.
 #[inline(always)]
-#[tactic(auto, unfolding(z80_regs::specs::Outcome::Leaves))]
+#[tactic(auto, unfolding(z80_regs::specs::Outcome::LeavesBus))]
 fn change_operand<B: Bus>(change: BitChange, at: Operand, regs: &mut Regs, bus: &mut B)
     ensures registers { regs.new ≡ (operand_bits (Change change) at (operand_byte at regs.old (B.byte bus.old)) regs.old).registers }
-    ensures bus { Leaves B.wrote B.took (operand_bits (Change change) at (operand_byte at regs.old (B.byte bus.old)) regs.old).actions bus.old bus.new }
+    ensures bus { LeavesBus B.wrote B.took (operand_bits (Change change) at (operand_byte at regs.old (B.byte bus.old)) regs.old).actions bus.old bus.new }
 {
     match at {
         Operand::B => (regs.b, regs.f) = changed(change, regs.b, regs.f),
@@ -70,10 +70,10 @@ fn change_operand<B: Bus>(change: BitChange, at: Operand, regs: &mut Regs, bus: 
 
 /// A change of the byte at an address.
 #[inline(always)]
-#[tactic(auto, unfolding(z80_regs::specs::Outcome::Leaves))]
+#[tactic(auto, unfolding(z80_regs::specs::Outcome::LeavesBus))]
 fn change_memory<B: Bus>(change: BitChange, address: u16, regs: &mut Regs, bus: &mut B)
     ensures registers { regs.new ≡ (memory_bits (Change change) address (B.byte bus.old address) regs.old).registers }
-    ensures bus { Leaves B.wrote B.took (memory_bits (Change change) address (B.byte bus.old address) regs.old).actions bus.old bus.new }
+    ensures bus { LeavesBus B.wrote B.took (memory_bits (Change change) address (B.byte bus.old address) regs.old).actions bus.old bus.new }
 {
     let (value, flags) = changed(change, bus.read(address), regs.f);
     bus.write(address, value);
@@ -82,10 +82,10 @@ fn change_memory<B: Bus>(change: BitChange, address: u16, regs: &mut Regs, bus: 
 
 /// A rotation or a shift of an operand: a row for each, so that it is known where a step has jumped by its opcode.
 #[inline(always)]
-#[tactic(auto, unfolding(z80_regs::specs::Outcome::Leaves))]
+#[tactic(auto, unfolding(z80_regs::specs::Outcome::LeavesBus))]
 fn rotate_operand<B: Bus>(shift: Shift, at: Operand, regs: &mut Regs, bus: &mut B)
     ensures registers { regs.new ≡ (operand_bits (Change (changes.Rotate shift)) at (operand_byte at regs.old (B.byte bus.old)) regs.old).registers }
-    ensures bus { Leaves B.wrote B.took (operand_bits (Change (changes.Rotate shift)) at (operand_byte at regs.old (B.byte bus.old)) regs.old).actions bus.old bus.new }
+    ensures bus { LeavesBus B.wrote B.took (operand_bits (Change (changes.Rotate shift)) at (operand_byte at regs.old (B.byte bus.old)) regs.old).actions bus.old bus.new }
 {
     match shift {
         Shift::LeftCircular => change_operand(
@@ -126,10 +126,10 @@ fn rotate_operand<B: Bus>(shift: Shift, at: Operand, regs: &mut Regs, bus: &mut 
 
 /// A rotation or a shift of the byte at an address.
 #[inline(always)]
-#[tactic(auto, unfolding(z80_regs::specs::Outcome::Leaves))]
+#[tactic(auto, unfolding(z80_regs::specs::Outcome::LeavesBus))]
 fn rotate_memory<B: Bus>(shift: Shift, address: u16, regs: &mut Regs, bus: &mut B)
     ensures registers { regs.new ≡ (memory_bits (Change (changes.Rotate shift)) address (B.byte bus.old address) regs.old).registers }
-    ensures bus { Leaves B.wrote B.took (memory_bits (Change (changes.Rotate shift)) address (B.byte bus.old address) regs.old).actions bus.old bus.new }
+    ensures bus { LeavesBus B.wrote B.took (memory_bits (Change (changes.Rotate shift)) address (B.byte bus.old address) regs.old).actions bus.old bus.new }
 {
     match shift {
         Shift::LeftCircular => change_memory(
@@ -192,10 +192,10 @@ fn test_operand<B: Bus>(weight: u8, at: Operand, regs: &mut Regs, bus: &B)
 
 /// Acts on an operand.
 #[inline(always)]
-#[tactic(auto, unfolding(z80_regs::specs::Outcome::Leaves))]
+#[tactic(auto, unfolding(z80_regs::specs::Outcome::LeavesBus))]
 fn act_on_operand<B: Bus>(form: BitForm, at: Operand, regs: &mut Regs, bus: &mut B)
     ensures registers { regs.new ≡ (operand_bits form at (operand_byte at regs.old (B.byte bus.old)) regs.old).registers }
-    ensures bus { Leaves B.wrote B.took (operand_bits form at (operand_byte at regs.old (B.byte bus.old)) regs.old).actions bus.old bus.new }
+    ensures bus { LeavesBus B.wrote B.took (operand_bits form at (operand_byte at regs.old (B.byte bus.old)) regs.old).actions bus.old bus.new }
 {
     match (at, form) {
         (at, BitForm::Test(weight)) => test_operand(weight, at, regs, bus),
@@ -206,10 +206,10 @@ fn act_on_operand<B: Bus>(form: BitForm, at: Operand, regs: &mut Regs, bus: &mut
 
 /// Acts on the byte at an address.
 #[inline(always)]
-#[tactic(auto, unfolding(z80_regs::specs::Outcome::Leaves))]
+#[tactic(auto, unfolding(z80_regs::specs::Outcome::LeavesBus))]
 pub fn act_on_memory<B: Bus>(form: BitForm, address: u16, regs: &mut Regs, bus: &mut B)
     ensures registers { regs.new ≡ (memory_bits form address (B.byte bus.old address) regs.old).registers }
-    ensures bus { Leaves B.wrote B.took (memory_bits form address (B.byte bus.old address) regs.old).actions bus.old bus.new }
+    ensures bus { LeavesBus B.wrote B.took (memory_bits form address (B.byte bus.old address) regs.old).actions bus.old bus.new }
 {
     match form {
         BitForm::Test(weight) => test_bit(weight, bus.read(address), regs),
@@ -221,10 +221,10 @@ pub fn act_on_memory<B: Bus>(form: BitForm, address: u16, regs: &mut Regs, bus: 
 /// What an instruction after CBh does, but for how it begins. (UM0080, "Rotate and Shift Group", "Bit Set, Reset, and Test
 /// Group".)
 #[inline(always)]
-#[tactic(auto, unfolding(crate::specs::Bits::bits_outcome, z80_regs::specs::Outcome::Leaves))]
+#[tactic(auto, unfolding(crate::specs::Bits::bits_outcome, z80_regs::specs::Outcome::LeavesBus))]
 pub fn step_bits<B: Bus>(opcode: u8, regs: &mut Regs, bus: &mut B)
     ensures registers { regs.new ≡ (bits_outcome (bit_instr_of opcode) regs.old (B.byte bus.old)).registers }
-    ensures bus { Leaves B.wrote B.took (bits_outcome (bit_instr_of opcode) regs.old (B.byte bus.old)).actions bus.old bus.new }
+    ensures bus { LeavesBus B.wrote B.took (bits_outcome (bit_instr_of opcode) regs.old (B.byte bus.old)).actions bus.old bus.new }
 {
     regs.pc = regs.pc.wrapping_add(2);
     act_on_operand(bit_form(opcode), operand_at(opcode % 8), regs, bus);

@@ -1,5 +1,5 @@
 ghost use Rattle.std.specs.Prelude.{◌≡◌, ◌==◌};
-ghost use Rattle.z80_regs.specs.Outcome.{Leaves};
+ghost use Rattle.z80_regs.specs.Outcome.{LeavesBus};
 ghost use Rattle.z80_ext.specs.Block.{
   walked,
   again_if,
@@ -83,10 +83,10 @@ fn step_load(direction: Direction, regs: &mut Regs)
 
 /// LDI, LDD, LDIR and LDDR.
 #[inline(always)]
-#[tactic(auto, unfolding(z80_regs::specs::Outcome::Leaves))]
+#[tactic(auto, unfolding(z80_regs::specs::Outcome::LeavesBus))]
 pub fn load_block<B: Bus>(direction: Direction, repeats: bool, regs: &mut Regs, bus: &mut B)
     ensures registers { regs.new ≡ (block_loaded direction repeats regs.old (B.byte bus.old)).registers }
-    ensures bus { Leaves B.wrote B.took (block_loaded direction repeats regs.old (B.byte bus.old)).actions
+    ensures bus { LeavesBus B.wrote B.took (block_loaded direction repeats regs.old (B.byte bus.old)).actions
         bus.old bus.new }
 {
     let is_repeated = repeats && is_more(regs);
@@ -132,10 +132,10 @@ fn repeat_port(direction: Direction, repeats: bool, regs: &mut Regs)
 }
 
 /// INI, IND, INIR and INDR.
-#[tactic(auto, unfolding(z80_regs::specs::Outcome::Leaves))]
+#[tactic(auto, unfolding(z80_regs::specs::Outcome::LeavesBus))]
 fn input_block<B: Bus>(direction: Direction, repeats: bool, regs: &mut Regs, bus: &mut B)
     ensures registers { regs.new ≡ (block_input direction repeats regs.old (B.port_byte bus.old)).registers }
-    ensures bus { Leaves B.wrote B.took (block_input direction repeats regs.old (B.port_byte bus.old)).actions
+    ensures bus { LeavesBus B.wrote B.took (block_input direction repeats regs.old (B.port_byte bus.old)).actions
         bus.old bus.new }
 {
     let value = bus.input(regs.c);
@@ -144,7 +144,7 @@ fn input_block<B: Bus>(direction: Direction, repeats: bool, regs: &mut Regs, bus
 }
 
 /// One step of a block instruction, which PC is past.
-#[tactic(auto, unfolding(z80_regs::specs::Outcome::Leaves))]
+#[tactic(auto, unfolding(z80_regs::specs::Outcome::LeavesBus))]
 pub fn transfer<B: Bus>(
     kind: Transfer,
     direction: Direction,
@@ -154,7 +154,7 @@ pub fn transfer<B: Bus>(
 )
     ensures registers { regs.new ≡
         (block_performed kind direction repeats regs.old (B.byte bus.old) (B.port_byte bus.old)).registers }
-    ensures bus { Leaves B.wrote B.took
+    ensures bus { LeavesBus B.wrote B.took
         (block_performed kind direction repeats regs.old (B.byte bus.old) (B.port_byte bus.old)).actions bus.old bus.new }
 {
     match kind {

@@ -1,7 +1,7 @@
 ghost use Rattle.std.specs.Prelude.{◌≡◌, ◌↔◌, true, false, IsNone};
 ghost use Rattle.std.specs.Bool.{OnTrue, OnFalse};
 ghost use Rattle.z80_regs.specs.Words.{onward};
-ghost use Rattle.z80_regs.specs.Outcome.{Leaves};
+ghost use Rattle.z80_regs.specs.Outcome.{LeavesBus};
 ghost use Rattle.z80_decode.specs.PageOpcodes.{extended_form_of};
 ghost use Rattle.z80_decode.specs.Decoding.{extended_instr_by};
 ghost use Rattle.z80_ext.specs.Instruction.{outcome_of, unbegun_of, is_plain_instr, registers_after, actions_of};
@@ -29,10 +29,10 @@ use z80_exec::{
 use z80_regs::{Bus, Regs};
 
 /// IN r,(C).
-#[tactic(auto, unfolding(z80_regs::specs::Outcome::Leaves))]
+#[tactic(auto, unfolding(z80_regs::specs::Outcome::LeavesBus))]
 fn input_operand<B: Bus>(to: Operand, regs: &mut Regs, bus: &mut B)
     ensures registers { regs.new ≡ (operand_input to regs.old (B.port_byte bus.old)).registers }
-    ensures bus { Leaves B.wrote B.took (operand_input to regs.old (B.port_byte bus.old)).actions bus.old bus.new }
+    ensures bus { LeavesBus B.wrote B.took (operand_input to regs.old (B.port_byte bus.old)).actions bus.old bus.new }
 {
     let value = bus.input(regs.c);
     regs.f = z80_alu::value_flags(value, regs.f);
@@ -83,10 +83,10 @@ fn load_a(value: u8, regs: &mut Regs)
 }
 
 /// RRD.
-#[tactic(auto, unfolding(z80_regs::specs::Outcome::Leaves))]
+#[tactic(auto, unfolding(z80_regs::specs::Outcome::LeavesBus))]
 fn rotate_digits_right<B: Bus>(regs: &mut Regs, bus: &mut B)
     ensures registers { regs.new ≡ (digits_right (B.byte bus.old (hl_of regs.old)) regs.old).registers }
-    ensures bus { Leaves B.wrote B.took
+    ensures bus { LeavesBus B.wrote B.took
         (digits_right (B.byte bus.old (hl_of regs.old)) regs.old).actions bus.old bus.new }
 {
     let byte = bus.read(hl(regs));
@@ -96,10 +96,10 @@ fn rotate_digits_right<B: Bus>(regs: &mut Regs, bus: &mut B)
 }
 
 /// RLD.
-#[tactic(auto, unfolding(z80_regs::specs::Outcome::Leaves))]
+#[tactic(auto, unfolding(z80_regs::specs::Outcome::LeavesBus))]
 fn rotate_digits_left<B: Bus>(regs: &mut Regs, bus: &mut B)
     ensures registers { regs.new ≡ (digits_left (B.byte bus.old (hl_of regs.old)) regs.old).registers }
-    ensures bus { Leaves B.wrote B.took (digits_left (B.byte bus.old (hl_of regs.old)) regs.old).actions
+    ensures bus { LeavesBus B.wrote B.took (digits_left (B.byte bus.old (hl_of regs.old)) regs.old).actions
         bus.old bus.new }
 {
     let byte = bus.read(hl(regs));
@@ -120,11 +120,11 @@ fn output_operand<B: Bus>(from: Operand, regs: &Regs, bus: &mut B)
 /// last is read where it belongs to the instruction. False comes of all else after EDh, and then nothing changes. (UM0080,
 /// "16-Bit Arithmetic Group", "16-Bit Load Group".)
 #[inline]
-#[tactic(auto, unfolding(crate::specs::Extended::extended_performed, crate::specs::Extended::extended_outcome, z80_regs::specs::Outcome::Leaves))]
+#[tactic(auto, unfolding(crate::specs::Extended::extended_performed, crate::specs::Extended::extended_outcome, z80_regs::specs::Outcome::LeavesBus))]
 pub fn step_pair<B: Bus>(opcode: u8, third: u8, regs: &mut Regs, bus: &mut B) -> bool
     ensures plain { result ≡ is_plain_instr (extended_instr_by (extended_form_of opcode) opcode third (B.byte bus.old (onward regs.old.pc 3))) }
     ensures registers { OnTrue result (regs.new ≡ (unbegun_of (extended_instr_by (extended_form_of opcode) opcode third (B.byte bus.old (onward regs.old.pc 3))) regs.old (B.byte bus.old) (B.port_byte bus.old)).registers) }
-    ensures bus { OnTrue result (Leaves B.wrote B.took (unbegun_of (extended_instr_by (extended_form_of opcode) opcode third (B.byte bus.old (onward regs.old.pc 3))) regs.old (B.byte bus.old) (B.port_byte bus.old)).actions bus.old bus.new) }
+    ensures bus { OnTrue result (LeavesBus B.wrote B.took (unbegun_of (extended_instr_by (extended_form_of opcode) opcode third (B.byte bus.old (onward regs.old.pc 3))) regs.old (B.byte bus.old) (B.port_byte bus.old)).actions bus.old bus.new) }
     ensures registers_stay { OnFalse result (regs.new ≡ regs.old) }
     ensures bus_stays { OnFalse result (bus.new ≡ bus.old) }
 {
@@ -156,11 +156,11 @@ pub fn step_pair<B: Bus>(opcode: u8, third: u8, regs: &mut Regs, bus: &mut B) ->
 }
 
 /// Acts as a form's instruction, which PC is past.
-#[tactic(auto, unfolding(crate::specs::Extended::extended_performed, z80_regs::specs::Outcome::Leaves))]
+#[tactic(auto, unfolding(crate::specs::Extended::extended_performed, z80_regs::specs::Outcome::LeavesBus))]
 fn perform<B: Bus>(form: &ExtendedForm, instr: &Instr, regs: &mut Regs, bus: &mut B)
     ensures registers { regs.new ≡
         (extended_performed form.now instr.now regs.old (B.byte bus.old) (B.port_byte bus.old)).registers }
-    ensures bus { Leaves B.wrote B.took
+    ensures bus { LeavesBus B.wrote B.took
         (extended_performed form.now instr.now regs.old (B.byte bus.old) (B.port_byte bus.old)).actions bus.old bus.new }
 {
     match *form {
@@ -187,13 +187,13 @@ fn perform<B: Bus>(form: &ExtendedForm, instr: &Instr, regs: &mut Regs, bus: &mu
 }
 
 /// One step where EDh is at PC. (UM0080, "Z80 Instruction Description".)
-#[tactic(auto, unfolding(crate::specs::Extended::extended_outcome, z80_regs::specs::Outcome::Leaves))]
+#[tactic(auto, unfolding(crate::specs::Extended::extended_outcome, z80_regs::specs::Outcome::LeavesBus))]
 pub fn step_extended<B: Bus>(regs: &mut Regs, bus: &mut B) -> Stepped
     ensures illegal { let opcode = B.byte bus.old (onward regs.old.pc 1) in (result ≡ Stepped.Illegal) ↔ IsNone
         (outcome_of (extended_instr_by (extended_form_of opcode) opcode (B.byte bus.old (onward regs.old.pc 2)) (B.byte bus.old (onward regs.old.pc 3))) regs.old (B.byte bus.old) (B.port_byte bus.old)) }
     ensures registers { let opcode = B.byte bus.old (onward regs.old.pc 1) in regs.new ≡ registers_after
         (outcome_of (extended_instr_by (extended_form_of opcode) opcode (B.byte bus.old (onward regs.old.pc 2)) (B.byte bus.old (onward regs.old.pc 3))) regs.old (B.byte bus.old) (B.port_byte bus.old)) regs.old }
-    ensures bus { let opcode = B.byte bus.old (onward regs.old.pc 1) in Leaves B.wrote B.took
+    ensures bus { let opcode = B.byte bus.old (onward regs.old.pc 1) in LeavesBus B.wrote B.took
         (actions_of (outcome_of (extended_instr_by (extended_form_of opcode) opcode (B.byte bus.old (onward regs.old.pc 2)) (B.byte bus.old (onward regs.old.pc 3))) regs.old (B.byte bus.old) (B.port_byte bus.old)))
         bus.old bus.new }
 {

@@ -1,7 +1,7 @@
 ghost use Rattle.std.specs.Prelude.{◌≡◌, ◌==◌, ◌||◌, true, false};
 ghost use Rattle.std.specs.Bool.{OnTrue, OnFalse};
 ghost use Rattle.z80_regs.specs.Words.{onward};
-ghost use Rattle.z80_regs.specs.Outcome.{Leaves};
+ghost use Rattle.z80_regs.specs.Outcome.{LeavesBus};
 ghost use Rattle.z80_decode.specs.PageOpcodes.{indexed_bit_form_of};
 ghost use Rattle.z80_decode.specs.Decoding.{index_tail_of, instr_with, index_bit_instr_by, index_instr_of};
 ghost use Rattle.z80_exec.specs.Operands.{with_operand};
@@ -134,7 +134,7 @@ fn byte_at<B: Bus>(index: IndexRegister, from: Operand, address: u16, regs: &Reg
 
 /// Sets an operand likewise.
 #[inline(always)]
-#[tactic(auto, unfolding(z80_regs::specs::Outcome::Leaves))]
+#[tactic(auto, unfolding(z80_regs::specs::Outcome::LeavesBus))]
 fn set_byte<B: Bus>(
     index: IndexRegister,
     to: Operand,
@@ -144,7 +144,7 @@ fn set_byte<B: Bus>(
     bus: &mut B,
 )
     ensures registers { regs.new ≡ (with_index_byte index to address byte regs.old).registers }
-    ensures bus { Leaves B.wrote B.took (with_index_byte index to address byte regs.old).actions bus.old bus.new }
+    ensures bus { LeavesBus B.wrote B.took (with_index_byte index to address byte regs.old).actions bus.old bus.new }
 {
     match to {
         Operand::H => {
@@ -165,7 +165,7 @@ fn set_byte<B: Bus>(
 fn increment<B: Bus>(index: IndexRegister, at: Operand, address: u16, regs: &mut Regs, bus: &mut B)
     ensures registers { regs.new ≡ (byte_incremented index at address
         (index_byte index at address regs.old (B.byte bus.old)) regs.old).registers }
-    ensures bus { Leaves B.wrote B.took (byte_incremented index at address
+    ensures bus { LeavesBus B.wrote B.took (byte_incremented index at address
         (index_byte index at address regs.old (B.byte bus.old)) regs.old).actions bus.old bus.new }
 {
     let (value, flags) = z80_alu::inc8(byte_at(index, at, address, regs, bus), regs.f);
@@ -178,7 +178,7 @@ fn increment<B: Bus>(index: IndexRegister, at: Operand, address: u16, regs: &mut
 fn decrement<B: Bus>(index: IndexRegister, at: Operand, address: u16, regs: &mut Regs, bus: &mut B)
     ensures registers { regs.new ≡ (byte_decremented index at address
         (index_byte index at address regs.old (B.byte bus.old)) regs.old).registers }
-    ensures bus { Leaves B.wrote B.took (byte_decremented index at address
+    ensures bus { LeavesBus B.wrote B.took (byte_decremented index at address
         (index_byte index at address regs.old (B.byte bus.old)) regs.old).actions bus.old bus.new }
 {
     let (value, flags) = z80_alu::dec8(byte_at(index, at, address, regs, bus), regs.f);
@@ -190,7 +190,7 @@ fn decrement<B: Bus>(index: IndexRegister, at: Operand, address: u16, regs: &mut
 #[inline(always)]
 fn exchange_stack<B: Bus>(index: IndexRegister, regs: &mut Regs, bus: &mut B)
     ensures registers { regs.new ≡ (index_exchanged index regs.old (B.byte bus.old)).registers }
-    ensures bus { Leaves B.wrote B.took (index_exchanged index regs.old (B.byte bus.old)).actions bus.old bus.new }
+    ensures bus { LeavesBus B.wrote B.took (index_exchanged index regs.old (B.byte bus.old)).actions bus.old bus.new }
 {
     let top = replace_top(index_at(regs, index), regs, bus);
     set_index(regs, index, top);
@@ -200,7 +200,7 @@ fn exchange_stack<B: Bus>(index: IndexRegister, regs: &mut Regs, bus: &mut B)
 #[inline(always)]
 fn push_index<B: Bus>(index: IndexRegister, regs: &mut Regs, bus: &mut B)
     ensures registers { regs.new ≡ (index_pushed index regs.old).registers }
-    ensures bus { Leaves B.wrote B.took (index_pushed index regs.old).actions bus.old bus.new }
+    ensures bus { LeavesBus B.wrote B.took (index_pushed index regs.old).actions bus.old bus.new }
 {
     push(index_at(regs, index), regs, bus);
 }
@@ -217,10 +217,10 @@ fn pop_index<B: Bus>(index: IndexRegister, regs: &mut Regs, bus: &B)
 
 /// LD r,(IX+d). Each operand that is set reads memory by itself, so that it is known where a step has jumped by its opcode.
 #[inline(always)]
-#[tactic(auto, unfolding(z80_regs::specs::Outcome::Leaves))]
+#[tactic(auto, unfolding(z80_regs::specs::Outcome::LeavesBus))]
 fn load_from<B: Bus>(to: Operand, address: u16, regs: &mut Regs, bus: &mut B)
     ensures registers { regs.new ≡ (with_operand to (B.byte bus.old address) regs.old).registers }
-    ensures bus { Leaves B.wrote B.took (with_operand to (B.byte bus.old address) regs.old).actions bus.old bus.new }
+    ensures bus { LeavesBus B.wrote B.took (with_operand to (B.byte bus.old address) regs.old).actions bus.old bus.new }
 {
     match to {
         Operand::B => regs.b = bus.read(address),
@@ -256,7 +256,7 @@ fn calculate_from<B: Bus>(math: Math, address: u16, regs: &mut Regs, bus: &B)
 
 /// Acts as a form's instruction, which PC is past. Its third byte is known, the fourth is read where it belongs to it.
 #[inline(always)]
-#[tactic(auto, unfolding(crate::specs::Index::index_performed, z80_regs::specs::Outcome::Leaves))]
+#[tactic(auto, unfolding(crate::specs::Index::index_performed, z80_regs::specs::Outcome::LeavesBus))]
 fn perform<B: Bus>(
     form: IndexForm,
     index: IndexRegister,
@@ -267,7 +267,7 @@ fn perform<B: Bus>(
     bus: &mut B,
 )
     ensures registers { regs.new ≡ (index_performed form index (instr_with (index_tail_of form) (page_of index) 2 opcode third (B.byte bus.old (onward address 3))) regs.old (B.byte bus.old)).registers }
-    ensures bus { Leaves B.wrote B.took (index_performed form index (instr_with (index_tail_of form) (page_of index) 2 opcode third (B.byte bus.old (onward address 3))) regs.old (B.byte bus.old)).actions
+    ensures bus { LeavesBus B.wrote B.took (index_performed form index (instr_with (index_tail_of form) (page_of index) 2 opcode third (B.byte bus.old (onward address 3))) regs.old (B.byte bus.old)).actions
         bus.old bus.new }
 {
     match form {
@@ -353,7 +353,7 @@ fn perform<B: Bus>(
 /// What an instruction after DDh CBh or FDh CBh does, but for how it begins. Its displacement is known. False comes where it
 /// isn't listed, and then nothing changes. (UM0080, "Rotate and Shift Group", "Bit Set, Reset, and Test Group".)
 #[inline(always)]
-#[tactic(auto, using(crate::proofs::Next::index_bits_page, crate::proofs::Next::bits_page_plain), unfolding(crate::specs::Index::index_bits_outcome, z80_regs::specs::Outcome::Leaves))]
+#[tactic(auto, using(crate::proofs::Next::index_bits_page, crate::proofs::Next::bits_page_plain), unfolding(crate::specs::Index::index_bits_outcome, z80_regs::specs::Outcome::LeavesBus))]
 fn step_index_bits<B: Bus>(
     index: IndexRegister,
     displacement: u8,
@@ -362,7 +362,7 @@ fn step_index_bits<B: Bus>(
 ) -> bool
     ensures plain { result ≡ is_plain_instr (index_bit_instr_by (indexed_bit_form_of (B.byte bus.old (onward regs.old.pc 3))) (bits_page_of index) displacement (B.byte bus.old (onward regs.old.pc 3))) }
     ensures registers { OnTrue result (regs.new ≡ (unbegun_of (index_bit_instr_by (indexed_bit_form_of (B.byte bus.old (onward regs.old.pc 3))) (bits_page_of index) displacement (B.byte bus.old (onward regs.old.pc 3))) regs.old (B.byte bus.old) (B.port_byte bus.old)).registers) }
-    ensures bus { OnTrue result (Leaves B.wrote B.took (unbegun_of (index_bit_instr_by (indexed_bit_form_of (B.byte bus.old (onward regs.old.pc 3))) (bits_page_of index) displacement (B.byte bus.old (onward regs.old.pc 3))) regs.old (B.byte bus.old) (B.port_byte bus.old)).actions bus.old bus.new) }
+    ensures bus { OnTrue result (LeavesBus B.wrote B.took (unbegun_of (index_bit_instr_by (indexed_bit_form_of (B.byte bus.old (onward regs.old.pc 3))) (bits_page_of index) displacement (B.byte bus.old (onward regs.old.pc 3))) regs.old (B.byte bus.old) (B.port_byte bus.old)).actions bus.old bus.new) }
     ensures registers_stay { OnFalse result (regs.new ≡ regs.old) }
     ensures bus_stays { OnFalse result (bus.new ≡ bus.old) }
 {
@@ -379,7 +379,7 @@ fn step_index_bits<B: Bus>(
 /// What an instruction after DDh or FDh does, but for how it begins. Its opcode and the byte after that are known. False
 /// comes where it isn't listed, and then nothing changes. (UM0080, "Z80 Instruction Description".)
 #[inline(always)]
-#[tactic(auto, using(crate::proofs::Next::index_page, crate::proofs::Next::page_plain), unfolding(z80_decode::specs::Decoding::index_instr_of, crate::specs::Index::index_outcome, z80_regs::specs::Outcome::Leaves))]
+#[tactic(auto, using(crate::proofs::Next::index_page, crate::proofs::Next::page_plain), unfolding(z80_decode::specs::Decoding::index_instr_of, crate::specs::Index::index_outcome, z80_regs::specs::Outcome::LeavesBus))]
 pub fn step_index<B: Bus>(
     index: IndexRegister,
     opcode: u8,
@@ -389,7 +389,7 @@ pub fn step_index<B: Bus>(
 ) -> bool
     ensures plain { result ≡ is_plain_instr (index_instr_of (page_of index) (bits_page_of index) opcode third (B.byte bus.old (onward regs.old.pc 3))) }
     ensures registers { OnTrue result (regs.new ≡ (unbegun_of (index_instr_of (page_of index) (bits_page_of index) opcode third (B.byte bus.old (onward regs.old.pc 3))) regs.old (B.byte bus.old) (B.port_byte bus.old)).registers) }
-    ensures bus { OnTrue result (Leaves B.wrote B.took (unbegun_of (index_instr_of (page_of index) (bits_page_of index) opcode third (B.byte bus.old (onward regs.old.pc 3))) regs.old (B.byte bus.old) (B.port_byte bus.old)).actions bus.old bus.new) }
+    ensures bus { OnTrue result (LeavesBus B.wrote B.took (unbegun_of (index_instr_of (page_of index) (bits_page_of index) opcode third (B.byte bus.old (onward regs.old.pc 3))) regs.old (B.byte bus.old) (B.port_byte bus.old)).actions bus.old bus.new) }
     ensures registers_stay { OnFalse result (regs.new ≡ regs.old) }
     ensures bus_stays { OnFalse result (bus.new ≡ bus.old) }
 {

@@ -9,7 +9,7 @@ mod stepped;
 
 ghost use Rattle.std.specs.Prelude.{◌≡◌, ◌↔◌, true, false, IsNone, IsSome, IfSome, MatchOption, is_none};
 ghost use Rattle.std.specs.Bool.{OnTrue, OnFalse};
-ghost use Rattle.z80_regs.specs.Outcome.{Leaves};
+ghost use Rattle.z80_regs.specs.Outcome.{LeavesBus};
 ghost use Rattle.z80_regs.specs.Words.{onward};
 ghost use Rattle.z80_regs.specs.declared.regs.Regs.{Regs};
 ghost use Rattle.z80_decode.specs.Opcodes.{form_of};
@@ -30,7 +30,7 @@ use z80_regs::{Bus, Regs};
 /// Acts as the instruction at PC does, which follows a prefix and whose first three bytes are fetched, but for how it
 /// begins. False comes where it isn't plain, and then nothing changes.
 #[inline(always)]
-#[tactic(auto, using(crate::proofs::Rare::bits_is, crate::proofs::Rare::index_is, crate::proofs::Rare::extended_is, crate::proofs::Rare::prefix_rare), unfolding(z80_regs::specs::Outcome::Leaves))]
+#[tactic(auto, using(crate::proofs::Rare::bits_is, crate::proofs::Rare::index_is, crate::proofs::Rare::extended_is, crate::proofs::Rare::prefix_rare), unfolding(z80_regs::specs::Outcome::LeavesBus))]
 fn act_behind<B: Bus>(fetched: Fetched, regs: &mut Regs, bus: &mut B) -> bool
     requires opcode { fetched.opcode ≡ B.byte bus.old regs.old.pc }
     requires first { fetched.first ≡ B.byte bus.old (onward regs.old.pc 1) }
@@ -38,7 +38,7 @@ fn act_behind<B: Bus>(fetched: Fetched, regs: &mut Regs, bus: &mut B) -> bool
     requires prefix { IsNone (form_of fetched.opcode) }
     ensures plain { result ≡ is_plain_at regs.old (B.byte bus.old) }
     ensures registers { OnTrue result (regs.new ≡ (unbegun regs.old (B.byte bus.old) (B.port_byte bus.old)).registers) }
-    ensures bus { OnTrue result (Leaves B.wrote B.took (unbegun regs.old (B.byte bus.old) (B.port_byte bus.old)).actions bus.old bus.new) }
+    ensures bus { OnTrue result (LeavesBus B.wrote B.took (unbegun regs.old (B.byte bus.old) (B.port_byte bus.old)).actions bus.old bus.new) }
     ensures registers_stay { OnFalse result (regs.new ≡ regs.old) }
     ensures bus_stays { OnFalse result (bus.new ≡ bus.old) }
 {
@@ -66,7 +66,7 @@ fn act<B: Bus>(fetched: Fetched, regs: &mut Regs, bus: &mut B) -> bool
     requires second { fetched.second ≡ B.byte bus.old (onward regs.old.pc 2) }
     ensures plain { result ≡ is_plain_at regs.old (B.byte bus.old) }
     ensures registers { OnTrue result (regs.new ≡ (unbegun regs.old (B.byte bus.old) (B.port_byte bus.old)).registers) }
-    ensures bus { OnTrue result (Leaves B.wrote B.took (unbegun regs.old (B.byte bus.old) (B.port_byte bus.old)).actions bus.old bus.new) }
+    ensures bus { OnTrue result (LeavesBus B.wrote B.took (unbegun regs.old (B.byte bus.old) (B.port_byte bus.old)).actions bus.old bus.new) }
     ensures registers_stay { OnFalse result (regs.new ≡ regs.old) }
     ensures bus_stays { OnFalse result (bus.new ≡ bus.old) }
 {
@@ -90,7 +90,7 @@ pub fn step_unbegun<B: Bus>(fetched: Fetched, regs: &mut Regs, bus: &mut B) -> O
         (regs.new ≡ (unbegun regs.old (B.byte bus.old) (B.port_byte bus.old)).registers)
         (λ rare. regs.new ≡ regs.old) }
     ensures bus { MatchOption result
-        (Leaves B.wrote B.took (unbegun regs.old (B.byte bus.old) (B.port_byte bus.old)).actions bus.old bus.new)
+        (LeavesBus B.wrote B.took (unbegun regs.old (B.byte bus.old) (B.port_byte bus.old)).actions bus.old bus.new)
         (λ rare. bus.new ≡ bus.old) }
 {
     if act(fetched, regs, bus) {
@@ -115,12 +115,12 @@ fn halt_or_enable(opcode: u8, regs: &mut Regs)
 
 /// One step where the processor stands in a HALT, or what is at PC isn't plain.
 #[inline(never)]
-#[tactic(auto, using(crate::proofs::Rare::extended_at, crate::proofs::Rare::halt_or_enable_at, crate::proofs::Rare::unlisted_at, crate::proofs::Rare::rests_at), unfolding(z80_regs::specs::Outcome::Leaves))]
+#[tactic(auto, using(crate::proofs::Rare::extended_at, crate::proofs::Rare::halt_or_enable_at, crate::proofs::Rare::unlisted_at, crate::proofs::Rare::rests_at), unfolding(z80_regs::specs::Outcome::LeavesBus))]
 pub fn step_other<B: Bus>(opcode: u8, regs: &mut Regs, bus: &mut B) -> Stepped
     requires { IsRareAt opcode regs.old (B.byte bus.old) }
     ensures illegal { (result ≡ Stepped.Illegal) ↔ IsNone (instruction regs.old (B.byte bus.old) (B.port_byte bus.old)) }
     ensures registers { regs.new ≡ registers_after (instruction regs.old (B.byte bus.old) (B.port_byte bus.old)) regs.old }
-    ensures bus { Leaves B.wrote B.took (actions_of (instruction regs.old (B.byte bus.old) (B.port_byte bus.old)))
+    ensures bus { LeavesBus B.wrote B.took (actions_of (instruction regs.old (B.byte bus.old) (B.port_byte bus.old)))
         bus.old bus.new }
 {
     if regs.halted {
@@ -143,7 +143,7 @@ pub fn step_load_up<B: Bus>(regs: &mut Regs, bus: &mut B)
     requires { IsLoadUpAt regs.old (B.byte bus.old) }
     ensures listed { IsSome (instruction regs.old (B.byte bus.old) (B.port_byte bus.old)) }
     ensures registers { regs.new ≡ registers_after (instruction regs.old (B.byte bus.old) (B.port_byte bus.old)) regs.old }
-    ensures bus { Leaves B.wrote B.took (actions_of (instruction regs.old (B.byte bus.old) (B.port_byte bus.old)))
+    ensures bus { LeavesBus B.wrote B.took (actions_of (instruction regs.old (B.byte bus.old) (B.port_byte bus.old)))
         bus.old bus.new }
 {
     begin_behind(2, regs);
@@ -159,7 +159,7 @@ fn step_fetched<B: Bus>(fetched: Fetched, regs: &mut Regs, bus: &mut B) -> Stepp
     requires second { fetched.second ≡ B.byte bus.old (onward regs.old.pc 2) }
     ensures illegal { (result ≡ Stepped.Illegal) ↔ IsNone (instruction regs.old (B.byte bus.old) (B.port_byte bus.old)) }
     ensures registers { regs.new ≡ registers_after (instruction regs.old (B.byte bus.old) (B.port_byte bus.old)) regs.old }
-    ensures bus { Leaves B.wrote B.took (actions_of (instruction regs.old (B.byte bus.old) (B.port_byte bus.old)))
+    ensures bus { LeavesBus B.wrote B.took (actions_of (instruction regs.old (B.byte bus.old) (B.port_byte bus.old)))
         bus.old bus.new }
 {
     if regs.halted {
@@ -183,7 +183,7 @@ pub fn step<B: Bus>(regs: &mut Regs, bus: &mut B) -> Stepped
     ensures unlisted { (result ≡ Stepped.Illegal)
         ↔ ((regs.old.halted ≡ false) × IsNone (instr_of (four_from (B.byte bus.old) regs.old.pc))) }
     ensures registers { regs.new ≡ registers_after (instruction regs.old (B.byte bus.old) (B.port_byte bus.old)) regs.old }
-    ensures bus { Leaves B.wrote B.took (actions_of (instruction regs.old (B.byte bus.old) (B.port_byte bus.old)))
+    ensures bus { LeavesBus B.wrote B.took (actions_of (instruction regs.old (B.byte bus.old) (B.port_byte bus.old)))
         bus.old bus.new }
     ensures halted { regs.old.halted ≡ true → regs.new ≡ risen regs.old }
 {

@@ -5,9 +5,9 @@ use crate::page_cases::{
     LOW_SETS, LOW_TESTS, PAGE_EDGES, SHIFTS,
 };
 use std::test::Fail;
-use z80_cases::{Memory, all_of_page_come_out, behind, fixture};
 use z80_ext::{Stepped, step};
 use z80_regs::{Bus, Regs};
+use z80_scenes::{Memory, all_of_page_come_out, behind, fixture};
 
 /// Whether an opcode after EDh, with IFF2 alone on, leaves A, F, SP, PC and IFF1 so.
 fn shows_second(memory: &mut Memory, row: (u8, u8, u8, u16, u16, bool)) -> bool {

@@ -8,14 +8,14 @@ pub data Action : Type 0 where
   Input : ℕ → Action
 
 -- the new registers, and the changes of the bus in order
-pub record Outcome : Type 0 where
+pub record StepOutcome : Type 0 where
   pub registers : Regs
   pub actions : List Action
 
 -- what the actions leave of a bus, by its two relations: what a write leaves, and what an input leaves
-unfoldable pub Leaves : {B : Type 0} → (B → ℕ → ℕ → B → Type 0) → (B → ℕ → B → Type 0) → List Action → B → B → Type 0
-Leaves wrote took [] old new = new ≡ old
-Leaves wrote took (Write address byte ∷ rest) old new =
-    (middle : _) × wrote old address byte middle × Leaves wrote took rest middle new
-Leaves wrote took (Input port ∷ rest) old new =
-    (middle : _) × took old port middle × Leaves wrote took rest middle new
+unfoldable pub LeavesBus : {B : Type 0} → (B → ℕ → ℕ → B → Type 0) → (B → ℕ → B → Type 0) → List Action → B → B → Type 0
+LeavesBus wrote took [] old new = new ≡ old
+LeavesBus wrote took (Write address byte ∷ rest) old new =
+    (middle : _) × wrote old address byte middle × LeavesBus wrote took rest middle new
+LeavesBus wrote took (Input port ∷ rest) old new =
+    (middle : _) × took old port middle × LeavesBus wrote took rest middle new

@@ -3,11 +3,11 @@ mod cases;
 
 use crate::running::cases::{CALCULATIONS, EDGES, HIGH_QUARTER, LOW_QUARTER, MOVES, OTHERWISE};
 use std::test::Fail;
-use z80_cases::{Memory, all_come_out, behind, fixture};
 use z80_decode::{Instr, Page};
 use z80_exec::main_page;
 use z80_ext::{Stepped, step};
 use z80_regs::{Bus, Regs};
+use z80_scenes::{Memory, all_come_out, behind, fixture};
 
 /// What some steps make of `fixture`, the code being at 0100h.
 fn after(memory: &mut Memory, code: &[u8], steps: usize) -> Regs {

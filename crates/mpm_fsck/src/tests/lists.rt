@@ -5,7 +5,7 @@ ghost use Rattle.mpm_port.specs.MemoryDisks.{IsFree};
 use crate::status::FsckStatus;
 use crate::tests::{Run, add_image, goes, two_of_one_block};
 use mpm_base::Kind;
-use mpm_images::Entry;
+use mpm_images::EntryBytes;
 use mpm_port::{MemoryDrives, MemoryFiles};
 use std::alloc::Global;
 use std::test::Fail;
@@ -22,7 +22,7 @@ const HARD: [&str; 4] = ["apply", "hd4", "a.img", "a.txt"];
 fn applies_on(
     alloc: Global,
     kind: Kind,
-    entries: &[Entry],
+    entries: &[EntryBytes],
     row: &Row,
     files: &mut MemoryFiles,
     drives: &mut MemoryDrives,
@@ -44,7 +44,7 @@ fn applies_on(
 }
 
 /// Whether a list for an image with these entries ends so, over new devices.
-fn applies(alloc: Global, kind: Kind, entries: &[Entry], row: &Row) -> Result<bool, Fail> {
+fn applies(alloc: Global, kind: Kind, entries: &[EntryBytes], row: &Row) -> Result<bool, Fail> {
     let mut files = MemoryFiles::new(alloc);
     let mut drives = MemoryDrives::new(alloc);
     applies_on(alloc, kind, entries, row, &mut files, &mut drives)

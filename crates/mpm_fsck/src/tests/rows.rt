@@ -5,7 +5,9 @@ ghost use Rattle.mpm_port.specs.MemoryDisks.{IsFree};
 use crate::status::FsckStatus;
 use crate::tests::{Run, add_image, all_go, goes, one_block, two_of_one_block};
 use mpm_base::Kind;
-use mpm_images::{Entry, UNUSED, directory_sector, file, held, named, read_record, with, xfcb};
+use mpm_images::{
+    EntryBytes, UNUSED, directory_sector, file, held, named, read_record, with, xfcb,
+};
 use mpm_port::{MemoryDrives, MemoryFiles};
 use std::alloc::Global;
 use std::test::Fail;
@@ -16,7 +18,7 @@ const CHECK: [&str; 3] = ["check", "ibm3740", "a.img"];
 const APPLY: [&str; 4] = ["apply", "ibm3740", "a.img", "a.txt"];
 
 /// Whether the directory's sector of a number has these entries.
-fn has_sector(drives: &mut MemoryDrives, number: u32, entries: &[Entry]) -> bool {
+fn has_sector(drives: &mut MemoryDrives, number: u32, entries: &[EntryBytes]) -> bool {
     match read_record(drives, Kind::Ibm3740, number) {
         Some(bytes) => bytes == directory_sector(entries, 0),
         None => false,
@@ -66,7 +68,7 @@ fn an_image_is_mended_by_its_own_list(rt: HostRuntime) -> Result<(), Fail> {
 }
 
 /// The first four slots of a directory of which three name block 9.
-fn three_of_one_block(kind: Kind) -> [Entry; 4] {
+fn three_of_one_block(kind: Kind) -> [EntryBytes; 4] {
     [
         UNUSED,
         one_block(kind, b'A', 9),
@@ -107,7 +109,7 @@ fn a_list_that_leaves_a_fault_changes_nothing(rt: HostRuntime) -> Result<(), Fai
 fn is_checked(
     alloc: Global,
     kind: Kind,
-    entries: &[Entry],
+    entries: &[EntryBytes],
     run: &Run,
     drives: &mut MemoryDrives,
 ) -> Result<bool, Fail>
@@ -138,7 +140,7 @@ fn word_of(kind: Kind) -> &'static str {
 }
 
 /// A row: the first entries of a directory, and what is listed of them.
-type Row<'a> = (&'a [Entry], &'a [u8]);
+type Row<'a> = (&'a [EntryBytes], &'a [u8]);
 
 /// Whether an image of a kind is listed so.
 fn is_listed(alloc: Global, kind: Kind, row: &Row) -> Result<bool, Fail> {

@@ -1,6 +1,6 @@
 ghost use Rattle.std.specs.Prelude.{◌≡◌, ◌≤◌, ◌==◌, if◌then◌else◌, length};
 ghost use Rattle.mpm_residents.specs.Messages.{message_of};
-ghost use Rattle.mpm_residents.specs.Interpreters.{row_for_memory as memory_row, row_for_piece as piece_row, row_behind_code as row_after_code, row_behind_marks as row_after_marks, IsRow};
+ghost use Rattle.mpm_residents.specs.Interpreters.{row_for_memory as memory_row, row_for_piece as piece_row, row_behind_code as row_after_code, row_behind_marks as row_after_marks, IsInterpreterRow};
 ghost use Rattle.mpm_residents.specs.declared.cli.table.Message.TheVariants.{QueueFull, NoProcess};
 ghost use Rattle.mpm_residents.specs.declared.cli.table.Row.TheVariants.{Give, Tell, ReadCommand, Free};
 
@@ -107,7 +107,7 @@ pub(crate) fn row_after_begin(hl: u16) -> Row
 #[tactic(auto, unfolding(crate::specs::Interpreters::row_for_memory))]
 pub(crate) fn row_for_memory(relocatable: bool, load: &Load) -> Row
     ensures row { result ≡ memory_row relocatable load.now }
-    ensures bound { IsRow result load.now }
+    ensures bound { IsInterpreterRow result load.now }
 {
     match load.plan().pages() {
         Some(pages) => Row::Reserve { relocatable, pages },
@@ -121,7 +121,7 @@ pub(crate) fn row_for_memory(relocatable: bool, load: &Load) -> Row
 #[tactic(auto, unfolding(crate::specs::Interpreters::row_for_piece))]
 pub(crate) fn row_for_piece(load: &Load) -> Row
     ensures row { result ≡ piece_row load.now }
-    ensures bound { IsRow result load.now }
+    ensures bound { IsInterpreterRow result load.now }
 {
     if !load.code().is_empty() {
         return Row::Place;
@@ -133,7 +133,7 @@ pub(crate) fn row_for_piece(load: &Load) -> Row
 #[tactic(auto, unfolding(crate::specs::Interpreters::row_behind_code))]
 pub(crate) fn row_behind_code(load: &Load) -> Row
     ensures row { result ≡ row_after_code load.now }
-    ensures bound { IsRow result load.now }
+    ensures bound { IsInterpreterRow result load.now }
 {
     if !load.marks().is_empty() {
         return Row::Patch;
@@ -145,7 +145,7 @@ pub(crate) fn row_behind_code(load: &Load) -> Row
 #[tactic(auto, unfolding(crate::specs::Interpreters::row_behind_marks))]
 pub(crate) fn row_behind_marks(load: &Load) -> Row
     ensures row { result ≡ row_after_marks load.now }
-    ensures bound { IsRow result load.now }
+    ensures bound { IsInterpreterRow result load.now }
 {
     if load.has_all() {
         Row::Close

@@ -2,7 +2,7 @@
 use Rattle.std.proofs.Common.{◌≡◌, ◌∷◌, [], false, replicate, refl, ℕ}
 use Rattle.std.specs.Prelude.{⊤}
 use Rattle.mpm_base.specs.Calls.{Answer, answering, asking}
-use Rattle.mpm_sched.specs.Schedules.{Schedule, Accepted, first_of, waiting, next_call, took, opening, after, sends}
+use Rattle.mpm_sched.specs.Schedules.{SchedulerState, Accepted, first_of, waiting, next_call, took, opening, after, sends}
 use Rattle.mpm_sched.specs.declared.entry.SchedEntry.{SchedEntry}
 use Rattle.mpm_sched.specs.declared.table.Row.{Row}
 use Rattle.mpm_sched.specs.declared.table.Row.TheVariants.{AskTime, Send}
@@ -17,7 +17,7 @@ command minute letter = record { date = 790; hour = 14; minute = minute; console
 abbrev waiting_for : ℕ → ℕ → Accepted
 waiting_for minute letter = record { entry = command minute letter; is_sent = false }
 
-abbrev two : Row → ℕ → Schedule
+abbrev two : Row → ℕ → SchedulerState
 two row clock = record { row = row; accepted = waiting_for 31 65 ∷ waiting_for 30 66 ∷ []; clock = clock }
 
 -- 14:31 of day 790

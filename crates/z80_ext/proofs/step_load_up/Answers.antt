@@ -1,6 +1,6 @@
 use Rattle.std.proofs.Common.{◌∙◌, true, Option, ap, sym, subst}
 use Rattle.std.specs.Prelude.{is_some}
-use Rattle.z80_regs.specs.Outcome.{Outcome, Leaves}
+use Rattle.z80_regs.specs.Outcome.{StepOutcome, LeavesBus}
 use Rattle.z80_regs.specs.declared.regs.Regs.{Regs}
 use Rattle.z80_decode.specs.declared.page_forms.Direction.TheVariants.{Up}
 use Rattle.z80_ext.specs.Block.{block_loaded}
@@ -21,6 +21,6 @@ returns-clause-registers g c =
 pub returns-clause-bus : goal.returns-clause-bus
 returns-clause-bus g c =
     let does = load_up_is c.args.regs.now (g.B.Bus.byte c.args.bus.now) (g.B.Bus.port_byte c.args.bus.now) c.requires in
-    let P : Option Outcome → Type 0 = λ outcome. Leaves g.B.Bus.wrote g.B.Bus.took (actions_of outcome) c.args.bus.now c.load_block.new.bus in
-    let Q : Regs → Type 0 = λ regs. Leaves g.B.Bus.wrote g.B.Bus.took (block_loaded Up true regs (g.B.Bus.byte c.args.bus.now)).actions c.args.bus.now c.load_block.new.bus in
+    let P : Option StepOutcome → Type 0 = λ outcome. LeavesBus g.B.Bus.wrote g.B.Bus.took (actions_of outcome) c.args.bus.now c.load_block.new.bus in
+    let Q : Regs → Type 0 = λ regs. LeavesBus g.B.Bus.wrote g.B.Bus.took (block_loaded Up true regs (g.B.Bus.byte c.args.bus.now)).actions c.args.bus.now c.load_block.new.bus in
     subst P (sym does) (subst Q c.begin_behind.ensures c.load_block.ensures.bus)

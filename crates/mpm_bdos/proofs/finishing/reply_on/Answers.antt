@@ -1,7 +1,7 @@
 use Rattle.std.proofs.Common.{◌∙◌, sym, ap, subst}
 use Rattle.std.specs.Option.{option_copied}
 use Rattle.std.proofs.lemmas.Option.{same_Some, none-some}
-use Rattle.mpm_requests.specs.Asking.{called}
+use Rattle.mpm_refusals.specs.Asking.{called}
 use Rattle.mpm_bdos.specs.Replying.{IsAnswering}
 use Rattle.mpm_bdos.proofs.finishing.reply_on.Goals as goal
 

@@ -1,11 +1,11 @@
 use Rattle.std.proofs.Common.{◌∙◌, Some, sym, ap}
 use Rattle.mpm_jobs.specs.declared.jobs.JobKind.TheVariants as kinds
-use Rattle.mpm_requests.specs.Filing.{Situation}
-use Rattle.mpm_requests.specs.Subjects.{drive_at}
+use Rattle.mpm_refusals.specs.Filing.{Situation}
+use Rattle.mpm_refusals.specs.Subjects.{drive_at}
 use Rattle.mpm_locks.specs.Locks.{is_locked_off, count_until}
 use Rattle.mpm_jobs.specs.Jobs.{job_for, with_new_name}
 use Rattle.mpm_bdos.specs.Jobs.{is_tested_off, job_by}
-use Rattle.mpm_requests.specs.Asking.{called}
+use Rattle.mpm_refusals.specs.Asking.{called}
 use Rattle.mpm_bdos.specs.Planning.{written, tested}
 use Rattle.mpm_bdos.proofs.Planned.{is_found, opening_is, deleting_is, setting_is, sequential_reading_is, random_reading_is, renaming_is, labelling_is, guarding_is, making_is, sequential_writing_is, random_writing_is, testing_is, no_job}
 use Rattle.mpm_bdos.proofs.planning.job_by.Goals as goal

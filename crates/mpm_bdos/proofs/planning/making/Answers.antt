@@ -4,8 +4,8 @@ use Rattle.mpm_guard.specs.Passwords.{has_bit}
 use Rattle.mpm_fcb.specs.Names.{has_f6}
 use Rattle.mpm_jobs.specs.declared.jobs.JobKind.TheVariants as kinds
 use Rattle.mpm_mount.specs.Looking.{data_byte}
-use Rattle.mpm_requests.specs.Refusals.{makes_xfcb}
-use Rattle.mpm_entries.specs.Protections.{given_xfcb, with_first_stamp}
+use Rattle.mpm_refusals.specs.Refusals.{makes_xfcb}
+use Rattle.mpm_file_entries.specs.Protections.{given_xfcb, with_first_stamp}
 use Rattle.mpm_jobs.specs.Jobs.{job_for}
 use Rattle.mpm_bdos.proofs.Planned.{making_so}
 use Rattle.mpm_bdos.proofs.planning.making.Goals as goal

@@ -1,7 +1,7 @@
 use Rattle.std.proofs.Common.{◌∙◌, ◌&&◌, sym, ap, refl}
 use Rattle.mpm_mount.specs.Files.{has_file}
 use Rattle.mpm_bdos.proofs.DeletedFiles.{deleted_where_named}
-use Rattle.mpm_requests.specs.Subjects.{file_of}
+use Rattle.mpm_refusals.specs.Subjects.{file_of}
 use Rattle.mpm_bdos.proofs.releasing.is_deleted.Goals as goal
 
 pub returns-then-names : goal.returns-then-names

@@ -3,9 +3,9 @@ use Rattle.std.specs.Prelude.{is_some}
 use Rattle.mpm_mount.specs.Searching.{search_of, IsNext}
 use Rattle.mpm_mount.specs.Files.{is_entry_of}
 use Rattle.mpm_mount.proofs.SearchSteps.{fewer_left}
-use Rattle.mpm_requests.specs.Looking.{entry_found}
-use Rattle.mpm_requests.specs.Subjects.{next_in}
-use Rattle.mpm_requests.proofs.Searched.{no_step}
+use Rattle.mpm_refusals.specs.Looking.{entry_found}
+use Rattle.mpm_refusals.specs.Subjects.{next_in}
+use Rattle.mpm_refusals.proofs.Searched.{no_step}
 use Rattle.mpm_bdos.proofs.DeletedFiles.{file_sought, file_step}
 use Rattle.mpm_bdos.proofs.releasing.is_file.Goals as goal
 

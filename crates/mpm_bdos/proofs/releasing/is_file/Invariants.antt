@@ -4,8 +4,8 @@ use Rattle.mpm_mount.specs.Drives.{Drive}
 use Rattle.mpm_mount.specs.Directories.{Stands}
 use Rattle.mpm_mount.specs.Searching.{search_of, is_target}
 use Rattle.mpm_mount.specs.Files.{is_entry_of, has_file}
-use Rattle.mpm_requests.specs.Looking.{entry_found}
-use Rattle.mpm_requests.specs.Subjects.{next_in}
+use Rattle.mpm_refusals.specs.Looking.{entry_found}
+use Rattle.mpm_refusals.specs.Subjects.{next_in}
 use Rattle.mpm_bdos.proofs.releasing.is_file.Given as goal
 
 abbrev pub invariant-loop-found : goal.invariant-loop-found

@@ -1,11 +1,11 @@
 use Rattle.std.proofs.Common.{◌≡◌, ◌∙◌, IfSome, sym, ap, subst}
-use Rattle.mpm_entries.specs.declared.granting.Granted.{Granted}
-use Rattle.mpm_entries.specs.Granting.{is_moving, FewDone, IsPlaced, value_by}
+use Rattle.mpm_file_entries.specs.declared.granting.Granted.{Granted}
+use Rattle.mpm_file_entries.specs.Granting.{is_moving, FewDone, IsPlaced, value_by}
 use Rattle.mpm_bdos.specs.Ending.{is_reading, HasRead}
-use Rattle.mpm_requests.specs.Asking.{key_asked, IsOwn}
+use Rattle.mpm_refusals.specs.Asking.{key_asked, IsOwnItem}
 use Rattle.mpm_bdos.specs.Leaving.{left_by, left_first, granted_by}
-use Rattle.mpm_functions.specs.Ends.{done_by}
-use Rattle.mpm_entries.specs.Telling.{found_bytes}
+use Rattle.mpm_file_functions.specs.Ends.{done_by}
+use Rattle.mpm_file_entries.specs.Telling.{found_bytes}
 use Rattle.mpm_bdos.specs.Replies.{answer_by}
 use Rattle.mpm_bdos.proofs.UserLaws.{users_kept}
 use Rattle.mpm_bdos.proofs.replying.answer_mounted.Goals as goal
@@ -14,7 +14,7 @@ pub grant-granted-requires-clause-item : goal.grant-granted-requires-clause-item
 unfolding left_by
 grant-granted-requires-clause-item c = λ f.
     let a = c.args.asked.now in
-    subst (λ opens. IfSome a.item (λ item. IsOwn opens a.caller.process item))
+    subst (λ opens. IfSome a.item (λ item. IsOwnItem opens a.caller.process item))
     (sym (c.leave.ensures ∙ ap (left_by c.args.opens.now a c.subject_key-2.result c.moved_by.result c.args.deleted.now) f)) c.requires.own
 
 pub returns-clause-users : goal.returns-clause-users

@@ -2,13 +2,13 @@ use Rattle.std.proofs.Common.{◌≡◌, ◌∙◌, ℕ, suc, List, Option, Some
 use Rattle.std.specs.Prelude.{option_map, slice_index_or, replicate}
 use Rattle.mpm_mount.specs.Drives.{FileName, Drive}
 use Rattle.mpm_mount.specs.Directories.{Stands}
-use Rattle.mpm_requests.specs.declared.asking.Asked.{Asked}
-use Rattle.mpm_requests.specs.Subjects.{drive_number, found, found_by}
+use Rattle.mpm_refusals.specs.declared.asking.Asked.{Asked}
+use Rattle.mpm_refusals.specs.Subjects.{drive_number, found, found_by}
 use Rattle.mpm_bdos.specs.Jobs.{call_turns, turned}
-use Rattle.mpm_requests.specs.Searches.{search_by, searches_by}
+use Rattle.mpm_refusals.specs.Searches.{search_by, searches_by}
 use Rattle.mpm_bdos.specs.Changes.{search_of_call}
 use Rattle.mpm_bdos.specs.Replies.{answer_by}
-use Rattle.mpm_requests.specs.Asking.{called, asked_of, found_as}
+use Rattle.mpm_refusals.specs.Asking.{called, asked_of, found_as}
 use Rattle.mpm_bdos.specs.Leaving.{IsInFile, IsGranted, left_first, granted_by, opens_left}
 use Rattle.mpm_bdos.proofs.StillLaws.{moved_drive, asked_still, still_found}
 use Rattle.mpm_bdos.proofs.LastLaws.{answered_so, opens_so}

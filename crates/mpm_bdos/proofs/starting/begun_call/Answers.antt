@@ -1,6 +1,6 @@
 use Rattle.std.proofs.Common.{◌∙◌, ap}
-use Rattle.mpm_requests.specs.Subjects.{drive_at, number_by}
-use Rattle.mpm_requests.specs.Asking.{called}
+use Rattle.mpm_refusals.specs.Subjects.{drive_at, number_by}
+use Rattle.mpm_refusals.specs.Asking.{called}
 use Rattle.mpm_bdos.proofs.Suited.{IsCall}
 use Rattle.mpm_bdos.proofs.Started.{is_call, about_so, begins}
 use Rattle.mpm_bdos.proofs.starting.begun_call.Goals as goal

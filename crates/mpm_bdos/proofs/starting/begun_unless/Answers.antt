@@ -1,8 +1,8 @@
 use Rattle.std.proofs.Common.{◌∙◌, None, sym, subst}
 use Rattle.std.specs.Option.{option_copied}
-use Rattle.mpm_requests.specs.Asking.{called, StandsFor}
-use Rattle.mpm_bdos.specs.Starting.{Begins}
-use Rattle.mpm_requests.proofs.UnmountedLaws.{is_there, is_not_there}
+use Rattle.mpm_refusals.specs.Asking.{called, StandsForDirectory}
+use Rattle.mpm_bdos.specs.Starting.{BeginsJob}
+use Rattle.mpm_refusals.proofs.UnmountedLaws.{is_there, is_not_there}
 use Rattle.mpm_bdos.proofs.Started.{refused_begins, unmounted_begins, nothing_refuses}
 use Rattle.mpm_bdos.proofs.starting.begun_unless.Goals as goal
 
@@ -14,13 +14,13 @@ returns-then-is_some c = λ image drives marks stands is.
 pub returns-in-Some : goal.returns-in-Some
 returns-in-Some c = λ image drives marks stands is.
     let s = called drives c.args.protected.now c.args.opens.now marks c.args.searches.now c.args.caller.now c.args.function c.args.call.now c.args.moment in
-    let there = is_there s image c.in-Some.mounted.now (subst (λ m. StandsFor image (option_copied m) s) c.in-Some.is stands) in
-    subst (λ m. Begins image (option_copied m) s c.begun_call.result) (sym c.in-Some.is)
+    let there = is_there s image c.in-Some.mounted.now (subst (λ m. StandsForDirectory image (option_copied m) s) c.in-Some.is stands) in
+    subst (λ m. BeginsJob image (option_copied m) s c.begun_call.result) (sym c.in-Some.is)
     (c.begun_call.ensures image drives marks there.stands (nothing_refuses s c.args.refusal is (sym c.is_some.ensures ∙ c.if-is_some.false)))
 
 pub returns-in-None : goal.returns-in-None
 returns-in-None c = λ image drives marks stands is.
     let s = called drives c.args.protected.now c.args.opens.now marks c.args.searches.now c.args.caller.now c.args.function c.args.call.now c.args.moment in
-    let nowhere = is_not_there s image (subst (λ m. StandsFor image (option_copied m) s) c.in-None.is stands) in
-    subst (λ m. Begins image (option_copied m) s None) (sym c.in-None.is)
+    let nowhere = is_not_there s image (subst (λ m. StandsForDirectory image (option_copied m) s) c.in-None.is stands) in
+    subst (λ m. BeginsJob image (option_copied m) s None) (sym c.in-None.is)
     (unmounted_begins image s (nothing_refuses s c.args.refusal is (sym c.is_some.ensures ∙ c.if-is_some.false)) nowhere)

@@ -1,7 +1,7 @@
 use Rattle.std.proofs.Common.{◌∙◌, sym, ap}
 use Rattle.std.specs.Prelude.{map}
 use Rattle.mpm_opens.specs.Items.{file_where, is_given_back}
-use Rattle.mpm_requests.specs.Subjects.{drive_at}
+use Rattle.mpm_refusals.specs.Subjects.{drive_at}
 use Rattle.mpm_bdos.specs.Changes.{is_deleted_in, deleted_by}
 use Rattle.mpm_bdos.proofs.starting.deleted_on.Goals as goal
 

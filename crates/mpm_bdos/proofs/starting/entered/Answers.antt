@@ -1,5 +1,5 @@
 use Rattle.std.proofs.Common.{refl}
-use Rattle.mpm_requests.specs.Asking.{called}
+use Rattle.mpm_refusals.specs.Asking.{called}
 use Rattle.mpm_bdos.proofs.starting.entered.Goals as goal
 
 pub returns-clause-all : goal.returns-clause-all

@@ -1,7 +1,7 @@
 use Rattle.std.proofs.Common.{◌≡◌, ◌∙◌, ℕ, sym, ap, subst}
 use Rattle.std.specs.Prelude.{unwrap_or}
-use Rattle.mpm_requests.specs.Subjects.{drive_by, drive_number}
-use Rattle.mpm_requests.specs.Asking.{called, StandsFor}
+use Rattle.mpm_refusals.specs.Subjects.{drive_by, drive_number}
+use Rattle.mpm_refusals.specs.Asking.{called, StandsForDirectory}
 use Rattle.mpm_directories.specs.Places.{directory_at}
 use Rattle.mpm_bdos.specs.Starting.{Enters}
 use Rattle.mpm_bdos.proofs.starting.entered_among.Goals as goal
@@ -18,7 +18,7 @@ returns-clause-all c = λ images drives stand.
     let place = c.get.ensures ∙ ap (directory_at c.args.mounted.now) drive_is in
     record {
       enters = subst (λ m. Enters (images number) m s c.entered.result) place
-          (c.entered.ensures.all (images number) drives (subst (λ m. StandsFor (images number) m s) (sym place) (stand.each number)) drive_is);
+          (c.entered.ensures.all (images number) drives (subst (λ m. StandsForDirectory (images number) m s) (sym place) (stand.each number)) drive_is);
     }
 
 pub returns-clause-drive : goal.returns-clause-drive

@@ -1,7 +1,7 @@
 use Rattle.std.proofs.Common.{Some, IfSome, refl, sym, ap, subst, ◌∙◌, arith}
 use Rattle.std.specs.Prelude.{OnErr, option_map}
 use Rattle.mpm_files.specs.Turning.{IsNextCached}
-use Rattle.mpm_bdos.specs.Turns.{HasLeft, IsWorking, IsContainedAt, labelled}
+use Rattle.mpm_bdos.specs.Turns.{HasLeftDisk, IsWorking, IsContainedAt, labelled}
 use Rattle.mpm_files.proofs.Causing.{cause_none}
 use Rattle.mpm_bdos.proofs.TurnedAt.{told_by_job, labels_as, nothing_there, left_alone}
 use Rattle.mpm_bdos.proofs.turning.turn_at.Goals as goal
@@ -26,7 +26,7 @@ returns-in-Some g c =
       reads_only = did.reads_only;
       cached = λ read next. did.cached read (subst (λ place. IfSome place (λ d. IsNextCached c.args.cache.now d work)) c.in-Some.is next);
       directory = c.kind.ensures.directory;
-      leaves = subst (λ place. HasLeft g.D.Drives.disks g.D.Drives.told g.D.Drives.failed_names g.D.Drives.unsynced place c.args.cache.now c.turn-result.new.cache c.args.drives.now c.turn-result.new.drives)
+      leaves = subst (λ place. HasLeftDisk g.D.Drives.disks g.D.Drives.told g.D.Drives.failed_names g.D.Drives.unsynced place c.args.cache.now c.turn-result.new.cache c.args.drives.now c.turn-result.new.drives)
           (sym c.in-Some.is) did.leaves;
       cause = did.cause;
     }

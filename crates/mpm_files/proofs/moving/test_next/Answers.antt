@@ -6,7 +6,7 @@ use Rattle.mpm_files.specs.Units.{PassesRecord, WritesRecord}
 use Rattle.mpm_files.specs.Plans.{file_of_job, record_at, has_record}
 use Rattle.mpm_files.specs.Counting.{lacks_block}
 use Rattle.mpm_files.specs.Serving.{units_done}
-use Rattle.mpm_files.specs.Standing.{Does}
+use Rattle.mpm_files.specs.Standing.{DoesUnit}
 use Rattle.mpm_files.proofs.NextDone.{IsDone, does_next, never_next}
 use Rattle.mpm_files.proofs.TestTurns.{test_now, stamp_now, writes_now, tests_few, still_passed, first_passed, test_passed, record_held, has_there, passes}
 use Rattle.mpm_files.proofs.ReadTurns.{read_now, read_stands, reading_failed}
@@ -119,11 +119,11 @@ returns g c = record {
         (
           subst (λ m. IsDone before job j (record c.args.work.now { moved = m; cleared = None }) (writes_now c.args.work.now)) moved
               (test_passed before job j c.args.work.now service.serving kind h c.if-work.false has),
-          subst (λ m. Does (g.D.Drives.disks c.put_held.new.drives) c.args.mounted.now.drive c.put_held.new.mounted (units_done before job j)
+          subst (λ m. DoesUnit (g.D.Drives.disks c.put_held.new.drives) c.args.mounted.now.drive c.put_held.new.mounted (units_done before job j)
               (WritesRecord (file_of_job c.args.work.now.job) m (test_now c.args.work.now).bytes (stamp_now c.args.work.now)) c.put_held.result) (sym n)
-              (subst (λ b. Does (g.D.Drives.disks c.put_held.new.drives) c.args.mounted.now.drive c.put_held.new.mounted (units_done before job j)
+              (subst (λ b. DoesUnit (g.D.Drives.disks c.put_held.new.drives) c.args.mounted.now.drive c.put_held.new.mounted (units_done before job j)
               (WritesRecord (file_of_job c.args.work.now.job) c.saturating_add-n.result b (stamp_now c.args.work.now)) c.put_held.result) bytes
-              (subst (λ t. Does (g.D.Drives.disks c.put_held.new.drives) c.args.mounted.now.drive c.put_held.new.mounted (units_done before job j)
+              (subst (λ t. DoesUnit (g.D.Drives.disks c.put_held.new.drives) c.args.mounted.now.drive c.put_held.new.mounted (units_done before job j)
               (WritesRecord (file_of_job c.args.work.now.job) c.saturating_add-n.result c.bytes_at-2.result t) c.put_held.result) c.stamp.ensures
               (c.put_held.ensures.does image (units_done before job j)
               (ap (λ x. x.image c.args.mounted.now.drive) c.read_record.ensures.disks ∙ told) service.stands

@@ -8,7 +8,7 @@ use Rattle.mpm_files.proofs.NextDone.{does_next, fails_next, clears_next, never_
 use Rattle.mpm_files.proofs.WriteTurns.{number_small, entry_missing, entry_written, extent_small, entry_gone, entry_room, entry_entered, block_ready, cleared_same}
 use Rattle.std.specs.FinMap.{get}
 use Rattle.mpm_mount.specs.Drives.{entry_name}
-use Rattle.mpm_files.specs.Standing.{Does}
+use Rattle.mpm_files.specs.Standing.{DoesUnit}
 use Rattle.mpm_files.proofs.moving.write_next.Goals as goal
 
 pub returns-then-n-gt-LAST-clause-write : goal.returns-then-n-gt-LAST-clause-write
@@ -27,7 +27,7 @@ returns-in-Entry-clause-write g c = λ kind.
       AddsEntry (file_of_job c.args.work.now.job) (stepping.record_next c.args.work.now / 128),
       (
         written,
-        subst (λ m. Does (g.D.Drives.disks c.add_entry.new.drives) c.args.mounted.now.drive c.add_entry.new.mounted (units_done before job j) (AddsEntry (file_of_job c.args.work.now.job) (m / 128)) c.add_entry.result) (sym n)
+        subst (λ m. DoesUnit (g.D.Drives.disks c.add_entry.new.drives) c.args.mounted.now.drive c.add_entry.new.mounted (units_done before job j) (AddsEntry (file_of_job c.args.work.now.job) (m / 128)) c.add_entry.result) (sym n)
             (c.add_entry.ensures.does image (units_done before job j) told service.stands
             (subst (λ (q : Job). q.user < 16) (sym service.serving.job_is) suits.user)
             (subst (λ m. m / 128 ≤ 2047) n (extent_small before job j c.args.work.now service.serving kind h suits))

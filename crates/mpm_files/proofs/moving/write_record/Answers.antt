@@ -3,7 +3,7 @@ use Rattle.mpm_files.specs.Units.{WritesRecord}
 use Rattle.mpm_files.specs.Plans.{file_of_job, record_at}
 use Rattle.mpm_files.specs.Serving.{stamp_left, units_done}
 use Rattle.mpm_files.specs.Counting.{lacks_entry, lacks_block}
-use Rattle.mpm_files.specs.Standing.{Does}
+use Rattle.mpm_files.specs.Standing.{DoesUnit}
 use Rattle.mpm_files.proofs.NextDone.{does_next, never_next}
 use Rattle.mpm_files.specs.Stepping.{record_next}
 use Rattle.mpm_files.proofs.WriteTurns.{bytes_now, stamp_now, record_ready, number_small, few_moved, fresh_ready, entry_there}
@@ -22,11 +22,11 @@ returns-else-lacks_block g c = record {
         WritesRecord (file_of_job c.args.work.now.job) (record_next c.args.work.now) (bytes_now c.args.work.now) (stamp_now c.args.work.now),
         (
           record_ready image c.args.mounted.now before job j c.args.work.now service.stands service.serving kind h step,
-          subst (λ m. Does (g.D.Drives.disks c.put_held.new.drives) c.args.mounted.now.drive c.put_held.new.mounted (units_done before job j)
+          subst (λ m. DoesUnit (g.D.Drives.disks c.put_held.new.drives) c.args.mounted.now.drive c.put_held.new.mounted (units_done before job j)
               (WritesRecord (file_of_job c.args.work.now.job) m (bytes_now c.args.work.now) (stamp_now c.args.work.now)) c.put_held.result) n
-              (subst (λ b. Does (g.D.Drives.disks c.put_held.new.drives) c.args.mounted.now.drive c.put_held.new.mounted (units_done before job j)
+              (subst (λ b. DoesUnit (g.D.Drives.disks c.put_held.new.drives) c.args.mounted.now.drive c.put_held.new.mounted (units_done before job j)
               (WritesRecord (file_of_job c.args.work.now.job) c.saturating_add-n.result b (stamp_now c.args.work.now)) c.put_held.result) bytes
-              (subst (λ t. Does (g.D.Drives.disks c.put_held.new.drives) c.args.mounted.now.drive c.put_held.new.mounted (units_done before job j)
+              (subst (λ t. DoesUnit (g.D.Drives.disks c.put_held.new.drives) c.args.mounted.now.drive c.put_held.new.mounted (units_done before job j)
               (WritesRecord (file_of_job c.args.work.now.job) c.saturating_add-n.result c.bytes_at.result t) c.put_held.result) moment
               (c.put_held.ensures.does image (units_done before job j) told service.stands (sym c.lacks_block.ensures ∙ c.if-lacks_block.false)))),
         ),
@@ -51,11 +51,11 @@ returns-then-lacks_block g c = record {
         WritesRecord (file_of_job c.args.work.now.job) (record_next c.args.work.now) (bytes_now c.args.work.now) (stamp_now c.args.work.now),
         (
           record_ready image c.args.mounted.now before job j c.args.work.now service.stands service.serving kind h step,
-          subst (λ m. Does (g.D.Drives.disks c.put_fresh.new.drives) c.args.mounted.now.drive c.put_fresh.new.mounted (units_done before job j)
+          subst (λ m. DoesUnit (g.D.Drives.disks c.put_fresh.new.drives) c.args.mounted.now.drive c.put_fresh.new.mounted (units_done before job j)
               (WritesRecord (file_of_job c.args.work.now.job) m (bytes_now c.args.work.now) (stamp_now c.args.work.now)) c.put_fresh.result) n
-              (subst (λ b. Does (g.D.Drives.disks c.put_fresh.new.drives) c.args.mounted.now.drive c.put_fresh.new.mounted (units_done before job j)
+              (subst (λ b. DoesUnit (g.D.Drives.disks c.put_fresh.new.drives) c.args.mounted.now.drive c.put_fresh.new.mounted (units_done before job j)
               (WritesRecord (file_of_job c.args.work.now.job) c.saturating_add-n.result b (stamp_now c.args.work.now)) c.put_fresh.result) bytes
-              (subst (λ t. Does (g.D.Drives.disks c.put_fresh.new.drives) c.args.mounted.now.drive c.put_fresh.new.mounted (units_done before job j)
+              (subst (λ t. DoesUnit (g.D.Drives.disks c.put_fresh.new.drives) c.args.mounted.now.drive c.put_fresh.new.mounted (units_done before job j)
               (WritesRecord (file_of_job c.args.work.now.job) c.saturating_add-n.result c.bytes_at.result t) c.put_fresh.result) moment
               (c.put_fresh.ensures.does image (units_done before job j) told service.stands
               (ap (lacks_entry c.args.mounted.now (file_of_job c.args.work.now.job)) n ∙ entry_there c.args.mounted.now c.args.work.now step) (sym c.lacks_block.ensures ∙ c.if-lacks_block.true)

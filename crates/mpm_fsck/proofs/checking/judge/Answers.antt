@@ -5,7 +5,7 @@ use Rattle.std.proofs.lemmas.Bool.Decides.{nat_tests}
 use Rattle.mpm_blocks.specs.Geometries.{geometry_of}
 use Rattle.mpm_dirent.specs.declared.kinds.Entry.{Entry}
 use Rattle.mpm_dirent.specs.Proper.{IsProper}
-use Rattle.mpm_mount.specs.Directories.{IsWhole}
+use Rattle.mpm_mount.specs.Directories.{IsWholeEntry}
 use Rattle.mpm_repair.specs.FaultLists.{fault_list}
 use Rattle.mpm_fsck.proofs.Found.{no_items, all_stay_listed, sound_finds}
 use Rattle.mpm_fsck.proofs.checking.judge.Goals as goal
@@ -22,7 +22,7 @@ pub sound-requires-clause-whole : goal.sound-requires-clause-whole
 sound-requires-clause-whole c =
     let empty : length c.in_ok-faults.faults.items ≡ 0 = grind (arith, nat_tests, common_steps) in
     let none : fault_list c.args.kind c.args.entries.items ≡ [] = sym c.in_ok-faults.ensures.list ∙ no_items c.in_ok-faults.faults.items empty in
-    subst (All IsWhole) (sym (c.in_ok-faults.ensures.stay ∙ all_stay_listed c.args.kind c.args.entries.items none)) c.requires.whole
+    subst (All IsWholeEntry) (sym (c.in_ok-faults.ensures.stay ∙ all_stay_listed c.args.kind c.args.entries.items none)) c.requires.whole
 
 pub sound-requires-clause-full : goal.sound-requires-clause-full
 sound-requires-clause-full c =

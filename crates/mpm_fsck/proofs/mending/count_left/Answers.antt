@@ -3,7 +3,7 @@ use Rattle.std.specs.List.{All}
 use Rattle.mpm_blocks.specs.Geometries.{geometry_of}
 use Rattle.mpm_dirent.specs.declared.kinds.Entry.{Entry}
 use Rattle.mpm_dirent.specs.Proper.{IsProper}
-use Rattle.mpm_mount.specs.Directories.{IsWhole}
+use Rattle.mpm_mount.specs.Directories.{IsWholeEntry}
 use Rattle.mpm_repair.proofs.FreedSlots.{freed_proper, freed_whole, freed_long}
 use Rattle.mpm_fsck.proofs.mending.count_left.Goals as goal
 
@@ -13,7 +13,7 @@ mount_entries-requires-clause-proper c =
     (freed_proper (geometry_of c.args.kind).wide _ c.args.entries.items c.requires.proper)
 
 pub mount_entries-requires-clause-whole : goal.mount_entries-requires-clause-whole
-mount_entries-requires-clause-whole c = subst (All IsWhole) (sym c.free_listed-count.ensures.freed) (freed_whole _ c.args.entries.items c.requires.whole)
+mount_entries-requires-clause-whole c = subst (All IsWholeEntry) (sym c.free_listed-count.ensures.freed) (freed_whole _ c.args.entries.items c.requires.whole)
 
 pub mount_entries-requires-clause-full : goal.mount_entries-requires-clause-full
 mount_entries-requires-clause-full c = ap (λ (xs : List Entry). length xs) c.free_listed-count.ensures.freed ∙ freed_long _ c.args.entries.items ∙ c.requires.full

@@ -1,6 +1,6 @@
 use Rattle.std.proofs.Common.{◌≡◌, None, false, sym, subst, arith}
 use Rattle.mpm_queues.specs.Queues.{make_error}
-use Rattle.mpm_kernel.specs.Kernel.{Kernel, IsSound}
+use Rattle.mpm_kernel.specs.Kernel.{Kernel, IsSoundKernel}
 use Rattle.mpm_kernel.specs.Queueing.{OnlySystems}
 use Rattle.mpm_kernel.proofs.SoundLaws.{sound_new, sound_picked}
 use Rattle.mpm_kernel.proofs.SystemQueues.{only_systems_new, may_make_new, sound_system_queue}
@@ -16,7 +16,7 @@ system_queue-requires-clause-room c =
 
 pub begin-begun-requires : goal.begin-begun-requires
 begin-begun-requires c =
-    let P : Kernel → Type 0 = λ kernel. IsSound kernel in
+    let P : Kernel → Type 0 = λ kernel. IsSoundKernel kernel in
     let R : Kernel → Type 0 = λ kernel. make_error kernel.queues (record { 0 = _ }) 130 15 ≡ None in
     let is = sym c.in_ok-kernel.ensures.kernel in
     subst P (sym c.system_queue.ensures.kernel)
@@ -24,4 +24,4 @@ begin-begun-requires c =
     (subst R is (may_make_new 1 0 _ (record { 0 = _ }) 130 15 (omega arith) (omega arith))))
 
 pub returns : goal.returns
-returns c = subst IsSound (sym c.pick.ensures.kernel) (sound_picked c.begin-begun.new.kernel false c.begin-begun.ensures.sound)
+returns c = subst IsSoundKernel (sym c.pick.ensures.kernel) (sound_picked c.begin-begun.new.kernel false c.begin-begun.ensures.sound)

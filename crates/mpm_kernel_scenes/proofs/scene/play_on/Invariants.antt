@@ -1,5 +1,5 @@
-use Rattle.mpm_kernel.specs.Kernel.{IsSound}
+use Rattle.mpm_kernel.specs.Kernel.{IsSoundKernel}
 use Rattle.mpm_kernel_scenes.proofs.scene.play_on.Given as goal
 
 abbrev pub invariant-loop-number : goal.invariant-loop-number
-invariant-loop-number l = IsSound l.kernel
+invariant-loop-number l = IsSoundKernel l.kernel

@@ -1,6 +1,6 @@
 use Rattle.std.proofs.Common.{◌∙◌, sym, subst}
 use Rattle.mpm_procs.proofs.MapLaws.{lives_after}
-use Rattle.mpm_kernel.specs.Kernel.{IsSound, CompletedLive}
+use Rattle.mpm_kernel.specs.Kernel.{IsSoundKernel, CompletedLive}
 use Rattle.mpm_kernel.proofs.SoundLaws.{runner_lives, sound_call, sound_called, live_called}
 use Rattle.mpm_kernel_scenes.proofs.scene.serve.Goals as goal
 
@@ -17,7 +17,7 @@ call-requires-clause-lives c =
 pub returns-clause-sound : goal.returns-clause-sound
 returns-clause-sound c =
     let runs = sym c.running.ensures ∙ c.in-Some.is in
-    subst IsSound (sym c.call.ensures.kernel)
+    subst IsSoundKernel (sym c.call.ensures.kernel)
     (sound_called _ _ (sound_call c.args.kernel.now _ _ c.requires.sound) (lives_after _ _ _ _ ∙ runner_lives c.args.kernel.now _ c.requires.sound runs)
     (c.requires.sound.runs _ runs))
 

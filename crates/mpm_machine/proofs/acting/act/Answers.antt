@@ -1,6 +1,6 @@
 use Rattle.std.proofs.Common.{◌≡◌, ◌∙◌, Bool, IfOk, OnOk, sym, subst}
 use Rattle.mpm_output.specs.Outside.{by_sink}
-use Rattle.mpm_system.specs.Whole.{Change}
+use Rattle.mpm_system.specs.Whole.{SystemChange}
 use Rattle.mpm_system.proofs.ChangeLaws.{emits_as}
 use Rattle.mpm_machine.specs.Step.{acted, acted_at, gate_before}
 use Rattle.mpm_machine.proofs.ActingLaws.{acted_inside, instruction_inside}
@@ -8,7 +8,7 @@ use Rattle.mpm_machine.proofs.acting.act.Goals as goal
 
 pub returns-in-Some-segment-clause-system : goal.returns-in-Some-segment-clause-system
 returns-in-Some-segment-clause-system g c =
-    subst (λ (change : Change). OnOk c.act_at.result (c.act_at.new.system ≡ change.system))
+    subst (λ (change : SystemChange). OnOk c.act_at.result (c.act_at.new.system ≡ change.system))
     (sym (acted_inside c.in-Some.p c.in-Some-segment.seg c.args.system.now (sym c.running.ensures ∙ c.in-Some.is) (sym c.segment.ensures ∙ c.in-Some-segment.is)))
     c.act_at.ensures.system
 

@@ -2,7 +2,7 @@ use Rattle.std.proofs.Common.{ap}
 use Rattle.mpm_procs.specs.Table.{call_of}
 use Rattle.mpm_output.specs.Outside.{TheSink, by_sink}
 use Rattle.mpm_output.proofs.WritingLaws.{fails_before, passes_on}
-use Rattle.mpm_system.specs.Whole.{Change}
+use Rattle.mpm_system.specs.Whole.{SystemChange}
 use Rattle.mpm_system.proofs.ChangeLaws.{emits_as}
 use Rattle.mpm_machine.specs.Serving.{after_echo}
 use Rattle.mpm_machine.proofs.call.conclude_undone.Goals as goal
@@ -12,7 +12,7 @@ returns-in_err-put_echo-clause-wrote g c reply =
     passes_on _ _ _ _ c.from_residual.ensures.0 (fails_before TheSink _ _ _ _ c.in_err-put_echo.ensures.wrote.err)
 
 pub returns-clause-system : goal.returns-clause-system
-returns-clause-system g c reply = ap (λ (change : Change). change.system) (c.bring_about.ensures reply)
+returns-clause-system g c reply = ap (λ (change : SystemChange). change.system) (c.bring_about.ensures reply)
 
 pub returns-clause-wrote : goal.returns-clause-wrote
 returns-clause-wrote g c reply =

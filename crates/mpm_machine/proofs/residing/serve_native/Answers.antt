@@ -1,7 +1,7 @@
 use Rattle.std.proofs.Common.{◌≡◌, OnOk, subst}
 use Rattle.mpm_output.specs.Outside.{TheSink, by_sink}
 use Rattle.mpm_output.proofs.WritingLaws.{fails_before, emits_after, passes_on}
-use Rattle.mpm_system.specs.Whole.{Change}
+use Rattle.mpm_system.specs.Whole.{SystemChange}
 use Rattle.mpm_system.proofs.ChangeLaws.{fails_as, emits_as}
 use Rattle.mpm_machine.proofs.ResidingLaws.{concludes}
 use Rattle.mpm_machine.proofs.residing.serve_native.Goals as goal
@@ -29,7 +29,7 @@ pub returns : goal.returns
 returns g c =
     let done = concludes c.args.p c.args.system.now c.serve_to_all-outcome.new.system c.serve_to_all-outcome.result c.serve_to_all-outcome.new.reply c.requires.whole c.requires.lives
     c.requires.ready c.requires.has c.serve_to_all-outcome.ensures.system c.serve_to_all-outcome.ensures.outcome c.serve_to_all-outcome.ensures.reply in
-    let P : Change → Type 0 = λ change. OnOk c.conclude_residing.result (c.conclude_residing.new.system ≡ change.system) in
+    let P : SystemChange → Type 0 = λ change. OnOk c.conclude_residing.result (c.conclude_residing.new.system ≡ change.system) in
     record {
       system = subst P done.change c.conclude_residing.ensures.system;
       wrote = emits_as by_sink _ _ _ _ _ done.change

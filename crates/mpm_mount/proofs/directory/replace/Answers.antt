@@ -2,7 +2,7 @@ use Rattle.std.proofs.Common.{rules, ◌≡◌, slice_index_or, refl, sym, subst
 use Rattle.std.proofs.lemmas.Grind.{common_steps}
 use Rattle.mpm_dirent.specs.declared.kinds.Entry.{Entry}
 use Rattle.mpm_dirent.specs.declared.kinds.Entry.TheVariants.{Free}
-use Rattle.mpm_mount.specs.Using.{IsInside, Frees}
+use Rattle.mpm_mount.specs.Using.{IsInsideBlocks, Frees}
 use Rattle.mpm_mount.proofs.UsedBy.{size_used}
 use Rattle.mpm_mount.proofs.Still.{still_faultless}
 use Rattle.mpm_mount.proofs.Replaced.{kept_used, kept_exchanged, old_inside, new_inside}
@@ -15,7 +15,7 @@ free_blocks-requires-clause-size c =
 pub free_blocks-requires-clause-inside : goal.free_blocks-requires-clause-inside
 free_blocks-requires-clause-inside c =
     let old : c.index.result.now ≡ slice_index_or c.args.entries.now.items c.args.slot Free = first_of (search rules, grind (arith, common_steps)) in
-    subst (λ (e : Entry). IsInside c.args.kind e) (sym old) (old_inside c.args.kind c.args.entries.now.items c.args.slot c.requires.kept.faultless c.requires.slot)
+    subst (λ (e : Entry). IsInsideBlocks c.args.kind e) (sym old) (old_inside c.args.kind c.args.entries.now.items c.args.slot c.requires.kept.faultless c.requires.slot)
 
 pub claim_blocks-requires-clause-size : goal.claim_blocks-requires-clause-size
 claim_blocks-requires-clause-size c =

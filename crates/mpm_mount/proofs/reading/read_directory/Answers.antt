@@ -6,7 +6,7 @@ use Rattle.mpm_blocks.specs.Sectors.{sectors_of}
 use Rattle.mpm_port.specs.Disks.{Disks}
 use Rattle.mpm_dirent.specs.declared.kinds.Entry.{Entry}
 use Rattle.mpm_dirent.specs.Proper.{IsProper}
-use Rattle.mpm_mount.specs.Directories.{IsWhole}
+use Rattle.mpm_mount.specs.Directories.{IsWholeEntry}
 use Rattle.mpm_mount.specs.Images.{entries_to}
 use Rattle.mpm_mount.proofs.EntriesRead.{nothing_read, more_read}
 use Rattle.mpm_mount.proofs.Telling.{same_itself, same_over}
@@ -20,7 +20,7 @@ loop-sector-init g c =
           (sym c.new-entries.ensures.items) (nothing_read here c.args.kind);
       size = ap length c.new-entries.ensures.items;
       proper = All-same (IsProper (geometry_of c.args.kind).wide) c.new-entries.result.items [] c.new-entries.ensures.items (All-nil (IsProper (geometry_of c.args.kind).wide));
-      whole = All-same IsWhole c.new-entries.result.items [] c.new-entries.ensures.items (All-nil IsWhole);
+      whole = All-same IsWholeEntry c.new-entries.result.items [] c.new-entries.ensures.items (All-nil IsWholeEntry);
       count = refl;
       same = same_itself g.D.Drives.disks g.D.Drives.told g.D.Drives.failed_names c.args.drives.now;
       unsynced = refl;

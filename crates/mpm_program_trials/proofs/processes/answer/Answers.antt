@@ -1,7 +1,7 @@
 use Rattle.std.proofs.Common.{◌≡◌, Some, rules, ◌∙◌, length, sym, ap, subst, arith}
 use Rattle.mpm_procs.specs.Table.{process_in}
 use Rattle.mpm_procs.proofs.MapLaws.{lives_after, process_after, call_changed}
-use Rattle.mpm_kernel.specs.Kernel.{IsSound}
+use Rattle.mpm_kernel.specs.Kernel.{IsSoundKernel}
 use Rattle.mpm_kernel.proofs.SoundLaws.{sound_call}
 use Rattle.mpm_xdos.proofs.Beginning.{sound_created}
 use Rattle.mpm_program_trials.proofs.processes.answer.Goals as goal
@@ -26,4 +26,4 @@ create-requires-clause-few c =
 
 pub returns-then-eq : goal.returns-then-eq
 returns-then-eq c =
-    subst IsSound (sym c.create.ensures.kernel) (sound_created _ 0 _ (sound_call c.args.kernel.now 0 c.describe.new.call c.requires.sound))
+    subst IsSoundKernel (sym c.create.ensures.kernel) (sound_created _ 0 _ (sound_call c.args.kernel.now 0 c.describe.new.call c.requires.sound))

@@ -1,6 +1,6 @@
 use Rattle.std.proofs.Common.{◌≡◌, ◌+◌, ◌∙◌, ◌++◌, ◌∷◌, [], take, get_or, sym, ap, subst, arith}
 use Rattle.std.proofs.lemmas.List.{take_more}
-use Rattle.mpm_kernel.specs.Kernel.{Kernel, HasConsole}
+use Rattle.mpm_kernel.specs.Kernel.{Kernel, IsConsole}
 use Rattle.mpm_kernel.specs.Columns.{spoke}
 use Rattle.mpm_kernel.proofs.SpokeLaws.{spoke_none, spoke_both, has_spoke, wrote_itself}
 use Rattle.mpm_system.proofs.output.move_column.Goals as goal
@@ -10,7 +10,7 @@ loop-byte-init c = sym (spoke_none c.args.kernel.now c.args.console)
 
 pub write-itself-requires : goal.write-itself-requires
 write-itself-requires c =
-    let P : Kernel → Type 0 = λ kernel. HasConsole kernel c.args.console in
+    let P : Kernel → Type 0 = λ kernel. IsConsole kernel c.args.console in
     subst P (sym c.loop-byte.invariant) (has_spoke c.args.kernel.now c.args.console _ c.requires.exists)
 
 pub loop-byte-preserved : goal.loop-byte-preserved

@@ -2,7 +2,7 @@ use Rattle.std.proofs.Common.{◌≡◌, ◌∙◌, ℕ, ◌+◌, ◌≤◌, Lis
 use Rattle.std.proofs.lemmas.List.{take_more, take-append-drop}
 use Rattle.mpm_base.specs.Calls.{Taken}
 use Rattle.mpm_procs.specs.Table.{call_of}
-use Rattle.mpm_kernel.specs.Kernel.{Kernel, HasConsole}
+use Rattle.mpm_kernel.specs.Kernel.{Kernel, IsConsole}
 use Rattle.mpm_kernel.proofs.SpokeLaws.{has_spoke}
 use Rattle.mpm_output.specs.Outside.{seen}
 use Rattle.mpm_output.proofs.WritingLaws.{passes_on}
@@ -19,7 +19,7 @@ kept_call-requires-in-loop-place g c =
 
 pub write_tabbed-requires-clause-exists : goal.write_tabbed-requires-clause-exists
 write_tabbed-requires-clause-exists g c =
-    let P : Kernel → Type 0 = λ kernel. HasConsole kernel c.args.console in
+    let P : Kernel → Type 0 = λ kernel. IsConsole kernel c.args.console in
     subst P (sym c.loop-place.invariant.written.kernel_is) (has_spoke c.args.kernel.now c.args.console _ c.requires.exists)
 
 pub returns-in_err-write_tabbed-clause-wrote : goal.returns-in_err-write_tabbed-clause-wrote

@@ -7,11 +7,11 @@ use Rattle.mpm_gate.specs.Texts.{text_from, ends}
 use Rattle.mpm_gate.specs.declared.take.TextEnd.TheVariants.{Dollar}
 use Rattle.mpm_gate.proofs.BytesLaws.{bytes_none, bytes_more}
 use Rattle.mpm_gate.proofs.TextLaws.{text_none, text_more, text_stops}
-use Rattle.mpm_kernel.specs.Kernel.{Kernel, HasConsole}
+use Rattle.mpm_kernel.specs.Kernel.{Kernel, IsConsole}
 use Rattle.mpm_kernel.proofs.SpokeLaws.{has_spoke}
 use Rattle.mpm_kernel.specs.Columns.{spoke, expanded, column_of}
 use Rattle.mpm_output.specs.Outside.{seen}
-use Rattle.mpm_output.specs.Writing.{spoken, Wrote}
+use Rattle.mpm_output.specs.Writing.{spoken, CameOut}
 use Rattle.mpm_output.proofs.WritingLaws.{passes_on}
 use Rattle.mpm_system.proofs.StringLaws.{WrittenTo, written_nothing, written_more, stopped_string, string_goes_on}
 use Rattle.mpm_system.proofs.output.write_string.Goals as goal
@@ -28,7 +28,7 @@ loop-offset-init g c =
 
 pub write_tabbed-requires-clause-exists : goal.write_tabbed-requires-clause-exists
 write_tabbed-requires-clause-exists g c =
-    let P : Kernel → Type 0 = λ kernel. HasConsole kernel c.args.console in
+    let P : Kernel → Type 0 = λ kernel. IsConsole kernel c.args.console in
     subst P (sym c.loop-offset.invariant.written.kernel_is) (has_spoke c.args.kernel.now c.args.console _ c.requires.exists)
 
 pub loop-offset-preserved : goal.loop-offset-preserved
@@ -84,7 +84,7 @@ returns-then-byte-eq36-clause-wrote g c =
     let here : byte ≡ memory (onward c.args.address k) = c.byte-byte.ensures ∙ ap memory (omega arith) in
     let stops : ends Dollar byte ≡ true = grind (arith, nat_tests, c.if-byte-eq36.true) in
     let whole = text_stops Dollar memory c.args.address k 65536 byte c.loop-offset.invariant.goes_on (omega arith) here stops in
-    let P : List ℕ → Type 0 = λ text. Wrote (seen g.S.Sink.written g.S.Sink.faults c.args.render.now c.args.sink.now)
+    let P : List ℕ → Type 0 = λ text. CameOut (seen g.S.Sink.written g.S.Sink.faults c.args.render.now c.args.sink.now)
     (seen g.S.Sink.written g.S.Sink.faults c.loop-offset.render c.loop-offset.sink)
     (spoken c.args.console (expanded (column_of c.args.kernel.now c.args.console) text)) in
     record { ok = subst P (sym whole) c.loop-offset.invariant.written.wrote; err = tt }

@@ -1,6 +1,6 @@
 use Rattle.std.proofs.Common.{List, sym, subst}
 use Rattle.mpm_top.specs.declared.status.Input.TheVariants.{ScriptText}
-use Rattle.mpm_script.specs.Reading.{Faults}
+use Rattle.mpm_script.specs.Reading.{FaultsScript}
 use Rattle.mpm_script.specs.Scripts.{script_of}
 use Rattle.mpm_script.specs.declared.error.ScriptError.{ScriptError}
 use Rattle.mpm_script.specs.declared.event.Timed.{Timed}
@@ -43,7 +43,7 @@ returns-in-Ok-read_script g c =
 pub returns-in-Err-Fault : goal.returns-in-Err-Fault
 returns-in-Err-Fault g c =
     let did = c.in-Ok.ensures in
-    let bad = subst (λ (error : ScriptError). Faults {A = List Timed} error (script_of c.as_slice.result.now)) c.in-Err-Fault.field-0-is c.in-Err-Fault.ensures.fault in
+    let bad = subst (λ (error : ScriptError). FaultsScript {A = List Timed} error (script_of c.as_slice.result.now)) c.in-Err-Fault.field-0-is c.in-Err-Fault.ensures.fault in
     record {
       events = tt;
       refusal = tt;

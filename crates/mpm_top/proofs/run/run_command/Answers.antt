@@ -1,5 +1,5 @@
 use Rattle.std.proofs.Common.{◌∙◌, ℕ, refl, sym, ap, subst, inr}
-use Rattle.mpm_machine.specs.Faults.{Counts, counts}
+use Rattle.mpm_machine.specs.Faults.{FailureCounts, counts}
 use Rattle.mpm_drives.specs.Stopping.{Failures}
 use Rattle.mpm_top.specs.Beginnings.{host, failed, begun, command_on, drives_listed}
 use Rattle.mpm_top.specs.Runs.{Causes}
@@ -33,12 +33,12 @@ returns-in-Ok-run_to_end-clause-writes g c =
 
 pub returns-in-Ok-run_to_end-clause-fails : goal.returns-in-Ok-run_to_end-clause-fails
 returns-in-Ok-run_to_end-clause-fails g c =
-    let faults = ap (λ (k : Counts). k.drives) c.in-Ok-run_to_end.ensures.cause ∙ ap (λ (f : Failures). f.faults) c.in-Ok.ensures.drives in
+    let faults = ap (λ (k : FailureCounts). k.drives) c.in-Ok-run_to_end.ensures.cause ∙ ap (λ (f : Failures). f.faults) c.in-Ok.ensures.drives in
     let names = c.in-Ok-run_to_end.ensures.names ∙ ap (λ (f : Failures). f.names) c.in-Ok.ensures.drives in
     record {
       files = c.in-Ok.ensures.names;
       drives = λ i. record { faults = faults i; names = names i };
-      output = ap (λ (k : Counts). k.sink) c.in-Ok-run_to_end.ensures.cause;
+      output = ap (λ (k : FailureCounts). k.sink) c.in-Ok-run_to_end.ensures.cause;
       write = λ step is. absurd (cc);
     }
 

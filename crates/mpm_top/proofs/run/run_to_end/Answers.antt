@@ -1,6 +1,6 @@
 use Rattle.std.proofs.Common.{◌≡◌, ◌∙◌, ◌++◌, ◌-◌, Bool, refl, sym, ap, subst, arith}
 use Rattle.mpm_render.specs.Outputs.{closed}
-use Rattle.mpm_machine.specs.Faults.{Counts, counts}
+use Rattle.mpm_machine.specs.Faults.{FailureCounts, counts}
 use Rattle.mpm_machine.specs.State.{State}
 use Rattle.mpm_machine.specs.After.{after}
 use Rattle.mpm_machine.specs.Failing.{leaving}
@@ -121,7 +121,7 @@ returns-clause-stops g c specs on has stand =
     let new = printed g.S.Sink.written g.S.Sink.faults c.close-in-Err-settle.new.sink in
     let old = counts g.S.Sink.faults g.D.Drives.faults c.args.sink.now c.args.drives.now in
     let mid = counts g.S.Sink.faults g.D.Drives.faults c.run.new.sink c.run.new.drives in
-    let stays : mid.sink ≡ old.sink = ap (λ (k : Counts). k.sink) c.in-Ok.ensures.cause.stays in
+    let stays : mid.sink ≡ old.sink = ap (λ (k : FailureCounts). k.sink) c.in-Ok.ensures.cause.stays in
     stops_at_end (StandFor (g.D.Drives.disks c.settle.new.drives) (g.D.Drives.told c.settle.new.drives) specs) fault c.args.asked.trace s c.args.asked.steps
     (printed g.S.Sink.written g.S.Sink.faults c.args.sink.now) new
     (leaving g.S.Sink.written g.D.Drives.disks c.settle.new.render c.settle.new.sink c.settle.new.drives last) c.run.new.self.bdos
@@ -156,7 +156,7 @@ returns-clause-cause g c =
     let mid = counts g.S.Sink.faults g.D.Drives.faults c.run.new.sink c.run.new.drives in
     let new = counts g.S.Sink.faults g.D.Drives.faults c.settle.new.sink c.settle.new.drives in
     causes_closed c.in-Err-settle.fault old new (g.S.Sink.faults c.close-in-Err-settle.new.sink) (λ is. ap g.S.Sink.faults (c.close-in-Err-settle.ensures.left is))
-    (causes_stopped c.in-Err-settle.fault old mid new (ap (λ (k : Counts). k.drives) c.in-Ok.ensures.cause.stays) (ap (λ (k : Counts). k.sink) c.in-Ok.ensures.cause.stays)
+    (causes_stopped c.in-Err-settle.fault old mid new (ap (λ (k : FailureCounts). k.drives) c.in-Ok.ensures.cause.stays) (ap (λ (k : FailureCounts). k.sink) c.in-Ok.ensures.cause.stays)
     c.in-Err-settle.ensures.cause.failed)
 
 pub returns-clause-none : goal.returns-clause-none

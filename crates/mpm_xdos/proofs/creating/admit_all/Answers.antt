@@ -1,6 +1,6 @@
 use Rattle.std.proofs.Common.{◌≡◌, ◌∙◌, ◌<◌, length, sym, ap, refl, subst, arith}
 use Rattle.std.specs.List.{list_all}
-use Rattle.mpm_kernel.specs.Kernel.{Kernel, IsSound, dispatched}
+use Rattle.mpm_kernel.specs.Kernel.{Kernel, IsSoundKernel, dispatched}
 use Rattle.mpm_dispatcher.specs.Dispatch.{in_slot}
 use Rattle.mpm_kernel.proofs.SoundLaws.{sound_in_slot}
 use Rattle.mpm_procs.specs.Table.{lowest_free}
@@ -20,7 +20,7 @@ loop-number-preserved c =
     let fits : child.console < length before.units.consoles =
     child_has_console (length before.units.consoles) c.args.parent.now c.args.base c.args.descriptors.now c.loop-number.number (omega arith)
     (ap (λ n. list_all (has_console n) (children_of c.args.parent.now c.args.base c.args.descriptors.now)) c.loop-number.invariant.consoles ∙ c.requires.consoles) in
-    let P : Kernel → Type 0 = λ k. IsSound k in
+    let P : Kernel → Type 0 = λ k. IsSoundKernel k in
     record {
       kernel = is
           ∙ ap (λ k. dispatched (in_slot child (lowest_free k.dispatcher.procs)) k) c.loop-number.invariant.kernel

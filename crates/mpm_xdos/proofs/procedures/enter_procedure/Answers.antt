@@ -1,7 +1,7 @@
 use Rattle.std.proofs.Common.{sym, subst}
-use Rattle.mpm_kernel.specs.Kernel.{IsSound}
+use Rattle.mpm_kernel.specs.Kernel.{IsSoundKernel}
 use Rattle.mpm_xdos.proofs.ProcedureLaws.{sound_entered}
 use Rattle.mpm_xdos.proofs.procedures.enter_procedure.Goals as goal
 
 pub returns-clause-sound : goal.returns-clause-sound
-returns-clause-sound c = λ sound. subst IsSound (sym c.enter.ensures.kernel) (sound_entered c.args.p c.args.kernel.now sound c.requires.lives)
+returns-clause-sound c = λ sound. subst IsSoundKernel (sym c.enter.ensures.kernel) (sound_entered c.args.p c.args.kernel.now sound c.requires.lives)

@@ -1,6 +1,6 @@
 use Rattle.std.proofs.Common.{◌≡◌, None, Some, refl, sym, ap, subst, ◌∙◌}
 use Rattle.z80_regs.specs.Words.{onward}
-use Rattle.z80_regs.specs.Outcome.{Outcome, Leaves}
+use Rattle.z80_regs.specs.Outcome.{StepOutcome, LeavesBus}
 use Rattle.z80_decode.specs.PageOpcodes.{indexed_bit_form_of}
 use Rattle.z80_exec.specs.Flow.{relative}
 use Rattle.z80_exec.specs.Performing.{behind}
@@ -26,8 +26,8 @@ returns-in-Some g c =
     let does = bits_done c.args.index form c.args.displacement byte address regs memory (g.B.Bus.port_byte c.args.bus.now) is at in
     record {
       plain = bits_plain c.args.index c.args.displacement byte (Some form) is;
-      registers = c.act_on_memory.ensures.registers ∙ ap (λ (outcome : Outcome). outcome.registers) does;
-      bus = subst (λ (outcome : Outcome). Leaves g.B.Bus.wrote g.B.Bus.took outcome.actions c.args.bus.now c.act_on_memory.new.bus) does c.act_on_memory.ensures.bus;
+      registers = c.act_on_memory.ensures.registers ∙ ap (λ (outcome : StepOutcome). outcome.registers) does;
+      bus = subst (λ (outcome : StepOutcome). LeavesBus g.B.Bus.wrote g.B.Bus.took outcome.actions c.args.bus.now c.act_on_memory.new.bus) does c.act_on_memory.ensures.bus;
       registers_stay = tt;
       bus_stays = tt;
     }

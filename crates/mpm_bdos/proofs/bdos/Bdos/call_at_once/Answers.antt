@@ -4,9 +4,9 @@ use Rattle.std.proofs.lemmas.Bool.{true≢false}
 use Rattle.mpm_base.proofs.Options.{none_there}
 use Rattle.mpm_base.specs.declared.kind.Kind.{Kind}
 use Rattle.mpm_clock.specs.PackedDecimal.{stamp}
-use Rattle.mpm_functions.specs.declared.functions.FileFunction.{FileFunction}
-use Rattle.mpm_functions.specs.Functions.{function_of}
-use Rattle.mpm_requests.specs.Subjects.{drive_number}
+use Rattle.mpm_file_functions.specs.declared.functions.FileFunction.{FileFunction}
+use Rattle.mpm_file_functions.specs.Functions.{function_of}
+use Rattle.mpm_refusals.specs.Subjects.{drive_number}
 use Rattle.mpm_bdos.specs.Jobs.{call_turns}
 use Rattle.mpm_bdos.specs.Serving.{Kept, Serves}
 use Rattle.mpm_directories.specs.Places.{directory_at}

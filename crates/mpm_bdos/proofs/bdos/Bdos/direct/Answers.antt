@@ -1,7 +1,7 @@
 use Rattle.std.proofs.Common.{ap, sym, ◌∙◌}
 use Rattle.mpm_base.specs.Calls.{Taken}
 use Rattle.mpm_directories.specs.Direct.{Directly}
-use Rattle.mpm_functions.specs.Functions.{direct_of}
+use Rattle.mpm_file_functions.specs.Functions.{direct_of}
 use Rattle.mpm_bdos.proofs.DirectLaws.{by_places, part_told}
 use Rattle.mpm_bdos.proofs.ServedLaws.{part_served}
 use Rattle.mpm_bdos.proofs.bdos.Bdos.direct.Goals as goal

@@ -1,5 +1,5 @@
 use Rattle.std.proofs.Common.{◌≡◌, ℕ, ◌≤◌, ◌+◌, ◌*◌, false}
-use Rattle.mpm_requests.specs.Filing.{Situation}
+use Rattle.mpm_refusals.specs.Filing.{Situation}
 use Rattle.mpm_bdos.specs.Jobs.{call_turns}
 use Rattle.mpm_bdos.specs.Serving.{Serves}
 use Rattle.mpm_bdos.specs.Turns.{images_of, has_work}

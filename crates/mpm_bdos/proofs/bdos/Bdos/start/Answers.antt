@@ -1,6 +1,6 @@
 use Rattle.std.proofs.Common.{◌≡◌, ◌∙◌, Some, sym, ap, subst}
 use Rattle.mpm_clock.specs.PackedDecimal.{stamp}
-use Rattle.mpm_requests.specs.Subjects.{drive_number}
+use Rattle.mpm_refusals.specs.Subjects.{drive_number}
 use Rattle.mpm_bdos.specs.Serving.{InService, Kept, StandEach, Serves}
 use Rattle.mpm_bdos.specs.Starting.{IsEntered, caller_of, entering, turns_where}
 use Rattle.mpm_bdos.specs.Jobs.{call_turns}

@@ -1,5 +1,5 @@
 use Rattle.std.proofs.Common.{◌≡◌, ℕ, List, ap, sym, subst, ◌∙◌}
-use Rattle.mpm_cache.specs.declared.cache.Place.{Place}
+use Rattle.mpm_cache.specs.declared.cache.SectorPlace.{SectorPlace}
 use Rattle.mpm_cache.specs.Cached.{cached_at, used, SameCached}
 use Rattle.mpm_cache.proofs.CachedLaws.{used_promoted, same_promoted, none_promoted, if_none}
 use Rattle.mpm_cache.proofs.cache.Cache.find.Goals as goal
@@ -10,12 +10,12 @@ returns-clause-found c = c.copied.ensures ∙ c.get.ensures.value ∙ ap (λ es.
 
 pub returns-clause-used : goal.returns-clause-used
 returns-clause-used c =
-    subst (λ (es : List (Place × List ℕ)). c.get.follows.lender-at-none.entries ≡ used c.args.drive c.args.sector es) c.self.view_is
+    subst (λ (es : List (SectorPlace × List ℕ)). c.get.follows.lender-at-none.entries ≡ used c.args.drive c.args.sector es) c.self.view_is
     (used_promoted c.args.drive c.args.sector c.self.inside.sectors.entries c.get.follows.lender-at-none.entries (ap (λ l. l.entries) c.get.follows.holds-at-none))
 
 pub returns-clause-same : goal.returns-clause-same
 returns-clause-same c =
-    subst (λ (es : List (Place × List ℕ)). SameCached es c.get.follows.lender-at-none.entries) c.self.view_is
+    subst (λ (es : List (SectorPlace × List ℕ)). SameCached es c.get.follows.lender-at-none.entries) c.self.view_is
     (same_promoted c.args.drive c.args.sector c.self.inside.sectors.entries c.get.follows.lender-at-none.entries (ap (λ l. l.entries) c.get.follows.holds-at-none))
 
 pub returns-clause-nothing : goal.returns-clause-nothing

@@ -1,15 +1,15 @@
 use Rattle.std.proofs.Common.{ap, subst, ◌≡◌, List, ℕ}
-use Rattle.mpm_cache.specs.declared.cache.Place.{Place}
+use Rattle.mpm_cache.specs.declared.cache.SectorPlace.{SectorPlace}
 use Rattle.mpm_cache.specs.Cached.{taken_out, Forgets}
 use Rattle.mpm_cache.proofs.CachedLaws.{taken, forgets}
 use Rattle.mpm_cache.proofs.cache.Cache.forget.Goals as goal
 
 pub returns-clause-out : goal.returns-clause-out
 returns-clause-out c =
-    subst (λ (es : List (Place × List ℕ)). c.pop.new.self.entries ≡ taken_out c.args.drive c.args.sector es) c.self.view_is
+    subst (λ (es : List (SectorPlace × List ℕ)). c.pop.new.self.entries ≡ taken_out c.args.drive c.args.sector es) c.self.view_is
     (taken c.args.drive c.args.sector c.self.inside.sectors.entries c.pop.new.self.entries (ap (λ l. l.entries) c.pop.ensures.entries))
 
 pub returns-clause-forgotten : goal.returns-clause-forgotten
 returns-clause-forgotten c =
-    subst (λ (es : List (Place × List ℕ)). Forgets c.args.drive c.args.sector es c.pop.new.self.entries) c.self.view_is
+    subst (λ (es : List (SectorPlace × List ℕ)). Forgets c.args.drive c.args.sector es c.pop.new.self.entries) c.self.view_is
     (forgets c.args.drive c.args.sector c.self.inside.sectors.entries c.pop.new.self.entries c.len-cached.ensures.valid.0 (ap (λ l. l.entries) c.pop.ensures.entries))

@@ -1,13 +1,13 @@
 use Rattle.std.proofs.Common.{length, refl, sym, ap, subst, arith}
 use Rattle.mpm_dispatcher.specs.declared.dispatcher.Dispatcher.{Dispatcher}
 use Rattle.mpm_kernel.specs.contracts.kernel.Kernel.{the_view}
-use Rattle.mpm_kernel.specs.Kernel.{Kernel, IsSound}
+use Rattle.mpm_kernel.specs.Kernel.{Kernel, IsSoundKernel}
 use Rattle.mpm_kernel.proofs.SoundLaws.{sound_in_slot}
 use Rattle.mpm_kernel.proofs.kernel.Kernel.admit.Goals as goal
 
 pub returns-clause-sound : goal.returns-clause-sound
 returns-clause-sound c = λ console.
     let before = the_view c.self.inside in
-    let P : Dispatcher → Type 0 = λ d. IsSound (record before { dispatcher = d }) in
+    let P : Dispatcher → Type 0 = λ d. IsSoundKernel (record before { dispatcher = d }) in
     subst P (sym c.admit.ensures.dispatcher)
-    (sound_in_slot before c.args.new _ (subst IsSound (sym c.self.view_is) c.requires) refl (omega (arith, ap (λ (k : Kernel). length k.units.consoles) c.self.view_is, console)))
+    (sound_in_slot before c.args.new _ (subst IsSoundKernel (sym c.self.view_is) c.requires) refl (omega (arith, ap (λ (k : Kernel). length k.units.consoles) c.self.view_is, console)))

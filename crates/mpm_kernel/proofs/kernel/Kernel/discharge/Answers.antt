@@ -2,9 +2,9 @@ use Rattle.std.proofs.Common.{◌∙◌, length, sym, ap, subst, arith}
 use Rattle.mpm_queues.specs.Queues.{holds}
 use Rattle.mpm_procs.specs.Table.{Table}
 use Rattle.mpm_kernel.specs.contracts.kernel.Kernel.{the_view}
-use Rattle.mpm_kernel.specs.Kernel.{Kernel, IsSound, CompletedLive}
+use Rattle.mpm_kernel.specs.Kernel.{Kernel, IsSoundKernel, CompletedLive}
 use Rattle.mpm_kernel.specs.Procedures.{given_back}
-use Rattle.mpm_kernel.specs.Ending.{vacated, Leaves}
+use Rattle.mpm_kernel.specs.Ending.{vacated, IsLeaving}
 use Rattle.mpm_kernel.proofs.LeavingLaws.{sound_consoles_left}
 use Rattle.mpm_kernel.proofs.EndingLaws.{sound_dropped, leaves_given_back, leaves_messages_back, units_by, discharged_by, sound_discharged, live_discharged}
 use Rattle.mpm_kernel.proofs.HoldingLaws.{nothing_held}
@@ -12,11 +12,11 @@ use Rattle.mpm_kernel.proofs.kernel.Kernel.discharge.Goals as goal
 
 pub put_back-requires-clause-sound : goal.put_back-requires-clause-sound
 put_back-requires-clause-sound c =
-    subst IsSound (sym c.drop_out.ensures) (sound_dropped c.args.p c.args.self.now c.requires.sound c.requires.lives)
+    subst IsSoundKernel (sym c.drop_out.ensures) (sound_dropped c.args.p c.args.self.now c.requires.sound c.requires.lives)
 
 pub return_held-requires-clause-leaves : goal.return_held-requires-clause-leaves
 return_held-requires-clause-leaves c =
-    subst (Leaves c.args.p) (sym (c.put_back.ensures.kernel ∙ ap (given_back c.args.p) c.drop_out.ensures))
+    subst (IsLeaving c.args.p) (sym (c.put_back.ensures.kernel ∙ ap (given_back c.args.p) c.drop_out.ensures))
     (leaves_given_back c.args.p c.args.self.now c.requires.sound c.requires.lives)
 
 pub leave_consoles-requires : goal.leave_consoles-requires
@@ -30,7 +30,7 @@ leave_printers-requires c =
     let leaves =
     leaves_messages_back c.args.p c.args.self.now c.drop_out.new.self c.put_back.new.self afterwards c.requires.sound c.requires.lives
     c.drop_out.ensures c.put_back.ensures.kernel c.return_held.ensures in
-    subst IsSound (sym c.leave_consoles.ensures) (sound_consoles_left c.args.p (length afterwards.units.consoles) afterwards leaves.sound (omega arith))
+    subst IsSoundKernel (sym c.leave_consoles.ensures) (sound_consoles_left c.args.p (length afterwards.units.consoles) afterwards leaves.sound (omega arith))
 
 pub returns : goal.returns
 returns c =
@@ -44,7 +44,7 @@ returns c =
     (ap left c.end.ensures ∙ ap (vacated p) c.self.view_is) in
     record {
       kernel = is;
-      sound = subst IsSound (sym is) (sound_discharged c.args.self.now p c.requires.sound c.requires.lives);
+      sound = subst IsSoundKernel (sym is) (sound_discharged c.args.self.now p c.requires.sound c.requires.lives);
       live = subst CompletedLive (sym is) (live_discharged c.args.self.now p c.requires.sound c.requires.lives);
       nothing = λ q. ap (λ (kernel : Kernel). holds kernel.queues p q) is ∙ nothing_held c.args.self.now p q c.requires.sound c.requires.lives;
     }

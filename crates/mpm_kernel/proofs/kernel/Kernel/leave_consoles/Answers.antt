@@ -1,6 +1,6 @@
 use Rattle.std.proofs.Common.{◌∙◌, sym, ap, subst, arith}
 use Rattle.mpm_consoles.specs.declared.unit.Unit.TheVariants.{Console as ConsoleUnit}
-use Rattle.mpm_kernel.specs.Kernel.{Kernel, IsSound}
+use Rattle.mpm_kernel.specs.Kernel.{Kernel, IsSoundKernel}
 use Rattle.mpm_kernel.specs.Consoling.{unit_left}
 use Rattle.mpm_kernel.proofs.LeavingLaws.{consoles_none, consoles_more, has_next_console, sound_consoles_left}
 use Rattle.mpm_kernel.proofs.kernel.Kernel.leave_consoles.Goals as goal
@@ -10,7 +10,7 @@ loop-n-init c = sym (consoles_none c.args.p c.args.self.now)
 
 pub leave_unit-requires-clause-sound : goal.leave_unit-requires-clause-sound
 leave_unit-requires-clause-sound c =
-    let P : Kernel → Type 0 = λ k. IsSound k in
+    let P : Kernel → Type 0 = λ k. IsSoundKernel k in
     subst P (sym c.loop-n.invariant) (sound_consoles_left c.args.p c.loop-n.n c.args.self.now c.requires (omega (arith, c.consoles-n-end.ensures, c.loop-n-test.true)))
 
 pub leave_unit-requires-clause-unit : goal.leave_unit-requires-clause-unit

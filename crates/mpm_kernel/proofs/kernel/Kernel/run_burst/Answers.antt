@@ -3,7 +3,7 @@ use Rattle.mpm_banks.specs.Sides.{reach_of}
 use Rattle.mpm_procs.specs.Table.{Lives, process_in, with_process}
 use Rattle.mpm_procs.specs.declared.process.Process.{Process}
 use Rattle.mpm_kernel.specs.contracts.kernel.Kernel.{the_view}
-use Rattle.mpm_kernel.specs.Kernel.{Kernel, IsSound, with_changed}
+use Rattle.mpm_kernel.specs.Kernel.{Kernel, IsSoundKernel, with_changed}
 use Rattle.mpm_kernel.proofs.BurstLaws.{process_put, at_equal, burst_left, sound_burst}
 use Rattle.mpm_kernel.proofs.kernel.Kernel.run_burst.Goals as goal
 
@@ -15,7 +15,7 @@ returns g c =
     let new = c.run.new in
     let after : Process = process_in (with_process before.dispatcher.procs p (record lent { regs = new.regs })) p in
     let put : after ≡ record lent { regs = new.regs } =
-    process_put before p (record lent { regs = new.regs }) (subst IsSound (sym c.self.view_is) c.requires.sound)
+    process_put before p (record lent { regs = new.regs }) (subst IsSoundKernel (sym c.self.view_is) c.requires.sound)
     (subst (λ (k : Kernel). Lives k.dispatcher.procs p) (sym c.self.view_is) c.requires.lives) in
     let left : new.regs ≡ after.regs = ap (λ (x : Process). x.regs) (sym put) in
     let kernel =
@@ -29,5 +29,5 @@ returns g c =
           (ap (λ (k : Kernel). k.devices) c.self.view_is) left c.run.ensures.ran;
       others = c.run.ensures.others;
       kernel = kernel;
-      sound = subst IsSound (sym kernel) (sound_burst c.args.self.now new.devices p after.regs c.requires.sound c.requires.lives);
+      sound = subst IsSoundKernel (sym kernel) (sound_burst c.args.self.now new.devices p after.regs c.requires.sound c.requires.lives);
     }

@@ -1,6 +1,6 @@
 use Rattle.std.proofs.Common.{◌≡◌, ◌+◌, ◌∙◌, ◌++◌, ◌∷◌, [], take, get_or, sym, ap, subst, arith}
 use Rattle.std.proofs.lemmas.List.{take_more}
-use Rattle.mpm_kernel.specs.Kernel.{Kernel, HasConsole}
+use Rattle.mpm_kernel.specs.Kernel.{Kernel, IsConsole}
 use Rattle.mpm_kernel.specs.Columns.{spoke}
 use Rattle.mpm_kernel.proofs.SpokeLaws.{spoke_none, spoke_both, wrote_itself, has_spoke}
 use Rattle.mpm_kernel.proofs.kernel.Kernel.speak.Goals as goal
@@ -10,7 +10,7 @@ loop-byte-init c = sym (spoke_none c.args.self.now c.args.console)
 
 pub write-itself-requires : goal.write-itself-requires
 write-itself-requires c =
-    let P : Kernel → Type 0 = λ k. HasConsole k c.args.console in
+    let P : Kernel → Type 0 = λ k. IsConsole k c.args.console in
     subst P (sym c.loop-byte.invariant) (has_spoke c.args.self.now c.args.console (take c.loop-byte.byte-index c.args.bytes.now) c.requires)
 
 pub loop-byte-preserved : goal.loop-byte-preserved

@@ -1,7 +1,7 @@
 use Rattle.std.proofs.Common.{sym, subst}
 use Rattle.mpm_consoles.specs.Consoles.{Consoles}
 use Rattle.mpm_kernel.specs.contracts.kernel.Kernel.{the_view}
-use Rattle.mpm_kernel.specs.Kernel.{IsSound}
+use Rattle.mpm_kernel.specs.Kernel.{IsSoundKernel}
 use Rattle.mpm_kernel.specs.Columns.{wrote}
 use Rattle.mpm_kernel.proofs.SoundLaws.{sound_wrote}
 use Rattle.mpm_kernel.proofs.kernel.Kernel.write.Goals as goal
@@ -10,5 +10,5 @@ pub returns-clause-sound : goal.returns-clause-sound
 unfolding wrote
 returns-clause-sound c = λ sound.
     let before = the_view c.self.inside in
-    let P : Consoles → Type 0 = λ units. IsSound (record before { units = units }) in
-    subst P (sym c.output.ensures.consoles) (sound_wrote before c.args.unit c.args.byte c.args.tabs (subst IsSound (sym c.self.view_is) sound))
+    let P : Consoles → Type 0 = λ units. IsSoundKernel (record before { units = units }) in
+    subst P (sym c.output.ensures.consoles) (sound_wrote before c.args.unit c.args.byte c.args.tabs (subst IsSoundKernel (sym c.self.view_is) sound))

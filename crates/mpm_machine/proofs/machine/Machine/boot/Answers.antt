@@ -1,6 +1,6 @@
 use Rattle.std.proofs.Common.{◌∙◌, sym, subst}
 use Rattle.mpm_bdos.specs.Serving.{Kept}
-use Rattle.mpm_bdos.specs.Syncing.{AreSynced}
+use Rattle.mpm_bdos.specs.Syncing.{AreMountedSynced}
 use Rattle.mpm_system.proofs.OpeningLaws.{boots, opened_here}
 use Rattle.mpm_machine.specs.Holding.{HoldsDrives}
 use Rattle.mpm_machine.proofs.MountedLaws.{holds_again}
@@ -52,4 +52,4 @@ returns-clause-files g c =
     c.in-Ok.ensures.files
 
 pub returns-clause-fresh : goal.returns-clause-fresh
-returns-clause-fresh g c = subst (λ (k : Kept). AreSynced (g.D.Drives.unsynced c.boot_bare.new.drives) k.mounted) (sym c.begin_residents.ensures.bdos) c.in-Ok.ensures.fresh
+returns-clause-fresh g c = subst (λ (k : Kept). AreMountedSynced (g.D.Drives.unsynced c.boot_bare.new.drives) k.mounted) (sym c.begin_residents.ensures.bdos) c.in-Ok.ensures.fresh

@@ -7,7 +7,7 @@ use Rattle.mpm_bdos.specs.Jobs.{call_turns}
 use Rattle.mpm_bdos.specs.Turns.{FitsDrives, images_of}
 use Rattle.mpm_bdos.specs.AtOnce.{FailsSince}
 use Rattle.mpm_machine.specs.declared.machine.StepFault.TheVariants.{WriteFault}
-use Rattle.mpm_machine.specs.Files.{Files}
+use Rattle.mpm_machine.specs.Files.{FilesInService}
 use Rattle.mpm_machine.specs.Mounting.{HasNoDrive, KeepsMounted}
 use Rattle.mpm_machine.specs.Failing.{Working, HaveImagesOf, FailsWithin}
 use Rattle.mpm_machine.specs.Settling.{HasCarried, StopsCarrying}
@@ -78,7 +78,7 @@ returns-in-Ok-clause-ok g c files stands =
     let all : its.turns + c.finish_disk_call-turns.result ≡ call_turns its.call = omega (arith, its.left, c.finish_disk_call-turns.ensures.turns, all_left_turns disk) in
     let serves = subst (λ (j : ℕ). Serves (images_of now) c.do_turns.new.self its.call j) all (c.in_default.ensures.ok its.call its.turns its.serves few) in
     let passed = ap (λ (k : Kernel). record c.args.self.now.system { kernel = k }) c.finish_disk_call-turns.ensures.kernel in
-    subst (λ (f : Files). HasCarried f before behind c.args.self.now.system c.end_call.new.self.system c.end_call.new.self.bdos now) (sym its.is)
+    subst (λ (f : FilesInService). HasCarried f before behind c.args.self.now.system c.end_call.new.self.system c.end_call.new.self.bdos now) (sym its.is)
     (c.in-Ok.ensures.ok now its.call c.args.self.now.system serves its.whose passed)
 
 pub returns-in-Ok-clause-keeps : goal.returns-in-Ok-clause-keeps
@@ -118,7 +118,7 @@ returns-in-Err-end_call-clause-err g c files stands =
     let all : its.turns + c.finish_disk_call-turns.result ≡ call_turns its.call = omega (arith, its.left, c.finish_disk_call-turns.ensures.turns, all_left_turns disk) in
     let serves = subst (λ (j : ℕ). Serves (images_of now) c.do_turns.new.self its.call j) all (c.in_default.ensures.ok its.call its.turns its.serves few) in
     let passed = ap (λ (k : Kernel). record c.args.self.now.system { kernel = k }) c.finish_disk_call-turns.ensures.kernel in
-    subst (λ (f : Files). StopsCarrying WriteFault f before behind c.args.self.now.system c.end_call.new.self.bdos.mounted now) (sym its.is)
+    subst (λ (f : FilesInService). StopsCarrying WriteFault f before behind c.args.self.now.system c.end_call.new.self.bdos.mounted now) (sym its.is)
     (c.in-Err-end_call.ensures.err now its.call c.args.self.now.system serves its.whose passed)
 
 pub returns-in-Err-end_call-clause-keeps : goal.returns-in-Err-end_call-clause-keeps

@@ -1,6 +1,6 @@
 use Rattle.std.proofs.Common.{◌≡◌, ◌∙◌, true, is_some, ap, arith}
 use Rattle.mpm_kernel.specs.Kernel.{Kernel}
-use Rattle.mpm_output.specs.Outside.{Faults, seen}
+use Rattle.mpm_output.specs.Outside.{DeviceFaults, seen}
 use Rattle.mpm_system.specs.declared.system.System.{System}
 use Rattle.mpm_machine.specs.declared.machine.Machine.{Machine}
 use Rattle.mpm_machine.proofs.EndStepLaws.{ended_sound, ended_made, has_ended_to, serving_stopped, ending_stopped, ends_served, ended_begun, ended_filed, ended_own, ended_turn_steps, ended_whole, ended_nobody_due, ended_no_completions, ended_steps, workless_paid}
@@ -55,7 +55,7 @@ returns g c =
     let new : System = record paid.system { kernel = c.pick.new.self } in
     let ends = c.in_default-end_all.ensures.system in
     let wrote = c.in_default-end_all.ensures.wrote.ok in
-    let faults : g.S.Sink.faults c.end_all.new.sink ≡ g.S.Sink.faults c.args.sink.now = ap (λ (f : Faults). f.sink) wrote.faults ∙ c.in_default.ensures.cause.stays in
+    let faults : g.S.Sink.faults c.end_all.new.sink ≡ g.S.Sink.faults c.args.sink.now = ap (λ (f : DeviceFaults). f.sink) wrote.faults ∙ c.in_default.ensures.cause.stays in
     let picks = ap (λ (k : Kernel). record paid.system { kernel = k }) c.pick.ensures.kernel in
     let same = λ (some : is_some ended.kernel.disk.served ≡ true). ap (λ (machine : Machine). machine.bdos) (c.pay.ensures.served some) in
     let made = ended_made instruction old.system served.system ended paid.system new c.in_default.ensures.made ends c.pay.ensures.system picks in

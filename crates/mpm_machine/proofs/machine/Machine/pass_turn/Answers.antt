@@ -3,13 +3,13 @@ use Rattle.mpm_service.specs.Disk.{served_process}
 use Rattle.mpm_service.specs.declared.service.Served.{Served}
 use Rattle.mpm_kernel.specs.Kernel.{Kernel}
 use Rattle.mpm_output.specs.Outside.{seen}
-use Rattle.mpm_output.specs.Writing.{Wrote, Stopped}
+use Rattle.mpm_output.specs.Writing.{CameOut, Stopped}
 use Rattle.mpm_bdos.specs.Outcomes.{file_call}
 use Rattle.mpm_bdos.specs.Turns.{has_work}
 use Rattle.mpm_system.specs.declared.system.System.{System}
 use Rattle.mpm_system.specs.Whole.{IsWhole}
 use Rattle.mpm_machine.specs.Files.{StandsBetween}
-use Rattle.mpm_machine.specs.Holding.{IsOwn}
+use Rattle.mpm_machine.specs.Holding.{IsOwnCall}
 use Rattle.mpm_machine.specs.DiskStep.{told_of_call, call_over}
 use Rattle.mpm_machine.proofs.DiskStepLaws.{whole_passed}
 use Rattle.mpm_machine.proofs.EnterLaws.{nothing_passes, none_made, passed_filed, filed_if_passed}
@@ -45,7 +45,7 @@ returns-then-last-clause-ok g c disks files stands =
     let new = c.answer_call.new.self in
     pass_over c.answer_call.result files p o n old new.system c.args.self.now.bdos new.bdos disks works (none_behind old.kernel.disk p works) stands
     (λ s serves whose. subst (λ (passed : System). OnOk c.answer_call.result ((new.system ≡ (call_over (told_of_call s p passed) p passed).system)
-    × Wrote o n (call_over (told_of_call s p passed) p passed).emitted × StandsBetween new.bdos disks (file_call s).filing))
+    × CameOut o n (call_over (told_of_call s p passed) p passed).emitted × StandsBetween new.bdos disks (file_call s).filing))
     (passed_is old c.turn_disk.new.self c.turn_disk.ensures.kernel) (c.answer_call.ensures.ok disks s serves whose))
 
 pub returns-then-last-clause-err : goal.returns-then-last-clause-err
@@ -81,7 +81,7 @@ returns-then-last-clause-own g c =
     let old = c.args.self.now.system in
     let works = works_last old.kernel.disk c.turn_disk.result c.in-Work.p c.in-Work.last c.turn_disk.ensures.answer c.in-Work.is c.if-last.true in
     let new = c.answer_call.new.self in
-    none_holds c.answer_call.result (λ (call : Served). IsOwn new.system.kernel.dispatcher.procs call.p new.bdos.service) new.system.kernel.disk
+    none_holds c.answer_call.result (λ (call : Served). IsOwnCall new.system.kernel.dispatcher.procs call.p new.bdos.service) new.system.kernel.disk
     (nobody_behind c.answer_call.result c.in-Work.p old new.system works
     (subst (λ (passed : System). OnOk c.answer_call.result (IsOverFrom c.in-Work.p passed new.system))
     (passed_is old c.turn_disk.new.self c.turn_disk.ensures.kernel) c.answer_call.ensures.made))

@@ -1,7 +1,7 @@
 use Rattle.std.proofs.Common.{◌≡◌, ◌∙◌, ◌+◌, ◌-◌, ℕ, sym, subst, refl, arith, Bool}
 use Rattle.mpm_machine.specs.State.{State, IsAt, StandsWithDrives}
 use Rattle.mpm_machine.specs.Failing.{StopsWithImages}
-use Rattle.mpm_machine.specs.Faults.{Counts, counts, HasFailed}
+use Rattle.mpm_machine.specs.Faults.{FailureCounts, counts, HasFailed}
 use Rattle.mpm_machine.specs.After.{after, EndsInStep, ShowsBefore}
 use Rattle.mpm_machine.proofs.NextLaws.{after_nothing, after_both, ends_later, step_in_run, so_later}
 use Rattle.mpm_machine.proofs.DriveLaws.{keeps_still, keeps_both}
@@ -94,7 +94,7 @@ returns-in-Err g c =
       trace = c.in-Err.ensures.trace ∙ so_far.trace;
       cause = record {
         stays = tt;
-        failed = subst (λ (old : Counts). HasFailed fault old (counts g.S.Sink.faults g.D.Drives.faults c.advance.new.sink c.advance.new.drives)) so_far.faults c.in-Err.ensures.cause.failed;
+        failed = subst (λ (old : FailureCounts). HasFailed fault old (counts g.S.Sink.faults g.D.Drives.faults c.advance.new.sink c.advance.new.drives)) so_far.faults c.in-Err.ensures.cause.failed;
       };
       drives = record {
         keeps = keeps_both _ _ _ _ _ _ c.args.self.now.bdos.mounted c.loop-left.self.bdos.mounted c.advance.new.self.bdos.mounted so_far.keeps c.in-Err.ensures.keeps;

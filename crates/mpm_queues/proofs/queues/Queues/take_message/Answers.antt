@@ -1,6 +1,6 @@
 use Rattle.std.proofs.Common.{◌≡◌, ap, ◌∙◌, sym, subst, true, ℕ}
 use Rattle.mpm_procs.specs.Table.{Lives}
-use Rattle.mpm_queues.specs.Queue.{is_full, IsProper}
+use Rattle.mpm_queues.specs.Queue.{is_full, IsProperQueue}
 use Rattle.mpm_queues.specs.Queues.{Queues, IsMade, waits_at}
 use Rattle.mpm_queues.proofs.QueueLaws.{room_after}
 use Rattle.mpm_queues.proofs.SoundLaws.{picked, writer_waits, sound_read_parts}
@@ -11,7 +11,7 @@ let_in-other-requires-clause-room c =
     let is = subst (λ (t : Queues). IsMade t c.args.q) (sym c.self.view_is) c.requires.queue in
     let it = picked _ c.args.q _ c.index_mut-store.result.now c.self.invariant is c.from.ensures c.index_mut-store.ensures.value in
     let some = sym c.is_drained.ensures ∙ c.if-is_drained.false in
-    let proper = subst IsProper (sym it) (c.self.invariant.proper c.args.q) in
+    let proper = subst IsProperQueue (sym it) (c.self.invariant.proper c.args.q) in
     ap is_full c.answer.ensures.queue ∙ room_after _ c.args.p proper some
 
 pub let_in-other-requires-clause-lives : goal.let_in-other-requires-clause-lives

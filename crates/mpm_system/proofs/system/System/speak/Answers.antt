@@ -2,7 +2,7 @@ use Rattle.std.proofs.Common.{◌≡◌, ◌∙◌, sym, ap, arith}
 use Rattle.mpm_base.specs.Calls.{Taken}
 use Rattle.mpm_procs.specs.Table.{call_of}
 use Rattle.mpm_output.specs.Outside.{by_sink}
-use Rattle.mpm_system.specs.Whole.{Change}
+use Rattle.mpm_system.specs.Whole.{SystemChange}
 use Rattle.mpm_system.specs.Saying.{string_of}
 use Rattle.mpm_system.proofs.ChangeLaws.{emits_silent}
 use Rattle.mpm_system.proofs.SayingLaws.{says_nothing}
@@ -20,6 +20,6 @@ returns-then-call-gt-READ_CONSOLE_BUFFER g c =
       direct = λ e. absurd (omega (arith, view, c.if-call-gt-READ_CONSOLE_BUFFER.true, e));
     }) in
     record {
-      system = sym (ap (λ (change : Change). change.system) nothing);
+      system = sym (ap (λ (change : SystemChange). change.system) nothing);
       wrote = emits_silent by_sink _ _ _ _ nothing;
     }

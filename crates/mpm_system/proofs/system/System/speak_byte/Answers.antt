@@ -2,7 +2,7 @@ use Rattle.std.proofs.Common.{◌≡◌, ◌∙◌, ℕ, List, sym, ap, arith}
 use Rattle.mpm_base.specs.Calls.{Taken}
 use Rattle.mpm_procs.specs.Table.{call_of}
 use Rattle.mpm_output.specs.Outside.{by_sink}
-use Rattle.mpm_system.specs.Whole.{Change}
+use Rattle.mpm_system.specs.Whole.{SystemChange}
 use Rattle.mpm_system.proofs.ChangeLaws.{emits_silent}
 use Rattle.mpm_system.proofs.SayingLaws.{says_nothing}
 use Rattle.mpm_system.proofs.system.System.speak_byte.Goals as goal
@@ -19,6 +19,6 @@ returns-then-call-gt-DIRECT_CONSOLE_IO g c =
       direct = λ e. absurd (omega (arith, view, c.if-call-gt-DIRECT_CONSOLE_IO.true, e));
     }) in
     record {
-      system = λ string. sym (ap (λ (change : Change). change.system) (nothing string));
+      system = λ string. sym (ap (λ (change : SystemChange). change.system) (nothing string));
       wrote = λ string. emits_silent by_sink _ _ _ _ (nothing string);
     }

@@ -7,7 +7,7 @@ use Rattle.mpm_kernel.specs.Kernel.{Kernel}
 use Rattle.mpm_output.specs.Outside.{by_sink}
 use Rattle.mpm_output.proofs.WritingLaws.{emits_one}
 use Rattle.mpm_base.proofs.Results.{on_ok}
-use Rattle.mpm_system.specs.Whole.{Change}
+use Rattle.mpm_system.specs.Whole.{SystemChange}
 use Rattle.mpm_system.proofs.ChangeLaws.{emits_silent, emits_as}
 use Rattle.mpm_system.proofs.SayingLaws.{tab_said, byte_said, directly_said, byte_printed, says_nothing}
 use Rattle.mpm_system.proofs.system.System.speak_low.Goals as goal
@@ -19,7 +19,7 @@ returns-in-2 g c =
     let what : call.word % 256 ≡ c.call.inside.word % 256 = sym (ap (λ (x : Taken). x.word % 256) (c.call.view_is ∙ c.kept_call-call.ensures)) in
     let at : (process_in c.args.self.now.kernel.dispatcher.procs c.args.p).console ≡ c.living-process.result.now.console = sym (ap (λ (x : Process). x.console) c.living-process.ensures) in
     let said = λ (string : List ℕ). tab_said call string c.args.p c.args.self.now _ _ (sym view ∙ c.in-2.is) at what in
-    let P : Change → Type 0 = λ change. record c.args.self.now { kernel = c.write_tabbed.new.kernel } ≡ change.system in
+    let P : SystemChange → Type 0 = λ change. record c.args.self.now { kernel = c.write_tabbed.new.kernel } ≡ change.system in
     record {
       system = λ string. on_ok c.write_tabbed.result (subst P (sym (said string)) (ap (λ (k : Kernel). record c.args.self.now { kernel = k }) c.write_tabbed.ensures.kernel));
       wrote = λ string. emits_as by_sink _ _ _ _ _ (sym (said string)) c.write_tabbed.ensures.wrote;
@@ -32,7 +32,7 @@ returns-in-4 g c =
     let what : call.word % 256 ≡ c.call.inside.word % 256 = sym (ap (λ (x : Taken). x.word % 256) (c.call.view_is ∙ c.kept_call-call.ensures)) in
     let at : (process_in c.args.self.now.kernel.dispatcher.procs c.args.p).console ≡ c.living-process.result.now.console = sym (ap (λ (x : Process). x.console) c.living-process.ensures) in
     let said = λ (string : List ℕ). byte_said call string c.args.p c.args.self.now _ _ (sym view ∙ c.in-4.is) at what in
-    let P : Change → Type 0 = λ change. record c.args.self.now { kernel = c.write_bytes.new.kernel } ≡ change.system in
+    let P : SystemChange → Type 0 = λ change. record c.args.self.now { kernel = c.write_bytes.new.kernel } ≡ change.system in
     record {
       system = λ string. on_ok c.write_bytes.result (subst P (sym (said string)) (ap (λ (k : Kernel). record c.args.self.now { kernel = k }) c.write_bytes.ensures.kernel));
       wrote = λ string. emits_as by_sink _ _ _ _ _ (sym (said string)) c.write_bytes.ensures.wrote;
@@ -45,7 +45,7 @@ returns-in-6 g c =
     let what : call.word % 256 ≡ c.call.inside.word % 256 = sym (ap (λ (x : Taken). x.word % 256) (c.call.view_is ∙ c.kept_call-call.ensures)) in
     let at : (process_in c.args.self.now.kernel.dispatcher.procs c.args.p).console ≡ c.living-process.result.now.console = sym (ap (λ (x : Process). x.console) c.living-process.ensures) in
     let said = λ (string : List ℕ). directly_said call string c.args.p c.args.self.now _ _ (sym view ∙ c.in-6.is) (omega (arith, c.if-byte-lt-AWAIT_KEY.true)) at what in
-    let P : Change → Type 0 = λ change. record c.args.self.now { kernel = c.write_bytes-in-6.new.kernel } ≡ change.system in
+    let P : SystemChange → Type 0 = λ change. record c.args.self.now { kernel = c.write_bytes-in-6.new.kernel } ≡ change.system in
     record {
       system = λ string. on_ok c.write_bytes-in-6.result (subst P (sym (said string)) (ap (λ (k : Kernel). record c.args.self.now { kernel = k }) c.write_bytes-in-6.ensures.kernel));
       wrote = λ string. emits_as by_sink _ _ _ _ _ (sym (said string)) c.write_bytes-in-6.ensures.wrote;
@@ -63,7 +63,7 @@ returns-in_default g c =
       direct = λ e. absurd (omega (arith, view, c.in-5.is, e));
     }) in
     record {
-      system = λ string. sym (ap (λ (change : Change). change.system) (nothing string));
+      system = λ string. sym (ap (λ (change : SystemChange). change.system) (nothing string));
       wrote = λ string. emits_silent by_sink _ _ _ _ (nothing string);
     }
 
@@ -80,7 +80,7 @@ returns-in_default-2 g c =
       direct = λ e. omega (arith, what, c.if-byte-lt-AWAIT_KEY.false);
     }) in
     record {
-      system = λ string. sym (ap (λ (change : Change). change.system) (nothing string));
+      system = λ string. sym (ap (λ (change : SystemChange). change.system) (nothing string));
       wrote = λ string. emits_silent by_sink _ _ _ _ (nothing string);
     }
 
@@ -96,7 +96,7 @@ returns-in_default-3 g c =
       direct = λ e. absurd (grind (arith, nat_tests, view, c.in_default, e));
     }) in
     record {
-      system = λ string. sym (ap (λ (change : Change). change.system) (nothing string));
+      system = λ string. sym (ap (λ (change : SystemChange). change.system) (nothing string));
       wrote = λ string. emits_silent by_sink _ _ _ _ (nothing string);
     }
 
@@ -107,7 +107,7 @@ returns-in-5 g c =
     let what : call.word % 256 ≡ c.call.inside.word % 256 = sym (ap (λ (x : Taken). x.word % 256) (c.call.view_is ∙ c.kept_call-call.ensures)) in
     let at : (process_in c.args.self.now.kernel.dispatcher.procs c.args.p).printer ≡ c.living-process.result.now.printer = sym (ap (λ (x : Process). x.printer) c.living-process.ensures) in
     let said = λ (string : List ℕ). byte_printed call string c.args.p c.args.self.now _ _ (sym view ∙ c.in-5.is) (omega (arith, c.printers.ensures, c.if-printers-gt0.true)) at what in
-    let P : Change → Type 0 = λ change. c.args.self.now ≡ change.system in
+    let P : SystemChange → Type 0 = λ change. c.args.self.now ≡ change.system in
     record {
       system = λ string. on_ok c.put.result (subst P (sym (said string)) refl);
       wrote = λ string. emits_as by_sink _ _ _ _ _ (sym (said string))

@@ -9,7 +9,7 @@ use Rattle.mpm_procs.specs.Table.{process_in, call_of}
 use Rattle.mpm_procs.specs.declared.process.Process.{Process}
 use Rattle.mpm_kernel.specs.Kernel.{Kernel}
 use Rattle.mpm_output.specs.Outside.{by_sink}
-use Rattle.mpm_system.specs.Whole.{Change}
+use Rattle.mpm_system.specs.Whole.{SystemChange}
 use Rattle.mpm_system.specs.Saying.{string_of}
 use Rattle.mpm_system.proofs.ChangeLaws.{emits_as}
 use Rattle.mpm_system.proofs.SayingLaws.{string_said}
@@ -22,7 +22,7 @@ returns-then-call-eq-PRINT_STRING g c =
     let is : call.function ≡ PRINT_STRING = sym (ap (λ (x : Taken). x.function) (c.call.view_is ∙ c.kept_call-call.ensures)) ∙ omega (arith, c.if-call-eq-PRINT_STRING.true) in
     let at : (process_in c.args.self.now.kernel.dispatcher.procs c.args.p).console ≡ c.living.result.now.console = sym (ap (λ (x : Process). x.console) c.living.ensures) in
     let said = string_said call string _ c.args.p c.args.self.now _ is (ap (λ (x : Taken). text_from Dollar (byte_at c.args.self.now.memory c.args.seg) x.word 65536) (sym (c.call.view_is ∙ c.kept_call-call.ensures))) at in
-    let P : Change → Type 0 = λ change. record c.args.self.now { kernel = c.write_string.new.kernel } ≡ change.system in
+    let P : SystemChange → Type 0 = λ change. record c.args.self.now { kernel = c.write_string.new.kernel } ≡ change.system in
     record {
       system = on_ok_weaker c.write_string.result (λ kernel. subst P (sym said) (ap (λ (k : Kernel). record c.args.self.now { kernel = k }) kernel)) c.write_string.ensures.kernel;
       wrote = emits_as by_sink _ _ _ _ _ (sym said) c.write_string.ensures.wrote;

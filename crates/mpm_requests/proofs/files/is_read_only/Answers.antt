@@ -1,6 +1,0 @@
-use Rattle.std.proofs.Common.{◌∙◌, sym, ap}
-use Rattle.mpm_requests.specs.Subjects.{is_set}
-use Rattle.mpm_requests.proofs.files.is_read_only.Goals as goal
-
-pub returns : goal.returns
-returns c = λ image drive stands. c.is_set.ensures ∙ ap (λ attributes. is_set attributes 8) (sym (c.attributes.ensures image drive stands))
