@@ -10,6 +10,7 @@ mod segment;
 mod steps;
 mod tabs;
 mod texts;
+mod unit;
 
 pub use call::{Call, FAILURE_CODE, Outcome, Reply};
 pub use devices::Devices;
@@ -19,3 +20,4 @@ pub use segment::SegmentSpec;
 pub use steps::Steps;
 pub use tabs::tab_width;
 pub use texts::{ends_text, in_width};
+pub use unit::Unit;

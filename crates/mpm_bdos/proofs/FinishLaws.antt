@@ -4,6 +4,7 @@ use Rattle.std.specs.Prelude.{is_some, slice_index_or}
 use Rattle.std.proofs.lemmas.Bool.{true≢false}
 use Rattle.std.proofs.lemmas.Option.{same_Some}
 use Rattle.std.proofs.lemmas.Slice.Eq.{bytes_eq-Decides}
+use Rattle.mpm_dirent.specs.declared.limits.TheConstants.{LAST_POSITION}
 use Rattle.mpm_base.specs.Calls.{Taken, Answer, answering}
 use Rattle.mpm_cache.specs.declared.cache.SectorPlace.{SectorPlace}
 use Rattle.mpm_mount.specs.Drives.{Drive}
@@ -177,7 +178,7 @@ stands_at_last images kept s d serves there = by_job (job_of s) refl
 
 pub is_answering : (images : ℕ → List ℕ) (kept : Kept) (service : InService) (s : Situation) (d : Directory)
     → kept.service ≡ Some service → Serves images kept s (call_turns s) → refusal_of s ≡ None → is_on_drives s.function ≡ false
-    → IsCaller service.caller → HaveUsers kept.opens → length service.call.fcb ≡ 36 → sequential_record (block_of service.call.fcb) ≤ 262271
+    → IsCaller service.caller → HaveUsers kept.opens → length service.call.fcb ≡ 36 → sequential_record (block_of service.call.fcb) ≤ LAST_POSITION
     → directory_at kept.mounted (drive_number s) ≡ Some d → IsAnswering s (images (drive_number s)) d service.work service.deleted
 is_answering images kept service s d of_it serves none names caller users size low there =
     let is = call_kept images kept service s (call_turns s) of_it serves in
@@ -187,7 +188,7 @@ is_answering images kept service s d of_it serves none names caller users size l
         caller = subst (λ (c : Caller). IsCaller c) is.caller caller;
         users = subst (λ (f : Filing). HaveUsers f.opens) serves.same users;
         size = subst (λ (c : Taken). length c.fcb ≡ 36) is.call size;
-        low = subst (λ (c : Taken). sequential_record (block_of c.fcb) ≤ 262271) is.call low;
+        low = subst (λ (c : Taken). sequential_record (block_of c.fcb) ≤ LAST_POSITION) is.call low;
         sound = serves.sound;
         suits = serves.suits;
         works = subst (λ directory. WorksOn (images (drive_number s)) directory (drive_at s) (job_of s) (call_turns s) service.work) there
@@ -214,7 +215,7 @@ finished_replied s answer protected opens marks searches names replied p m =
 -- a call on the drive that it names
 pub granted_named : (images : ℕ → List ℕ) (kept : Kept) (service : InService) (s : Situation) (place : Option Directory) (answer : Answer) (opens : OpenFiles) (searches : List (Option LastSearch))
     → kept.service ≡ Some service → Serves images kept s (call_turns s) → refusal_of s ≡ None → is_on_drives service.function ≡ false
-    → IsCaller service.caller → HaveUsers kept.opens → length service.call.fcb ≡ 36 → sequential_record (block_of service.call.fcb) ≤ 262271
+    → IsCaller service.caller → HaveUsers kept.opens → length service.call.fcb ≡ 36 → sequential_record (block_of service.call.fcb) ≤ LAST_POSITION
     → place ≡ directory_at kept.mounted service.drive
     → ((image : List ℕ) (d : Directory) → place ≡ Some d
     → IsAnswering (called s.filing.drives kept.protected kept.opens kept.marks kept.searches service.caller service.function service.call service.moment) image d service.work service.deleted

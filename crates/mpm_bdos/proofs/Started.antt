@@ -7,6 +7,7 @@ use Rattle.std.proofs.Math.Nat.{min-eq_left}
 use Rattle.mpm_base.specs.Calls.{Taken}
 use Rattle.std.specs.FinMap.{get-empty}
 use Rattle.mpm_dirent.specs.Names.{plain}
+use Rattle.mpm_dirent.specs.declared.limits.TheConstants.{LAST_POSITION}
 use Rattle.mpm_dirent.proofs.PlainNames.{plain_twice}
 use Rattle.mpm_mount.specs.Drives.{Drive, IsOfImage, entry_cmp}
 use Rattle.mpm_mount.proofs.InSlots.{extent_of_image}
@@ -67,8 +68,8 @@ about_so image d s about b drive owner number call stands none is e f g h =
     subst (λ a. IsAbout image d a s) (sym same) (about_is image d s call stands none)
 
 -- what is so of a call, by its block as it is read
-pub is_call : (s : Situation) → IsCaller s.caller → HaveUsers s.filing.opens → length s.call.fcb ≡ 36 → (b : ControlBlock) → b ≡ block s → sequential_record b ≤ 262271 → IsCall s
-is_call s caller users size b is low = record { caller = caller; users = users; size = size; low = subst (λ (c : ControlBlock). sequential_record c ≤ 262271) is low }
+pub is_call : (s : Situation) → IsCaller s.caller → HaveUsers s.filing.opens → length s.call.fcb ≡ 36 → (b : ControlBlock) → b ≡ block s → sequential_record b ≤ LAST_POSITION → IsCall s
+is_call s caller users size b is low = record { caller = caller; users = users; size = size; low = subst (λ (c : ControlBlock). sequential_record c ≤ LAST_POSITION) is low }
 
 -- nothing refuses a call for which nothing was found that does
 pub nothing_refuses : (s : Situation) (refusal : Option Refusal) → refusal ≡ refusal_of s → is_some refusal ≡ false → refusal_of s ≡ None

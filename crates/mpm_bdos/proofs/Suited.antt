@@ -8,6 +8,7 @@ use Rattle.std.proofs.lemmas.Option.{same_Some}
 use Rattle.mpm_base.specs.Counts.{one_if}
 use Rattle.mpm_base.proofs.Choices.{either}
 use Rattle.mpm_dirent.specs.Names.{plain}
+use Rattle.mpm_dirent.specs.declared.limits.TheConstants.{LAST_POSITION, LAST_RECORD}
 use Rattle.mpm_dirent.proofs.Lengths.{part_size}
 use Rattle.mpm_mount.specs.Drives.{FileName, Drive, free_entries}
 use Rattle.mpm_mount.specs.Searching.{IsUnambiguous}
@@ -45,13 +46,13 @@ pub record IsCall (s : Situation) : Type 0 where
   pub caller : IsCaller s.caller
   pub users : HaveUsers s.filing.opens
   pub size : length s.call.fcb ≡ 36
-  pub low : sequential_record (block s) ≤ 262271
+  pub low : sequential_record (block s) ≤ LAST_POSITION
 
 user_of : (s : Situation) → IsCall s → (subject s).user < 16
 user_of s call = subject_user s call.caller.user call.users
 
 -- a job whose bytes are filled in
-built : (drive : Drive) (job : Job) (bytes : List ℕ) → job.bytes ≡ filled bytes → job.user < 16 → job.first ≤ 262271 → job.count ≤ 16 → SuitsKind drive job job.kind
+built : (drive : Drive) (job : Job) (bytes : List ℕ) → job.bytes ≡ filled bytes → job.user < 16 → job.first ≤ LAST_POSITION → job.count ≤ 16 → SuitsKind drive job job.kind
     → Suits drive job
 built drive job bytes is user first count kind =
     record { user = user; first = first; count = count; size = ap length is ∙ filled_room bytes; kind = kind }
@@ -71,14 +72,14 @@ name_size s size = part_size 1 11 s.call.fcb (omega (arith, size))
 
 -- records
 -- records that are not beyond a file are within the 262,144 that it may have
-pub within_file : (first count : ℕ) → are_beyond first count ≡ false → first + count ≤ 262144
+pub within_file : (first count : ℕ) → are_beyond first count ≡ false → first + count ≤ LAST_RECORD + 1
 within_file first count e = grind (arith, nat_tests)
 
-not_beyond : (s : Situation) → applies s (subject s) BeyondFile ≡ false → first_record s + s.caller.multi ≤ 262144
+not_beyond : (s : Situation) → applies s (subject s) BeyondFile ≡ false → first_record s + s.caller.multi ≤ LAST_RECORD + 1
 unfolding applies
 not_beyond s e = within_file (first_record s) s.caller.multi e
 
-reading_suits : (s : Situation) → IsCall s → first_record s ≤ 262271 → Suits (drive_at s) (reading_job s)
+reading_suits : (s : Situation) → IsCall s → first_record s ≤ LAST_POSITION → Suits (drive_at s) (reading_job s)
 reading_suits s call low = built (drive_at s) (reading_job s) _ refl (user_of s call) low call.caller.few tt
 
 sequential_first : (s : Situation) → s.function ≡ ReadSequential → first_record s ≡ sequential_record (block s)
@@ -88,12 +89,12 @@ sequential_first s is = ap (first_by (block s)) is
 sequential_reading_suits : (s : Situation) → IsCall s → s.function ≡ ReadSequential → Suits (drive_at s) (reading_job s)
 sequential_reading_suits s call is = reading_suits s call (omega (arith, sequential_first s is, call.low))
 
-writing_suits : (s : Situation) → IsCall s → first_record s + s.caller.multi ≤ 262144 → Suits (drive_at s) (writing_job s (free_count s))
+writing_suits : (s : Situation) → IsCall s → first_record s + s.caller.multi ≤ LAST_RECORD + 1 → Suits (drive_at s) (writing_job s (free_count s))
 writing_suits s call last =
     built (drive_at s) (writing_job s (free_count s)) _ refl (user_of s call) (omega (arith, last)) (omega (arith, free_within s, call.caller.few))
     (omega (arith, last, free_within s))
 
-testing_suits : (s : Situation) → IsCall s → first_record s + s.caller.multi ≤ 262144 → Suits (drive_at s) (testing_job s (free_count s))
+testing_suits : (s : Situation) → IsCall s → first_record s + s.caller.multi ≤ LAST_RECORD + 1 → Suits (drive_at s) (testing_job s (free_count s))
 testing_suits s call last =
     built (drive_at s) (testing_job s (free_count s)) _ refl (user_of s call) (omega (arith, last)) (omega (arith, free_within s, call.caller.few)) tt
 
@@ -261,7 +262,7 @@ each_suits s None call is = tt
 each_suits s (Some job) call is = job_suits s job call is
 
 -- the records of a job begin where a block can stand
-pub low_first : (s : Situation) (function : FileFunction) → IsCall s → refusal_of s ≡ None → s.function ≡ function → is_moving function ≡ true → first_record s ≤ 262271
+pub low_first : (s : Situation) (function : FileFunction) → IsCall s → refusal_of s ≡ None → s.function ≡ function → is_moving function ≡ true → first_record s ≤ LAST_POSITION
 unfolding refusals_of
 low_first s ReadSequential call none is has = omega (arith, sequential_first s is, call.low)
 low_first s WriteSequential call none is has =

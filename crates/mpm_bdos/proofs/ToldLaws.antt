@@ -7,6 +7,7 @@ use Rattle.std.proofs.lemmas.Bool.{false≢true, cases_lt}
 use Rattle.std.proofs.lemmas.Bool.Decides.{nat_tests}
 use Rattle.std.proofs.lemmas.Option.{same_Some}
 use Rattle.std.proofs.lemmas.List.Sums.{sum_by-cons}
+use Rattle.mpm_dirent.specs.declared.limits.TheConstants.{LAST_EXTENT, LAST_POSITION, LAST_RECORD}
 use Rattle.mpm_mount.specs.Drives.{FileName, PhysicalExtent, Drive, entry_number, entry_name, with_extent_there, extent_at, visible_of}
 use Rattle.mpm_mount.specs.Directories.{Directory}
 use Rattle.mpm_opens.specs.declared.kinds.FileKey.{FileKey}
@@ -164,29 +165,29 @@ moved_16 s none moves suits =
     subst (λ n. n ≤ 16) (sym (moved_by_job s (job_of s) refl)) (moved_16_by s (job_of s) (sym (own_job s none)) moves suits)
 
 -- records that are read are of extents that are there
-low_extent : (extent last : ℕ) → extent ≤ last → last ≤ 2047 → extent ≤ 2047
+low_extent : (extent last : ℕ) → extent ≤ last → last ≤ LAST_EXTENT → extent ≤ LAST_EXTENT
 low_extent extent last h low = omega (arith, h, low)
 
-extent_low : (extent : ℕ) (found : Option PhysicalExtent) → ((e : PhysicalExtent) → found ≡ Some e → e.last ≤ 2047) → is_some (option_and_then (with_extent_there extent) found) ≡ true → extent ≤ 2047
+extent_low : (extent : ℕ) (found : Option PhysicalExtent) → ((e : PhysicalExtent) → found ≡ Some e → e.last ≤ LAST_EXTENT) → is_some (option_and_then (with_extent_there extent) found) ≡ true → extent ≤ LAST_EXTENT
 extent_low extent None low there = absurd (false≢true there)
 extent_low extent (Some e) low there = by_test (nat_le extent e.last) refl there
   where
-    by_test : (b : Bool) → nat_le extent e.last ≡ b → is_some (cond b (Some e) None) ≡ true → extent ≤ 2047
+    by_test : (b : Bool) → nat_le extent e.last ≡ b → is_some (cond b (Some e) None) ≡ true → extent ≤ LAST_EXTENT
     by_test true is there = low_extent extent e.last (grind (arith, nat_tests)) (low e refl)
     by_test false is there = absurd (false≢true there)
 
-low_record : (drive : Drive) (file : FileName) (n : ℕ) → IsSoundDrive drive → is_some (extent_at drive file (n / 128)) ≡ true → n ≤ 262143
+low_record : (drive : Drive) (file : FileName) (n : ℕ) → IsSoundDrive drive → is_some (extent_at drive file (n / 128)) ≡ true → n ≤ LAST_RECORD
 unfolding extent_at
 low_record drive file n sound there =
-    let low : n / 128 ≤ 2047 = extent_low (n / 128) (get drive.extents (entry_name drive.kind file (n / 128))) (λ e is. (sound.each file (entry_number drive.kind (n / 128)) e is).last) there in
+    let low : n / 128 ≤ LAST_EXTENT = extent_low (n / 128) (get drive.extents (entry_name drive.kind file (n / 128))) (λ e is. (sound.each file (entry_number drive.kind (n / 128)) e is).last) there in
     omega (arith, low)
 
-read_low_by : (e seen : Bool) (rest : CallPlan) (file : FileName) (n : ℕ) → (e ≡ true → n ≤ 262143)
-    → 0 < sum_by records_moved (unless_failing (cond (not e) (Some UnwrittenExtent) (cond (not seen) (Some UnwrittenData) None)) (behind (ReadsRecord file n ∷ []) rest)).units → n ≤ 262143
+read_low_by : (e seen : Bool) (rest : CallPlan) (file : FileName) (n : ℕ) → (e ≡ true → n ≤ LAST_RECORD)
+    → 0 < sum_by records_moved (unless_failing (cond (not e) (Some UnwrittenExtent) (cond (not seen) (Some UnwrittenData) None)) (behind (ReadsRecord file n ∷ []) rest)).units → n ≤ LAST_RECORD
 read_low_by true seen rest file n low h = low refl
 read_low_by false seen rest file n low h = absurd (omega (arith, h))
 
-read_low : (count : ℕ) (drive : Drive) (file : FileName) (n : ℕ) → IsSoundDrive drive → 0 < sum_by records_moved (reading drive file n count).units → n ≤ 262143
+read_low : (count : ℕ) (drive : Drive) (file : FileName) (n : ℕ) → IsSoundDrive drive → 0 < sum_by records_moved (reading drive file n count).units → n ≤ LAST_RECORD
 unfolding reading
 read_low zero drive file n sound h = absurd (omega (arith, h))
 read_low (suc count) drive file n sound h =
@@ -198,12 +199,12 @@ sequential_read : (s : Situation) → job_of s ≡ Some (reading_job s)
 unfolding plan_of
 sequential_read s is = moved_by_job s (Some (reading_job s)) is ∙ all_moved (drive_at s) (reading_job s)
 
-read_place : (first moved : ℕ) → first ≤ 262271 → moved ≤ 16 → (0 < moved → first ≤ 262143) → (0 < moved) ⊎ (moved ≤ 0) → first + moved ≤ 262271
+read_place : (first moved : ℕ) → first ≤ LAST_POSITION → moved ≤ 16 → (0 < moved → first ≤ LAST_RECORD) → (0 < moved) ⊎ (moved ≤ 0) → first + moved ≤ LAST_POSITION
 read_place first moved low few reads (inl some) = omega (arith, few, reads some)
 read_place first moved low few reads (inr nothing) = omega (arith, low, nothing)
 
 place_by : (s : Situation) (image : List ℕ) (directory : Option Directory) (work : Option Work) (f : FileFunction) → IsServed s image directory work → s.function ≡ f → is_moving f ≡ true
-    → position_by f (first_record s) (replies.ended_for s (turned s (call_turns s)) f).moved ≤ 262271
+    → position_by f (first_record s) (replies.ended_for s (turned s (call_turns s)) f).moved ≤ LAST_POSITION
 unfolding refusals_of applies job_by
 place_by s image directory work ResetDisks served is moves = absurd (false≢true moves)
 place_by s image directory work OpenFile served is moves = absurd (false≢true moves)
@@ -246,7 +247,7 @@ unfolding granted_of
 placed s image directory work served moves = λ _. place_by s image directory work s.function served refl moves
 
 -- a call that locks records names such as a file may have
-pub in_file : (s : Situation) (image : List ℕ) (directory : Option Directory) (work : Option Work) → IsServed s image directory work → s.function ≡ LockRecord → random_record (block s) ≤ 262143
+pub in_file : (s : Situation) (image : List ℕ) (directory : Option Directory) (work : Option Work) → IsServed s image directory work → s.function ≡ LockRecord → random_record (block s) ≤ LAST_RECORD
 unfolding refusals_of applies first_record
 in_file s image directory work served f =
     let none = none_applies s (refusals_of LockRecord) (ap refusals_of f) served.none in

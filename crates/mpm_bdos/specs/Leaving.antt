@@ -1,5 +1,6 @@
 -- What a call on a mounted drive leaves of open files, by what was looked up of it.
 use Rattle.std.specs.Prelude.{◌≡◌, ℕ, ◌≤◌, ◌==◌, true, List, Option, Some, None, if◌then◌else◌}
+use Rattle.mpm_dirent.specs.declared.limits.TheConstants.{LAST_RECORD}
 use Rattle.mpm_opens.specs.declared.kinds.FileKey.{FileKey}
 use Rattle.mpm_opens.specs.declared.kinds.Mode.{Mode}
 use Rattle.mpm_opens.specs.declared.kinds.Mode.TheVariants.{Locked, Unlocked, ReadOnly}
@@ -61,7 +62,7 @@ left_by opens a file moved deleted function = opens
 
 -- the records that it locks are such as a file may have
 abbrev pub IsInFile : Asked → Type 0
-IsInFile a = a.function ≡ LockRecord → random_record a.block ≤ 262143
+IsInFile a = a.function ≡ LockRecord → random_record a.block ≤ LAST_RECORD
 
 -- a call that locks records
 unfoldable pub locked_for : Drive → OpenFiles → Asked → FileFunction → OpenFiles

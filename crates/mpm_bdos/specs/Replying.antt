@@ -1,5 +1,6 @@
 -- The reply of a call on a mounted drive that isn't refused, after its turns, by the situation in which it entered.
 use Rattle.std.specs.Prelude.{◌≡◌, ℕ, ◌≤◌, Bool, true, false, List, Option, Some, None, IfSome, length}
+use Rattle.mpm_dirent.specs.declared.limits.TheConstants.{LAST_POSITION}
 use Rattle.mpm_base.specs.Calls.{Answer}
 use Rattle.mpm_mount.specs.Directories.{Directory, Stands}
 use Rattle.mpm_opens.specs.declared.kinds.FileKey.{FileKey}
@@ -35,7 +36,7 @@ pub record IsServed (s : Situation) (image : List ℕ) (directory : Option Direc
   pub caller : IsCaller s.caller
   pub users : HaveUsers s.filing.opens
   pub size : length s.call.fcb ≡ 36
-  pub low : sequential_record (block s) ≤ 262271
+  pub low : sequential_record (block s) ≤ LAST_POSITION
   pub sound : IsSoundDrive (drive_at s)
   pub suits : IfSome (job_of s) (Suits (drive_at s))
   pub works : WorksOn image directory (drive_at s) (job_of s) (call_turns s) work

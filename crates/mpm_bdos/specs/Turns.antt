@@ -13,7 +13,7 @@ use Rattle.mpm_jobs.specs.declared.jobs.JobKind.TheVariants as kinds
 use Rattle.mpm_files.specs.declared.turning.Progress.{Progress}
 use Rattle.mpm_files.specs.declared.turning.Progress.TheVariants.{Again, Done}
 use Rattle.mpm_files.specs.declared.work.Work.{Work}
-use Rattle.mpm_files.specs.Turning.{JobInService as IsInServiceOn, Contained, IsNextCached}
+use Rattle.mpm_files.specs.Turning.{JobInService, Contained, IsNextCached}
 use Rattle.mpm_refusals.specs.Filing.{Situation}
 use Rattle.mpm_refusals.specs.Subjects.{drive_number, drive_at}
 use Rattle.mpm_bdos.specs.Jobs.{job_of}
@@ -40,7 +40,7 @@ progress_after ended turns = if nat_lt ended turns then Again else Done
 -- a job is in service on the image of a drive that is mounted; and as the work of the call in service
 abbrev pub IsWorking : Disks → Option Directory → Drive → Job → ℕ → Work → Type 0
 IsWorking disks None before job j work = ⊥
-IsWorking disks (Some directory) before job j work = IsInServiceOn disks directory before job j work
+IsWorking disks (Some directory) before job j work = JobInService disks directory before job j work
 
 abbrev pub IsWorkingOn : Disks → Option Directory → Drive → Job → ℕ → Option Work → Type 0
 IsWorkingOn disks directory before job j None = ⊥

@@ -1,5 +1,6 @@
 ghost use Rattle.std.specs.Prelude.{◌≡◌, ◌≤◌, ◌<◌, ℕ, true, false, List, [], Option, Some, None, length};
 ghost use Rattle.std.specs.Option.{option_copied};
+ghost use Rattle.mpm_dirent.specs.declared.limits.TheConstants.{LAST_POSITION};
 ghost use Rattle.mpm_base.specs.Calls.{answering};
 ghost use Rattle.mpm_mount.specs.Directories.{Directory};
 ghost use Rattle.mpm_mount.specs.Drives.{Drive};
@@ -64,7 +65,7 @@ fn dma_of_call(call: &Call) -> u16
 /// The sequential position of a call's file control block.
 fn position_of_call(call: &Call) -> u32
     ensures size { length call.now.fcb ≡ 36 }
-    ensures low { sequential_record (block_of call.now.fcb) ≤ 262271 }
+    ensures low { sequential_record (block_of call.now.fcb) ≤ LAST_POSITION }
 {
     let block = block_of_call(call);
     first_position(&block, FileFunction::ReadSequential)

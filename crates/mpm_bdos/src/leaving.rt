@@ -1,5 +1,6 @@
 ghost use Rattle.std.specs.Prelude.{◌≡◌, ◌≤◌, ◌<◌, ℕ, List, None, Some, IfSome, if◌then◌else◌};
 ghost use Rattle.mpm_dirent.specs.Names.{plain};
+ghost use Rattle.mpm_dirent.specs.declared.limits.TheConstants.{LAST_RECORD};
 ghost use Rattle.mpm_mount.specs.Drives.{Drive};
 ghost use Rattle.mpm_mount.specs.Directories.{Stands};
 ghost use Rattle.mpm_opens.specs.Items as items;
@@ -16,6 +17,7 @@ use crate::ending::ended;
 use crate::records::lock_records;
 use crate::releasing::give_back_deleted;
 use mpm_base::Pid;
+use mpm_dirent::LAST_RECORD;
 use mpm_fcb::ControlBlock;
 use mpm_file_entries::{Granted, OpenedAs};
 use mpm_file_functions::{Ended, FileFunction};
@@ -62,7 +64,7 @@ fn lock_by(opens: &mut Opens, mounted: &Mounted, item: &OpenItem, first: u32, co
     requires live { IsLive opens.old item.now.number }
     requires file { file_of opens.old item.now.number ≡ item.now.file }
     requires plain { plain item.now.file.name ≡ item.now.file.name }
-    requires first { first ≤ 262143 }
+    requires first { first ≤ LAST_RECORD }
     requires count { count ≤ 16 }
     ensures opens { (image : List ℕ) (drive : Drive) → Stands image mounted.now drive
         → opens.new ≡ (spec.locked_by drive opens.old (process_of opens.old item.now.number) item.now.file first count item.now.mode).opens }
@@ -87,7 +89,7 @@ fn lock(
     count: u8,
 ) -> Ended
     requires item { IfSome item (λ item. asking.IsOwnItem opens.old p item) }
-    requires first { first ≤ 262143 }
+    requires first { first ≤ LAST_RECORD }
     requires count { count ≤ 16 }
     ensures opens { (image : List ℕ) (drive : Drive) → Stands image mounted.now drive
         → opens.new ≡ (spec.locked_where drive opens.old p first count item).opens }
@@ -165,10 +167,10 @@ fn open_asked(opens: &mut Opens, mounted: &Mounted, asked: &Asked) -> Option<Ope
 
 /// The first of the records that a call locks, at most the last that a file may have.
 fn first_locked(block: &ControlBlock) -> u32
-    ensures low { result ≤ 262143 }
-    ensures first { random_record block.now ≤ 262143 → result ≡ random_record block.now }
+    ensures low { result ≤ LAST_RECORD }
+    ensures first { random_record block.now ≤ LAST_RECORD → result ≡ random_record block.now }
 {
-    block.random_record().min(262_143)
+    block.random_record().min(LAST_RECORD)
 }
 
 /// What the records of a call on a mounted drive come to: those that it locks are locked.

@@ -1,6 +1,7 @@
 ghost use Rattle.std.specs.Prelude.{◌≡◌, ◌≤◌, ℕ, Bool, List, Option, if◌then◌else◌};
 ghost use Rattle.mpm_base.specs.Calls.{byte_in, eight_at};
 ghost use Rattle.mpm_dirent.specs.Names.{plain};
+ghost use Rattle.mpm_dirent.specs.declared.limits.TheConstants.{LAST_POSITION};
 ghost use Rattle.mpm_mount.specs.Drives.{Drive};
 ghost use Rattle.mpm_mount.specs.Directories.{Stands};
 ghost use Rattle.mpm_guard.specs.Passwords.{has_bit};
@@ -61,7 +62,7 @@ fn written(
     about: About,
 ) -> Option<Job>
     requires few { caller.now.multi ≤ 16 }
-    requires first { about.first ≤ 262271 }
+    requires first { about.first ≤ LAST_POSITION }
     ensures { (image : List ℕ) (drive : Drive) → Stands image mounted.now drive
         → result ≡ planning.written drive (locks.count_until (locks.is_locked_off opens.now caller.now.process about.file) about.first caller.now.multi) name.now bytes.now moment about }
 {
@@ -81,7 +82,7 @@ fn tested(
     about: About,
 ) -> Option<Job>
     requires few { caller.now.multi ≤ 16 }
-    requires first { about.first ≤ 262271 }
+    requires first { about.first ≤ LAST_POSITION }
     requires plain { plain about.file.name ≡ about.file.name }
     ensures { (image : List ℕ) (drive : Drive) → Stands image mounted.now drive
         → result ≡ planning.tested drive (locks.count_until (spec.is_tested_off drive opens.now caller.now.process about.file) about.first caller.now.multi) caller.now.multi name.now bytes.now moment about }
@@ -118,7 +119,7 @@ pub(crate) fn job_by(
     about: About,
 ) -> Option<Job>
     requires few { caller.now.multi ≤ 16 }
-    requires first { about.first ≤ 262271 }
+    requires first { about.first ≤ LAST_POSITION }
     requires plain { plain about.file.name ≡ about.file.name }
     requires block { block.now ≡ block_of call.now.fcb }
     ensures { (image : List ℕ) (drives : List (Option Drive)) (protected : List Bool) (marks : List ℕ) (searches : List (Option LastSearch))

@@ -1,5 +1,6 @@
 ghost use Rattle.std.specs.Prelude.{◌≡◌, ◌≤◌, ℕ, List};
 ghost use Rattle.mpm_dirent.specs.Names.{plain};
+ghost use Rattle.mpm_dirent.specs.declared.limits.TheConstants.{LAST_NAMED, LAST_POSITION, LAST_RECORD};
 ghost use Rattle.mpm_mount.specs.Drives.{Drive};
 ghost use Rattle.mpm_mount.specs.Directories.{Stands};
 ghost use Rattle.mpm_opens.specs.Opens.{IsLive, process_of, file_of};
@@ -16,7 +17,7 @@ use mpm_opens::{FileKey, Opens};
 /// Whether a record that is tested ends its call by a lock: another process has locked it, and it can be read.
 #[tactic(auto, using(crate::proofs::Locking::plainly))]
 fn is_tested_off(mounted: &Mounted, opens: &Opens, p: Pid, file: FileKey, n: u32) -> bool
-    requires record { n ≤ 262286 }
+    requires record { n ≤ LAST_NAMED }
     requires plain { plain file.name ≡ file.name }
     ensures { (image : List ℕ) (drive : Drive) → Stands image mounted.now drive → result ≡ jobs.is_tested_off drive opens.now p file n }
 {
@@ -35,7 +36,7 @@ pub(crate) fn count_tested(
     count: u8,
 ) -> u8
     requires plain { plain file.name ≡ file.name }
-    requires first { first ≤ 262271 }
+    requires first { first ≤ LAST_POSITION }
     requires count { count ≤ 16 }
     ensures value { (image : List ℕ) (drive : Drive) → Stands image mounted.now drive
         → result ≡ locks.count_until (jobs.is_tested_off drive opens.now p file) first count }
@@ -63,7 +64,7 @@ pub(crate) fn lock_records(
     requires live { IsLive opens.old item }
     requires file { file_of opens.old item ≡ file }
     requires plain { plain file.name ≡ file.name }
-    requires first { first ≤ 262143 }
+    requires first { first ≤ LAST_RECORD }
     requires count { count ≤ 16 }
     ensures opens { (image : List ℕ) (drive : Drive) → Stands image mounted.now drive
         → opens.new ≡ (spec.locking drive opens.old (process_of opens.old item) file first count).opens }

@@ -1,6 +1,7 @@
 ghost use Rattle.std.specs.Prelude.{◌≡◌, ◌≤◌, ◌&&◌, ℕ, List, Option, Some, None, IfSome, is_some, min, length, option_and_then, unwrap_or};
 ghost use Rattle.std.specs.Option.{option_copied};
 ghost use Rattle.mpm_dirent.specs.Names.{plain};
+ghost use Rattle.mpm_dirent.specs.declared.limits.TheConstants.{LAST_POSITION};
 ghost use Rattle.mpm_mount.specs.Drives.{Drive};
 ghost use Rattle.mpm_mount.specs.Directories.{Stands};
 ghost use Rattle.mpm_opens.specs.Items.{file_named};
@@ -23,7 +24,7 @@ use crate::releasing::{Deletion, deleted};
 use crate::service::Service;
 use mpm_base::{Call, Pid};
 use mpm_clock::{Moment, stamp};
-use mpm_dirent::plain_name;
+use mpm_dirent::{LAST_POSITION, plain_name};
 use mpm_fcb::ControlBlock;
 use mpm_file_functions::{FileFunction, Refusal};
 use mpm_files::{Job, Work, plan, turns};
@@ -35,17 +36,14 @@ use mpm_refusals::{
     Caller, Searches, ask, block_of_call, drive_of_call, item_number, refusal_of, word_of_call,
 };
 
-/// The last position that a block can have: record 255 of the last extent.
-const LAST_POSITION: u32 = 262_271;
-
 /// The most records of a job.
 const RECORDS: u8 = 16;
 
 /// The first of a call's records, or the last position that a block can have, where it is past that.
 pub(crate) fn first_position(block: &ControlBlock, function: FileFunction) -> u32
-    ensures value { result ≡ min (subjects.first_by block.now function) 262271 }
-    ensures few { result ≤ 262271 }
-    ensures low { sequential_record block.now ≤ 262271 }
+    ensures value { result ≡ min (subjects.first_by block.now function) LAST_POSITION }
+    ensures few { result ≤ LAST_POSITION }
+    ensures low { sequential_record block.now ≤ LAST_POSITION }
 {
     let sequential = block.sequential_record();
     match function {
@@ -88,8 +86,8 @@ fn about_of(
 ) -> About
     ensures value { result ≡ spec.about_in opens.now p block.now function drive owner number }
     ensures plain { plain result.file.name ≡ result.file.name }
-    ensures few { result.first ≤ 262271 }
-    ensures low { sequential_record block.now ≤ 262271 }
+    ensures few { result.first ≤ LAST_POSITION }
+    ensures low { sequential_record block.now ≤ LAST_POSITION }
 {
     let name = plain_name(&block.name);
     let first = first_position(block, function);

@@ -1,17 +1,17 @@
 //! The lines that consoles, printers and records of calls make, and how often a sink is called for them.
 ghost use Rattle.std.specs.Prelude.{◌≡◌, ◌+◌, ◌-◌, ◌^◌, min};
-ghost use Rattle.mpm_render.specs.Lines.{IsUnit};
+ghost use Rattle.mpm_base.specs.Units.{IsUnit};
 
 use arrayvec::ArrayVec;
 use mpm_port::{Failed, Sink};
-use mpm_render::{Render, Unit2};
+use mpm_render::{Render, Unit};
 use std::test::Fail;
 
-const CONSOLE: Unit2 = Unit2::Console { n: 0 };
+const CONSOLE: Unit = Unit::Console { n: 0 };
 
-const LAST_CONSOLE: Unit2 = Unit2::Console { n: 7 };
+const LAST_CONSOLE: Unit = Unit::Console { n: 7 };
 
-const PRINTER: Unit2 = Unit2::Printer { n: 1 };
+const PRINTER: Unit = Unit::Printer { n: 1 };
 
 /// Keeps what was written, and counts the calls; a call that asks for more than there is room for fails.
 #[derive(Drop)]
@@ -51,7 +51,7 @@ fn sink() -> Paper {
     }
 }
 
-fn say(render: &mut Render, unit: Unit2, bytes: &[u8], sink: &mut Paper) -> Result<(), Failed>
+fn say(render: &mut Render, unit: Unit, bytes: &[u8], sink: &mut Paper) -> Result<(), Failed>
     requires { IsUnit unit }
 {
     for byte in bytes {
@@ -66,7 +66,7 @@ fn has(sink: &Paper, puts: u64, bytes: &[u8]) -> bool {
 }
 
 /// Whether a text of some units goes well.
-fn says(render: &mut Render, unit: Unit2, bytes: &[u8], sink: &mut Paper) -> bool
+fn says(render: &mut Render, unit: Unit, bytes: &[u8], sink: &mut Paper) -> bool
     requires { IsUnit unit }
 {
     say(render, unit, bytes, sink).is_ok()

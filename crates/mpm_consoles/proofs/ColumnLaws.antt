@@ -5,8 +5,8 @@ use Rattle.mpm_base.specs.Tabs.{tab_width}
 use Rattle.mpm_consoles.specs.Columns.{column_after, columns_after, spaces_for, tab_text, expanded}
 use Rattle.mpm_consoles.specs.Consoles.{Consoles, console_at}
 use Rattle.mpm_consoles.specs.Handling.{output_spaces}
-use Rattle.mpm_consoles.specs.declared.unit.Unit.{Unit}
-use Rattle.mpm_consoles.specs.declared.unit.Unit.TheVariants.{Console as ConsoleUnit, Printer as PrinterUnit}
+use Rattle.mpm_base.specs.declared.unit.Unit.{Unit}
+use Rattle.mpm_base.specs.declared.unit.Unit.TheVariants.{Console as ConsoleUnit, Printer as PrinterUnit}
 
 pub columns_append : (column : ℕ) (a b : List ℕ) → columns_after column (a ++ b) ≡ columns_after (columns_after column a) b
 unfolding columns_after

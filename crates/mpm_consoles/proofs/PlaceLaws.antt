@@ -10,9 +10,10 @@ use Rattle.mpm_ready.specs.Tables.{list_of, removed, dequeued}
 use Rattle.mpm_ready.proofs.TableLaws.{list_of_inserted, list_of_inserted_other, list_of_removed, list_of_removed_other}
 use Rattle.mpm_base.proofs.Choices.{either}
 use Rattle.mpm_consoles.specs.Console.{Console, new_console, is_owner, without_wait_of}
-use Rattle.mpm_consoles.specs.Consoles.{Consoles, console_at, HasConsole, HasUnit, place_of, waits, WaitsForNoUnit, is_gate_waiter, gate_waits, with_console, AreSoundConsoles}
+use Rattle.mpm_base.specs.Units.{place_of}
+use Rattle.mpm_consoles.specs.Consoles.{Consoles, console_at, HasConsole, HasUnit, waits, WaitsForNoUnit, is_gate_waiter, gate_waits, with_console, AreSoundConsoles}
 use Rattle.mpm_consoles.specs.Handling.{unlisted, listed, units_without_waiter}
-use Rattle.mpm_consoles.specs.declared.unit.Unit.{Unit}
+use Rattle.mpm_base.specs.declared.unit.Unit.{Unit}
 use Rattle.mpm_consoles.proofs.SoundLaws.{place_below}
 
 -- for how many units a process waits: at most for one

@@ -13,8 +13,8 @@ use Rattle.mpm_consoles.specs.Runs.{stored, missed, as_list, KeyChange, Attaches
 use Rattle.mpm_consoles.specs.declared.console.Awaited.TheVariants.{Key, Output}
 use Rattle.mpm_consoles.specs.declared.keys.Control.{Control}
 use Rattle.mpm_consoles.specs.declared.keys.Control.TheVariants.{Stop, Resume, Abort, Detach}
-use Rattle.mpm_consoles.specs.declared.unit.Unit.{Unit}
-use Rattle.mpm_consoles.specs.declared.unit.Unit.TheVariants.{Console as ConsoleUnit, Printer as PrinterUnit}
+use Rattle.mpm_base.specs.declared.unit.Unit.{Unit}
+use Rattle.mpm_base.specs.declared.unit.Unit.TheVariants.{Console as ConsoleUnit, Printer as PrinterUnit}
 use Rattle.mpm_consoles.proofs.SoundLaws.{without_wait_at}
 use Rattle.mpm_consoles.proofs.FateLaws.{set_there, stays_itself, stays_wake}
 

@@ -9,10 +9,11 @@ use Rattle.mpm_ready.specs.Tables.{list_at, no_lists, inserted, removed}
 use Rattle.mpm_ready.proofs.OrderLaws.{in_list_put_in, in_list_without_slot, without_slot_absent, first_none, without_slot_gone}
 use Rattle.mpm_ready.proofs.TableLaws.{list_at_inserted, list_at_inserted_other, list_at_removed, table_removed, table_inserted, table_none, list_at_none, none_in_none}
 use Rattle.mpm_consoles.specs.Console.{Console, new_console, is_owner, passed_to, with_raw, with_output_stopped, awaited_for, awaiting, without_wait_of, resumed, typed, without_first, spoken, written, IsProperConsole}
-use Rattle.mpm_consoles.specs.Consoles.{Consoles, no_owners, console_at, HasConsole, HasUnit, owner_of, owns, place_of, waiters_of, first_waiter, waits_for, WaitsForNoUnit, with_console, MayWait, AreSoundConsoles}
+use Rattle.mpm_base.specs.Units.{place_of}
+use Rattle.mpm_consoles.specs.Consoles.{Consoles, no_owners, console_at, HasConsole, HasUnit, owner_of, owns, waiters_of, first_waiter, waits_for, WaitsForNoUnit, with_console, MayWait, AreSoundConsoles}
 use Rattle.mpm_consoles.specs.Handling.{given, unlisted, listed, first_taken, raw_set, gate_wait_begun, put_out, units_without_waiter}
-use Rattle.mpm_consoles.specs.declared.unit.Unit.{Unit}
-use Rattle.mpm_consoles.specs.declared.unit.Unit.TheVariants.{Console as ConsoleUnit, Printer as PrinterUnit}
+use Rattle.mpm_base.specs.declared.unit.Unit.{Unit}
+use Rattle.mpm_base.specs.declared.unit.Unit.TheVariants.{Console as ConsoleUnit, Printer as PrinterUnit}
 use Rattle.mpm_consoles.proofs.ConsoleLaws.{owner_typed, owner_resumed, owner_without_wait, proper_new, proper_passed, proper_raw, proper_stop, proper_wait, proper_without_wait, proper_resumed, proper_typed, proper_taken, proper_written}
 
 -- what is so of a value set at a number, and of each other one, is so of all

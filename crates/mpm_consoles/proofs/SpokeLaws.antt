@@ -5,7 +5,7 @@ use Rattle.mpm_consoles.specs.Columns.{columns_after, tab_text}
 use Rattle.mpm_consoles.specs.Console.{Console, new_console, spoken, written}
 use Rattle.mpm_consoles.specs.Consoles.{Consoles, console_at, HasConsole}
 use Rattle.mpm_consoles.specs.Handling.{spoke, put_out}
-use Rattle.mpm_consoles.specs.declared.unit.Unit.TheVariants.{Console as ConsoleUnit}
+use Rattle.mpm_base.specs.declared.unit.Unit.TheVariants.{Console as ConsoleUnit}
 use Rattle.mpm_consoles.proofs.ColumnLaws.{columns_nil, columns_append}
 use Rattle.mpm_consoles.proofs.FateLaws.{set_there}
 

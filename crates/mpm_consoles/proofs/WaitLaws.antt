@@ -4,10 +4,11 @@ use Rattle.std.proofs.lemmas.Bool.{false≢true, cases_Bool, eq-eqb, eqb-true}
 use Rattle.mpm_ready.specs.Order.{Member, in_list}
 use Rattle.mpm_ready.specs.Tables.{list_at, list_of, IsTable}
 use Rattle.mpm_ready.proofs.TableLaws.{list_of_known, in_its_list, in_list_removed, unlisted as not_listed, not_itself}
-use Rattle.mpm_consoles.specs.Consoles.{Consoles, HasUnit, place_of, waits_for}
+use Rattle.mpm_base.specs.Units.{place_of}
+use Rattle.mpm_consoles.specs.Consoles.{Consoles, HasUnit, waits_for}
 use Rattle.mpm_consoles.specs.Handling.{unlisted}
-use Rattle.mpm_consoles.specs.declared.unit.Unit.{Unit}
-use Rattle.mpm_consoles.specs.declared.unit.Unit.TheVariants.{Console as ConsoleUnit, Printer as PrinterUnit}
+use Rattle.mpm_base.specs.declared.unit.Unit.{Unit}
+use Rattle.mpm_base.specs.declared.unit.Unit.TheVariants.{Console as ConsoleUnit, Printer as PrinterUnit}
 
 -- a process is in the list that its waiting names, and in no other
 pub listed_there : (lists : List (List Member)) (p list line : ℕ) → IsTable lists → list_of lists p ≡ Some list → eqb list line ≡ in_list p (list_at lists line)

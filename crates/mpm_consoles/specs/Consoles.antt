@@ -3,11 +3,12 @@
 use Rattle.std.specs.Prelude.{◌≡◌, ℕ, ◌+◌, ◌<◌, ◌≤◌, Bool, false, List, [], Option, Some, None, nat_lt, length, replicate, slice_index_or, slice_set, is_some, ◌&&◌}
 use Rattle.std.specs.Prelude.{count_by}
 use Rattle.std.specs.Option.{option_map_or}
+use Rattle.mpm_base.specs.Units.{place_of}
 use Rattle.mpm_ready.specs.Order.{Member, first_of, in_list}
 use Rattle.mpm_ready.specs.Tables.{list_at, list_of, no_lists, IsTable}
 use Rattle.mpm_consoles.specs.Console.{Console, new_console, is_owner, IsProperConsole}
-use Rattle.mpm_consoles.specs.declared.unit.Unit.{Unit}
-use Rattle.mpm_consoles.specs.declared.unit.Unit.TheVariants.{Console as ConsoleUnit, Printer as PrinterUnit}
+use Rattle.mpm_base.specs.declared.unit.Unit.{Unit}
+use Rattle.mpm_base.specs.declared.unit.Unit.TheVariants.{Console as ConsoleUnit, Printer as PrinterUnit}
 
 -- the consoles; the owner of each printer; and who waits, in the order of the ready list: as lists 0 to 7 for each console,
 -- as lists 8 to 11 for each printer
@@ -36,11 +37,6 @@ abbrev pub has_unit : Consoles → Unit → Bool
 has_unit t (ConsoleUnit n) = nat_lt n (length t.consoles)
 has_unit t (PrinterUnit n) = nat_lt n (length t.printers)
 
--- which numbers a unit may have
-abbrev pub IsNumbered : Unit → Type 0
-IsNumbered (ConsoleUnit n) = n < 8
-IsNumbered (PrinterUnit n) = n < 4
-
 -- the process that owns a unit, and whether a process does
 abbrev pub owner_of : Consoles → Unit → Option ℕ
 owner_of t (ConsoleUnit n) = (console_at t n).owner
@@ -50,10 +46,6 @@ abbrev pub owns : Consoles → ℕ → Unit → Bool
 owns t p unit = is_owner (owner_of t unit) p
 
 -- who waits for a unit, and the first of them
-abbrev pub place_of : Unit → ℕ
-place_of (ConsoleUnit n) = n
-place_of (PrinterUnit n) = 8 + n
-
 abbrev pub waiters_of : Consoles → Unit → List Member
 waiters_of t unit = list_at t.waiters (place_of unit)
 

@@ -5,15 +5,16 @@ use Rattle.std.specs.Prelude.{ℕ, Bool, true, not, List, Option, Some, None, �
 use Rattle.mpm_ready.specs.Tables.{inserted, removed}
 use Rattle.mpm_consoles.specs.Columns.{spaces_for}
 use Rattle.mpm_consoles.specs.Console.{Console, passed_to, with_raw, with_output_stopped, awaited_for, awaiting, woken, without_wait_of, resumed, has_room, typed, without_first, spoken, written}
-use Rattle.mpm_consoles.specs.Consoles.{Consoles, console_at, owner_of, owns, place_of, first_waiter, waits_for, with_console}
+use Rattle.mpm_base.specs.Units.{place_of}
+use Rattle.mpm_consoles.specs.Consoles.{Consoles, console_at, owner_of, owns, first_waiter, waits_for, with_console}
 use Rattle.mpm_consoles.specs.Keys.{control_of}
 use Rattle.mpm_consoles.specs.declared.console.Awaited.TheVariants.{Key, Output}
 use Rattle.mpm_consoles.specs.declared.keys.Control.{Control}
 use Rattle.mpm_consoles.specs.declared.keys.Control.TheVariants.{Stop, Resume, Abort, Detach}
 use Rattle.mpm_consoles.specs.declared.keys.KeyDone.{KeyDone}
 use Rattle.mpm_consoles.specs.declared.keys.KeyDone.TheVariants.{Stored, Dropped, Wakes, Aborts, Passes, Nothing}
-use Rattle.mpm_consoles.specs.declared.unit.Unit.{Unit}
-use Rattle.mpm_consoles.specs.declared.unit.Unit.TheVariants.{Console as ConsoleUnit, Printer as PrinterUnit}
+use Rattle.mpm_base.specs.declared.unit.Unit.{Unit}
+use Rattle.mpm_base.specs.declared.unit.Unit.TheVariants.{Console as ConsoleUnit, Printer as PrinterUnit}
 
 -- a unit comes to an owner, or to none
 unfoldable pub given : Consoles → Unit → Option ℕ → Consoles

@@ -6,7 +6,7 @@ use Rattle.mpm_consoles.specs.Consoles.{Consoles, console_at}
 use Rattle.mpm_consoles.specs.Keys.{control_of}
 use Rattle.mpm_consoles.specs.Handling.{unit_attached, unit_detached, console_assigned, keyed, first_taken, raw_set, gate_wait_begun, put_out, units_without_waiter}
 use Rattle.mpm_consoles.specs.declared.keys.Control.{Control}
-use Rattle.mpm_consoles.specs.declared.unit.Unit.{Unit}
+use Rattle.mpm_base.specs.declared.unit.Unit.{Unit}
 
 -- the keys that a key event stores, and how many it loses
 abbrev pub stored : Option Control → Bool → ℕ → List ℕ

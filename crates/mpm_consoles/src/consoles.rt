@@ -4,8 +4,7 @@ ghost use Rattle.mpm_consoles.specs.Console.{new_console, without_wait_of};
 use crate::OutOfMemory;
 use crate::console::Console;
 use crate::keys::{Control, KeyDone, control_of};
-use crate::unit::Unit;
-use mpm_base::Pid;
+use mpm_base::{Pid, Unit};
 use mpm_ready::Lists;
 use std::alloc::Global;
 use std::marker::Model;
@@ -39,7 +38,7 @@ impl Consoles {
     ghost use Rattle.mpm_consoles.specs.declared.console.Awaited.TheVariants.{Output};
     ghost use Rattle.mpm_consoles.specs.Fates.{FateOf};
     ghost use Rattle.mpm_consoles.specs.Runs.{as_list};
-    ghost use Rattle.mpm_consoles.specs.declared.unit.Unit.TheVariants.{Console as ConsoleUnit};
+    ghost use Rattle.mpm_base.specs.declared.unit.Unit.TheVariants.{Console as ConsoleUnit};
 
     /// So many consoles, 1 to 8, and printers, at most 4, which nobody owns. All memory that they will need is taken here.
     ///

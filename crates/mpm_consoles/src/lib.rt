@@ -6,10 +6,9 @@ mod console;
 mod consoles;
 mod keys;
 mod modes;
-mod unit;
 
 pub use consoles::Consoles;
 pub use keys::KeyDone;
 pub use modes::{AWAIT_KEY, POLL_KEY, TELL_STATUS, echoes, is_cooked, is_raw, writes};
+pub use mpm_base::Unit;
 pub use std::alloc::AllocError as OutOfMemory;
-pub use unit::Unit;

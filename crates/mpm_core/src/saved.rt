@@ -2,7 +2,7 @@ ghost use Rattle.std.specs.Prelude.{◌≡◌, ◌<◌, ◌≤◌, ◌+◌, ◌*
 ghost use Rattle.mpm_base.specs.Lists.{zeros as so_many_zeros};
 ghost use Rattle.mpm_port.specs.Causes.{HasCause};
 ghost use Rattle.mpm_port.specs.Texts.{AppendsPart};
-ghost use Rattle.mpm_core_file.specs.CoreFiles.{IsCore, CoreContents as CoreOf, core_bytes, fault_of};
+ghost use Rattle.mpm_core_file.specs.CoreFiles.{IsCore, CoreContents, core_bytes, fault_of};
 ghost use Rattle.mpm_core.specs.Replaying.{no_core, kept, Replays};
 ghost use Rattle.mpm_core.specs.Agreement.{Agree};
 
@@ -33,9 +33,9 @@ pub struct Core {
 
 impl Model for Core {
     ghost use Rattle.std.specs.Prelude.{◌≡◌, ◌≤◌, ◌*◌, length, take};
-    ghost use Rattle.mpm_core_file.specs.CoreFiles.{CoreContents as CoreOf};
+    ghost use Rattle.mpm_core_file.specs.CoreFiles.{CoreContents};
 
-    ghost Value = { CoreOf };
+    ghost Value = { CoreContents };
 
     ghost view = { λ core. record { head = core.head; segment = take (256 * core.head.spec.pages) core.segment.items; common = core.common.items } };
 
@@ -200,7 +200,7 @@ impl Core {
         ensures none { OnOk result (fault_of text.now ≡ None) }
         ensures fault { IfErr result (λ fault. fault_of text.now ≡ Some fault.place) }
         ensures stays { OnErr result (self.new ≡ self.old) }
-        ensures again { (core : CoreOf) → IsCore core → text.now ≡ core_bytes core → IsOk result × (self.new ≡ core) }
+        ensures again { (core : CoreContents) → IsCore core → text.now ≡ core_bytes core → IsOk result × (self.new ≡ core) }
     {
         let head = match read_head(text) {
             Ok(head) => head,

@@ -3,12 +3,14 @@
 #![tactic(auto)]
 
 mod kinds;
+mod limits;
 mod maps;
 mod names;
 mod read;
 mod write;
 
 pub use kinds::{Entry, FileEntry, LabelEntry, XfcbEntry};
+pub use limits::{LAST_EXTENT, LAST_NAMED, LAST_POSITION, LAST_RECORD};
 pub use names::plain_name;
 pub use read::read_entry;
 pub use write::write_entry;

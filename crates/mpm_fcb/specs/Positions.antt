@@ -1,8 +1,8 @@
 -- Where in a file a control block stands. (MP/M II Programmer's Guide, "File Control Block Definition", "Function 33: Read
 -- Random", "Function 35: Compute File Size", "Function 36: Set Random Record".)
 use Rattle.std.specs.Prelude.{ℕ, ◌+◌, ◌-◌, ◌*◌, ◌/◌, ◌%◌, min, Bool, List, [], ◌∷◌, nat_lt, slice_index}
+use Rattle.mpm_dirent.specs.declared.limits.TheConstants.{LAST_EXTENT, LAST_RECORD}
 use Rattle.mpm_fcb.specs.declared.block.ControlBlock.{ControlBlock}
-use Rattle.mpm_fcb.specs.declared.positions.TheConstants.{LAST_RECORD, LAST_EXTENT}
 
 -- the sequential position: record CR of the extent that EX and S2 number, by five and six of their bits
 abbrev pub sequential_record : ControlBlock → ℕ

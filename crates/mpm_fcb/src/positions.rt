@@ -1,13 +1,9 @@
 ghost use Rattle.std.specs.Prelude.{◌≡◌, ◌+◌, ◌*◌, ◌≤◌, ◌<◌};
+ghost use Rattle.mpm_dirent.specs.declared.limits.TheConstants.{LAST_POSITION};
 ghost use Rattle.mpm_fcb.specs.Positions as spec;
 
 use crate::block::ControlBlock;
-
-/// The last record that a file can have.
-const LAST_RECORD: u32 = 262_143;
-
-/// The last extent that a file can have.
-const LAST_EXTENT: u32 = 2047;
+use mpm_dirent::{LAST_EXTENT, LAST_RECORD};
 
 /// Whether some records from one on go beyond the last that a file can have. (MP/M II Programmer's Guide, "Function 33: Read
 /// Random", error code 6.)
@@ -35,7 +31,7 @@ impl ControlBlock {
     /// The sequential position, at most 262,271.
     pub fn sequential_record(&self) -> u32
         ensures value { result ≡ sequential_record self.now }
-        ensures small { result ≤ 262271 }
+        ensures small { result ≤ LAST_POSITION }
     {
         let extent = 32 * u32::from(self.s2 % 64) + u32::from(self.ex % 32);
         128 * extent + u32::from(self.cr)
@@ -54,11 +50,11 @@ impl ControlBlock {
     /// Sets the sequential position, at most 262,271, whose extent has so many records.
     #[tactic(auto, unfolding(crate::specs::Positions::at_position))]
     pub fn set_position(&mut self, position: u32, count: u8)
-        requires { position ≤ 262271 }
+        requires { position ≤ LAST_POSITION }
         ensures block { self.new ≡ at_position self.old position count }
         ensures there { sequential_record self.new ≡ position }
     {
-        let extent = (position / 128).min(LAST_EXTENT);
+        let extent = (position / 128).min(u32::from(LAST_EXTENT));
         self.ex = (extent % 32) as u8;
         self.s2 = (extent / 32) as u8;
         self.rc = count;

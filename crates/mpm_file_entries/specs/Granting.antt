@@ -3,6 +3,7 @@
 use Rattle.std.specs.Prelude.{◌≡◌, ℕ, ◌+◌, ◌%◌, ◌<◌, ◌≤◌, Bool, true, false, Option, Some, None, IfSome, unwrap_or, if◌then◌else◌}
 use Rattle.std.specs.FinMap.{get}
 use Rattle.mpm_dirent.specs.Names.{plain}
+use Rattle.mpm_dirent.specs.declared.limits.TheConstants.{LAST_POSITION}
 use Rattle.mpm_file_functions.specs.declared.functions.FileFunction.{FileFunction}
 use Rattle.mpm_file_functions.specs.declared.functions.FileFunction.TheVariants.{OpenFile, ReadSequential, WriteSequential, MakeFile, ReadRandom, WriteRandom, FileSize, TestAndWrite, LockRecord, LabelData, ReadXfcb}
 use Rattle.mpm_mount.specs.Drives.{FileName, Drive, extents_of}
@@ -65,7 +66,7 @@ position_of g = position_by g.function g.first g.ended.moved
 
 -- where its block doesn't stay, the position after a call is one that a block can have
 abbrev pub IsPlaced : Granted → Type 0
-IsPlaced g = does_stay g.ended.moved g.ended.end ≡ false → position_of g ≤ 262271
+IsPlaced g = does_stay g.ended.moved g.ended.end ≡ false → position_of g ≤ LAST_POSITION
 
 abbrev pub moved_block : Drive → Granted → ControlBlock
 moved_block drive g =

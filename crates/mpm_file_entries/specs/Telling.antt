@@ -7,6 +7,7 @@ use Rattle.mpm_dirent.specs.declared.kinds.Entry.TheVariants.{Free, File, Xfcb, 
 use Rattle.mpm_dirent.specs.declared.kinds.FileEntry.{FileEntry}
 use Rattle.mpm_dirent.specs.Entries as entry
 use Rattle.mpm_dirent.specs.Names.{plain}
+use Rattle.mpm_dirent.specs.declared.limits.TheConstants.{LAST_EXTENT}
 use Rattle.mpm_opens.specs.declared.kinds.Mode.{Mode}
 use Rattle.mpm_mount.specs.Drives.{FileName, PhysicalExtent, Drive, extents_of}
 use Rattle.mpm_mount.specs.Faults.{extent_of}
@@ -47,7 +48,7 @@ abbrev pub told_file : FileEntry → List ℕ
 told_file f = told_bytes f.user (with_attributes (plain f.name) (attributes_in f.name)) (extent_of f) f.rc
 
 abbrev pub CanTell : Entry → Type 0
-CanTell (File f) = (f.user < 16) × (extent_of f ≤ 2047)
+CanTell (File f) = (f.user < 16) × (extent_of f ≤ LAST_EXTENT)
 CanTell Free = Unit {0}
 CanTell (Xfcb x) = Unit {0}
 CanTell (Label label) = Unit {0}

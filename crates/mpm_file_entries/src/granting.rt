@@ -1,5 +1,6 @@
 ghost use Rattle.std.specs.Prelude.{◌≡◌, ◌≤◌, ℕ, true, List, IfSome, unwrap_or};
 ghost use Rattle.std.specs.FinMap.{get};
+ghost use Rattle.mpm_dirent.specs.declared.limits.TheConstants.{LAST_POSITION};
 ghost use Rattle.mpm_mount.specs.Drives.{Drive, extents_of};
 ghost use Rattle.mpm_mount.specs.Directories.{Stands};
 ghost use Rattle.mpm_fcb.specs.Positions.{with_random};
@@ -12,6 +13,7 @@ ghost use Rattle.mpm_file_entries.specs.Telling as telling;
 
 use crate::sizes::size;
 use crate::telling::{open_block, position_block, xfcb_block};
+use mpm_dirent::LAST_POSITION;
 use mpm_fcb::ControlBlock;
 use mpm_file_functions::{Ended, FileFunction, coded, does_stay};
 use mpm_mount::{Mounted, label_byte};
@@ -110,7 +112,7 @@ fn moved_block(granted: &Granted, mounted: &Mounted) -> ControlBlock
 
 /// The block that moves on.
 fn placed_block(granted: &Granted, mounted: &Mounted) -> ControlBlock
-    ensures { (image : List ℕ) (drive : Drive) → Stands image mounted.now drive → spec.position_of granted.now ≤ 262271
+    ensures { (image : List ℕ) (drive : Drive) → Stands image mounted.now drive → spec.position_of granted.now ≤ LAST_POSITION
         → result ≡ telling.moved_to drive granted.now.owner granted.now.block (spec.position_of granted.now) }
 {
     let mut block = granted.block;
@@ -131,11 +133,11 @@ fn position_behind(function: FileFunction, first: u32, moved: u8) -> u32
 
 /// The position after a call on records, at most 262,271.
 fn position_of(granted: &Granted) -> u32
-    ensures low { result ≤ 262271 }
-    ensures position { spec.position_of granted.now ≤ 262271 → result ≡ spec.position_of granted.now }
+    ensures low { result ≤ LAST_POSITION }
+    ensures position { spec.position_of granted.now ≤ LAST_POSITION → result ≡ spec.position_of granted.now }
 {
-    let first = granted.first.min(262_271);
-    position_behind(granted.function, first, granted.ended.moved).min(262_271)
+    let first = granted.first.min(LAST_POSITION);
+    position_behind(granted.function, first, granted.ended.moved).min(LAST_POSITION)
 }
 
 /// The file control block of its reply.

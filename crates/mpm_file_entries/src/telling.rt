@@ -5,6 +5,7 @@ ghost use Rattle.mpm_mount.specs.Directories.{Stands};
 ghost use Rattle.mpm_fcb.specs.Positions.{three_bytes};
 ghost use Rattle.std.specs.FinMap.{get};
 ghost use Rattle.mpm_dirent.specs.Names.{plain};
+ghost use Rattle.mpm_dirent.specs.declared.limits.TheConstants.{LAST_EXTENT, LAST_POSITION};
 ghost use Rattle.mpm_mount.specs.Attributes.{attributes_of as attributes_there};
 ghost use Rattle.mpm_mount.specs.Files.{where_there};
 ghost use Rattle.mpm_file_entries.specs.Protections.{no_protection};
@@ -12,14 +13,14 @@ ghost use Rattle.mpm_file_entries.specs.Protections as protections;
 ghost use Rattle.mpm_file_entries.specs.Telling as spec;
 
 use crate::keeping::xfcb_there;
-use mpm_dirent::{Entry, FileEntry, plain_name, write_entry};
+use mpm_dirent::{Entry, FileEntry, LAST_EXTENT, plain_name, write_entry};
 use mpm_fcb::{ControlBlock, three_bytes, with_attributes};
 use mpm_mount::{Mounted, attributes, attributes_of, extent_count, last_extent};
 use mpm_opens::Mode;
 
 /// A directory entry as a search tells it, by its last extent, at most 2,047, and that one's record count.
 fn told_entry(user: u8, name: &[u8; 11], last: u16, count: u8) -> FileEntry
-    requires { last ≤ 2047 }
+    requires { last ≤ LAST_EXTENT }
     ensures { result ≡ record { user = user; name = name.now; ex = last % 32; s1 = 0; s2 = last / 32; rc = count; blocks = replicate 16 0 } }
 {
     FileEntry {
@@ -38,7 +39,7 @@ fn told_entry(user: u8, name: &[u8; 11], last: u16, count: u8) -> FileEntry
 #[tactic(auto, unfolding(crate::specs::Telling::told_bytes))]
 fn told_bytes(user: u8, name: &[u8; 11], last: u16, count: u8) -> [u8; 128]
     requires user { user < 16 }
-    requires last { last ≤ 2047 }
+    requires last { last ≤ LAST_EXTENT }
     ensures { result ≡ spec.told_bytes user name.now last count }
 {
     let mut bytes = [0xE5; 128];
@@ -51,7 +52,7 @@ fn told_bytes(user: u8, name: &[u8; 11], last: u16, count: u8) -> [u8; 128]
 /// An entry of a file, as a search tells it.
 fn told_file(file: &FileEntry) -> [u8; 128]
     requires user { file.now.user < 16 }
-    requires last { extent_of file.now ≤ 2047 }
+    requires last { extent_of file.now ≤ LAST_EXTENT }
     ensures { result ≡ spec.told_file file.now }
 {
     let name = with_attributes(&plain_name(&file.name), &attributes_of(&file.name));
@@ -125,11 +126,11 @@ pub fn open_block(block: &mut ControlBlock, mounted: &Mounted, owner: u8, mode: 
 
 /// Puts into a block a position, at most 262,271, in a file of the user `owner`.
 pub fn position_block(block: &mut ControlBlock, mounted: &Mounted, owner: u8, position: u32)
-    requires { position ≤ 262271 }
+    requires { position ≤ LAST_POSITION }
     ensures { (image : List ℕ) (drive : Drive) → Stands image mounted.now drive
         → block.new ≡ spec.moved_to drive owner block.old position }
 {
-    let extent = (position / 128).min(2047) as u16;
+    let extent = (position / 128).min(u32::from(LAST_EXTENT)) as u16;
     let records = record_count(mounted, owner, &block.name, extent);
     block.set_position(position, records);
 }

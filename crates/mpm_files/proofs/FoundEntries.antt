@@ -12,6 +12,7 @@ use Rattle.mpm_dirent.specs.declared.kinds.FileEntry.{FileEntry}
 use Rattle.mpm_dirent.specs.declared.kinds.XfcbEntry.{XfcbEntry}
 use Rattle.mpm_dirent.specs.Proper.{IsProper}
 use Rattle.mpm_dirent.specs.Names.{plain}
+use Rattle.mpm_dirent.specs.declared.limits.TheConstants.{LAST_RECORD}
 use Rattle.mpm_mount.specs.Drives.{FileName, entry_number, entry_name}
 use Rattle.mpm_mount.specs.Faults.{extent_of, name_of, is_named, is_xfcb, cause_of, first_fault}
 use Rattle.mpm_mount.specs.Changes.{HasRanges}
@@ -24,7 +25,7 @@ use Rattle.mpm_files.specs.declared.stamps.Stamp.TheVariants.{First, Second}
 use Rattle.mpm_files.specs.Lookups.{HasEntry, HasXfcb, stamped_entry}
 
 -- a record is one of an extent that a file can have
-low_number : (kind : Kind) (f : FileEntry) (n : ℕ) → HasRanges f → entry_number kind (extent_of f) ≡ entry_number kind (n / 128) → n ≤ 262143
+low_number : (kind : Kind) (f : FileEntry) (n : ℕ) → HasRanges f → entry_number kind (extent_of f) ≡ entry_number kind (n / 128) → n ≤ LAST_RECORD
 low_number Ibm3740 f n ranges number = omega (arith, ranges.low, ranges.high, number)
 low_number Hd4 f n ranges number = omega (arith, ranges.low, ranges.high, number)
 low_number Hd8 f n ranges number = omega (arith, ranges.low, ranges.high, number)

@@ -10,6 +10,7 @@ use Rattle.mpm_blocks.specs.Sectors.{Sectors, sectors_of}
 use Rattle.mpm_dirent.specs.declared.kinds.Entry.{Entry}
 use Rattle.mpm_dirent.specs.declared.kinds.Entry.TheVariants.{File}
 use Rattle.mpm_dirent.specs.declared.kinds.FileEntry.{FileEntry}
+use Rattle.mpm_dirent.specs.declared.limits.TheConstants.{LAST_RECORD}
 use Rattle.mpm_mount.specs.Drives.{FileName, PhysicalExtent, Drive, places, entry_number, block_place, with_extent}
 use Rattle.mpm_mount.specs.Faults.{extent_of, name_of, block_at, holds, cause_of}
 use Rattle.mpm_mount.specs.Images.{extent_in}
@@ -86,7 +87,7 @@ at_extent n f = omega arith
 pub same_name : (kind : Kind) (n : ℕ) (f : FileEntry) → entry_number kind (extent_of f) ≡ entry_number kind (n / 128) → name_of kind (at_record n f) ≡ name_of kind f
 same_name kind n f number = same_entry (name_of kind (at_record n f)) (name_of kind f) refl refl (ap (entry_number kind) (at_extent n f) ∙ sym number)
 
-pub record_ranges : (n : ℕ) (f : FileEntry) → n ≤ 262143 → HasRanges (at_record n f)
+pub record_ranges : (n : ℕ) (f : FileEntry) → n ≤ LAST_RECORD → HasRanges (at_record n f)
 record_ranges n f h = record { few = omega (arith); low = omega arith; high = omega (arith, h) }
 
 raised_by : (b : Bool) (e : PhysicalExtent) (n : ℕ) → b ≡ true → (if b then record e { last = n / 128; count = n % 128 + 1 } else e) ≡ record e { last = n / 128; count = n % 128 + 1 }

@@ -15,6 +15,7 @@ use Rattle.mpm_dirent.specs.declared.kinds.Entry.TheVariants.{Free, File, Xfcb, 
 use Rattle.mpm_dirent.specs.declared.kinds.FileEntry.{FileEntry}
 use Rattle.mpm_dirent.specs.declared.kinds.XfcbEntry.{XfcbEntry}
 use Rattle.mpm_dirent.specs.Names.{plain}
+use Rattle.mpm_dirent.specs.declared.limits.TheConstants.{LAST_EXTENT}
 use Rattle.mpm_dirent.proofs.PlainNames.{plain_twice}
 use Rattle.mpm_mount.specs.Drives.{FileName, PhysicalExtent, Drive, places, entry_number, entry_name, extents_of, with_extent, without_extent, with_xfcb, without_xfcb, free_entries}
 use Rattle.mpm_mount.specs.Faults.{extent_of, name_of, is_named, is_label, is_xfcb, cause_of, first_fault}
@@ -130,7 +131,7 @@ new_name kind job extent g new = λ i. record { user = new.user i; name = new.na
 no_blocks : (kind : Kind) (job : Job) (extent : ℕ) (g : FileEntry) → IsNew job extent g → HasNoBlock kind g
 no_blocks kind job extent g new = λ i h. ap (λ bs. slice_index bs i) new.blocks ∙ zero_at 16 i
 
-pub entry_clean : (d : Directory) (job : Job) (extent slot : ℕ) (g : FileEntry) → IsNew job extent g → extent ≤ 2047 → extent_slot d (file_of_job job) extent ≡ None → free_slot d ≡ Some slot
+pub entry_clean : (d : Directory) (job : Job) (extent slot : ℕ) (g : FileEntry) → IsNew job extent g → extent ≤ LAST_EXTENT → extent_slot d (file_of_job job) extent ≡ None → free_slot d ≡ Some slot
     → cause_of d.kind (others d.entries slot) (File g) ≡ None
 entry_clean d job extent slot g new small none free =
     still_added d slot g (free_slot_found d slot free).0

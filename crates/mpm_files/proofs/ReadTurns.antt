@@ -6,6 +6,7 @@ use Rattle.std.proofs.lemmas.List.{append-nil, append_assoc, length-append, leng
 use Rattle.std.proofs.lemmas.List.Sums.{sum_by-cons}
 use Rattle.std.proofs.lemmas.Bool.{true≢false, cases_lt}
 use Rattle.std.proofs.Math.Seq.{take-append_seam, drop-append-add}
+use Rattle.mpm_dirent.specs.declared.limits.TheConstants.{LAST_NAMED}
 use Rattle.mpm_port.specs.Disks.{Disks}
 use Rattle.mpm_mount.specs.Drives.{FileName, Drive, extent_at, visible_of}
 use Rattle.mpm_mount.specs.Directories.{Directory, Stands}
@@ -68,7 +69,7 @@ record_there before job j work serving is h =
 
 -- its number, and how many were read, fit
 pub read_small : (before : Drive) (job : Job) (j : ℕ) (work : Work) → IsServingJob before job j work → work.job.kind ≡ Read → j < length (plan_of before job).units → Suits before job
-    → read_now work ≤ 262286
+    → read_now work ≤ LAST_NAMED
 read_small before job j work serving is h suits =
     omega (arith, reads_more before job j work serving is h, ap (λ (q : Job). q.first) serving.job_is, ap (λ (q : Job). q.count) serving.job_is, suits.first, suits.count)
 

@@ -6,6 +6,7 @@ use Rattle.std.specs.List.{list_any}
 use Rattle.std.proofs.lemmas.Bool.{cases_lt}
 use Rattle.std.proofs.lemmas.List.{append-nil, drop_all, length-drop}
 use Rattle.std.proofs.lemmas.List.FromFn.{length-map-range_with_len}
+use Rattle.mpm_dirent.specs.declared.limits.TheConstants.{LAST_NAMED}
 use Rattle.mpm_port.specs.Disks.{Disks}
 use Rattle.mpm_mount.specs.Drives.{FileName, Drive, record_of}
 use Rattle.mpm_mount.specs.Directories.{Directory, Stands}
@@ -219,7 +220,7 @@ test_passed before job j work serving is h missed has =
 -- few are moved, and few are tested
 pub record IsFew (work : Work) : Type 0 where
   pub more : work.ended < work.job.count
-  pub number : read_now work ≤ 262286
+  pub number : read_now work ≤ LAST_NAMED
   pub count : work.job.count ≤ 16
   pub moved : work.moved ≤ 16
 

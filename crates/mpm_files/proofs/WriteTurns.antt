@@ -15,6 +15,7 @@ use Rattle.mpm_files.specs.declared.work.Work.{Work}
 use Rattle.mpm_files.specs.Stepping.{step_by, step_of, record_next}
 use Rattle.mpm_files.proofs.Tied.{entry_needed, block_needed}
 use Rattle.std.specs.FinMap.{get}
+use Rattle.mpm_dirent.specs.declared.limits.TheConstants.{LAST_EXTENT, LAST_NAMED, LAST_RECORD}
 use Rattle.mpm_blocks.specs.Sectors.{Sectors, sectors_of}
 use Rattle.mpm_mount.proofs.LookedUp.{kind_of}
 use Rattle.mpm_files.specs.Counting.{lacks_entry, lacks_block}
@@ -160,16 +161,16 @@ record_written before job j work serving is h no_entry no_block =
     }
 
 -- what each step asks of the directory, and what it finds there
-pub may_write : (before : Drive) (job : Job) (j : ℕ) (work : Work) → IsServingJob before job j work → work.job.kind ≡ Write → Suits before job → job.first + job.count ≤ 262144
+pub may_write : (before : Drive) (job : Job) (j : ℕ) (work : Work) → IsServingJob before job j work → work.job.kind ≡ Write → Suits before job → job.first + job.count ≤ LAST_RECORD + 1
 may_write before job j work serving is suits = subst (SuitsKind before job) (kind_is before job j work serving is) suits.kind
 
 pub extent_small : (before : Drive) (job : Job) (j : ℕ) (work : Work) → IsServingJob before job j work → work.job.kind ≡ Write → j < length (plan_of before job).units → Suits before job
-    → record_next work / 128 ≤ 2047
+    → record_next work / 128 ≤ LAST_EXTENT
 extent_small before job j work serving is h suits =
     omega (arith, records_left before job j work serving is h, ap (λ (q : Job). q.first) serving.job_is, ap (λ (q : Job). q.count) serving.job_is, may_write before job j work serving is suits)
 
 pub number_small : (before : Drive) (job : Job) (j : ℕ) (work : Work) → IsServingJob before job j work → work.job.kind ≡ Write → j < length (plan_of before job).units → Suits before job
-    → record_next work ≤ 262286
+    → record_next work ≤ LAST_NAMED
 number_small before job j work serving is h suits =
     omega (arith, records_left before job j work serving is h, ap (λ (q : Job). q.first) serving.job_is, ap (λ (q : Job). q.count) serving.job_is, suits.first, suits.count)
 

@@ -8,6 +8,7 @@ use Rattle.mpm_dirent.specs.declared.kinds.Entry.TheVariants.{File, Xfcb}
 use Rattle.mpm_dirent.specs.declared.kinds.FileEntry.{FileEntry}
 use Rattle.mpm_dirent.specs.declared.kinds.XfcbEntry.{XfcbEntry}
 use Rattle.mpm_dirent.specs.Proper.{IsProper}
+use Rattle.mpm_dirent.specs.declared.limits.TheConstants.{LAST_RECORD}
 use Rattle.mpm_mount.specs.Drives.{FileName, Protection, block_place}
 use Rattle.mpm_mount.specs.Faults.{extent_of, block_at, first_fault}
 use Rattle.mpm_mount.specs.Directories.{Directory, entry_in, extent_slot, xfcb_slot}
@@ -28,7 +29,7 @@ pub record HasEntry (d : Directory) (file : FileName) (n slot : ℕ) (f : FileEn
   pub within : slot ≤ (geometry_of d.kind).drm
   pub entry : entry_in d slot ≡ File f
   pub proper : IsProper (geometry_of d.kind).wide (File f)
-  pub number : n ≤ 262143
+  pub number : n ≤ LAST_RECORD
 
 -- a file's XFCB
 pub record HasXfcb (d : Directory) (file : FileName) (slot : ℕ) (xfcb : XfcbEntry) : Type 0 where

@@ -12,6 +12,7 @@ use Rattle.mpm_dirent.specs.Proper.{IsProper}
 use Rattle.mpm_dirent.specs.declared.kinds.XfcbEntry.{XfcbEntry}
 use Rattle.mpm_dirent.specs.declared.kinds.LabelEntry.{LabelEntry}
 use Rattle.mpm_dirent.specs.Names.{plain}
+use Rattle.mpm_dirent.specs.declared.limits.TheConstants.{LAST_POSITION, LAST_RECORD}
 use Rattle.mpm_mount.specs.declared.searching.Found.{Found}
 use Rattle.mpm_mount.specs.Drives.{Drive, free_entries}
 use Rattle.mpm_mount.specs.Directories.{Directory, entry_in, xfcb_slot}
@@ -41,7 +42,7 @@ pub record MayRename (drive : Drive) (job : Job) : Type 0 where
 -- entries are sought one after the other fits one name alone. An XFCB or a label that comes has a free entry
 abbrev pub SuitsKind : Drive → Job → JobKind → Type 0
 SuitsKind drive job Read = Unit {0}
-SuitsKind drive job Write = job.first + job.count ≤ 262144
+SuitsKind drive job Write = job.first + job.count ≤ LAST_RECORD + 1
 SuitsKind drive job TestWrite = Unit {0}
 SuitsKind drive job Make = MayMake drive job
 SuitsKind drive job Delete = Unit {0}
@@ -103,7 +104,7 @@ IsNextCached cached d work = IsRecordCached cached d (file_of_job work.job) (wor
 -- a job that a drive may be asked for
 pub record Suits (drive : Drive) (job : Job) : Type 0 where
   pub user : job.user < 16
-  pub first : job.first ≤ 262271
+  pub first : job.first ≤ LAST_POSITION
   pub count : job.count ≤ 16
   pub size : length job.bytes ≡ 4096
   pub kind : SuitsKind drive job job.kind

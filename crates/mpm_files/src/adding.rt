@@ -3,6 +3,7 @@ ghost use Rattle.std.specs.FinMap.{get};
 ghost use Rattle.mpm_port.specs.Disks.{size_of};
 ghost use Rattle.mpm_port.specs.Causes.{HasCause};
 ghost use Rattle.mpm_dirent.specs.Names.{plain};
+ghost use Rattle.mpm_dirent.specs.declared.limits.TheConstants.{LAST_EXTENT};
 ghost use Rattle.mpm_blocks.specs.Geometries.{geometry_of};
 ghost use Rattle.mpm_mount.specs.Drives.{Drive, entry_name, extents_of, free_entries};
 ghost use Rattle.mpm_mount.specs.Directories.{Stands};
@@ -18,7 +19,7 @@ use crate::marking::marked;
 use crate::renaming::file_at;
 use mpm_base::Steps;
 use mpm_cache::Cache;
-use mpm_dirent::{Entry, FileEntry};
+use mpm_dirent::{Entry, FileEntry, LAST_EXTENT};
 use mpm_jobs::Job;
 use mpm_mount::{Mounted, lowest_entry};
 use mpm_port::{Drives, Failed};
@@ -41,7 +42,7 @@ fn attributes(mounted: &Mounted, job: &Job) -> [u8; 11]
 
 /// A new directory entry of a job's file, for an extent: it holds no block.
 fn new_entry(mounted: &Mounted, job: &Job, extent: u16) -> FileEntry
-    requires { extent ≤ 2047 }
+    requires { extent ≤ LAST_EXTENT }
     ensures user { result.user ≡ job.now.user }
     ensures name { plain result.name ≡ plain job.now.name }
     ensures attributes { (image : List ℕ) (files : Drive) → Stands image mounted.now files
@@ -75,7 +76,7 @@ pub(crate) fn add_entry<D: Drives, L: Ledger>(
     requires coherent { IsCoherent cache.old (D.disks drives.old) }
     requires apart { HasNoAlias cache.old (D.disks drives.old) mounted.old.drive }
     ensures does { (image : List ℕ) (files : Drive) → (D.disks drives.old).image mounted.old.drive ≡ Some image → Stands image mounted.old files
-        → job.now.user < 16 → extent ≤ 2047 → get files.extents (entry_name files.kind (file_of_job job.now) extent) ≡ None
+        → job.now.user < 16 → extent ≤ LAST_EXTENT → get files.extents (entry_name files.kind (file_of_job job.now) extent) ≡ None
         → free_entries files ≢ 0 → DoesUnit (D.disks drives.new) mounted.old.drive mounted.new files (AddsEntry (file_of_job job.now) extent) result }
     ensures drive { mounted.new.drive ≡ mounted.old.drive }
     ensures kind { mounted.new.kind ≡ mounted.old.kind }
@@ -84,7 +85,7 @@ pub(crate) fn add_entry<D: Drives, L: Ledger>(
     ensures cause { HasCause (D.faults drives.old) (D.faults drives.new) result }
 {
     let _kind = mounted.kind();
-    if job.user > 15 || extent > 2047 {
+    if job.user > 15 || extent > LAST_EXTENT {
         return Ok(());
     }
     if mounted.extent(job.user, &job.name, extent).is_some() {

@@ -1,4 +1,5 @@
 ghost use Rattle.std.specs.Prelude.{◌≡◌, ◌+◌, ◌-◌, ◌≤◌, Some, None, false, if◌then◌else◌};
+ghost use Rattle.mpm_dirent.specs.declared.limits.TheConstants.{LAST_NAMED, LAST_POSITION};
 ghost use Rattle.mpm_base.specs.Counts.{one_if};
 ghost use Rattle.mpm_blocks.specs.Geometries as geometries;
 ghost use Rattle.mpm_mount.specs.Directories as directory;
@@ -56,7 +57,7 @@ struct Needs {
 /// Counts the records of a job that can be read.
 #[tactic(auto, using(crate::proofs::ReadCounts::none_read))]
 pub(crate) fn count_reads(mounted: &Mounted, job: &Job) -> Count
-    requires first { job.now.first ≤ 262271 }
+    requires first { job.now.first ≤ LAST_POSITION }
     requires count { job.now.count ≤ 16 }
     ensures { result ≡ spec.read_count (records.record_error mounted.now (plans.file_of_job job.now)) job.now.first job.now.count }
 {
@@ -135,7 +136,7 @@ fn are_in_one_block(kind: Kind, m: u32, n: u32) -> bool
 
 /// What record n of a job needs, after others of the job or as the first.
 fn needs_of(mounted: &Mounted, job: &Job, is_later: bool, n: u32) -> Needs
-    requires record { n ≤ 262286 }
+    requires record { n ≤ LAST_NAMED }
     ensures entry { result.entry ≡ spec.entry_more mounted.now.kind (spec.lacks_entry mounted.now (plans.file_of_job job.now)) is_later n }
     ensures block { result.block ≡ spec.block_more mounted.now.kind (spec.lacks_block mounted.now (plans.file_of_job job.now)) is_later n }
 {
@@ -152,7 +153,7 @@ fn needs_of(mounted: &Mounted, job: &Job, is_later: bool, n: u32) -> Needs
 /// Counts the units of the records that a job writes.
 #[tactic(auto, using(crate::proofs::WritesCounted::none_written))]
 pub(crate) fn count_writes(mounted: &Mounted, job: &Job) -> Count
-    requires first { job.now.first ≤ 262271 }
+    requires first { job.now.first ≤ LAST_POSITION }
     requires count { job.now.count ≤ 16 }
     ensures { result ≡ spec.write_count mounted.now.kind (spec.lacks_entry mounted.now (plans.file_of_job job.now)) (spec.lacks_block mounted.now (plans.file_of_job job.now))
         (directory.free_entries_in mounted.now) (directory.free_records_in mounted.now) false job.now.first job.now.count }

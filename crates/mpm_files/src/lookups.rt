@@ -1,4 +1,5 @@
 ghost use Rattle.std.specs.Prelude.{◌≡◌, ◌/◌, ◌%◌, ◌<◌, ◌≤◌, None, IfSome, IfNone};
+ghost use Rattle.mpm_dirent.specs.declared.limits.TheConstants.{LAST_NAMED};
 ghost use Rattle.mpm_blocks.specs.Geometries as geometries;
 ghost use Rattle.mpm_mount.specs.Drives as extents;
 ghost use Rattle.mpm_mount.specs.Faults.{block_at};
@@ -27,7 +28,7 @@ pub(crate) struct FoundXfcb {
 
 /// Finds the directory entry of a record of a job's file.
 pub(crate) fn find_entry(mounted: &Mounted, job: &Job, n: u32) -> Option<FoundEntry>
-    requires { n ≤ 262286 }
+    requires { n ≤ LAST_NAMED }
     ensures found { IfSome result (λ found. HasEntry mounted.now (file_of_job job.now) n found.slot found.file) }
     ensures missing { IfNone result (extent_slot mounted.now (file_of_job job.now) (n / 128) ≡ None) }
 {

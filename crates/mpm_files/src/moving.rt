@@ -2,6 +2,7 @@ ghost use Rattle.mpm_port.specs.Disks.{size_of};
 ghost use Rattle.mpm_files.specs.declared.moving.Step.TheVariants as steps_of;
 ghost use Rattle.mpm_files.specs.Stepping as stepping;
 ghost use Rattle.std.specs.Prelude.{length, ℕ, ◌≡◌, ◌+◌, ◌*◌, ◌<◌, ◌≤◌, Some, None};
+ghost use Rattle.mpm_dirent.specs.declared.limits.TheConstants.{LAST_NAMED};
 ghost use Rattle.mpm_port.specs.Causes.{HasCause};
 ghost use Rattle.mpm_blocks.specs.Geometries.{geometry_of};
 ghost use Rattle.mpm_cache.specs.Coherent.{IsCoherent, HasNoAlias};
@@ -20,13 +21,11 @@ use crate::work::Work;
 use crate::writing::{Record, put_fresh, put_held};
 use mpm_base::Steps;
 use mpm_cache::Cache;
+use mpm_dirent::LAST_NAMED;
 use mpm_jobs::Job;
 use mpm_mount::Mounted;
 use mpm_port::{Drives, Failed};
 use std::sync::ledger::Ledger;
-
-/// The highest number of a record that a job may have.
-const LAST: u32 = 262_286;
 
 /// The bytes of a record among those of a job.
 fn bytes_at(job: &Job, place: u32) -> [u8; 128]
@@ -81,7 +80,7 @@ pub(crate) fn read_next<D: Drives, L: Ledger>(
 {
     work.cleared = None;
     let n = work.job.first.saturating_add(work.ended);
-    if n > LAST {
+    if n > LAST_NAMED {
         return Ok(());
     }
     if work.moved > 31 {
@@ -110,7 +109,7 @@ enum Step {
 
 /// What comes next of a record of a job that writes.
 fn next_step(mounted: &Mounted, work: &Work, n: u32) -> Step
-    requires { n ≤ 262286 }
+    requires { n ≤ LAST_NAMED }
     ensures { result ≡ stepping.step_of mounted.now work.now n }
 {
     if lacks_entry(mounted, &work.job, n) {
@@ -147,7 +146,7 @@ fn write_record<D: Drives, L: Ledger>(
     ensures cause { HasCause (D.faults drives.old) (D.faults drives.new) result }
 {
     let n = work.job.first.saturating_add(u32::from(work.moved));
-    if n > LAST {
+    if n > LAST_NAMED {
         return Ok(());
     }
     if work.moved > 31 {
@@ -189,7 +188,7 @@ pub(crate) fn write_next<D: Drives, L: Ledger>(
     ensures cause { HasCause (D.faults drives.old) (D.faults drives.new) result }
 {
     let n = work.job.first.saturating_add(u32::from(work.moved));
-    if n > LAST {
+    if n > LAST_NAMED {
         return Ok(());
     }
     match next_step(mounted, work, n) {
@@ -231,7 +230,7 @@ pub(crate) fn test_next<D: Drives, L: Ledger>(
     work.cleared = None;
     let n = work.job.first.saturating_add(work.ended);
     let count = u32::from(work.job.count);
-    if work.has_missed || n > LAST || count > 16 || work.ended >= count {
+    if work.has_missed || n > LAST_NAMED || count > 16 || work.ended >= count {
         return Ok(());
     }
     let mut there = [0; 128];

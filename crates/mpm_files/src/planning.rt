@@ -1,4 +1,5 @@
 ghost use Rattle.std.specs.Prelude.{◌≡◌, ◌≤◌, List, ℕ};
+ghost use Rattle.mpm_dirent.specs.declared.limits.TheConstants.{LAST_POSITION};
 ghost use Rattle.mpm_mount.specs.Drives.{Drive};
 ghost use Rattle.mpm_mount.specs.Directories.{Stands};
 ghost use Rattle.mpm_files.specs.Counting.{unit_count, renamed_count};
@@ -13,7 +14,7 @@ use mpm_mount::Mounted;
 /// How many units a job has, and why it ends after them.
 #[tactic(auto, unfolding(crate::specs::Counting::unit_count))]
 fn count_units(mounted: &Mounted, job: &Job) -> Count
-    requires first { job.now.first ≤ 262271 }
+    requires first { job.now.first ≤ LAST_POSITION }
     requires count { job.now.count ≤ 16 }
     ensures { result ≡ unit_count mounted.now job.now }
 {
@@ -39,7 +40,7 @@ fn count_renamed(mounted: &Mounted, job: &Job) -> u32
 
 /// Begins a job on a mounted drive: how many turns it takes. No device is asked.
 pub fn plan(mounted: &Mounted, job: &Job) -> Work
-    requires first { job.now.first ≤ 262271 }
+    requires first { job.now.first ≤ LAST_POSITION }
     requires count { job.now.count ≤ 16 }
     ensures work { result ≡ begun job.now (unit_count mounted.now job.now) }
     ensures service { (image : List ℕ) (before : Drive) → Stands image mounted.now before → IsInService image mounted.now before job.now 0 result }

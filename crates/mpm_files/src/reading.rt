@@ -1,4 +1,5 @@
 ghost use Rattle.std.specs.Prelude.{◌≡◌, ◌+◌, ◌≤◌, ℕ, List, Some, None, OnOk, false};
+ghost use Rattle.mpm_dirent.specs.declared.limits.TheConstants.{LAST_NAMED};
 ghost use Rattle.mpm_port.specs.Causes.{HasCause};
 ghost use Rattle.mpm_port.specs.Disks.{size_of};
 ghost use Rattle.mpm_blocks.specs.Geometries.{geometry_of};
@@ -33,7 +34,7 @@ pub(crate) fn read_record<D: Drives, L: Ledger>(
     out: &mut [u8; 128],
     steps: &mut Steps<L>,
 ) -> Result<(), Failed>
-    requires number { n ≤ 262286 }
+    requires number { n ≤ LAST_NAMED }
     requires size { size_of (D.disks drives.old) mounted.now.drive ≡ Some (geometry_of mounted.now.kind).bytes }
     requires coherent { IsCoherent cache.old (D.disks drives.old) }
     ensures record { (image : List ℕ) (files : Drive) → (D.disks drives.old).image mounted.now.drive ≡ Some image → Stands image mounted.now files

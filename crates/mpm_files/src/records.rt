@@ -1,4 +1,5 @@
 ghost use Rattle.std.specs.Prelude.{◌≡◌, ◌/◌, ◌≤◌};
+ghost use Rattle.mpm_dirent.specs.declared.limits.TheConstants.{LAST_NAMED};
 ghost use Rattle.mpm_mount.specs.Drives as drives;
 ghost use Rattle.mpm_mount.specs.Directories.{extent_slot};
 ghost use Rattle.mpm_files.specs.Plans.{file_of_job};
@@ -21,7 +22,7 @@ pub(crate) fn entry_number(kind: Kind, n: u32) -> u32
 
 /// The slot of a record's directory entry.
 pub(crate) fn slot_of(mounted: &Mounted, job: &Job, n: u32) -> Option<u16>
-    requires { n ≤ 262286 }
+    requires { n ≤ LAST_NAMED }
     ensures { result ≡ extent_slot mounted.now (file_of_job job.now) (n / 128) }
 {
     mounted.extent(job.user, &job.name, (n / 128) as u16)
@@ -29,7 +30,7 @@ pub(crate) fn slot_of(mounted: &Mounted, job: &Job, n: u32) -> Option<u16>
 
 /// Whether a record has no directory entry.
 pub(crate) fn lacks_entry(mounted: &Mounted, job: &Job, n: u32) -> bool
-    requires { n ≤ 262286 }
+    requires { n ≤ LAST_NAMED }
     ensures { result ≡ spec.lacks_entry mounted.now (file_of_job job.now) n }
 {
     slot_of(mounted, job, n).is_none()
@@ -48,7 +49,7 @@ fn block_number(kind: Kind, entry: &Entry, n: u32) -> u16
 /// Whether no block is held for a record.
 #[tactic(auto, using(mpm_mount::proofs::Positions::slot_within))]
 pub(crate) fn lacks_block(mounted: &Mounted, job: &Job, n: u32) -> bool
-    requires { n ≤ 262286 }
+    requires { n ≤ LAST_NAMED }
     ensures { result ≡ spec.lacks_block mounted.now (file_of_job job.now) n }
 {
     let kind = mounted.kind();
@@ -60,7 +61,7 @@ pub(crate) fn lacks_block(mounted: &Mounted, job: &Job, n: u32) -> bool
 
 /// What keeps a record of a job from being read.
 pub(crate) fn record_error(mounted: &Mounted, job: &Job, n: u32) -> Option<RecordError>
-    requires { n ≤ 262286 }
+    requires { n ≤ LAST_NAMED }
     ensures { result ≡ records.record_error mounted.now (file_of_job job.now) n }
 {
     mpm_mount::record_error(mounted, job.user, &job.name, n)

@@ -1,4 +1,5 @@
 ghost use Rattle.std.specs.Prelude.{◌≡◌, ◌+◌, ◌<◌, ◌≤◌, ℕ, List, [], ◌∷◌, length, slice_set, ◌/◌, ◌%◌, Some, None, true, false};
+ghost use Rattle.mpm_dirent.specs.declared.limits.TheConstants.{LAST_NAMED, LAST_RECORD};
 ghost use Rattle.mpm_port.specs.Disks.{size_of};
 ghost use Rattle.mpm_port.specs.Causes.{HasCause};
 ghost use Rattle.mpm_blocks.specs.Geometries as geometries;
@@ -51,7 +52,7 @@ fn is_above(file: &FileEntry, n: u32) -> bool
 
 /// A file's entry with the last extent and the record count that a record gives it.
 fn raised(file: &FileEntry, n: u32) -> FileEntry
-    requires { n ≤ 262143 }
+    requires { n ≤ LAST_RECORD }
     ensures { result ≡ entries.raised_entry n file.now }
 {
     if is_above(file, n) {
@@ -80,7 +81,7 @@ fn with_block(blocks: &[u16; 16], place: usize, block: u16) -> [u16; 16]
 
 /// A file's entry with a block for a record, and with the last extent and the record count that the record gives it.
 fn taken(mounted: &Mounted, file: &FileEntry, n: u32, block: u16) -> FileEntry
-    requires { n ≤ 262143 }
+    requires { n ≤ LAST_RECORD }
     ensures file { result ≡ entries.taken_entry mounted.now.kind n block file.now }
     ensures size { length file.now.blocks ≡ 16 }
 {
@@ -111,7 +112,7 @@ pub(crate) fn put_held<D: Drives, L: Ledger>(
     written: &Record,
     steps: &mut Steps<L>,
 ) -> Result<(), Failed>
-    requires number { written.now.number ≤ 262286 }
+    requires number { written.now.number ≤ LAST_NAMED }
     requires size { size_of (D.disks drives.old) mounted.old.drive ≡ Some (geometry_of mounted.old.kind).bytes }
     requires coherent { IsCoherent cache.old (D.disks drives.old) }
     requires apart { HasNoAlias cache.old (D.disks drives.old) mounted.old.drive }
@@ -151,7 +152,7 @@ pub(crate) fn put_fresh<D: Drives, L: Ledger>(
     cleared: Option<u16>,
     steps: &mut Steps<L>,
 ) -> Result<(), Failed>
-    requires number { written.now.number ≤ 262286 }
+    requires number { written.now.number ≤ LAST_NAMED }
     requires size { size_of (D.disks drives.old) mounted.old.drive ≡ Some (geometry_of mounted.old.kind).bytes }
     requires coherent { IsCoherent cache.old (D.disks drives.old) }
     requires apart { HasNoAlias cache.old (D.disks drives.old) mounted.old.drive }

@@ -9,7 +9,7 @@ use Rattle.mpm_flags.specs.declared.flags.FlagSet.{FlagSet}
 use Rattle.mpm_flags.specs.declared.flags.FlagSet.TheVariants.{Set, Woke, Overrun}
 use Rattle.mpm_consoles.specs.Consoles.{owner_of}
 use Rattle.mpm_consoles.specs.Handling.{key_answer}
-use Rattle.mpm_consoles.specs.declared.unit.Unit.TheVariants.{Console as ConsoleUnit}
+use Rattle.mpm_base.specs.declared.unit.Unit.TheVariants.{Console as ConsoleUnit}
 use Rattle.mpm_consoles.specs.declared.keys.KeyDone.{KeyDone}
 use Rattle.mpm_consoles.specs.declared.keys.KeyDone.TheVariants.{Stored, Dropped, Wakes, Aborts, Passes, Nothing}
 use Rattle.mpm_script.specs.declared.event.Event.{Event}

@@ -10,8 +10,8 @@ use Rattle.mpm_clock.specs.PackedDecimal.{names_time}
 use Rattle.mpm_consoles.specs.Consoles.{HasUnit, console_at, waits_for}
 use Rattle.mpm_consoles.specs.Handling.{may_attach}
 use Rattle.mpm_consoles.specs.declared.modes.TheConstants.{POLL_KEY, TELL_STATUS, AWAIT_KEY}
-use Rattle.mpm_consoles.specs.declared.unit.Unit.{Unit}
-use Rattle.mpm_consoles.specs.declared.unit.Unit.TheVariants.{Console as ConsoleUnit, Printer as PrinterUnit}
+use Rattle.mpm_base.specs.declared.unit.Unit.{Unit}
+use Rattle.mpm_base.specs.declared.unit.Unit.TheVariants.{Console as ConsoleUnit, Printer as PrinterUnit}
 use Rattle.mpm_dispatcher.specs.Dispatch.{ready, IsReady, behind_equals, with_priority, with_other}
 use Rattle.mpm_flags.specs.States.{flag_at, wait_answer, set_answer, after_set, with_flag}
 use Rattle.mpm_flags.specs.declared.flags.Flag.{Flag}

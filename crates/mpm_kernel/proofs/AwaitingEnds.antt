@@ -18,7 +18,7 @@ use Rattle.mpm_consoles.specs.Consoles.{owner_of}
 use Rattle.mpm_consoles.specs.Handling.{keyed, key_answer}
 use Rattle.mpm_consoles.specs.declared.keys.KeyDone.{KeyDone}
 use Rattle.mpm_consoles.specs.declared.keys.KeyDone.TheVariants.{Stored, Dropped, Wakes, Aborts, Passes, Nothing}
-use Rattle.mpm_consoles.specs.declared.unit.Unit.TheVariants.{Console as ConsoleUnit, Printer as PrinterUnit}
+use Rattle.mpm_base.specs.declared.unit.Unit.TheVariants.{Console as ConsoleUnit, Printer as PrinterUnit}
 use Rattle.mpm_dispatcher.specs.Dispatch.{ready, is_ready, lists_behind, rotated_in, first_completed, with_completed, all_woken, in_slot}
 use Rattle.mpm_procs.specs.Table.{Table, HasSlots, lives, Lives, process_in, call_of, lowest_free}
 use Rattle.mpm_procs.specs.declared.process.NewProcess.{NewProcess}

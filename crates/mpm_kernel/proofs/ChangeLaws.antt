@@ -6,8 +6,8 @@ use Rattle.mpm_procs.specs.declared.process.Process.{Process}
 use Rattle.mpm_procs.proofs.MapLaws.{lives_changed}
 use Rattle.mpm_queues.specs.Queues.{Queues}
 use Rattle.mpm_consoles.specs.Consoles.{HasUnit}
-use Rattle.mpm_consoles.specs.declared.unit.Unit.{Unit}
-use Rattle.mpm_consoles.specs.declared.unit.Unit.TheVariants.{Console as ConsoleUnit, Printer as PrinterUnit}
+use Rattle.mpm_base.specs.declared.unit.Unit.{Unit}
+use Rattle.mpm_base.specs.declared.unit.Unit.TheVariants.{Console as ConsoleUnit, Printer as PrinterUnit}
 use Rattle.mpm_dispatcher.specs.Dispatch.{IsReady}
 use Rattle.mpm_kernel.specs.Kernel.{Kernel, IsOfTwo, IsFit, IsSoundKernel, with_changed}
 use Rattle.mpm_kernel.specs.Consoling.{unit_left, console_changed, printer_changed}

@@ -19,7 +19,7 @@ use Rattle.mpm_queues.proofs.WaitLaws.{waits_without_waiter, waits_without_other
 use Rattle.mpm_service.proofs.PlaceLaws.{at_without, at_without_other}
 use Rattle.mpm_consoles.specs.Console.{is_owner}
 use Rattle.mpm_consoles.specs.Consoles.{HasUnit, owns}
-use Rattle.mpm_consoles.specs.declared.unit.Unit.{Unit}
+use Rattle.mpm_base.specs.declared.unit.Unit.{Unit}
 use Rattle.mpm_consoles.specs.Handling.{units_without_waiter}
 use Rattle.mpm_consoles.proofs.SoundLaws.{sound_units_without}
 use Rattle.mpm_dispatcher.specs.Dispatch.{ready, IsReady, moved, lists_ready, also_completed, with_other}

@@ -2,7 +2,7 @@
 use Rattle.std.proofs.Common.{◌≡◌, ℕ, ◌<◌, Option, Some, None, refl, length}
 use Rattle.mpm_base.proofs.Choices.{either}
 use Rattle.mpm_consoles.specs.Consoles.{owner_of}
-use Rattle.mpm_consoles.specs.declared.unit.Unit.TheVariants.{Console as ConsoleUnit}
+use Rattle.mpm_base.specs.declared.unit.Unit.TheVariants.{Console as ConsoleUnit}
 use Rattle.mpm_kernel.specs.Kernel.{Kernel, IsSoundKernel}
 use Rattle.mpm_kernel.specs.Consoling.{unit_left, IfLives, owner_made, is_from, handed_over, given}
 use Rattle.mpm_kernel.proofs.Staying.{SameProcesses}

@@ -8,7 +8,7 @@ use Rattle.std.proofs.lemmas.Option.{same_Some}
 use Rattle.mpm_base.proofs.Choices.{either}
 use Rattle.mpm_procs.specs.Table.{Lives, process_in}
 use Rattle.mpm_queues.specs.Queue.{is_full, is_exclusive}
-use Rattle.mpm_queues.specs.Queues.{Queues, is_made, queue_in, is_holder, holds, waits, AreSoundQueues as AreSound}
+use Rattle.mpm_queues.specs.Queues.{Queues, is_made, queue_in, is_holder, holds, waits, AreSoundQueues}
 use Rattle.mpm_queues.specs.Handling.{queues_without_waiter, first_reader, write_outcome, woken_by}
 use Rattle.mpm_queues.proofs.QueueLaws.{no_bytes}
 use Rattle.mpm_queues.proofs.SoundLaws.{made_below, reader_waits}
@@ -27,7 +27,7 @@ holder_is : (o : Option ℕ) (p : ℕ) → is_holder o p ≡ true → o ≡ Some
 holder_is None p e = absurd (cc)
 holder_is (Some other) p e = grind (arith, nat_tests, e)
 
-room_where_held : (t : Queues) (p q : ℕ) → AreSound t → holds t p q ≡ true → is_full (queue_in t q) ≡ false
+room_where_held : (t : Queues) (p q : ℕ) → AreSoundQueues t → holds t p q ≡ true → is_full (queue_in t q) ≡ false
 room_where_held t p q s held =
     let none = ap (λ (ms : List (List ℕ)). length ms) ((s.proper q).away p (holder_is (queue_in t q).holder p held)) in
     let some = s.some q (holds_made t p q s held) in
@@ -109,7 +109,7 @@ nothing_held kernel p q s h = elim (cases_lt q 32) [
 ]
 
 -- the message of a mutual exclusion queue has no bytes, so that no procedure has one
-held_apart : (t : Queues) (holder q other : ℕ) → AreSound t → holds t holder q ≡ true → IsOfTwo t other → q ≢ other
+held_apart : (t : Queues) (holder q other : ℕ) → AreSoundQueues t → holds t holder q ≡ true → IsOfTwo t other → q ≢ other
 held_apart t holder q other s held two = λ same.
     let none = no_bytes (queue_in t q) ((s.proper q).exclusive holder (holder_is (queue_in t q).holder holder held)) in
     omega (arith, none, ap (λ n. (queue_in t n).width) same, two_width t other two)

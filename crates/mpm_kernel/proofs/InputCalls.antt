@@ -11,7 +11,7 @@ use Rattle.mpm_consoles.specs.Console.{is_owner, with_raw, awaited_for, awaiting
 use Rattle.mpm_consoles.specs.Consoles.{Consoles, console_at, owns}
 use Rattle.mpm_consoles.specs.Handling.{may_attach, raw_set, first_taken, gate_wait_begun}
 use Rattle.mpm_consoles.specs.declared.modes.TheConstants.{POLL_KEY, TELL_STATUS, AWAIT_KEY}
-use Rattle.mpm_consoles.specs.declared.unit.Unit.TheVariants.{Console as ConsoleUnit}
+use Rattle.mpm_base.specs.declared.unit.Unit.TheVariants.{Console as ConsoleUnit}
 use Rattle.mpm_consoles.proofs.SoundLaws.{sound_raw, sound_take, sound_wait}
 use Rattle.mpm_line_input.specs.Echoes.{key_echo}
 use Rattle.mpm_line_input.specs.Lines.{is_full, ends, line_end}

@@ -9,7 +9,7 @@ use Rattle.mpm_procs.proofs.MapLaws.{lives_changed, call_after}
 use Rattle.mpm_consoles.specs.Console.{is_owner, with_raw, without_first}
 use Rattle.mpm_consoles.specs.Consoles.{Consoles, console_at, HasUnit, owner_of, owns}
 use Rattle.mpm_consoles.specs.Handling.{listed, attaches, may_attach, attach_from, unit_attached, raw_set, first_taken}
-use Rattle.mpm_consoles.specs.declared.unit.Unit.{Unit}
+use Rattle.mpm_base.specs.declared.unit.Unit.{Unit}
 use Rattle.mpm_kernel.specs.Kernel.{Kernel}
 use Rattle.mpm_kernel.specs.Columns.{spoke}
 use Rattle.mpm_kernel.specs.Consoling.{attaching, echoed}

@@ -14,14 +14,14 @@ use Rattle.mpm_consoles.specs.declared.keys.KeyDone.TheVariants.{Stored, Dropped
 use Rattle.mpm_consoles.proofs.ConsoleLaws.{owner_key, woken_key}
 use Rattle.mpm_consoles.proofs.FateLaws.{cooked}
 use Rattle.mpm_consoles.proofs.SoundLaws.{sound_typed, sound_resumed, sound_stop}
-use Rattle.mpm_consoles.specs.Consoles.{Consoles, console_at, HasConsole, with_console, first_waiter, waits, gate_waits, AreSoundConsoles as AreUnitsSound}
+use Rattle.mpm_consoles.specs.Consoles.{Consoles, console_at, HasConsole, with_console, first_waiter, waits, gate_waits, AreSoundConsoles}
 use Rattle.mpm_consoles.specs.Handling.{given, unlisted, pass_to, passed, passed_by_key, subject, abort_answer, pass_answer, wake_answer, typed_answer, key_by, answer_by, keyed, key_answer}
 use Rattle.mpm_consoles.specs.Keys.{control_of}
 use Rattle.mpm_consoles.specs.declared.keys.Control.{Control}
 use Rattle.mpm_consoles.specs.declared.keys.Control.TheVariants.{Stop, Resume, Abort, Detach}
-use Rattle.mpm_consoles.specs.declared.unit.Unit.TheVariants.{Console as ConsoleUnit}
+use Rattle.mpm_base.specs.declared.unit.Unit.TheVariants.{Console as ConsoleUnit}
 use Rattle.mpm_procs.specs.Table.{Lives}
-use Rattle.mpm_kernel.specs.Kernel.{Kernel, waits_of, IsConsole as HasConsoleIn, IsSoundKernel, dispatched}
+use Rattle.mpm_kernel.specs.Kernel.{Kernel, waits_of, IsConsole, IsSoundKernel, dispatched}
 use Rattle.mpm_kernel.specs.Columns.{spoke}
 use Rattle.mpm_dispatcher.specs.Dispatch.{lists_ready, made_ready}
 use Rattle.mpm_kernel.specs.Consoling.{if_it, abort_text, echoed, key_done, is_of_resident, key_came}
@@ -63,9 +63,9 @@ at_its_gate : (h : ℕ) (what : Awaited) (console : Console) → console.owner �
 at_its_gate h what console owner is = and_from _ _ (is_own console.owner h owner) (some_awaits console.awaits what is)
 
 -- a key that wakes the owner of a console, or stores, or is lost
-woken_if : (b : Bool) (t : Consoles) (n : ℕ) (what : Awaited) (console : Console) → AreUnitsSound t → HasConsole t n → console.owner ≡ (console_at t n).owner
+woken_if : (b : Bool) (t : Consoles) (n : ℕ) (what : Awaited) (console : Console) → AreSoundConsoles t → HasConsole t n → console.owner ≡ (console_at t n).owner
     → console.awaits ≡ (console_at t n).awaits → is_for console.awaits what ≡ b
-    → AreUnitsSound (with_console t n (if b then record console { awaits = None } else console))
+    → AreSoundConsoles (with_console t n (if b then record console { awaits = None } else console))
     → HavePassed t (with_console t n (if b then record console { awaits = None } else console)) (if b then console.owner else None)
 woken_if true t n what console sound has owner awaits is now =
     let off = record console { awaits = None } in
@@ -91,8 +91,8 @@ woken_if false t n what console sound has owner awaits is now = record {
   first = λ h first. absurd (cc);
 }
 
-woken_sound : (t : Consoles) (n : ℕ) (what : Awaited) (console : Console) → AreUnitsSound t → HasConsole t n → console.owner ≡ (console_at t n).owner
-    → console.awaits ≡ (console_at t n).awaits → AreUnitsSound (with_console t n (awakened what console))
+woken_sound : (t : Consoles) (n : ℕ) (what : Awaited) (console : Console) → AreSoundConsoles t → HasConsole t n → console.owner ≡ (console_at t n).owner
+    → console.awaits ≡ (console_at t n).awaits → AreSoundConsoles (with_console t n (awakened what console))
     → HavePassed t (with_console t n (awakened what console)) (woken what console)
 unfolding awakened woken
 woken_sound t n what console sound has owner awaits now = woken_if (is_for console.awaits what) t n what console sound has owner awaits refl now
@@ -104,13 +104,13 @@ awaits_key : (byte : ℕ) (console : Console) → (with_key byte console).awaits
 unfolding with_key
 awaits_key byte console = either (λ (c : Console). c.awaits ≡ console.awaits) (has_room console) _ _ (λ _. refl) (λ _. refl)
 
-typed_passed : (t : Consoles) (n byte : ℕ) → AreUnitsSound t → HasConsole t n
+typed_passed : (t : Consoles) (n byte : ℕ) → AreSoundConsoles t → HasConsole t n
     → HavePassed t (with_console t n (typed byte (console_at t n))) (woken Key (with_key byte (console_at t n)))
 unfolding typed
 typed_passed t n byte sound has =
     woken_sound t n Key (with_key byte (console_at t n)) sound has (owner_key byte (console_at t n)) (awaits_key byte (console_at t n)) (sound_typed t n byte sound has)
 
-resumed_passed : (t : Consoles) (n : ℕ) → AreUnitsSound t → HasConsole t n
+resumed_passed : (t : Consoles) (n : ℕ) → AreSoundConsoles t → HasConsole t n
     → HavePassed t (with_console t n (resumed (console_at t n))) (woken Output (record (console_at t n) { stopped = false }))
 unfolding resumed
 resumed_passed t n sound has =
@@ -120,7 +120,7 @@ woken_output : (console : Console) → woken Output (record console { stopped = 
 unfolding woken
 woken_output console = refl
 
-resumed_as : (t : Consoles) (n : ℕ) → AreUnitsSound t → HasConsole t n → HavePassed t (with_console t n (resumed (console_at t n))) (woken Output (console_at t n))
+resumed_as : (t : Consoles) (n : ℕ) → AreSoundConsoles t → HasConsole t n → HavePassed t (with_console t n (resumed (console_at t n))) (woken Output (console_at t n))
 resumed_as t n sound has =
     subst (λ (o : Option ℕ). HavePassed t (with_console t n (resumed (console_at t n))) o) (woken_output (console_at t n)) (resumed_passed t n sound has)
 
@@ -169,7 +169,7 @@ owner_if true kernel p s h none = sound_ready kernel p s h (none refl)
 owner_if false kernel p s h none = s
 
 -- the old owner is ready again, if it waited at its gate
-sound_old_owner : (waited : Bool) (n p : ℕ) (kernel : Kernel) → IsSoundKernel kernel → HasConsoleIn kernel n → (console_at kernel.units n).owner ≡ Some p
+sound_old_owner : (waited : Bool) (n p : ℕ) (kernel : Kernel) → IsSoundKernel kernel → IsConsole kernel n → (console_at kernel.units n).owner ≡ Some p
     → is_some (console_at kernel.units n).awaits ≡ waited
     → IsSoundKernel (dispatched (made_ready (if_it waited p)) (dispatched (made_ready (first_waiter kernel.units (ConsoleUnit n))) (record kernel { units = passed kernel.units (ConsoleUnit n) })))
 unfolding lists_ready
@@ -184,7 +184,7 @@ sound_old_owner waited n p kernel s has owner is =
     (λ waits.
     omega (arith, s.once p, are.waiters p, gates_passed t n p has, one_if_true (is_at_gate p (console_at t n)) (owner_at_gate t n p owner (is ∙ waits))))
 
-sound_pass : (o : Option ℕ) (n : ℕ) (kernel : Kernel) → IsSoundKernel kernel → HasConsoleIn kernel n → ((p : ℕ) → o ≡ Some p → (console_at kernel.units n).owner ≡ Some p)
+sound_pass : (o : Option ℕ) (n : ℕ) (kernel : Kernel) → IsSoundKernel kernel → IsConsole kernel n → ((p : ℕ) → o ≡ Some p → (console_at kernel.units n).owner ≡ Some p)
     → IsSoundKernel (key_done (pass_answer o kernel.units n) n (is_some (console_at kernel.units n).awaits) (record kernel { units = passed_by_key o kernel.units n }))
 unfolding key_done
 sound_pass None n kernel s has owner = s
@@ -194,12 +194,12 @@ subject_owner : (resident : Bool) (owner : Option ℕ) (p : ℕ) → subject res
 subject_owner true owner p is = absurd (cc)
 subject_owner false owner p is = is
 
-sound_stopped : (n : ℕ) (kernel : Kernel) → IsSoundKernel kernel → HasConsoleIn kernel n → (console_at kernel.units n).raw ≡ false
+sound_stopped : (n : ℕ) (kernel : Kernel) → IsSoundKernel kernel → IsConsole kernel n → (console_at kernel.units n).raw ≡ false
     → IsSoundKernel (record kernel { units = with_console kernel.units n (with_output_stopped (console_at kernel.units n)) })
 unfolding with_output_stopped
 sound_stopped n kernel s has cooked = sound_console kernel n _ s has refl refl (sound_stop kernel.units n s.units has cooked)
 
-sound_by : (control : Option Control) (n byte : ℕ) (resident : Bool) (kernel : Kernel) → IsSoundKernel kernel → HasConsoleIn kernel n
+sound_by : (control : Option Control) (n byte : ℕ) (resident : Bool) (kernel : Kernel) → IsSoundKernel kernel → IsConsole kernel n
     → control_of (console_at kernel.units n).raw byte ≡ control
     → IsSoundKernel (key_done (answer_by control kernel.units n resident) n (is_some (console_at kernel.units n).awaits) (record kernel { units = key_by control kernel.units n byte resident }))
 unfolding typed_answer

@@ -3,8 +3,8 @@ use Rattle.std.proofs.Common.{◌≡◌, ◌∙◌, ℕ, zero, suc, ◌+◌, ◌
 use Rattle.std.proofs.lemmas.Bool.{cases_eq}
 use Rattle.mpm_consoles.specs.Consoles.{Consoles, HasUnit, owns}
 use Rattle.mpm_consoles.specs.Handling.{unit_detached}
-use Rattle.mpm_consoles.specs.declared.unit.Unit.{Unit}
-use Rattle.mpm_consoles.specs.declared.unit.Unit.TheVariants.{Console as ConsoleUnit, Printer as PrinterUnit}
+use Rattle.mpm_base.specs.declared.unit.Unit.{Unit}
+use Rattle.mpm_base.specs.declared.unit.Unit.TheVariants.{Console as ConsoleUnit, Printer as PrinterUnit}
 use Rattle.mpm_kernel.specs.Kernel.{Kernel, places, IsSoundKernel}
 use Rattle.mpm_kernel.specs.Consoling.{unit_left}
 use Rattle.mpm_kernel.specs.Ending.{consoles_left, printers_left, units_left}

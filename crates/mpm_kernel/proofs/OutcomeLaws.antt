@@ -21,8 +21,8 @@ use Rattle.mpm_queues.specs.declared.queues.QueueOutcome.TheVariants.{Done as Ha
 use Rattle.mpm_consoles.specs.Consoles.{console_at}
 use Rattle.mpm_consoles.specs.Handling.{may_attach}
 use Rattle.mpm_consoles.specs.declared.modes.TheConstants.{POLL_KEY, TELL_STATUS, AWAIT_KEY}
-use Rattle.mpm_consoles.specs.declared.unit.Unit.{Unit}
-use Rattle.mpm_consoles.specs.declared.unit.Unit.TheVariants.{Console as ConsoleUnit, Printer as PrinterUnit}
+use Rattle.mpm_base.specs.declared.unit.Unit.{Unit}
+use Rattle.mpm_base.specs.declared.unit.Unit.TheVariants.{Console as ConsoleUnit, Printer as PrinterUnit}
 use Rattle.mpm_line_input.specs.Lines.{is_full, ends, line_end}
 use Rattle.mpm_kernel.specs.Kernel.{Kernel, call_begun}
 use Rattle.mpm_kernel.specs.Called.{Called, low_parameter}

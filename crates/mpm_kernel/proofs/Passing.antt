@@ -6,10 +6,10 @@ use Rattle.mpm_ready.proofs.OrderLaws.{first_is_in}
 use Rattle.mpm_procs.specs.Table.{Lives, process_in}
 use Rattle.mpm_procs.proofs.MapLaws.{lives_below}
 use Rattle.mpm_consoles.specs.Console.{is_owner}
-use Rattle.mpm_consoles.specs.Consoles.{Consoles, HasUnit, owner_of, owns, waiters_of, first_waiter, waits_for, waits, gate_waits, AreSoundConsoles as AreUnitsSound}
+use Rattle.mpm_consoles.specs.Consoles.{Consoles, HasUnit, owner_of, owns, waiters_of, first_waiter, waits_for, waits, gate_waits, AreSoundConsoles}
 use Rattle.mpm_consoles.specs.Handling.{given, unlisted, pass_to, passed, unit_detached, heir_of}
-use Rattle.mpm_consoles.specs.declared.unit.Unit.{Unit}
-use Rattle.mpm_consoles.specs.declared.unit.Unit.TheVariants.{Console as ConsoleUnit, Printer as PrinterUnit}
+use Rattle.mpm_base.specs.declared.unit.Unit.{Unit}
+use Rattle.mpm_base.specs.declared.unit.Unit.TheVariants.{Console as ConsoleUnit, Printer as PrinterUnit}
 use Rattle.mpm_consoles.proofs.SoundLaws.{sound_given, sound_unlisted, for_unlisted, nobody_first}
 use Rattle.mpm_consoles.proofs.WaitLaws.{has_unlisted}
 use Rattle.mpm_dispatcher.specs.Dispatch.{ready, IsReady, moved, lists_ready, made_ready}
@@ -23,7 +23,7 @@ use Rattle.mpm_kernel.proofs.Soundness.{AreUnits, sound_units, sound_ready}
 
 -- units after one of them came to an heir, or to nobody, and before
 pub record HavePassed (t new : Consoles) (heir : Option ℕ) : Type 0 where
-  pub sound : AreUnitsSound new
+  pub sound : AreSoundConsoles new
   pub consoles : length new.consoles ≡ length t.consoles
   pub printers : length new.printers ≡ length t.printers
   pub owners : (other : Unit) (p : ℕ) → owns new p other ≡ true → (owns t p other ≡ true) ⊎ (heir ≡ Some p)
@@ -31,7 +31,7 @@ pub record HavePassed (t new : Consoles) (heir : Option ℕ) : Type 0 where
   pub at_gates : (q : ℕ) → gate_waits new q ≤ gate_waits t q
   pub first : (h : ℕ) → heir ≡ Some h → waits_at_units new h + 1 ≤ waits_at_units t h
 
-pub passed_same : (t : Consoles) → AreUnitsSound t → HavePassed t t None
+pub passed_same : (t : Consoles) → AreSoundConsoles t → HavePassed t t None
 passed_same t sound = record {
   sound = sound;
   consoles = refl;
@@ -42,14 +42,14 @@ passed_same t sound = record {
   first = λ h is. absurd (cc);
 }
 
-fewer_waits : (t : Consoles) (h q : ℕ) → AreUnitsSound t → waits (unlisted t h) q ≤ waits t q
+fewer_waits : (t : Consoles) (h q : ℕ) → AreSoundConsoles t → waits (unlisted t h) q ≤ waits t q
 fewer_waits t h q sound = elim (cases_eq q h) [
   | inl same ↦ omega (arith, ap (waits (unlisted t h)) same, waits_unlisted t h)
   | inr other ↦ omega (arith, waits_unlisted_other t h q sound other)
 ]
 
 -- a unit comes to a process that waits for a unit, and waits no more
-pub passed_waiter : (t : Consoles) (unit at : Unit) (h : ℕ) → AreUnitsSound t → HasUnit t unit → waits_for t h at ≡ true
+pub passed_waiter : (t : Consoles) (unit at : Unit) (h : ℕ) → AreSoundConsoles t → HasUnit t unit → waits_for t h at ≡ true
     → HavePassed t (given (unlisted t h) unit (Some h)) (Some h)
 passed_waiter t unit at h sound has there =
     let has_still = has_unlisted t h unit has in
@@ -71,7 +71,7 @@ passed_waiter t unit at h sound has there =
     }
 
 -- a unit for which nobody waits comes to nobody
-passed_nobody : (t : Consoles) (unit : Unit) → AreUnitsSound t → HasUnit t unit → first_waiter t unit ≡ None → HavePassed t (given t unit None) None
+passed_nobody : (t : Consoles) (unit : Unit) → AreSoundConsoles t → HasUnit t unit → first_waiter t unit ≡ None → HavePassed t (given t unit None) None
 passed_nobody t unit sound has none = record {
   sound = sound_given t unit None sound has (nobody_first t unit none);
   consoles = consoles_given t unit None;
@@ -82,21 +82,21 @@ passed_nobody t unit sound has none = record {
   first = λ h is. absurd (cc);
 }
 
-passed_to_first : (o : Option ℕ) (t : Consoles) (unit : Unit) → AreUnitsSound t → HasUnit t unit → first_waiter t unit ≡ o → HavePassed t (pass_to o t unit) o
+passed_to_first : (o : Option ℕ) (t : Consoles) (unit : Unit) → AreSoundConsoles t → HasUnit t unit → first_waiter t unit ≡ o → HavePassed t (pass_to o t unit) o
 passed_to_first None t unit sound has is = passed_nobody t unit sound has is
 passed_to_first (Some h) t unit sound has is = passed_waiter t unit unit h sound has (first_is_in (waiters_of t unit) h is)
 
 -- a unit passes on
-pub passed_on : (t : Consoles) (unit : Unit) → AreUnitsSound t → HasUnit t unit → HavePassed t (passed t unit) (first_waiter t unit)
+pub passed_on : (t : Consoles) (unit : Unit) → AreSoundConsoles t → HasUnit t unit → HavePassed t (passed t unit) (first_waiter t unit)
 unfolding passed
 passed_on t unit sound has = passed_to_first (first_waiter t unit) t unit sound has refl
 
-passed_if : (b : Bool) (t new : Consoles) (heir : Option ℕ) → AreUnitsSound t → HavePassed t new heir
+passed_if : (b : Bool) (t new : Consoles) (heir : Option ℕ) → AreSoundConsoles t → HavePassed t new heir
     → HavePassed t (if b then new else t) (if b then heir else None)
 passed_if true t new heir sound are = are
 passed_if false t new heir sound are = passed_same t sound
 
-pub passed_detach : (t : Consoles) (p : ℕ) (unit : Unit) → AreUnitsSound t → HasUnit t unit → HavePassed t (unit_detached t p unit) (heir_of t p unit)
+pub passed_detach : (t : Consoles) (p : ℕ) (unit : Unit) → AreSoundConsoles t → HasUnit t unit → HavePassed t (unit_detached t p unit) (heir_of t p unit)
 unfolding unit_detached heir_of
 passed_detach t p unit sound has = passed_if (owns t p unit) t (passed t unit) (first_waiter t unit) sound (passed_on t unit sound has)
 
@@ -167,18 +167,18 @@ ready_unit_left kernel p q unit s has is_ready =
     ready_passed kernel _ q s (λ h is. heir_lives kernel _ _ h s (passed_detach kernel.units p unit s.units has) is) is_ready
 
 -- nobody is his own heir
-not_heir_if : (b : Bool) (t : Consoles) (p : ℕ) (unit : Unit) → AreUnitsSound t → HasUnit t unit → owns t p unit ≡ b
+not_heir_if : (b : Bool) (t : Consoles) (p : ℕ) (unit : Unit) → AreSoundConsoles t → HasUnit t unit → owns t p unit ≡ b
     → (if b then first_waiter t unit else None) ≡ Some p → ⊥
 not_heir_if true t p unit sound has own is =
     false≢true (sym ((sound.waited unit has).others p (owner_is (owner_of t unit) p own)) ∙ first_is_in (waiters_of t unit) p is)
 not_heir_if false t p unit sound has own is = absurd (cc)
 
-not_heir : (t : Consoles) (p : ℕ) (unit : Unit) → AreUnitsSound t → HasUnit t unit → heir_of t p unit ≡ Some p → ⊥
+not_heir : (t : Consoles) (p : ℕ) (unit : Unit) → AreSoundConsoles t → HasUnit t unit → heir_of t p unit ≡ Some p → ⊥
 unfolding heir_of
 not_heir t p unit sound has is = not_heir_if (owns t p unit) t p unit sound has refl is
 
 -- who left a unit doesn't own it, and gets no other
-pub kept_false : (t : Consoles) (p : ℕ) (unit other : Unit) → AreUnitsSound t → HasUnit t unit → owns t p other ≡ false
+pub kept_false : (t : Consoles) (p : ℕ) (unit other : Unit) → AreSoundConsoles t → HasUnit t unit → owns t p other ≡ false
     → owns (unit_detached t p unit) p other ≡ false
 kept_false t p unit other sound has not = elim (cases_Bool (owns (unit_detached t p unit) p other)) [
   | inl is ↦ elim ((passed_detach t p unit sound has).owners other p is) [
@@ -192,14 +192,14 @@ owner_passed_to : (o : Option ℕ) (t : Consoles) (unit : Unit) → HasUnit t un
 owner_passed_to None t unit has = owner_given t unit None has
 owner_passed_to (Some h) t unit has = owner_given (unlisted t h) unit (Some h) (has_unlisted t h unit has)
 
-now_false_if : (b : Bool) (t : Consoles) (p : ℕ) (unit : Unit) → AreUnitsSound t → HasUnit t unit → owns t p unit ≡ b
+now_false_if : (b : Bool) (t : Consoles) (p : ℕ) (unit : Unit) → AreSoundConsoles t → HasUnit t unit → owns t p unit ≡ b
     → owns (if b then passed t unit else t) p unit ≡ true → ⊥
 unfolding passed
 now_false_if true t p unit sound has own is =
     not_heir_if true t p unit sound has own (sym (owner_passed_to (first_waiter t unit) t unit has) ∙ owner_is _ p is)
 now_false_if false t p unit sound has own is = false≢true (sym own ∙ is)
 
-pub now_false : (t : Consoles) (p : ℕ) (unit : Unit) → AreUnitsSound t → HasUnit t unit → owns (unit_detached t p unit) p unit ≡ false
+pub now_false : (t : Consoles) (p : ℕ) (unit : Unit) → AreSoundConsoles t → HasUnit t unit → owns (unit_detached t p unit) p unit ≡ false
 unfolding unit_detached
 now_false t p unit sound has = elim (cases_Bool (owns (unit_detached t p unit) p unit)) [
   | inl is ↦ absurd (now_false_if (owns t p unit) t p unit sound has refl is)

@@ -15,7 +15,7 @@ use Rattle.mpm_procs.specs.Table.{Table, lives, Lives, process_in, call_of}
 use Rattle.mpm_procs.specs.Finding.{is_queue, is_inside_of, is_entered}
 use Rattle.mpm_procs.proofs.MapLaws.{lives_below, lives_after}
 use Rattle.mpm_queues.specs.Queue.{new_queue, no_queue, with_given, is_drained, is_full}
-use Rattle.mpm_queues.specs.Queues.{Queues, IsMade, is_made, is_free, is_named, queue_in, width_of, lowest, found, lowest_free, waits, waits_at, WaitsAtNoQueue, made, may_end, without_queue, without, AreSoundQueues as AreSound, make_error}
+use Rattle.mpm_queues.specs.Queues.{Queues, IsMade, is_made, is_free, is_named, queue_in, width_of, lowest, found, lowest_free, waits, waits_at, WaitsAtNoQueue, made, may_end, without_queue, without, AreSoundQueues, make_error}
 use Rattle.mpm_queues.specs.declared.queues.MakeRefused.{MakeRefused}
 use Rattle.mpm_queues.specs.declared.queues.MakeRefused.TheVariants.{BadCount, Exists, NoQueueRoom}
 use Rattle.mpm_queues.specs.declared.queues.QueueOutcome.{QueueOutcome}
@@ -211,17 +211,17 @@ woken_or_not (Some other) p = elim (cases_eq other p) [
   | inr apart ↦ inr (λ is. apart (same_Some other p is))
 ]
 
-read_waits : (t : Queues) (p q : ℕ) (procs : Table) (k : ℕ) → AreSound t → waits (message_read t p q procs) k ≤ waits t k
+read_waits : (t : Queues) (p q : ℕ) (procs : Table) (k : ℕ) → AreSoundQueues t → waits (message_read t p q procs) k ≤ waits t k
 read_waits t p q procs k s = elim (woken_or_not (woken_by (read_outcome t q)) k) [
   | inl is ↦ omega (arith, waits_read_woken t p q procs k is)
   | inr apart ↦ omega (arith, waits_read_other t p q procs k s apart)
 ]
 
-pub width_read : (t : Queues) (p q k : ℕ) (procs : Table) → AreSound t → IsMade t q → width_of (message_read t p q procs) k ≡ width_of t k
+pub width_read : (t : Queues) (p q k : ℕ) (procs : Table) → AreSoundQueues t → IsMade t q → width_of (message_read t p q procs) k ≡ width_of t k
 width_read t p q k procs s is =
     width_same t (message_read t p q procs) k (alive_same t (message_read t p q procs) k (made_operation t q (Reads p procs))) (kept_read t p q k procs s is).width
 
-pub width_written : (t : Queues) (p q k : ℕ) (procs : Table) → AreSound t → IsMade t q → width_of (message_written t p q procs) k ≡ width_of t k
+pub width_written : (t : Queues) (p q k : ℕ) (procs : Table) → AreSoundQueues t → IsMade t q → width_of (message_written t p q procs) k ≡ width_of t k
 width_written t p q k procs s is =
     width_same t (message_written t p q procs) k (alive_same t (message_written t p q procs) k (made_operation t q (Writes p procs))) (kept_write t p q k procs s is).width
 
@@ -262,7 +262,7 @@ unfolding procs_after_write
 lives_written t p q procs k =
     either (λ (now : Table). lives now k ≡ lives procs k) (is_full (queue_in t q)) _ _ (λ _. refl) (λ _. lives_delivered (first_reader t q) (written_by t q procs p) procs k)
 
-pub write_waits : (t : Queues) (p q : ℕ) (procs : Table) (k : ℕ) → AreSound t → waits (message_written t p q procs) k ≤ waits t k
+pub write_waits : (t : Queues) (p q : ℕ) (procs : Table) (k : ℕ) → AreSoundQueues t → waits (message_written t p q procs) k ≤ waits t k
 write_waits t p q procs k s = elim (woken_or_not (woken_by (write_outcome t q)) k) [
   | inl is ↦ omega (arith, waits_write_woken t p q procs k is)
   | inr apart ↦ omega (arith, waits_write_other t p q procs k s apart)

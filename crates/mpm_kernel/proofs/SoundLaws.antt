@@ -41,8 +41,8 @@ pub use Rattle.mpm_kernel.proofs.HandingLaws.{sound_completed, live_handed_out, 
 use Rattle.mpm_kernel.proofs.Staying.{StaysSound, Calls, nobody, called_if, same}
 use Rattle.mpm_kernel.proofs.RowLaws.{by_table}
 use Rattle.mpm_consoles.specs.Handling.{put_out}
-use Rattle.mpm_consoles.specs.declared.unit.Unit.{Unit}
-use Rattle.mpm_consoles.specs.declared.unit.Unit.TheVariants.{Console as ConsoleUnit, Printer as PrinterUnit}
+use Rattle.mpm_base.specs.declared.unit.Unit.{Unit}
+use Rattle.mpm_base.specs.declared.unit.Unit.TheVariants.{Console as ConsoleUnit, Printer as PrinterUnit}
 use Rattle.mpm_kernel.specs.Columns.{wrote}
 use Rattle.mpm_kernel.proofs.SpokeLaws.{wrote_itself, wrote_tabbed}
 use Rattle.mpm_kernel.specs.Consoling.{key_came}

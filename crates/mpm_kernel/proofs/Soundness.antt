@@ -25,15 +25,15 @@ use Rattle.mpm_procs.specs.declared.process.Process.{Process}
 use Rattle.mpm_procs.specs.declared.process.NewProcess.{NewProcess}
 use Rattle.mpm_procs.specs.Opening.{opening}
 use Rattle.mpm_procs.proofs.MapLaws.{lives_below, process_changed, process_kept, lives_changed, slots_changed, slots_after, free_below, free_is_dead, lives_added, lives_added_other, process_added, process_added_other, slots_added, slots_none, nobody_lives}
-use Rattle.mpm_queues.specs.Queues.{Queues, no_queues, IsMade, waits, AreSoundQueues as AreSound}
+use Rattle.mpm_queues.specs.Queues.{Queues, no_queues, IsMade, waits, AreSoundQueues}
 use Rattle.mpm_queues.proofs.SoundLaws.{sound_none}
 use Rattle.mpm_queues.proofs.WaitLaws.{waits_nowhere}
 use Rattle.mpm_consoles.proofs.PlaceLaws.{waits_nowhere as waits_for_none}
 use Rattle.mpm_consoles.specs.Console.{Console, new_console, is_owner, spoken}
-use Rattle.mpm_consoles.specs.Consoles.{Consoles, HasUnit, gate_waits, no_owners, owns, console_at, owner_of, with_console, AreSoundConsoles as AreUnitsSound}
+use Rattle.mpm_consoles.specs.Consoles.{Consoles, HasUnit, gate_waits, no_owners, owns, console_at, owner_of, with_console, AreSoundConsoles}
 use Rattle.mpm_consoles.specs.Handling.{spoke as spoke_units}
-use Rattle.mpm_consoles.specs.declared.unit.Unit.{Unit}
-use Rattle.mpm_consoles.specs.declared.unit.Unit.TheVariants.{Console as ConsoleUnit, Printer as PrinterUnit}
+use Rattle.mpm_base.specs.declared.unit.Unit.{Unit}
+use Rattle.mpm_base.specs.declared.unit.Unit.TheVariants.{Console as ConsoleUnit, Printer as PrinterUnit}
 use Rattle.mpm_service.specs.Places.{at_disk}
 use Rattle.mpm_service.proofs.PlaceLaws.{at_none}
 use Rattle.mpm_consoles.proofs.SoundLaws.{sound_none as sound_units_new, sound_kept}
@@ -72,7 +72,7 @@ nowhere_new consoles printers p = omega (arith, waits_for_none (no_owners consol
 
 -- units in the place of others: as many, whose owners live
 pub record AreUnits (before : Consoles) (procs : Table) (units : Consoles) : Type 0 where
-  pub sound : AreUnitsSound units
+  pub sound : AreSoundConsoles units
   pub consoles : length units.consoles ≡ length before.consoles
   pub printers : length units.printers ≡ length before.printers
   pub owners : (unit : Unit) (p : ℕ) → HasUnit units unit → owns units p unit ≡ true → Lives procs p
@@ -233,7 +233,7 @@ sound_noted kernel echo aborted s = record {
 
 -- one console is another one, of the same owner, at whose gate the same process waits
 pub units_console : (kernel : Kernel) (n : ℕ) (console : Console) → IsSoundKernel kernel → IsConsole kernel n
-    → console.owner ≡ (console_at kernel.units n).owner → AreUnitsSound (with_console kernel.units n console)
+    → console.owner ≡ (console_at kernel.units n).owner → AreSoundConsoles (with_console kernel.units n console)
     → AreUnits kernel.units kernel.dispatcher.procs (with_console kernel.units n console)
 units_console kernel n console s has same sound = record {
   sound = sound;
@@ -244,7 +244,7 @@ units_console kernel n console s has same sound = record {
 
 pub sound_console : (kernel : Kernel) (n : ℕ) (console : Console) → IsSoundKernel kernel → IsConsole kernel n
     → console.owner ≡ (console_at kernel.units n).owner → console.awaits ≡ (console_at kernel.units n).awaits
-    → AreUnitsSound (with_console kernel.units n console) → IsSoundKernel (record kernel { units = with_console kernel.units n console })
+    → AreSoundConsoles (with_console kernel.units n console) → IsSoundKernel (record kernel { units = with_console kernel.units n console })
 sound_console kernel n console s has owner awaits sound =
     sound_units kernel (with_console kernel.units n console) s (units_console kernel n console s has owner sound)
     (λ q. omega (arith, gates_kept kernel.units n console q has owner awaits, waits_console kernel.units n console q))
@@ -469,7 +469,7 @@ sound_moved kernel list p s h small nowhere_else =
 
 -- queues that are sound, those of the system and those of resident procedures among them
 pub record AreQueues (kernel : Kernel) (queues : Queues) : Type 0 where
-  pub sound : AreSound queues
+  pub sound : AreSoundQueues queues
   pub system : (q : ℕ) → q < kernel.system_queues → IsMade queues q
   pub inside : (p q : ℕ) → Lives kernel.dispatcher.procs p → (process_in kernel.dispatcher.procs p).procedure ≡ Some q → IsOfTwo queues q
 

@@ -6,7 +6,7 @@ use Rattle.mpm_consoles.specs.Consoles.{Consoles, console_at}
 use Rattle.mpm_consoles.specs.Handling.{spoke as spoke_units, output_spaces}
 use Rattle.mpm_consoles.proofs.ColumnLaws.{spaces_most as most_there, tab_is_spaces as spaces_there, tab_is_itself as itself_there}
 use Rattle.mpm_consoles.proofs.SpokeLaws.{column_spoke as column_in_units, spoke_none as none_in_units, spoke_both as both_in_units, output_itself, output_tabbed}
-use Rattle.mpm_consoles.specs.declared.unit.Unit.TheVariants.{Console as ConsoleUnit}
+use Rattle.mpm_base.specs.declared.unit.Unit.TheVariants.{Console as ConsoleUnit}
 use Rattle.mpm_kernel.specs.Kernel.{Kernel, IsConsole}
 use Rattle.mpm_kernel.specs.Columns.{columns_after, tab_text, column_of, spoke, wrote, spaces_for}
 

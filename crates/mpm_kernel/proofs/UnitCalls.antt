@@ -14,8 +14,8 @@ use Rattle.mpm_queues.proofs.Finding.{lowest_passes}
 use Rattle.mpm_consoles.specs.Console.{is_owner}
 use Rattle.mpm_consoles.specs.Consoles.{Consoles, HasUnit, owner_of, owns, waiters_of, waits_for, MayWait}
 use Rattle.mpm_consoles.specs.Handling.{given, unlisted, listed, attaches, may_attach, attach_from, unit_attached, console_assigned}
-use Rattle.mpm_consoles.specs.declared.unit.Unit.{Unit}
-use Rattle.mpm_consoles.specs.declared.unit.Unit.TheVariants.{Console as ConsoleUnit, Printer as PrinterUnit}
+use Rattle.mpm_base.specs.declared.unit.Unit.{Unit}
+use Rattle.mpm_base.specs.declared.unit.Unit.TheVariants.{Console as ConsoleUnit, Printer as PrinterUnit}
 use Rattle.mpm_consoles.proofs.SoundLaws.{sound_given, sound_listed, for_free, for_absent}
 use Rattle.mpm_dispatcher.specs.Dispatch.{ready, lists_ready, made_ready, descheduled}
 use Rattle.mpm_kernel.specs.Kernel.{Kernel, in_lists, waits_at_units, waits_of, IsSoundKernel, with_changed, dispatched}

@@ -3,8 +3,8 @@ use Rattle.std.proofs.Common.{◌≡◌, ◌∙◌, ℕ, length, Option, Some, N
 use Rattle.mpm_base.proofs.Choices.{either}
 use Rattle.mpm_consoles.specs.Consoles.{Consoles, owns, waits_for, first_waiter}
 use Rattle.mpm_consoles.specs.Handling.{given, unlisted, pass_to, passed, unit_detached, called_off, console_assigned}
-use Rattle.mpm_consoles.specs.declared.unit.Unit.{Unit}
-use Rattle.mpm_consoles.specs.declared.unit.Unit.TheVariants.{Console as ConsoleUnit}
+use Rattle.mpm_base.specs.declared.unit.Unit.{Unit}
+use Rattle.mpm_base.specs.declared.unit.Unit.TheVariants.{Console as ConsoleUnit}
 use Rattle.mpm_kernel.specs.Kernel.{Kernel}
 use Rattle.mpm_kernel.specs.Consoling.{unit_left}
 use Rattle.mpm_kernel.proofs.UnitWaits.{consoles_given, printers_given}

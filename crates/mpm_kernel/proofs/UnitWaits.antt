@@ -7,10 +7,11 @@ use Rattle.mpm_base.proofs.CountLaws.{one_if, one_if_false}
 use Rattle.mpm_ready.specs.Tables.{list_of}
 use Rattle.mpm_ready.proofs.TableLaws.{list_of_known, list_of_removed, list_of_removed_other}
 use Rattle.mpm_consoles.specs.Console.{Console, new_console, is_owner, passed_to, without_wait_of, IsProperConsole}
-use Rattle.mpm_consoles.specs.Consoles.{Consoles, is_gate_waiter, gate_waits, console_at, HasConsole, HasUnit, owner_of, owns, place_of, waits_for, waits, WaitsForNoUnit, with_console, AreSoundConsoles}
+use Rattle.mpm_base.specs.Units.{place_of}
+use Rattle.mpm_consoles.specs.Consoles.{Consoles, is_gate_waiter, gate_waits, console_at, HasConsole, HasUnit, owner_of, owns, waits_for, waits, WaitsForNoUnit, with_console, AreSoundConsoles}
 use Rattle.mpm_consoles.specs.Handling.{given, unlisted, listed, units_without_waiter}
-use Rattle.mpm_consoles.specs.declared.unit.Unit.{Unit}
-use Rattle.mpm_consoles.specs.declared.unit.Unit.TheVariants.{Console as ConsoleUnit, Printer as PrinterUnit}
+use Rattle.mpm_base.specs.declared.unit.Unit.{Unit}
+use Rattle.mpm_base.specs.declared.unit.Unit.TheVariants.{Console as ConsoleUnit, Printer as PrinterUnit}
 use Rattle.mpm_consoles.specs.Columns.{columns_after}
 use Rattle.mpm_consoles.proofs.ConsoleLaws.{columns_within, owner_without_wait}
 use Rattle.mpm_consoles.proofs.PlaceLaws.{owner_is, gate_waits_console, waiters_without, waits_dequeued, waits_dequeued_other, gate_waits_without, gate_waits_without_other}

@@ -3,7 +3,7 @@
 use Rattle.std.specs.Prelude.{ℕ, Bool, List}
 use Rattle.mpm_consoles.specs.Consoles.{console_at}
 use Rattle.mpm_consoles.specs.Handling.{spoke as spoke_units, put_out, output_spaces}
-use Rattle.mpm_consoles.specs.declared.unit.Unit.{Unit}
+use Rattle.mpm_base.specs.declared.unit.Unit.{Unit}
 use Rattle.mpm_kernel.specs.Kernel.{Kernel}
 unfoldable pub use Rattle.mpm_consoles.specs.Columns.{column_after, columns_after, tab_text, expanded}
 

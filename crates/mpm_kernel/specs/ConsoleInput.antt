@@ -11,7 +11,7 @@ use Rattle.mpm_procs.specs.declared.process.Process.{Process}
 use Rattle.mpm_consoles.specs.Console.{first_key}
 use Rattle.mpm_consoles.specs.Consoles.{console_at}
 use Rattle.mpm_consoles.specs.Handling.{may_attach, raw_set, first_taken}
-use Rattle.mpm_consoles.specs.declared.unit.Unit.TheVariants.{Console as ConsoleUnit}
+use Rattle.mpm_base.specs.declared.unit.Unit.TheVariants.{Console as ConsoleUnit}
 use Rattle.mpm_consoles.specs.declared.modes.TheConstants.{POLL_KEY, TELL_STATUS, AWAIT_KEY}
 pub use Rattle.mpm_consoles.specs.Modes.{is_cooked, is_raw}
 unfoldable pub use Rattle.mpm_consoles.specs.Modes.{writes}

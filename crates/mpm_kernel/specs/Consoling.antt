@@ -14,8 +14,8 @@ use Rattle.mpm_consoles.specs.Consoles.{console_at, owner_of, waits_for}
 use Rattle.mpm_consoles.specs.Handling.{may_attach, unit_attached, console_assigned, unit_detached, heir_of, keyed, key_answer, gate_wait_begun}
 use Rattle.mpm_consoles.specs.declared.keys.KeyDone.{KeyDone}
 use Rattle.mpm_consoles.specs.declared.keys.KeyDone.TheVariants.{Stored, Dropped, Wakes, Aborts, Passes, Nothing}
-use Rattle.mpm_consoles.specs.declared.unit.Unit.{Unit}
-use Rattle.mpm_consoles.specs.declared.unit.Unit.TheVariants.{Console as ConsoleUnit, Printer as PrinterUnit}
+use Rattle.mpm_base.specs.declared.unit.Unit.{Unit}
+use Rattle.mpm_base.specs.declared.unit.Unit.TheVariants.{Console as ConsoleUnit, Printer as PrinterUnit}
 use Rattle.mpm_kernel.specs.Kernel.{Kernel, is_resident, with_changed, dispatched}
 use Rattle.mpm_dispatcher.specs.Dispatch.{descheduled, made_ready}
 use Rattle.mpm_kernel.specs.Columns.{spoke}

@@ -7,7 +7,7 @@ use Rattle.mpm_clock.specs.Times.{clock_without_delay}
 use Rattle.mpm_queues.specs.Queues.{holds}
 use Rattle.mpm_queues.specs.Handling.{queues_without_waiter}
 use Rattle.mpm_consoles.specs.Handling.{units_without_waiter}
-use Rattle.mpm_consoles.specs.declared.unit.Unit.TheVariants.{Console as ConsoleUnit, Printer as PrinterUnit}
+use Rattle.mpm_base.specs.declared.unit.Unit.TheVariants.{Console as ConsoleUnit, Printer as PrinterUnit}
 use Rattle.mpm_service.specs.Places.{without_call}
 use Rattle.mpm_procs.specs.Table.{Lives, without}
 use Rattle.mpm_kernel.specs.Kernel.{Kernel, IsSoundKernel, places, dispatched}

@@ -9,9 +9,9 @@ use Rattle.mpm_flags.specs.declared.flags.Flag.TheVariants.{Clear, Set, Waits}
 use Rattle.mpm_clock.specs.Delays.{delays_of}
 use Rattle.mpm_clock.specs.declared.moment.Moment.{Moment}
 use Rattle.mpm_clock.specs.Times.{Clock, new_clock}
-use Rattle.mpm_queues.specs.Queues.{Queues, no_queues, IsMade, width_of, waits, AreSoundQueues as AreSound}
-use Rattle.mpm_consoles.specs.Consoles.{Consoles, no_owners, HasUnit, owns, waits as waits_for_unit, gate_waits, AreSoundConsoles as AreUnitsSound}
-use Rattle.mpm_consoles.specs.declared.unit.Unit.{Unit}
+use Rattle.mpm_queues.specs.Queues.{Queues, no_queues, IsMade, width_of, waits, AreSoundQueues}
+use Rattle.mpm_consoles.specs.Consoles.{Consoles, no_owners, HasUnit, owns, waits as waits_for_unit, gate_waits, AreSoundConsoles}
+use Rattle.mpm_base.specs.declared.unit.Unit.{Unit}
 use Rattle.mpm_procs.specs.Table.{Table, HasSlots, lives, Lives, process_in, with_process}
 use Rattle.mpm_procs.specs.declared.process.Process.{Process}
 use Rattle.mpm_service.specs.Disk.{DiskService, no_service}

@@ -9,7 +9,7 @@ use mpm_line_input::{answer_line, edited, full_line, is_full, key_echo};
 impl Kernel {
     ghost use Rattle.mpm_procs.specs.Table.{Lives, call_of, process_in};
     ghost use Rattle.mpm_consoles.specs.Consoles.{owns};
-    ghost use Rattle.mpm_consoles.specs.declared.unit.Unit.TheVariants.{Console as ConsoleUnit};
+    ghost use Rattle.mpm_base.specs.declared.unit.Unit.TheVariants.{Console as ConsoleUnit};
     ghost use Rattle.mpm_line_input.specs.Lines.{ends};
     ghost use Rattle.mpm_dispatcher.specs.Dispatch.{IsReady};
     ghost use Rattle.mpm_kernel.specs.Kernel.{IsSoundKernel, IsConsole};

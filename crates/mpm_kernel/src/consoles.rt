@@ -14,7 +14,7 @@ impl Kernel {
     ghost use Rattle.mpm_procs.specs.Table.{Lives, call_of};
     ghost use Rattle.mpm_consoles.specs.Consoles.{owner_of};
     ghost use Rattle.mpm_consoles.specs.Handling.{may_attach};
-    ghost use Rattle.mpm_consoles.specs.declared.unit.Unit.TheVariants.{Console as ConsoleUnit};
+    ghost use Rattle.mpm_base.specs.declared.unit.Unit.TheVariants.{Console as ConsoleUnit};
     ghost use Rattle.mpm_dispatcher.specs.Dispatch.{IsReady};
     ghost use Rattle.mpm_kernel.specs.Kernel.{IsSoundKernel, IsConsole};
     ghost use Rattle.mpm_kernel.specs.Columns.{spoke, wrote, spaces_for};

@@ -2,7 +2,7 @@
 -- answers of the held calls that were completed.
 use Rattle.std.proofs.Common.{◌≡◌, ◌≢◌, ◌∙◌, ℕ, ◌<◌, List, Option, Some, None, IfSome, refl, sym, ap, subst}
 use Rattle.std.proofs.lemmas.Bool.{false≢true}
-use Rattle.z80_regs.specs.Outcome.{StepOutcome as Instructed}
+use Rattle.z80_regs.specs.Outcome.{StepOutcome}
 use Rattle.z80_ext.specs.Instruction.{actions_of}
 use Rattle.mpm_base.specs.Calls.{Taken, Answer}
 use Rattle.mpm_base.specs.declared.call.Outcome.{Outcome}
@@ -72,7 +72,7 @@ calls_returning p system s h apart =
     calls_then system.kernel back _ (calls_gave_back p system.kernel s h apart) (calls_changed back p _ refl)
 
 -- an instruction, or an unlisted opcode
-calls_executed : (outcome : Option Instructed) (p seg : ℕ) (system : System) → IsWhole system → Lives system.kernel.dispatcher.procs p
+calls_executed : (outcome : Option StepOutcome) (p seg : ℕ) (system : System) → IsWhole system → Lives system.kernel.dispatcher.procs p
     → SystemKeepsCalls system (executed outcome p seg system).system
 unfolding executed illegal speaking instructed
 calls_executed None p seg system w h =

@@ -35,7 +35,7 @@ use Rattle.mpm_bdos.specs.AtOnce.{FailsSince, FailsIn, ChangesAlone}
 use Rattle.mpm_bdos.proofs.ServedLaws.{job_mounted, kinds_within, set_within}
 use Rattle.mpm_bdos.proofs.Fitting.{there_label}
 use Rattle.mpm_bdos.proofs.NextTurns.{stands_still, same_images, told_is}
-use Rattle.mpm_render.specs.Shown.{KeptLines as Lines}
+use Rattle.mpm_render.specs.Shown.{KeptLines}
 use Rattle.mpm_mount.proofs.LookedUp.{kind_of}
 use Rattle.mpm_system.specs.declared.system.System.{System}
 use Rattle.mpm_machine.specs.declared.machine.Machine.{Machine}
@@ -245,7 +245,7 @@ disk_calls disks filing p system kept caller process call moment before behind l
 
 -- the step of a state
 
-pub step_leaves : (old : Machine) (disks now : Disks) (mounted : List (Option Directory)) (fault : StepFault) (kept : Lines) (written : List ℕ) (s : State) (first : List ℕ)
+pub step_leaves : (old : Machine) (disks now : Disks) (mounted : List (Option Directory)) (fault : StepFault) (kept : KeptLines) (written : List ℕ) (s : State) (first : List ℕ)
     → ((files : FilesInService) → StandsForFiles old.system.kernel.disk old.bdos disks files → HaveImagesOf (StopsOn fault old.system files) now mounted)
     → StandsWithDrives old kept written disks s first → StopsWithImages fault now mounted s
 step_leaves old disks now mounted fault kept written s first leaves stands =

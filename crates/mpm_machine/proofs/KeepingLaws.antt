@@ -3,7 +3,7 @@
 use Rattle.std.proofs.Common.{◌≡◌, ◌∙◌, ℕ, ◌+◌, ◌==◌, ◌&&◌, ◌||◌, not, Bool, true, false, if◌then◌else◌, List, [], ◌∷◌, Option, Some, None, refl, ap, arith}
 use Rattle.std.proofs.lemmas.Bool.{false≢true, or_parts}
 use Rattle.std.specs.List.{range_with_len}
-use Rattle.z80_regs.specs.Outcome.{StepOutcome as Instructed}
+use Rattle.z80_regs.specs.Outcome.{StepOutcome}
 use Rattle.mpm_base.specs.Lists.{in_width}
 use Rattle.mpm_base.specs.Calls.{Taken, Answer}
 use Rattle.mpm_base.specs.declared.call.Outcome.{Outcome}
@@ -353,7 +353,7 @@ call_serves p seg system none =
     same_then system.kernel.disk done.system.kernel.disk _ same
     (outcome_serves done.outcome done.reply call p seg done.system (unserved_still kept done.system p same none))
 
-executed_serves : (outcome : Option Instructed) (p seg : ℕ) (system : System) → Unserved system p → ServesSame system (executed outcome p seg system).system
+executed_serves : (outcome : Option StepOutcome) (p seg : ℕ) (system : System) → Unserved system p → ServesSame system (executed outcome p seg system).system
 unfolding executed illegal speaking spoke instructed
 executed_serves None p seg system none =
     end_serves p (speaking (process_in system.kernel.dispatcher.procs p).console (illegal_text (process_in system.kernel.dispatcher.procs p).regs.pc) system).system none

@@ -14,7 +14,7 @@ use Rattle.mpm_kernel.specs.ConsoleInput.{writes}
 use Rattle.mpm_residents.specs.declared.cli.act.Act.{Act}
 use Rattle.mpm_residents.specs.Natives.{native_act, native_call, native_in}
 use Rattle.mpm_residents.specs.declared.native.Native.{Native}
-use Rattle.mpm_render.specs.declared.unit.Unit2.TheVariants.{Printer}
+use Rattle.mpm_base.specs.declared.unit.Unit.TheVariants.{Printer}
 use Rattle.mpm_render.specs.Outputs.{said}
 use Rattle.mpm_system.specs.declared.system.System.{System}
 use Rattle.mpm_system.specs.Whole.{SystemChange, IsWhole, silent, speaking}

@@ -5,7 +5,7 @@ use Rattle.mpm_service.specs.Disk.{DiskService}
 use Rattle.mpm_service.specs.Ahead.{passed_on, passed_by}
 use Rattle.mpm_service.specs.declared.service.Served.{Served}
 use Rattle.mpm_render.specs.Outputs.{Output, rendered}
-use Rattle.mpm_render.specs.Shown.{KeptLines as Lines, Shows}
+use Rattle.mpm_render.specs.Shown.{KeptLines, Shows}
 use Rattle.mpm_output.specs.Outside.{Outside}
 use Rattle.mpm_bdos.specs.Serving.{Kept}
 use Rattle.mpm_system.specs.declared.system.System.{System}
@@ -99,7 +99,7 @@ ran_at old new k disks t s same passed ran at =
       files = subst Q (sym passed) (subst (λ (b : Kept). StandsForFiles (passed_by k old.system.kernel.disk) b disks s.files) (sym same) behind);
     })
 
-pub ran_on : (old new : Machine) (k : ℕ) (kept : Lines) (written : List ℕ) (disks : Disks) (t s : State) (first : List ℕ) → new.bdos ≡ old.bdos
+pub ran_on : (old new : Machine) (k : ℕ) (kept : KeptLines) (written : List ℕ) (disks : Disks) (t s : State) (first : List ℕ) → new.bdos ≡ old.bdos
     → new.system.kernel.disk ≡ passed_by k old.system.kernel.disk
     → (s.system ≡ old.system → AreWithin old.system.kernel.disk.served s.files → t ≡ record s { system = new.system })
     → StandsWithDrives old kept written disks s first → StandsWithDrives new kept written disks t first

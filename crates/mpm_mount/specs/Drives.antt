@@ -7,6 +7,7 @@ use Rattle.std.specs.declared.cmp.Ordering.{Ordering}
 use Rattle.std.specs.Ordering.{nat_cmp}
 use Rattle.std.specs.Cmp.Lexicographic.{slice_cmp}
 use Rattle.std.specs.FinMap.{FinMap, get, insert, remove, entries, values, len}
+use Rattle.mpm_dirent.specs.declared.limits.TheConstants.{LAST_EXTENT}
 use Rattle.mpm_base.specs.declared.kind.Kind.{Kind}
 use Rattle.mpm_blocks.specs.Geometries.{geometry_of, last_block, block_records}
 use Rattle.mpm_mount.specs.declared.slots.EntryName.{EntryName}
@@ -67,7 +68,7 @@ entry_number kind extent = extent / covered kind
 -- what is so of each entry that the drive of an image has
 pub record IsOfImage (kind : Kind) (name : EntryName) (extent : PhysicalExtent) : Type 0 where
   pub attributes : length extent.attributes ≡ 11
-  pub last : extent.last ≤ 2047
+  pub last : extent.last ≤ LAST_EXTENT
   pub number : entry_number kind extent.last ≡ name.number
   pub count : extent.count ≤ 128
   pub blocks : length extent.blocks ≡ places kind

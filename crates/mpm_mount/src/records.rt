@@ -1,5 +1,6 @@
 ghost use Rattle.std.specs.Prelude.{◌≡◌, ◌≤◌, ℕ, List};
 ghost use Rattle.mpm_dirent.specs.Names.{plain};
+ghost use Rattle.mpm_dirent.specs.declared.limits.TheConstants.{LAST_NAMED};
 ghost use Rattle.mpm_blocks.specs.Geometries as geometries;
 ghost use Rattle.mpm_mount.specs.Drives as drives;
 ghost use Rattle.mpm_mount.specs.Drives.{Drive};
@@ -66,7 +67,7 @@ fn entry_error(kind: Kind, entry: &Entry, n: u32) -> Option<RecordError>
 /// What keeps a record of a user's file from being read, by the directory.
 #[tactic(auto, using(crate::proofs::Positions::slot_within))]
 pub fn record_error(mounted: &Mounted, user: u8, name: &[u8; 11], n: u32) -> Option<RecordError>
-    requires { n ≤ 262286 }
+    requires { n ≤ LAST_NAMED }
     ensures { result ≡ spec.record_error mounted.now (record { user = user; name = plain name.now }) n }
 {
     let kind = mounted.kind();
@@ -80,7 +81,7 @@ pub fn record_error(mounted: &Mounted, user: u8, name: &[u8; 11], n: u32) -> Opt
 /// Random".)
 #[tactic(auto, using(crate::proofs::ReadErrors::read_error_same))]
 pub fn read_error(mounted: &Mounted, user: u8, name: &[u8; 11], n: u32) -> Option<RecordError>
-    requires { n ≤ 262286 }
+    requires { n ≤ LAST_NAMED }
     ensures { (image : List ℕ) (drive : Drive) → Stands image mounted.now drive
         → result ≡ spec.read_error drive (record { user = user; name = plain name.now }) n }
 {

@@ -1,7 +1,7 @@
 //! File control blocks: what their bytes mean, and what calls put into them.
 ghost use Rattle.std.specs.Prelude.{◌<◌};
 
-use mpm_dirent::plain_name;
+use mpm_dirent::{LAST_POSITION, plain_name};
 use mpm_fcb::{ControlBlock, are_beyond, is_ambiguous, item_numbered, three_bytes};
 use mpm_opens::Mode;
 use std::test::Fail;
@@ -87,7 +87,7 @@ fn other_bytes_behind_a_number_name_no_open_file(rt: HostRuntime) -> Result<(), 
 /// What a position makes of EX, S2, RC and CR.
 fn stands(position: u32, count: u8) -> [u8; 4] {
     let mut block = letter();
-    if position <= 262_271 {
+    if position <= LAST_POSITION {
         block.set_position(position, count);
     }
     [block.ex, block.s2, block.rc, block.cr]

@@ -4,8 +4,8 @@ use Rattle.std.proofs.lemmas.List.{append-nil}
 use Rattle.mpm_port.specs.Causes.{Rose, HasCause}
 use Rattle.mpm_port.specs.Texts.{Begins}
 use Rattle.mpm_port.specs.declared.Failed.{Failed}
-use Rattle.mpm_render.specs.declared.unit.Unit2.{Unit2}
-use Rattle.mpm_render.specs.declared.unit.Unit2.TheVariants.{Console}
+use Rattle.mpm_base.specs.declared.unit.Unit.{Unit}
+use Rattle.mpm_base.specs.declared.unit.Unit.TheVariants.{Console}
 use Rattle.mpm_render.specs.Outputs.{Output, Said, said, rendered}
 use Rattle.mpm_render.specs.Shown.{Shows, EndsBetween}
 use Rattle.mpm_render.proofs.Laws.{said_nil, said_cons, said_append, rendered_grows}
@@ -13,7 +13,7 @@ use Rattle.mpm_render.proofs.Grows.{begins_refl, begins_trans, widened}
 use Rattle.mpm_output.specs.Outside.{DeviceFaults, Outside, Device, TheSink, by_sink}
 use Rattle.mpm_output.specs.Writing.{spoken, CameOut, Stopped, DeviceFails, Emits}
 
-said_before : (u : Unit2) (bytes : List ℕ) (os : List Output) → said u bytes os ≡ said u bytes [] ++ os
+said_before : (u : Unit) (bytes : List ℕ) (os : List Output) → said u bytes os ≡ said u bytes [] ++ os
 said_before u [] os = said_nil u os ∙ ap (λ t. t ++ os) (sym (said_nil u []))
 said_before u (b ∷ bytes) os =
     said_cons u b bytes os

@@ -2,7 +2,7 @@
 use Rattle.std.specs.Prelude.{◌≡◌, ℕ, List, [], ◌++◌, Result, OnOk, IfErr}
 use Rattle.mpm_port.specs.Causes.{Rose}
 use Rattle.mpm_port.specs.declared.Failed.{Failed}
-use Rattle.mpm_render.specs.declared.unit.Unit2.TheVariants.{Console}
+use Rattle.mpm_base.specs.declared.unit.Unit.TheVariants.{Console}
 use Rattle.mpm_render.specs.Outputs.{Output, said, rendered}
 use Rattle.mpm_render.specs.Shown.{KeptLines, Shows, EndsBetween}
 use Rattle.mpm_output.specs.Outside.{Outside, Device, TheSink, by_sink, seen}

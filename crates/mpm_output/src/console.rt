@@ -2,7 +2,7 @@ ghost use Rattle.std.specs.Prelude.{◌<◌};
 ghost use Rattle.mpm_output.specs.Writing.{spoken, WritesAlone};
 
 use mpm_port::{Failed, Sink};
-use mpm_render::{Render, Unit2};
+use mpm_render::{Render, Unit};
 
 /// Bytes come out at a console as they are.
 pub fn put_bytes<S: Sink>(
@@ -15,7 +15,7 @@ pub fn put_bytes<S: Sink>(
     ensures wrote { WritesAlone S.written S.faults render.old sink.old render.new sink.new (spoken console bytes.now) result }
 {
     for &byte in bytes {
-        render.put(Unit2::Console { n: console }, byte, sink)?;
+        render.put(Unit::Console { n: console }, byte, sink)?;
     }
     Ok(())
 }

@@ -3,7 +3,7 @@ use Rattle.std.proofs.Common.{◌≡◌, Bool, true, false, [], ◌∷◌, ◌++
 use Rattle.std.proofs.lemmas.List.{append-nil}
 use Rattle.std.specs.Fmt.{digits}
 use Rattle.std.specs.Prelude.{codes}
-use Rattle.mpm_render.specs.declared.unit.Unit2.TheVariants.{Console, Printer}
+use Rattle.mpm_base.specs.declared.unit.Unit.TheVariants.{Console, Printer}
 use Rattle.mpm_render.specs.Lines.{hex_byte, hex_word, escaped, ended_line, cut_line, text_with}
 use Rattle.mpm_render.specs.Completions.{Completion, completion, trace_line}
 use Rattle.mpm_render.specs.Outputs.{Completed, said, since_end, pending, record_text, text_at, rendered, closing, closed}

@@ -5,9 +5,10 @@ use Rattle.std.proofs.lemmas.List.{append-nil, length-reverse, length-take-le, g
 use Rattle.std.proofs.lemmas.Bool.{cases_eq}
 use Rattle.std.proofs.lemmas.Bool.Decides.{nat_tests}
 use Rattle.mpm_port.specs.Texts.{Begins, AppendsPart}
-use Rattle.mpm_render.specs.declared.unit.Unit2.{Unit2}
-use Rattle.mpm_render.specs.declared.unit.Unit2.TheVariants.{Console, Printer}
-use Rattle.mpm_render.specs.Lines.{place_of, IsUnit, text_with, line_with}
+use Rattle.mpm_base.specs.declared.unit.Unit.{Unit}
+use Rattle.mpm_base.specs.declared.unit.Unit.TheVariants.{Console, Printer}
+use Rattle.mpm_base.specs.Units.{place_of, IsUnit}
+use Rattle.mpm_render.specs.Lines.{text_with, line_with}
 use Rattle.mpm_render.specs.Completions.{Completion}
 use Rattle.mpm_render.specs.Outputs.{Output, Said, Completed, said, since_end, pending, record_text, text_at, rendered}
 use Rattle.mpm_render.specs.Shown.{KeptLines, line_of, Shows, EndsBetween}
@@ -17,32 +18,32 @@ pub rendered_grows : (trace : Bool) (o : Output) (os : List Output) → Begins (
 unfolding rendered
 rendered_grows trace o os = begins_more (rendered trace os) (text_at trace o os)
 
-pub said_nil : (unit : Unit2) (os : List Output) → said unit [] os ≡ os
+pub said_nil : (unit : Unit) (os : List Output) → said unit [] os ≡ os
 unfolding said
 said_nil unit os = refl
 
-pub said_cons : (unit : Unit2) (byte : ℕ) (bytes : List ℕ) (os : List Output) → said unit (byte ∷ bytes) os ≡ said unit bytes (Said unit byte ∷ os)
+pub said_cons : (unit : Unit) (byte : ℕ) (bytes : List ℕ) (os : List Output) → said unit (byte ∷ bytes) os ≡ said unit bytes (Said unit byte ∷ os)
 unfolding said
 said_cons unit byte bytes os = refl
 
-pub said_append : (unit : Unit2) (a b : List ℕ) (os : List Output) → said unit (a ++ b) os ≡ said unit b (said unit a os)
+pub said_append : (unit : Unit) (a b : List ℕ) (os : List Output) → said unit (a ++ b) os ≡ said unit b (said unit a os)
 unfolding said
 said_append unit [] b os = refl
 said_append unit (byte ∷ a) b os = said_append unit a b (Said unit byte ∷ os)
 
-pub said_grows : (trace : Bool) (unit : Unit2) (bytes : List ℕ) (os : List Output) → Begins (rendered trace os) (rendered trace (said unit bytes os))
+pub said_grows : (trace : Bool) (unit : Unit) (bytes : List ℕ) (os : List Output) → Begins (rendered trace os) (rendered trace (said unit bytes os))
 unfolding said
 said_grows trace unit [] os = begins_refl (rendered trace os)
 said_grows trace unit (byte ∷ bytes) os =
     begins_trans _ (rendered trace (Said unit byte ∷ os)) _ (rendered_grows trace (Said unit byte) os) (said_grows trace unit bytes (Said unit byte ∷ os))
 
 -- a unit's place is one of the twelve
-pub place_small : (unit : Unit2) → IsUnit unit → place_of unit < 12
+pub place_small : (unit : Unit) → IsUnit unit → place_of unit < 12
 place_small (Console n) h = omega arith
 place_small (Printer n) h = omega arith
 
 -- what a byte writes, by its own line alone
-pub rendered_said : (trace : Bool) (unit : Unit2) (byte : ℕ) (os : List Output) → rendered trace (Said unit byte ∷ os) ≡ rendered trace os ++ text_with (place_of unit) byte (pending (place_of unit) os)
+pub rendered_said : (trace : Bool) (unit : Unit) (byte : ℕ) (os : List Output) → rendered trace (Said unit byte ∷ os) ≡ rendered trace os ++ text_with (place_of unit) byte (pending (place_of unit) os)
 unfolding rendered text_at text_with
 rendered_said trace unit byte os = refl
 
@@ -62,15 +63,15 @@ unfolding pending since_end
 pending_completed place call os = refl
 
 -- the bytes of a place since its last LF, after one more byte
-since_same : (unit : Unit2) (byte : ℕ) (os : List Output) → byte ≢ 10 → since_end (place_of unit) (Said unit byte ∷ os) ≡ byte ∷ since_end (place_of unit) os
+since_same : (unit : Unit) (byte : ℕ) (os : List Output) → byte ≢ 10 → since_end (place_of unit) (Said unit byte ∷ os) ≡ byte ∷ since_end (place_of unit) os
 unfolding since_end
 since_same unit byte os other = grind (arith, nat_tests)
 
-since_lf : (unit : Unit2) (byte : ℕ) (os : List Output) → byte ≡ 10 → since_end (place_of unit) (Said unit byte ∷ os) ≡ []
+since_lf : (unit : Unit) (byte : ℕ) (os : List Output) → byte ≡ 10 → since_end (place_of unit) (Said unit byte ∷ os) ≡ []
 unfolding since_end
 since_lf unit byte os lf = grind (arith, nat_tests)
 
-since_other : (place : ℕ) (unit : Unit2) (byte : ℕ) (os : List Output) → place_of unit ≢ place → since_end place (Said unit byte ∷ os) ≡ since_end place os
+since_other : (place : ℕ) (unit : Unit) (byte : ℕ) (os : List Output) → place_of unit ≢ place → since_end place (Said unit byte ∷ os) ≡ since_end place os
 unfolding since_end
 since_other place unit byte os other = grind (arith, nat_tests)
 
@@ -92,7 +93,7 @@ uncut_more byte bytes room =
     ap (λ n. reverse (take n (byte ∷ bytes))) more ∙ reverse_onto (take (length bytes % 200) bytes) byte []
 
 -- a byte leaves its own line with itself
-pub pending_same : (unit : Unit2) (byte : ℕ) (os : List Output) → pending (place_of unit) (Said unit byte ∷ os) ≡ line_with byte (pending (place_of unit) os)
+pub pending_same : (unit : Unit) (byte : ℕ) (os : List Output) → pending (place_of unit) (Said unit byte ∷ os) ≡ line_with byte (pending (place_of unit) os)
 unfolding pending line_with
 pending_same unit byte os =
     let before = since_end (place_of unit) os in
@@ -105,7 +106,7 @@ pending_same unit byte os =
     ]
 
 -- a byte leaves the other lines
-pub pending_other : (place : ℕ) (unit : Unit2) (byte : ℕ) (os : List Output) → place_of unit ≢ place → pending place (Said unit byte ∷ os) ≡ pending place os
+pub pending_other : (place : ℕ) (unit : Unit) (byte : ℕ) (os : List Output) → place_of unit ≢ place → pending place (Said unit byte ∷ os) ≡ pending place os
 unfolding pending
 pending_other place unit byte os other = ap uncut (since_other place unit byte os other)
 
@@ -130,7 +131,7 @@ shows_none kept written none = record {
 }
 
 -- a byte that is put to its line, and the text that it writes, keep what is shown
-pub shows_said : (old new : KeptLines) (written now first : List ℕ) (unit : Unit2) (byte : ℕ) (os : List Output) → IsUnit unit → length old.lines ≡ 12 → new.trace ≡ old.trace → new.lines ≡ set old.lines (place_of unit) (line_with byte (line_of old (place_of unit))) → now ≡ written ++ text_with (place_of unit) byte (line_of old (place_of unit)) → Shows old written os first → Shows new now (Said unit byte ∷ os) first
+pub shows_said : (old new : KeptLines) (written now first : List ℕ) (unit : Unit) (byte : ℕ) (os : List Output) → IsUnit unit → length old.lines ≡ 12 → new.trace ≡ old.trace → new.lines ≡ set old.lines (place_of unit) (line_with byte (line_of old (place_of unit))) → now ≡ written ++ text_with (place_of unit) byte (line_of old (place_of unit)) → Shows old written os first → Shows new now (Said unit byte ∷ os) first
 shows_said old new written now first unit byte os is twelve traces changed writes s =
     let here = place_of unit in
     let small : here < 12 = place_small unit is in
@@ -145,7 +146,7 @@ shows_said old new written now first unit byte os is twelve traces changed write
     }
 
 -- a failed write of a byte's text stops between the texts before and after it
-pub ends_said : (old : KeptLines) (written now first : List ℕ) (unit : Unit2) (byte : ℕ) (os : List Output) → IsUnit unit → AppendsPart written (text_with (place_of unit) byte (line_of old (place_of unit))) now → 0 < length (text_with (place_of unit) byte (line_of old (place_of unit))) → Shows old written os first → EndsBetween now first (rendered old.trace os) (rendered old.trace (Said unit byte ∷ os))
+pub ends_said : (old : KeptLines) (written now first : List ℕ) (unit : Unit) (byte : ℕ) (os : List Output) → IsUnit unit → AppendsPart written (text_with (place_of unit) byte (line_of old (place_of unit))) now → 0 < length (text_with (place_of unit) byte (line_of old (place_of unit))) → Shows old written os first → EndsBetween now first (rendered old.trace os) (rendered old.trace (Said unit byte ∷ os))
 ends_said old written now first unit byte os is part some s =
     let here = place_of unit in
     let line : line_of old here ≡ pending here os = s.lines here (place_small unit is) in
@@ -154,12 +155,12 @@ ends_said old written now first unit byte os is part some s =
     subst P (ap (λ line. before ++ text_with here byte line) line ∙ sym (rendered_said old.trace unit byte os)) (ends_within written now first before _ s.written_is part some)
 
 -- the same, as a line answers that has been picked by its place
-same_line : (lines : List (List ℕ)) (unit : Unit2) (place : ℕ) (other : List ℕ) → IsUnit unit → place ≡ place_of unit → length lines ≡ 12 → get_or lines place other ≡ get_or lines (place_of unit) []
+same_line : (lines : List (List ℕ)) (unit : Unit) (place : ℕ) (other : List ℕ) → IsUnit unit → place ≡ place_of unit → length lines ≡ 12 → get_or lines place other ≡ get_or lines (place_of unit) []
 same_line lines unit place other is at twelve =
     let small = place_small unit is in
     get_or_default lines place other [] (omega arith) ∙ ap (λ p. get_or lines p []) at
 
-pub ok_said : {A E : Type 0} (result : Result A E) (old new : KeptLines) (written now first : List ℕ) (unit : Unit2) (byte place : ℕ) (other after : List ℕ) (os : List Output) → IsUnit unit → place ≡ place_of unit → length old.lines ≡ 12 → new.trace ≡ old.trace → OnOk result (after ≡ line_with byte (get_or old.lines place other)) → new.lines ≡ set old.lines place after → OnOk result (now ≡ written ++ text_with place byte (get_or old.lines place other)) → Shows old written os first → OnOk result (Shows new now (Said unit byte ∷ os) first)
+pub ok_said : {A E : Type 0} (result : Result A E) (old new : KeptLines) (written now first : List ℕ) (unit : Unit) (byte place : ℕ) (other after : List ℕ) (os : List Output) → IsUnit unit → place ≡ place_of unit → length old.lines ≡ 12 → new.trace ≡ old.trace → OnOk result (after ≡ line_with byte (get_or old.lines place other)) → new.lines ≡ set old.lines place after → OnOk result (now ≡ written ++ text_with place byte (get_or old.lines place other)) → Shows old written os first → OnOk result (Shows new now (Said unit byte ∷ os) first)
 ok_said (Err e) old new written now first unit byte place other after os is at twelve traces kept changed writes s = tt
 ok_said (Ok x) old new written now first unit byte place other after os is at twelve traces kept changed writes s =
     let line = same_line old.lines unit place other is at twelve in
@@ -168,7 +169,7 @@ ok_said (Ok x) old new written now first unit byte place other after os is at tw
     (writes ∙ ap (λ p. written ++ text_with p byte (get_or old.lines place other)) at ∙ ap (λ l. written ++ text_with (place_of unit) byte l) line)
     s
 
-pub err_said : {A E : Type 0} (result : Result A E) (old : KeptLines) (written now first : List ℕ) (unit : Unit2) (byte place : ℕ) (other : List ℕ) (os : List Output) → IsUnit unit → place ≡ place_of unit → length old.lines ≡ 12 → OnErr result (AppendsPart written (text_with place byte (get_or old.lines place other)) now) → OnErr result (0 < length (text_with place byte (get_or old.lines place other))) → Shows old written os first → OnErr result (EndsBetween now first (rendered old.trace os) (rendered old.trace (Said unit byte ∷ os)))
+pub err_said : {A E : Type 0} (result : Result A E) (old : KeptLines) (written now first : List ℕ) (unit : Unit) (byte place : ℕ) (other : List ℕ) (os : List Output) → IsUnit unit → place ≡ place_of unit → length old.lines ≡ 12 → OnErr result (AppendsPart written (text_with place byte (get_or old.lines place other)) now) → OnErr result (0 < length (text_with place byte (get_or old.lines place other))) → Shows old written os first → OnErr result (EndsBetween now first (rendered old.trace os) (rendered old.trace (Said unit byte ∷ os)))
 err_said (Ok x) old written now first unit byte place other os is at twelve part some s = tt
 err_said (Err e) old written now first unit byte place other os is at twelve part some s =
     let P : List ℕ → Type 0 = λ text. AppendsPart written text now in

@@ -1,17 +1,5 @@
 -- The lines of the output text: a label, the bytes as they are written, and how the line ends.
 use Rattle.std.specs.Prelude.{ℕ, ◌+◌, ◌-◌, ◌/◌, ◌%◌, List, [], ◌∷◌, ◌++◌, ◌<◌, ◌==◌, ◌&&◌, nat_lt, nat_le, length, flat_map, codes, if◌then◌else◌}
-use Rattle.mpm_render.specs.declared.unit.Unit2.{Unit2}
-use Rattle.mpm_render.specs.declared.unit.Unit2.TheVariants.{Console, Printer}
-
--- the places of the lines: eight consoles, then four printers
-abbrev pub place_of : Unit2 → ℕ
-place_of (Console n) = n
-place_of (Printer n) = 8 + n
-
--- there is a console, or a printer, of this number
-abbrev pub IsUnit : Unit2 → Type 0
-IsUnit (Console n) = n < 8
-IsUnit (Printer n) = n < 4
 
 -- all the places, in the order in which unfinished lines are closed
 abbrev pub places : List ℕ

@@ -1,17 +1,18 @@
 -- The outputs of a run, and the text that they are rendered to. Outputs are a list, newest first: what stands
 -- before a position is the list after it.
 use Rattle.std.specs.Prelude.{ℕ, ◌%◌, Bool, List, [], ◌∷◌, ◌++◌, ◌==◌, take, reverse, length, flat_map, if◌then◌else◌}
-use Rattle.mpm_render.specs.declared.unit.Unit2.{Unit2}
-use Rattle.mpm_render.specs.Lines.{place_of, places, cut_line, text_with}
+use Rattle.mpm_base.specs.declared.unit.Unit.{Unit}
+use Rattle.mpm_base.specs.Units.{place_of}
+use Rattle.mpm_render.specs.Lines.{places, cut_line, text_with}
 use Rattle.mpm_render.specs.Completions.{Completion, trace_line}
 
 -- a byte to a console or a printer, or the record of a completed call
 pub data Output : Type 0 where
-  Said : Unit2 → ℕ → Output
+  Said : Unit → ℕ → Output
   Completed : Completion → Output
 
 -- the bytes in order, to one unit
-unfoldable pub said : Unit2 → List ℕ → List Output → List Output
+unfoldable pub said : Unit → List ℕ → List Output → List Output
 said unit [] outputs = outputs
 said unit (byte ∷ bytes) outputs = said unit bytes (Said unit byte ∷ outputs)
 

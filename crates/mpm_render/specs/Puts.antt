@@ -1,7 +1,8 @@
 -- The puts of a sink that write lines, by what a put leaves of it.
 use Rattle.std.specs.Prelude.{◌≡◌, ◌≢◌, ℕ, ◌<◌, ◌≤◌, List, [], ◌∷◌, length, take, map, slice_index_or}
-use Rattle.mpm_render.specs.declared.unit.Unit2.{Unit2}
-use Rattle.mpm_render.specs.Lines.{place_of, places, text_with}
+use Rattle.mpm_base.specs.declared.unit.Unit.{Unit}
+use Rattle.mpm_base.specs.Units.{place_of}
+use Rattle.mpm_render.specs.Lines.{places, text_with}
 use Rattle.mpm_render.specs.Completions.{Completion}
 use Rattle.mpm_render.specs.Outputs.{closing, record_text}
 use Rattle.mpm_render.specs.Shown.{KeptLines, line_of}
@@ -26,7 +27,7 @@ pub record StopsAtText {S : Type 0} (took dropped : S → List ℕ → S → Typ
   pub failed : dropped middle (slice_index_or texts number []) new
 
 -- what a byte to a console or a printer writes, after the unfinished line that is kept of it
-abbrev pub text_put : Unit2 → ℕ → KeptLines → List ℕ
+abbrev pub text_put : Unit → ℕ → KeptLines → List ℕ
 text_put unit byte kept = text_with (place_of unit) byte (line_of kept (place_of unit))
 
 -- what the record of a completed call writes

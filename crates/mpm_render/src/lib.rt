@@ -8,8 +8,7 @@
 mod line;
 mod render;
 mod text;
-mod unit;
 
+pub use mpm_base::Unit;
 pub use render::Render;
 pub use text::hex_word;
-pub use unit::Unit2;

@@ -3,9 +3,9 @@ ghost use Rattle.mpm_port.specs.Causes.{HasCause};
 ghost use Rattle.mpm_port.specs.Texts.{AppendsPart};
 ghost use Rattle.mpm_render.specs.Completions.{completion, trace_line};
 
-use crate::Unit2;
 use crate::line::Line;
 use crate::text::LineText;
+use mpm_base::Unit;
 use mpm_port::{Failed, Sink};
 use std::marker::Model;
 
@@ -26,7 +26,7 @@ impl Model for Render {
 }
 
 impl Render {
-    ghost use Rattle.mpm_render.specs.Lines.{IsUnit};
+    ghost use Rattle.mpm_base.specs.Units.{IsUnit};
     ghost use Rattle.mpm_render.specs.Completions.{completion};
     ghost use Rattle.mpm_render.specs.Outputs.{Output, Said, Completed, rendered, closed};
     ghost use Rattle.mpm_render.specs.Shown.{Shows, EndsBetween, line_of};
@@ -52,7 +52,7 @@ impl Render {
 
     /// Gives a byte to a console (below 8) or printer (below 4). An LF, or the 200th byte since the last end of line,
     /// writes the line with one `put`; any other byte puts nothing. If the `put` fails, the lines stay as they were.
-    pub fn put<S: Sink>(&mut self, stream: Unit2, byte: u8, sink: &mut S) -> Result<(), Failed>
+    pub fn put<S: Sink>(&mut self, stream: Unit, byte: u8, sink: &mut S) -> Result<(), Failed>
         requires { IsUnit stream }
         ensures ok { (os : List Output) (first : List ℕ) → Shows self.old (S.written sink.old) os first
             → OnOk result (Shows self.new (S.written sink.new) (Said stream byte ∷ os) first) }

@@ -1,6 +1,6 @@
 ghost use Rattle.std.specs.Prelude.{◌≡◌, ◌≤◌, ◌<◌, length};
 ghost use Rattle.mpm_base.specs.Calls.{asking as call_asking};
-ghost use Rattle.mpm_spool.specs.Spoolers.{asking_file as file_asking, file_block as file_block_of, read_only as block_read_only, row_at as row_of_bytes, IsSpoolerRow as IsPlace};
+ghost use Rattle.mpm_spool.specs.Spoolers.{asking_file as file_asking, file_block as file_block_of, read_only as block_read_only, row_at as row_of_bytes, IsSpoolerRow};
 
 use crate::list::{SpoolItem, SpoolList, no_item, read_list};
 use crate::table::Row;
@@ -274,7 +274,7 @@ impl Spool {
 /// What comes by the next byte of a record: it is printed, or ends the text; after the last it looks whether it is to stop.
 fn row_at(bytes: &[u8; 128], place: u8) -> Row
     ensures row { result ≡ row_of_bytes bytes.now place }
-    ensures bound { IsPlace result place }
+    ensures bound { IsSpoolerRow result place }
 {
     let place = usize::from(place);
     if place >= 128 {

@@ -8,7 +8,7 @@ use Rattle.std.proofs.lemmas.List.Sums.{sum_by-cons, sum_by-set, count_by-le-len
 use Rattle.mpm_kernel.specs.Kernel.{Kernel, is_aborted, new_kernel, dispatched}
 use Rattle.mpm_kernel.specs.Consoling.{given, is_from, handed_over as handed_console, owner_made, unit_left}
 use Rattle.mpm_consoles.specs.Consoles.{owner_of}
-use Rattle.mpm_consoles.specs.declared.unit.Unit.TheVariants.{Console as ConsoleUnit}
+use Rattle.mpm_base.specs.declared.unit.Unit.TheVariants.{Console as ConsoleUnit}
 use Rattle.mpm_kernel.proofs.DiskStays.{kernel_if}
 use Rattle.mpm_base.specs.declared.number.Name8.{Name8}
 use Rattle.mpm_base.specs.declared.segment.SegmentSpec.{SegmentSpec}

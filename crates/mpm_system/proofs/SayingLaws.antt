@@ -13,7 +13,7 @@ use Rattle.mpm_kernel.specs.Called.{low_parameter}
 use Rattle.mpm_kernel.specs.Columns.{column_of, tab_text, expanded, spoke}
 use Rattle.mpm_kernel.specs.ConsoleInput.{writes}
 use Rattle.mpm_kernel.proofs.SpokeLaws.{spoke_none}
-use Rattle.mpm_render.specs.declared.unit.Unit2.TheVariants.{Printer}
+use Rattle.mpm_base.specs.declared.unit.Unit.TheVariants.{Printer}
 use Rattle.mpm_render.specs.Outputs.{Said, said}
 use Rattle.mpm_render.proofs.Laws.{said_nil, said_cons}
 use Rattle.mpm_output.specs.Outside.{Outside}

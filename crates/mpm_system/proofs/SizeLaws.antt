@@ -16,7 +16,7 @@ use Rattle.mpm_banks.specs.Actions.{memory_after}
 use Rattle.mpm_banks.specs.Allocations.{FitsBelowCommon, new_memory, allocated, all_released}
 use Rattle.mpm_banks.proofs.SegmentLaws.{count_allocated, same_bytes_allocated, all_released_is_memory, new_is_memory}
 use Rattle.mpm_gate.specs.Replies.{with_block, placed}
-use Rattle.mpm_machine_file.specs.MachineFiles.{IsListedSegment as HasPages}
+use Rattle.mpm_machine_file.specs.MachineFiles.{IsListedSegment}
 
 -- no space grows or shrinks
 abbrev pub SameSizes : Memory → Memory → Type 0
@@ -111,9 +111,9 @@ memory_released memory owner is = all_released_is_memory _ memory.segments memor
 
 -- memory as it begins
 
-fits_below : (spec : SegmentSpec) → HasPages spec → FitsBelowCommon spec
+fits_below : (spec : SegmentSpec) → IsListedSegment spec → FitsBelowCommon spec
 fits_below spec has = record { some = omega (arith, has.pages); below = has.end }
 
-pub memory_new : (specs : List SegmentSpec) → 1 ≤ length specs → length specs ≤ 16 → All HasPages specs → IsMemory (new_memory specs)
+pub memory_new : (specs : List SegmentSpec) → 1 ≤ length specs → length specs ≤ 16 → All IsListedSegment specs → IsMemory (new_memory specs)
 unfolding new_memory
 memory_new specs some few fit = new_is_memory _ _ specs refl refl (some, few) (λ k d below. fits_below _ (fit k d below))

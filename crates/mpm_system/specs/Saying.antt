@@ -11,7 +11,7 @@ use Rattle.mpm_kernel.specs.Calls.{does_echo}
 use Rattle.mpm_kernel.specs.Columns.{column_of, expanded, tab_text}
 use Rattle.mpm_kernel.specs.Called.{low_parameter}
 use Rattle.mpm_kernel.specs.ConsoleInput.{writes}
-use Rattle.mpm_render.specs.declared.unit.Unit2.TheVariants.{Printer}
+use Rattle.mpm_base.specs.declared.unit.Unit.TheVariants.{Printer}
 use Rattle.mpm_render.specs.Outputs.{said}
 use Rattle.mpm_system.specs.declared.system.System.{System}
 use Rattle.mpm_system.specs.Whole.{SystemChange, speaking}

@@ -10,7 +10,7 @@ use mpm_consoles::{AWAIT_KEY, echoes};
 use mpm_file_functions::Extended;
 use mpm_output::{error_text, put_bytes};
 use mpm_port::{Failed, Sink};
-use mpm_render::{Render, Unit2};
+use mpm_render::{Render, Unit};
 
 impl System {
     ghost use Rattle.mpm_file_functions.specs.declared.refusals.Extended.{Extended};
@@ -129,7 +129,7 @@ impl System {
                 sink,
             ),
             functions::LIST_OUTPUT if 0 < self.kernel.printers() => render.put(
-                Unit2::Printer { n: printer },
+                Unit::Printer { n: printer },
                 byte,
                 sink,
             ),

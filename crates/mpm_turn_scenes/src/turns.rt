@@ -10,6 +10,7 @@ use crate::scene::{FREE, Scene, Seen, call_count, seen_after, slot_of};
 use mpm_base::{Kind, Steps};
 use mpm_blocks::geometry;
 use mpm_cache::Cache;
+use mpm_dirent::LAST_POSITION;
 use mpm_files::{Job, JobKind, Progress, RecordError, Work, plan, turn, turns};
 use mpm_images::image;
 use mpm_mount::{Mounted, mount};
@@ -117,7 +118,7 @@ fn does<L: Ledger>(
     ensures drive { mounted.new.drive ≡ mounted.old.drive }
     ensures kind { mounted.new.kind ≡ mounted.old.kind }
 {
-    if job.first > 262_271 || job.count > 16 {
+    if job.first > LAST_POSITION || job.count > 16 {
         return None;
     }
     let mut work = plan(mounted, job);

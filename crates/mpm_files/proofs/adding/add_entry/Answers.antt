@@ -14,7 +14,7 @@ pub put_entry-requires-clause-faultless : goal.put_entry-requires-clause-faultle
 put_entry-requires-clause-faultless g c =
     entry_clean c.args.mounted.now c.args.job.now c.args.extent c.in-Some.slot c.new_entry-file.result
     (record { user = c.new_entry-file.ensures.user; name = c.new_entry-file.ensures.name; low = c.new_entry-file.ensures.low; high = c.new_entry-file.ensures.high; count = c.new_entry-file.ensures.count; blocks = c.new_entry-file.ensures.blocks })
-    (omega (arith, c.if-extent-gt2047.false)) (none_taken _ c.extent.result c.extent.ensures (sym c.is_some.ensures ∙ c.if-is_some.false)) (sym c.free_slot.ensures ∙ c.in-Some.is)
+    (omega (arith, c.if-extent-gt-LAST_EXTENT.false)) (none_taken _ c.extent.result c.extent.ensures (sym c.is_some.ensures ∙ c.if-is_some.false)) (sym c.free_slot.ensures ∙ c.in-Some.is)
 
 pub returns-in-Some-clause-does : goal.returns-in-Some-clause-does
 returns-in-Some-clause-does g c = λ image files told stands user small none some.

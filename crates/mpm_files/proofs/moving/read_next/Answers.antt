@@ -11,8 +11,8 @@ use Rattle.mpm_files.proofs.NextDone.{IsDone, does_as, does_next, never_next}
 use Rattle.mpm_files.proofs.ReadTurns.{read_now, read_small, few_read, record_there, record_was_read, reading_failed}
 use Rattle.mpm_files.proofs.moving.read_next.Goals as goal
 
-pub returns-then-n-gt-LAST-clause-read : goal.returns-then-n-gt-LAST-clause-read
-returns-then-n-gt-LAST-clause-read g c = λ kind.
+pub returns-then-n-gt-LAST_NAMED-clause-read : goal.returns-then-n-gt-LAST_NAMED-clause-read
+returns-then-n-gt-LAST_NAMED-clause-read g c = λ kind.
     never_next (g.D.Drives.disks c.args.drives.now) (g.D.Drives.disks c.args.drives.now) c.args.mounted.now c.args.mounted.now c.args.work.now _ _ (λ image before job j suits service h.
     omega (arith, read_small before job j c.args.work.now service.serving kind h suits, c.if-n-gt-LAST.true, c.saturating_add-n.ensures))
 

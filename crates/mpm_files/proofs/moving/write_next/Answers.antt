@@ -7,12 +7,13 @@ use Rattle.mpm_files.specs.Serving.{units_done}
 use Rattle.mpm_files.proofs.NextDone.{does_next, fails_next, clears_next, never_next}
 use Rattle.mpm_files.proofs.WriteTurns.{number_small, entry_missing, entry_written, extent_small, entry_gone, entry_room, entry_entered, block_ready, cleared_same}
 use Rattle.std.specs.FinMap.{get}
+use Rattle.mpm_dirent.specs.declared.limits.TheConstants.{LAST_EXTENT}
 use Rattle.mpm_mount.specs.Drives.{entry_name}
 use Rattle.mpm_files.specs.Standing.{DoesUnit}
 use Rattle.mpm_files.proofs.moving.write_next.Goals as goal
 
-pub returns-then-n-gt-LAST-clause-write : goal.returns-then-n-gt-LAST-clause-write
-returns-then-n-gt-LAST-clause-write g c = λ kind.
+pub returns-then-n-gt-LAST_NAMED-clause-write : goal.returns-then-n-gt-LAST_NAMED-clause-write
+returns-then-n-gt-LAST_NAMED-clause-write g c = λ kind.
     never_next (g.D.Drives.disks c.args.drives.now) (g.D.Drives.disks c.args.drives.now) c.args.mounted.now c.args.mounted.now c.args.work.now _ _ (λ image before job j suits service h.
     omega (arith, number_small before job j c.args.work.now service.serving kind h suits, c.if-n-gt-LAST.true, c.saturating_add-n.ensures, c.from.ensures))
 
@@ -30,7 +31,7 @@ returns-in-Entry-clause-write g c = λ kind.
         subst (λ m. DoesUnit (g.D.Drives.disks c.add_entry.new.drives) c.args.mounted.now.drive c.add_entry.new.mounted (units_done before job j) (AddsEntry (file_of_job c.args.work.now.job) (m / 128)) c.add_entry.result) (sym n)
             (c.add_entry.ensures.does image (units_done before job j) told service.stands
             (subst (λ (q : Job). q.user < 16) (sym service.serving.job_is) suits.user)
-            (subst (λ m. m / 128 ≤ 2047) n (extent_small before job j c.args.work.now service.serving kind h suits))
+            (subst (λ m. m / 128 ≤ LAST_EXTENT) n (extent_small before job j c.args.work.now service.serving kind h suits))
             (ap (λ m. get (units_done before job j).extents (entry_name (units_done before job j).kind (file_of_job c.args.work.now.job) (m / 128))) (sym n) ∙ entry_gone (units_done before job j) (file_of_job c.args.work.now.job) (stepping.record_next c.args.work.now) missing)
             (entry_room before job j c.args.work.now (stepping.record_next c.args.work.now / 128) service.serving kind h written.unit_is)),
       ),

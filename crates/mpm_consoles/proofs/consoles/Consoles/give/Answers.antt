@@ -2,8 +2,8 @@ use Rattle.std.proofs.Common.{sym, subst}
 use Rattle.mpm_consoles.specs.Console.{passed_to}
 use Rattle.mpm_consoles.specs.Consoles.{Consoles, HasUnit, waiters_of, MayWait}
 use Rattle.mpm_consoles.specs.Handling.{given}
-use Rattle.mpm_consoles.specs.declared.unit.Unit.{Unit}
-use Rattle.mpm_consoles.specs.declared.unit.Unit.TheVariants.{Console as ConsoleUnit}
+use Rattle.mpm_base.specs.declared.unit.Unit.{Unit}
+use Rattle.mpm_base.specs.declared.unit.Unit.TheVariants.{Console as ConsoleUnit}
 use Rattle.mpm_consoles.proofs.SoundLaws.{sound_set, sound_given}
 use Rattle.mpm_consoles.proofs.consoles.Consoles.give.Goals as goal
 

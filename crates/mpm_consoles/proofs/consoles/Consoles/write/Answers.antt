@@ -2,8 +2,8 @@ use Rattle.std.proofs.Common.{sym, subst}
 use Rattle.mpm_consoles.specs.Console.{written}
 use Rattle.mpm_consoles.specs.Consoles.{Consoles, HasUnit}
 use Rattle.mpm_consoles.specs.Handling.{put_out}
-use Rattle.mpm_consoles.specs.declared.unit.Unit.{Unit}
-use Rattle.mpm_consoles.specs.declared.unit.Unit.TheVariants.{Console as ConsoleUnit}
+use Rattle.mpm_base.specs.declared.unit.Unit.{Unit}
+use Rattle.mpm_base.specs.declared.unit.Unit.TheVariants.{Console as ConsoleUnit}
 use Rattle.mpm_consoles.proofs.SoundLaws.{sound_set, sound_output}
 use Rattle.mpm_consoles.proofs.consoles.Consoles.write.Goals as goal
 

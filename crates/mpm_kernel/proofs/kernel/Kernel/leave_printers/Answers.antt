@@ -1,5 +1,5 @@
 use Rattle.std.proofs.Common.{◌∙◌, sym, ap, subst, arith}
-use Rattle.mpm_consoles.specs.declared.unit.Unit.TheVariants.{Printer as PrinterUnit}
+use Rattle.mpm_base.specs.declared.unit.Unit.TheVariants.{Printer as PrinterUnit}
 use Rattle.mpm_kernel.specs.Kernel.{Kernel, IsSoundKernel}
 use Rattle.mpm_kernel.specs.Consoling.{unit_left}
 use Rattle.mpm_kernel.proofs.LeavingLaws.{printers_none, printers_more, has_next_printer, sound_printers_left}

@@ -1,5 +1,4 @@
 ghost use Rattle.std.specs.Prelude.{◌≡◌, ◌<◌};
-ghost use Rattle.mpm_consoles.specs.Consoles.{IsNumbered, place_of};
 
 /// A console or a printer, by its number.
 #[derive(Clone, Copy, Debug, PartialEq, Eq)]
@@ -11,9 +10,11 @@ pub enum Unit {
 }
 
 impl Unit {
-    /// The number of the list of those who wait for it: eight consoles, then four printers.
-    pub(crate) fn place(self) -> u8
-        requires { IsNumbered self }
+    ghost use Rattle.mpm_base.specs.Units.{IsUnit, place_of};
+
+    /// The unit's place among all units, 0 to 11: eight consoles, then four printers.
+    pub fn place(self) -> u8
+        requires { IsUnit self }
         ensures place { result ≡ place_of self }
         ensures below { result < 12 }
     {
