@@ -1,14 +1,17 @@
 -- A file call that is done at once, its turns one after another.
-use Rattle.std.specs.Prelude.{◌≡◌, ◌≢◌, ℕ, ◌<◌, ◌≤◌, Bool, true, false, List, Option, Some}
+use Rattle.std.specs.Prelude.{◌≡◌, ◌≢◌, ℕ, ◌+◌, ◌*◌, ◌<◌, ◌≤◌, Bool, true, false, List, Option, Some, None, option_map, Result, IsOk, IfOk, OnErr}
+use Rattle.mpm_base.specs.Calls.{Answer}
 use Rattle.mpm_port.specs.Disks.{Disks, ToldImage}
 use Rattle.mpm_mount.specs.Directories.{Directory}
 use Rattle.mpm_file_functions.specs.declared.functions.FileFunction.{FileFunction}
 use Rattle.mpm_file_functions.specs.declared.functions.FileFunction.TheVariants.{OpenFile, DeleteFile, ReadSequential, WriteSequential, MakeFile, RenameFile, SetAttributes, ReadRandom, WriteRandom, TestAndWrite, SetLabel, WriteXfcb}
+use Rattle.mpm_file_functions.specs.declared.refusals.Extended.{Extended}
 use Rattle.mpm_refusals.specs.Filing.{Situation}
-use Rattle.mpm_bdos.specs.Jobs.{call_turns}
+use Rattle.mpm_bdos.specs.Jobs.{call_turns, job_of}
 use Rattle.mpm_bdos.specs.Serving.{Kept}
+use Rattle.mpm_bdos.specs.Finishing.{ComesTo}
 use Rattle.mpm_directories.specs.Places.{directory_at}
-use Rattle.mpm_bdos.specs.Turns.{FitsDrives, KeepsImages, KeepsToldOf, KeepsUnsynced, StaysBeside, TurnKeeps, StopsWithin, drive_served}
+use Rattle.mpm_bdos.specs.Turns.{FitsDrives, KeepsImages, KeepsToldOf, KeepsUnsynced, StaysBeside, TurnKeeps, StopsWithin, drive_served, images_of, labelled}
 
 -- what some turns of the call in service leave of what is kept, of the drives and of their images
 pub record TurnsLeave {D : Type 0} (disks : D → Disks) (told : D → List ℕ → ToldImage) (failed : D → List (List ℕ)) (unsynced : D → ℕ → Bool) (old new : Kept) (drives now : D) : Type 0 where
@@ -64,3 +67,30 @@ pub record IsUntouched {R D : Type 0} (old new : Kept) (reply reply' : R) (drive
   pub answer : reply' ≡ reply
   pub device : now ≡ drives
   pub calls : steps' ≡ steps
+
+-- a call was done at once, in the situation in which it entered: it comes to its outcome, or its drive failed in one of its turns; each
+-- turn takes 20 calls of the drives at most, and without a job there is none
+pub record DoneAtOnce {D E : Type 0} (disks : D → Disks) (s : Situation) (new : Kept) (answer : Answer) (drives now : D) (steps steps' : ℕ) (result : Result (Option Extended) E) : Type 0 where
+  pub ok : IfOk result (ComesTo (images_of (disks now)) s new answer)
+  pub err : OnErr result (FailsIn (disks now) s)
+  pub idle : job_of s ≡ None → (now ≡ drives) × (steps' ≡ steps) × IsOk result
+  pub calls : steps' ≤ steps + 20 * call_turns s
+
+-- a call keeps to its drive: of those that are mounted it changes the directory and the image of that one alone, and asks no other one
+-- to write
+pub record KeepsToDrive {D : Type 0} (disks : D → Disks) (unsynced : D → ℕ → Bool) (drive : ℕ) (old new : List (Option Directory)) (drives now : D) : Type 0 where
+  pub alone : ChangesAlone drive old new (disks drives) (disks now)
+  pub kept_unsynced : KeepsUnsynced (Some drive) (unsynced drives) (unsynced now)
+
+-- where a device failed the call isn't answered, and nothing is kept otherwise but directories and cached sectors
+pub record IsBrokenOff {R : Type 0} (old new : Kept) (reply reply' : R) : Type 0 where
+  pub kept : new ≡ record old { mounted = new.mounted; cached = new.cached; service = None }
+  pub answer : reply' ≡ reply
+
+-- what a call leaves of the drives that are mounted, and of all others
+pub record AtOnceLeaves {D : Type 0} (disks : D → Disks) (told : D → List ℕ → ToldImage) (failed : D → List (List ℕ)) (old new : Kept) (drives now : D) : Type 0 where
+  pub labels : (number : ℕ) → option_map labelled (directory_at new.mounted number) ≡ option_map labelled (directory_at old.mounted number)
+  pub fits : FitsDrives disks new.mounted new.cached now
+  pub beside : StaysBeside old.mounted (disks drives) (disks now)
+  pub told_are : KeepsToldOf old.mounted (disks drives) (told drives) (told now)
+  pub names : failed now ≡ failed drives

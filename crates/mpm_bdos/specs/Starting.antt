@@ -14,7 +14,7 @@ use Rattle.mpm_files.specs.Turning.{Suits}
 use Rattle.mpm_refusals.specs.declared.caller.Caller.{Caller}
 use Rattle.mpm_file_functions.specs.declared.functions.FileFunction.{FileFunction}
 use Rattle.mpm_bdos.specs.declared.planning.About.{About}
-use Rattle.mpm_bdos.specs.declared.starting.TheConstants.{LAST_POSITION}
+use Rattle.mpm_dirent.specs.declared.limits.TheConstants.{LAST_POSITION}
 use Rattle.mpm_refusals.specs.Filing.{Situation}
 use Rattle.mpm_refusals.specs.Subjects.{drive_number, drive_at, first_by}
 use Rattle.mpm_bdos.specs.Jobs.{job_of}

@@ -1,5 +1,5 @@
 -- A turn of the call in service: what it asks of the drives, what it leaves of them and of what is kept, and how many turns are left.
-use Rattle.std.specs.Prelude.{◌≡◌, ◌≢◌, ℕ, Bool, true, false, List, [], Option, Some, None, IfSome, is_some, option_map, unwrap_or, nat_lt, if◌then◌else◌}
+use Rattle.std.specs.Prelude.{◌≡◌, ◌≢◌, ◌≤◌, ℕ, ◌+◌, Bool, true, false, List, [], Option, Some, None, IfSome, is_some, option_map, unwrap_or, nat_lt, if◌then◌else◌}
 use Rattle.mpm_port.specs.Disks.{Disks, ToldImage, Untold, size_of}
 use Rattle.mpm_base.specs.declared.kind.Kind.{Kind}
 use Rattle.mpm_blocks.specs.Geometries.{geometry_of}
@@ -140,6 +140,26 @@ pub record KeepsToldOf (mounted : List (Option Directory)) (disks : Disks) (old 
 abbrev pub KeepsImages : Option ℕ → List (Option Directory) → Disks → Disks → Type 0
 KeepsImages drive mounted disks now =
     (number : ℕ) → drive ≢ Some number → has_directory mounted number ≡ true → now.image number ≡ disks.image number
+
+-- what a turn on a drive leaves of all drives: the directory of no other one changes, each is of the drive and the kind that it was
+-- of, all fit the drives still, and of what is known of the drives nothing changes but for that one
+pub record TurnLeaves {D : Type 0} (disks : D → Disks) (told : D → List ℕ → ToldImage) (failed : D → List (List ℕ)) (unsynced : D → ℕ → Bool) (drive : Option ℕ) (mounted new : List (Option Directory)) (cached : List (SectorPlace × List ℕ)) (old now : D) : Type 0 where
+  pub places : (number : ℕ) → drive ≢ Some number → directory_at new number ≡ directory_at mounted number
+  pub labels : (number : ℕ) → option_map labelled (directory_at new number) ≡ option_map labelled (directory_at mounted number)
+  pub fits : FitsDrives disks new cached now
+  pub images : KeepsImages drive mounted (disks old) (disks now)
+  pub beside : StaysBeside mounted (disks old) (disks now)
+  pub told_are : KeepsToldOf mounted (disks old) (told old) (told now)
+  pub names : failed now ≡ failed old
+  pub kept_unsynced : KeepsUnsynced drive (unsynced old) (unsynced now)
+
+-- how many calls of the drives a turn takes: 20 at most, one where it reads a record, and none where that one's sector is cached. A
+-- turn that reads leaves no drive unsynced that was synced.
+pub record TakesTurn (reads cached : Type 0) (before now : ℕ) (old new : ℕ → Bool) : Type 0 where
+  pub calls : now ≤ before + 20
+  pub one_call : reads → now ≤ before + 1
+  pub unsynced : reads → (number : ℕ) → new number ≡ old number
+  pub no_call : cached → now ≡ before
 
 -- where a device failed in it, the image of the job's drive stands within that turn
 pub record StopsWithin (disks : Disks) (s : Situation) (turns : ℕ) : Type 0 where

@@ -13,7 +13,7 @@ ghost use Rattle.mpm_bdos.specs.Replies as spec;
 ghost use Rattle.mpm_directories.specs.Direct as directly;
 
 use crate::replies::read_bytes;
-use mpm_base::Reply;
+use mpm_base::{Call, Reply};
 use mpm_fcb::ControlBlock;
 use mpm_file_entries::{Granted, free_bytes, reply_block, reply_value};
 use mpm_file_functions::{FileFunction, done_by as records_done};
@@ -62,25 +62,29 @@ fn answer_found(reply: &mut Reply, value: u16, at: u16, told: &Option<[u8; 128]>
     }
 }
 
-/// Answers a value, and the bytes to place at the DMA address; `told` has those of the entry that a search found.
+/// Answers the value of a call that isn't refused, and the bytes to place at the DMA address; `told` has those of the entry that a
+/// search found.
 #[tactic(auto, unfolding(crate::specs::Replies::bytes_by))]
 fn answer_bytes(
     reply: &mut Reply,
-    value: u16,
-    at: u16,
-    function: FileFunction,
+    granted: &Granted,
     multi: u8,
     mounted: &Mounted,
     work: &Option<Work>,
     told: &Option<[u8; 128]>,
+    at: u16,
 )
-    requires { multi ≤ 16 }
+    requires some { 1 ≤ multi }
+    requires few { multi ≤ 16 }
     ensures all { (image : List ℕ) (drive : Drive) (records : List (List ℕ)) (found : Option (FileName × ℕ)) → Stands image mounted.now drive
-        → (ending.is_reading function ≡ true → ending.HasRead (done_by multi value) work.now records) → where_there told.now (λ bytes. bytes) ≡ found_bytes drive found
-        → reply.new ≡ record { hl = value; fcb = None; at = at; bytes = spec.bytes_by drive records found function } }
+        → granting.FewDone multi granted.now.ended
+        → (ending.is_reading granted.now.function ≡ true → ending.HasRead (done_by multi (granting.value_by drive granted.now granted.now.function)) work.now records)
+        → where_there told.now (λ bytes. bytes) ≡ found_bytes drive found
+        → reply.new ≡ record { hl = granting.value_by drive granted.now granted.now.function; fcb = None; at = at; bytes = spec.bytes_by drive records found granted.now.function } }
     ensures none { reply.new.fcb ≡ None }
 {
-    match function {
+    let value = reply_value(granted, multi, mounted);
+    match granted.function {
         FileFunction::ReadSequential | FileFunction::ReadRandom => {
             answer_records(reply, value, at, multi, work);
         }
@@ -104,8 +108,21 @@ fn place_block(reply: &mut Reply, old: &[u8; 36], block: &ControlBlock)
     }
 }
 
-/// Answers a call that isn't refused, by what it goes by: with its caller's multi-sector count, the file control block that it gave,
-/// the entry that it found, and its DMA address.
+/// The file control block that a call gave.
+fn fcb_of_call(call: &Call) -> &[u8; 36]
+    ensures { result.now ≡ call.now.fcb }
+{
+    &call.fcb
+}
+
+/// The DMA address of a call.
+pub(crate) fn dma_of_call(call: &Call) -> u16
+    ensures { result ≡ call.now.dma }
+{
+    call.dma
+}
+
+/// Answers a call that isn't refused, by what it goes by: with its caller's multi-sector count, and the entry that it found.
 pub(crate) fn answer(
     reply: &mut Reply,
     granted: &Granted,
@@ -113,8 +130,7 @@ pub(crate) fn answer(
     mounted: &Mounted,
     work: &Option<Work>,
     told: &Option<[u8; 128]>,
-    fcb: &[u8; 36],
-    dma: u16,
+    call: &Call,
 )
     requires number { IfSome granted.now.opened (λ made. made.number ≤ 63) }
     requires some { 1 ≤ multi }
@@ -123,18 +139,16 @@ pub(crate) fn answer(
         → granting.FewDone multi granted.now.ended → (granting.is_moving granted.now.function ≡ true → granting.IsPlaced granted.now)
         → (ending.is_reading granted.now.function ≡ true → ending.HasRead (done_by multi (granting.value_by drive granted.now granted.now.function)) work.now records)
         → where_there told.now (λ bytes. bytes) ≡ found_bytes drive found
-        → reply.new ≡ spec.answer_by drive granted.now records found fcb.now dma }
+        → reply.new ≡ spec.answer_by drive granted.now records found call.now.fcb call.now.dma }
 {
-    let value = reply_value(granted, multi, mounted);
     answer_bytes(
         reply,
-        value,
-        dma,
-        granted.function,
+        granted,
         multi,
         mounted,
         work,
         told,
+        dma_of_call(call),
     );
-    place_block(reply, fcb, &reply_block(granted, mounted));
+    place_block(reply, fcb_of_call(call), &reply_block(granted, mounted));
 }

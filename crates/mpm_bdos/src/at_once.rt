@@ -17,7 +17,7 @@ fn is_file_call(call: &Call) -> bool
 }
 
 impl Bdos {
-    ghost use Rattle.std.specs.Prelude.{◌≡◌, ◌≤◌, ◌+◌, ◌*◌, ℕ, List, Option, Some, None, is_some, Ok, IfOk, IsOk, OnOk, OnErr, option_map, false};
+    ghost use Rattle.std.specs.Prelude.{◌≡◌, ◌≤◌, ◌+◌, ◌*◌, ℕ, List, Option, Some, None, is_some, Ok, IsOk, OnOk, OnErr, false};
     ghost use Rattle.mpm_port.specs.Causes.{HasCause};
     ghost use Rattle.mpm_clock.specs.Times.{IsTime};
     ghost use Rattle.mpm_clock.specs.PackedDecimal.{stamp as stamp_of};
@@ -26,13 +26,12 @@ impl Bdos {
     ghost use Rattle.mpm_refusals.specs.Filing.{Situation};
     ghost use Rattle.mpm_file_functions.specs.Functions.{function_of};
     ghost use Rattle.mpm_refusals.specs.Subjects.{drive_number};
-    ghost use Rattle.mpm_bdos.specs.Jobs.{call_turns, job_of};
+    ghost use Rattle.mpm_bdos.specs.Jobs.{call_turns};
     ghost use Rattle.mpm_bdos.specs.Serving.{IsCaller, StandEach, Serves};
     ghost use Rattle.mpm_directories.specs.Places.{directory_at};
-    ghost use Rattle.mpm_bdos.specs.Turns.{FitsDrives, KeepsToldOf, KeepsUnsynced, StaysBeside, has_work, labelled, images_of};
+    ghost use Rattle.mpm_bdos.specs.Turns.{FitsDrives, has_work, images_of};
     ghost use Rattle.mpm_bdos.specs.Starting.{caller_of, entering};
-    ghost use Rattle.mpm_bdos.specs.Finishing.{ComesTo};
-    ghost use Rattle.mpm_bdos.specs.AtOnce.{TurnsLeave, FailsSince, FailsIn, ChangesAlone, IsAtRest, IsUntouched};
+    ghost use Rattle.mpm_bdos.specs.AtOnce.{TurnsLeave, FailsSince, DoneAtOnce, KeepsToDrive, IsBrokenOff, AtOnceLeaves, IsAtRest, IsUntouched};
 
     /// Does so many turns of the call in service, one after another, up to the first in which its drive fails. Each takes 20 calls of
     /// the drives at most.
@@ -68,7 +67,7 @@ impl Bdos {
     fn leave_service(&mut self)
         ensures { self.new ≡ record self.old { service = None } }
     {
-        self.service = None;
+        self.service.leave();
     }
 
     /// Does a process's call on files and drives at once: it enters service, its turns follow one another, and it is answered,
@@ -91,35 +90,16 @@ impl Bdos {
         requires caller { IsCaller (caller_of p process.now) }
         requires time { IsTime now }
         requires fits { FitsDrives D.disks self.old.mounted self.old.cached drives.old }
-        ensures ok { (before : List (Option Drive)) (function : functions.FileFunction) → function_of call.now.function ≡ Some function
+        ensures done { (before : List (Option Drive)) (function : functions.FileFunction) → function_of call.now.function ≡ Some function
             → StandEach (images_of (D.disks drives.old)) self.old.mounted before
-            → IfOk result (ComesTo (images_of (D.disks drives.new)) (entering self.old before (caller_of p process.now) function call.now (stamp_of now)) self.new reply.new) }
-        ensures err { (before : List (Option Drive)) (function : functions.FileFunction) → function_of call.now.function ≡ Some function
-            → StandEach (images_of (D.disks drives.old)) self.old.mounted before
-            → OnErr result (FailsIn (D.disks drives.new) (entering self.old before (caller_of p process.now) function call.now (stamp_of now))) }
-        ensures idle { (before : List (Option Drive)) (function : functions.FileFunction) → function_of call.now.function ≡ Some function
-            → StandEach (images_of (D.disks drives.old)) self.old.mounted before
-            → job_of (entering self.old before (caller_of p process.now) function call.now (stamp_of now)) ≡ None
-            → (drives.new ≡ drives.old) × (steps.new ≡ steps.old) × IsOk result }
-        ensures alone { (before : List (Option Drive)) (function : functions.FileFunction) → function_of call.now.function ≡ Some function
-            → ChangesAlone (drive_number (entering self.old before (caller_of p process.now) function call.now (stamp_of now))) self.old.mounted self.new.mounted (D.disks drives.old) (D.disks drives.new) }
-        ensures unsynced { (before : List (Option Drive)) (function : functions.FileFunction) → function_of call.now.function ≡ Some function
-            → KeepsUnsynced (Some (drive_number (entering self.old before (caller_of p process.now) function call.now (stamp_of now)))) (D.unsynced drives.old) (D.unsynced drives.new) }
-        ensures calls { (before : List (Option Drive)) (function : functions.FileFunction) → function_of call.now.function ≡ Some function
-            → StandEach (images_of (D.disks drives.old)) self.old.mounted before
-            → steps.new ≤ steps.old + 20 * call_turns (entering self.old before (caller_of p process.now) function call.now (stamp_of now)) }
-        ensures none { ((number : ℕ) → directory_at self.old.mounted number ≡ None) → drives.new ≡ drives.old }
-        ensures unfailing { ((number : ℕ) → directory_at self.old.mounted number ≡ None) → IsOk result }
+            → DoneAtOnce D.disks (entering self.old before (caller_of p process.now) function call.now (stamp_of now)) self.new reply.new drives.old drives.new steps.old steps.new result }
+        ensures own { (before : List (Option Drive)) (function : functions.FileFunction) → function_of call.now.function ≡ Some function
+            → KeepsToDrive D.disks D.unsynced (drive_number (entering self.old before (caller_of p process.now) function call.now (stamp_of now))) self.old.mounted self.new.mounted drives.old drives.new }
+        ensures none { ((number : ℕ) → directory_at self.old.mounted number ≡ None) → (drives.new ≡ drives.old) × IsOk result }
         ensures service { (function : functions.FileFunction) → function_of call.now.function ≡ Some function → self.new.service ≡ None }
-        ensures other { function_of call.now.function ≡ None → IsUntouched self.old self.new reply.old reply.new drives.old drives.new steps.old steps.new }
-        ensures unanswered { function_of call.now.function ≡ None → result ≡ Ok None }
-        ensures stopped { OnErr result (self.new ≡ record self.old { mounted = self.new.mounted; cached = self.new.cached; service = None }) }
-        ensures no_reply { OnErr result (reply.new ≡ reply.old) }
-        ensures labels { (number : ℕ) → option_map labelled (directory_at self.new.mounted number) ≡ option_map labelled (directory_at self.old.mounted number) }
-        ensures fits { FitsDrives D.disks self.new.mounted self.new.cached drives.new }
-        ensures beside { StaysBeside self.old.mounted (D.disks drives.old) (D.disks drives.new) }
-        ensures told_are { KeepsToldOf self.old.mounted (D.disks drives.old) (D.told drives.old) (D.told drives.new) }
-        ensures names { D.failed_names drives.new ≡ D.failed_names drives.old }
+        ensures other { function_of call.now.function ≡ None → IsUntouched self.old self.new reply.old reply.new drives.old drives.new steps.old steps.new × (result ≡ Ok None) }
+        ensures stopped { OnErr result (IsBrokenOff self.old self.new reply.old reply.new) }
+        ensures left { AtOnceLeaves D.disks D.told D.failed_names self.old self.new drives.old drives.new }
         ensures cause { HasCause (D.faults drives.old) (D.faults drives.new) result }
     {
         if !is_file_call(call) {

@@ -1,4 +1,4 @@
-ghost use Rattle.std.specs.Prelude.{◌≡◌, ◌≤◌, ◌<◌, ◌+◌, ℕ, suc, false, List, Option, None, Ok, IfOk, IfSome, OnOk, OnErr};
+ghost use Rattle.std.specs.Prelude.{◌≡◌, ◌<◌, ℕ, suc, false, List, Option, None, Ok, IfOk, IfSome, OnOk, OnErr};
 ghost use Rattle.mpm_port.specs.Causes.{HasCause};
 ghost use Rattle.mpm_port.specs.Disks.{Disks};
 ghost use Rattle.mpm_cache.specs.Coherent.{IsCoherent, HasNoAlias};
@@ -9,10 +9,11 @@ ghost use Rattle.mpm_file_functions.specs.Functions.{direct_of};
 ghost use Rattle.mpm_refusals.specs.Filing.{Situation};
 ghost use Rattle.mpm_bdos.specs.Outcomes.{left_by, without_search};
 ghost use Rattle.mpm_bdos.specs.Jobs.{call_turns};
-ghost use Rattle.mpm_bdos.specs.Turns.{FitsDrives, KeepsImages, KeepsToldOf, KeepsUnsynced, StaysBeside, TurnKeeps, StopsWithin, ServesReading, ServesCached, IsDiskIdle, images_of, progress_after, drive_served, has_work};
+ghost use Rattle.mpm_bdos.specs.Turns.{FitsDrives, TakesTurn, StopsWithin, ServesReading, ServesCached, IsDiskIdle, images_of, progress_after, has_work};
+ghost use Rattle.mpm_bdos.specs.AtOnce.{TurnsLeave};
 
 use crate::directories::Directories;
-use crate::service::Service;
+use crate::service::Held;
 use crate::turning::turn_service;
 use mpm_base::{Call, Pid, Reply, Steps};
 use mpm_cache::{Cache, OutOfMemory};
@@ -39,7 +40,7 @@ pub struct Bdos {
     pub(crate) opens: Opens,
     pub(crate) marks: Marks,
     pub(crate) searches: Searches,
-    pub(crate) service: Option<Service>,
+    pub(crate) service: Held,
 }
 
 impl Model for Bdos {
@@ -71,7 +72,7 @@ impl Bdos {
     /// are mounted whose directories there are, each in the place of its drive's number.
     ///
     /// # Errors
-    /// Where no memory is found for the cache.
+    /// Where no memory is found for the cache, or for a call in service.
     #[tactic(auto, using(crate::proofs::KeptLaws::no_users))]
     pub fn new(alloc: Global, mounted: Vec<Option<Mounted>>) -> Result<Bdos, OutOfMemory>
         requires { AreInPlace mounted.items }
@@ -80,6 +81,7 @@ impl Bdos {
         ensures apart { IfOk result (λ bdos. (disks : Disks) (number : ℕ) → HasNoAlias bdos.cached disks number) }
     {
         let cache = Cache::new(alloc)?;
+        let service = Held::none(alloc)?;
         Ok(Bdos {
             mounted: Directories::of(mounted),
             cache,
@@ -87,7 +89,7 @@ impl Bdos {
             opens: Opens::new(),
             marks: Marks::new(),
             searches: Searches::new(),
-            service: None,
+            service,
         })
     }
 
@@ -165,17 +167,8 @@ impl Bdos {
         ensures idle { has_work self.old.service ≡ false → IsDiskIdle self.old.service self.new.service self.old.mounted self.new.mounted self.old.cached self.new.cached drives.old drives.new steps.old steps.new }
         ensures done { has_work self.old.service ≡ false → result ≡ Ok progress.Done }
         ensures still { has_work self.new.service ≡ has_work self.old.service }
-        ensures kept { TurnKeeps self.old self.new }
-        ensures fits { FitsDrives D.disks self.new.mounted self.new.cached drives.new }
-        ensures images { KeepsImages (drive_served self.old.service) self.old.mounted (D.disks drives.old) (D.disks drives.new) }
-        ensures beside { StaysBeside self.old.mounted (D.disks drives.old) (D.disks drives.new) }
-        ensures told_are { KeepsToldOf self.old.mounted (D.disks drives.old) (D.told drives.old) (D.told drives.new) }
-        ensures names { D.failed_names drives.new ≡ D.failed_names drives.old }
-        ensures unsynced { KeepsUnsynced (drive_served self.old.service) (D.unsynced drives.old) (D.unsynced drives.new) }
-        ensures calls { steps.new ≤ steps.old + 20 }
-        ensures reads { ServesReading self.old.service → steps.new ≤ steps.old + 1 }
-        ensures reads_only { ServesReading self.old.service → (other : ℕ) → D.unsynced drives.new other ≡ D.unsynced drives.old other }
-        ensures cached { ServesCached self.old.cached self.old.mounted self.old.service → steps.new ≡ steps.old }
+        ensures left { TurnsLeave D.disks D.told D.failed_names D.unsynced self.old self.new drives.old drives.new }
+        ensures takes { TakesTurn (ServesReading self.old.service) (ServesCached self.old.cached self.old.mounted self.old.service) steps.old steps.new (D.unsynced drives.old) (D.unsynced drives.new) }
         ensures cause { HasCause (D.faults drives.old) (D.faults drives.new) result }
     {
         turn_service(

@@ -17,18 +17,18 @@ ghost use Rattle.mpm_refusals.specs.Refusals as refusals;
 ghost use Rattle.mpm_bdos.specs.Replying as replying;
 ghost use Rattle.mpm_bdos.specs.Serving.{IsCaller, Serves};
 
+use crate::answering::dma_of_call;
 use crate::bdos::Bdos;
 use crate::directories::Directories;
-use crate::replying::reply_mounted;
+use crate::replying::{Served, reply_mounted};
 use crate::service::Service;
 use crate::starting::first_position;
 use mpm_base::{Call, Reply};
 use mpm_file_functions::{Extended, FileFunction, Refusal};
-use mpm_files::Work;
 use mpm_marks::{Marks, Protected, leave_drives, mark_drives, protect_drives};
 use mpm_mount::Mounted;
-use mpm_opens::{FileKey, Opens};
-use mpm_refusals::{Caller, Searches, block_of_call, word_of_call};
+use mpm_opens::Opens;
+use mpm_refusals::{FileCall, Searches, block_of_call, word_of_call};
 
 /// Whether a call is one on drives, which names none.
 fn is_on_drives(function: FileFunction) -> bool
@@ -55,13 +55,6 @@ fn refuse(reply: &mut Reply, refusal: Refusal, drive: u8) -> Option<Extended>
     answered.extended(drive)
 }
 
-/// The DMA address of a call.
-fn dma_of_call(call: &Call) -> u16
-    ensures { result ≡ call.now.dma }
-{
-    call.dma
-}
-
 /// The sequential position of a call's file control block.
 fn position_of_call(call: &Call) -> u32
     ensures size { length call.now.fcb ≡ 36 }
@@ -78,19 +71,23 @@ fn reply_on_drives(
     protected: &mut Protected,
     opens: &mut Opens,
     marks: &mut Marks,
-    caller: &Caller,
     is_mounted: bool,
-    word: u16,
-    dma: u16,
-    function: FileFunction,
+    file_call: &FileCall<'_>,
 )
-    requires { is_mounted ≡ true → caller.now.drive < 16 }
-    ensures reply { reply.new ≡ record { hl = 0; fcb = None; at = dma; bytes = [] } }
-    ensures protected { protected.new ≡ protected_by protected.old is_mounted caller.now.drive word function }
-    ensures opens { opens.new ≡ freed_by opens.old caller.now.process word function }
-    ensures marks { marks.new ≡ marks_by marks.old caller.now.process word function }
+    requires { is_mounted ≡ true → file_call.now.caller.drive < 16 }
+    ensures reply { reply.new ≡ record { hl = 0; fcb = None; at = file_call.now.call.now.dma; bytes = [] } }
+    ensures protected { protected.new ≡ protected_by protected.old is_mounted file_call.now.caller.drive file_call.now.call.now.word file_call.now.function }
+    ensures opens { opens.new ≡ freed_by opens.old file_call.now.caller.process file_call.now.call.now.word file_call.now.function }
+    ensures marks { marks.new ≡ marks_by marks.old file_call.now.caller.process file_call.now.call.now.word file_call.now.function }
 {
-    reply.answer_with(0, dma, &[]);
+    let FileCall {
+        caller,
+        function,
+        call,
+        ..
+    } = *file_call;
+    let word = word_of_call(call);
+    reply.answer_with(0, dma_of_call(call), &[]);
     protect_drives(protected, caller.drive, is_mounted, word, function);
     leave_drives(opens, caller.process, word, function);
     mark_drives(marks, caller.process, word, function);
@@ -103,23 +100,17 @@ fn reply_on(
     protected: &Protected,
     opens: &mut Opens,
     searches: &mut Searches,
-    caller: &Caller,
-    function: FileFunction,
-    call: &Call,
-    work: &Option<Work>,
-    deleted: &[Option<FileKey>; 64],
+    served: &Served<'_>,
 )
-    requires some { 1 ≤ caller.now.multi }
-    requires few { caller.now.multi ≤ 16 }
-    ensures users { HaveUsers opens.old → caller.now.user < 16 → HaveUsers opens.new }
+    requires some { 1 ≤ served.now.file_call.caller.multi }
+    requires few { served.now.file_call.caller.multi ≤ 16 }
+    ensures users { HaveUsers opens.old → served.now.file_call.caller.user < 16 → HaveUsers opens.new }
     ensures replied { (image : List ℕ) (d : Directory) (drives : List (Option Drive)) (marks moment : List ℕ) → option_copied mounted.entry ≡ Some d
-        → replying.IsAnswering (called drives protected.now opens.old marks searches.old caller.now function call.now moment) image d work.now deleted.now
-        → replying.IsReplied (called drives protected.now opens.old marks searches.old caller.now function call.now moment) reply.new opens.new searches.new }
+        → replying.IsAnswering (called drives protected.now opens.old marks searches.old served.now.file_call.caller served.now.file_call.function served.now.file_call.call.now moment) image d served.now.work.now served.now.deleted.now
+        → replying.IsReplied (called drives protected.now opens.old marks searches.old served.now.file_call.caller served.now.file_call.function served.now.file_call.call.now moment) reply.new opens.new searches.new }
 {
     match mounted {
-        Some(mounted) => reply_mounted(
-            reply, mounted, protected, opens, searches, caller, function, call, work, deleted,
-        ),
+        Some(mounted) => reply_mounted(reply, mounted, protected, opens, searches, served),
         // A call on a drive that isn't mounted is refused.
         None => reply.answer(0),
     }
@@ -133,46 +124,34 @@ fn reply_granted(
     opens: &mut Opens,
     marks: &mut Marks,
     searches: &mut Searches,
-    caller: &Caller,
-    function: FileFunction,
-    drive: u8,
-    call: &Call,
-    work: &Option<Work>,
-    deleted: &[Option<FileKey>; 64],
+    served: &Served<'_>,
 )
-    requires caller { IsCaller caller.now }
+    requires caller { IsCaller served.now.file_call.caller }
     requires users { HaveUsers opens.old }
     ensures users { HaveUsers opens.new }
     ensures finished { (images : ℕ → List ℕ) (s : Situation) (moment : List ℕ) (refusal : Option Refused)
-        → Serves images (spec.serving mounted.now protected.old opens.old marks.old searches.old (record { caller = caller.now; function = function; drive = drive; call = call.now; moment = moment; refusal = refusal; work = work.now; deleted = deleted.now })) s (call_turns s)
+        → Serves images (spec.serving mounted.now protected.old opens.old marks.old searches.old (record { caller = served.now.file_call.caller; function = served.now.file_call.function; drive = served.now.drive; call = served.now.file_call.call.now; moment = moment; refusal = refusal; work = served.now.work.now; deleted = served.now.deleted.now })) s (call_turns s)
         → refusals.refusal_of s ≡ None → spec.IsFinished s reply.new protected.new opens.new marks.new searches.new }
 {
     // Each block has a position that a file can have.
-    let _ = position_of_call(call);
-    if is_on_drives(function) {
+    let _ = position_of_call(served.file_call.call);
+    if is_on_drives(served.file_call.function) {
         reply_on_drives(
             reply,
             protected,
             opens,
             marks,
-            caller,
-            mounted.has(caller.drive),
-            word_of_call(call),
-            dma_of_call(call),
-            function,
+            mounted.has(served.file_call.caller.drive),
+            &served.file_call,
         );
     } else {
         reply_on(
             reply,
-            mounted.get(drive),
+            mounted.get(served.drive),
             protected,
             opens,
             searches,
-            caller,
-            function,
-            call,
-            work,
-            deleted,
+            served,
         );
     }
 }
@@ -196,20 +175,18 @@ fn reply_service(
     match service.refusal {
         Some(refusal) => refuse(reply, refusal, service.drive),
         None => {
-            reply_granted(
-                reply,
-                mounted,
-                protected,
-                opens,
-                marks,
-                searches,
-                &service.caller,
-                service.function,
-                service.drive,
-                &service.call,
-                &service.work,
-                &service.deleted,
-            );
+            let served = Served {
+                file_call: FileCall {
+                    caller: service.caller,
+                    function: service.function,
+                    call: &service.call,
+                    moment: service.moment,
+                },
+                drive: service.drive,
+                work: &service.work,
+                deleted: &service.deleted,
+            };
+            reply_granted(reply, mounted, protected, opens, marks, searches, &served);
             None
         }
     }
@@ -231,7 +208,7 @@ impl Bdos {
         ensures no_reply { self.old.service ≡ None → reply.new ≡ reply.old }
         ensures no_extended { self.old.service ≡ None → result ≡ None }
     {
-        match &self.service {
+        match self.service.get() {
             Some(service) => {
                 let extended = reply_service(
                     service,
@@ -242,7 +219,7 @@ impl Bdos {
                     &mut self.marks,
                     &mut self.searches,
                 );
-                self.service = None;
+                self.service.leave();
                 extended
             }
             None => None,

@@ -28,7 +28,7 @@ use mpm_jobs::{Job, JobKind, job_on, reading_job, renaming_job, testing, writing
 use mpm_locks::count_free;
 use mpm_mount::{Mounted, label_byte};
 use mpm_opens::{FileKey, Opens};
-use mpm_refusals::{Caller, makes_xfcb};
+use mpm_refusals::{Caller, FileCall, makes_xfcb};
 
 /// What was looked up of a call, of which its job is made.
 #[derive(Clone, Copy)]
@@ -107,25 +107,28 @@ fn tested(
     )
 }
 
-/// The job of a call that isn't refused, if it has one; of the call's block, of its moment's stamp, and of what was looked up of it.
+/// The job of a call that isn't refused, if it has one; of the call's block, and of what was looked up of it.
 pub(crate) fn job_by(
     mounted: &Mounted,
     opens: &Opens,
-    caller: &Caller,
-    function: FileFunction,
-    call: &Call,
+    file_call: &FileCall<'_>,
     block: &ControlBlock,
-    moment: [u8; 4],
     about: About,
 ) -> Option<Job>
-    requires few { caller.now.multi ≤ 16 }
+    requires few { file_call.now.caller.multi ≤ 16 }
     requires first { about.first ≤ LAST_POSITION }
     requires plain { plain about.file.name ≡ about.file.name }
-    requires block { block.now ≡ block_of call.now.fcb }
+    requires block { block.now ≡ block_of file_call.now.call.now.fcb }
     ensures { (image : List ℕ) (drives : List (Option Drive)) (protected : List Bool) (marks : List ℕ) (searches : List (Option LastSearch))
-        → IsAbout image mounted.now about (called drives protected opens.now marks searches caller.now function call.now moment)
-        → result ≡ spec.job_by (called drives protected opens.now marks searches caller.now function call.now moment) function }
+        → IsAbout image mounted.now about (called drives protected opens.now marks searches file_call.now.caller file_call.now.function file_call.now.call.now file_call.now.moment)
+        → result ≡ spec.job_by (called drives protected opens.now marks searches file_call.now.caller file_call.now.function file_call.now.call.now file_call.now.moment) file_call.now.function }
 {
+    let FileCall {
+        caller,
+        function,
+        call,
+        moment,
+    } = *file_call;
     let user = about.file.user;
     let name = &block.name;
     let bytes = call.taken();
@@ -134,14 +137,18 @@ pub(crate) fn job_by(
         FileFunction::DeleteFile => Some(job_on(JobKind::Delete, user, name)),
         FileFunction::ReadSequential => Some(reading_job(user, name, about.first, caller.multi)),
         FileFunction::WriteSequential => {
-            written(mounted, opens, caller, name, bytes, moment, about)
+            written(mounted, opens, &caller, name, bytes, moment, about)
         }
         FileFunction::MakeFile => Some(making(mounted, user, block, call, moment)),
         FileFunction::RenameFile => Some(renaming_job(user, name, &block.new_name())),
         FileFunction::SetAttributes => Some(job_on(JobKind::Attributes, user, name)),
         FileFunction::ReadRandom => Some(reading_job(user, name, about.first, caller.multi)),
-        FileFunction::WriteRandom => { written(mounted, opens, caller, name, bytes, moment, about) }
-        FileFunction::TestAndWrite => { tested(mounted, opens, caller, name, bytes, moment, about) }
+        FileFunction::WriteRandom => {
+            written(mounted, opens, &caller, name, bytes, moment, about)
+        }
+        FileFunction::TestAndWrite => {
+            tested(mounted, opens, &caller, name, bytes, moment, about)
+        }
         FileFunction::SetLabel => Some(labelling(mounted, user, block, call)),
         FileFunction::WriteXfcb => Some(guarding(mounted, user, block, call)),
         _ => None,

@@ -3,6 +3,7 @@ use mpm_file_functions::{FileFunction, Refusal};
 use mpm_files::Work;
 use mpm_opens::FileKey;
 use mpm_refusals::Caller;
+use std::alloc::{AllocError, Global};
 use std::marker::Model;
 
 /// A file call in service, as it was when it entered, and how far its job is.
@@ -43,4 +44,57 @@ impl Model for Service {
     } };
 
     ghost invariant = { λ s. IsCaller s.caller };
+}
+
+/// The call in service, where one is. It stays where it is, as it takes some 9 KiB.
+#[derive(Drop)]
+pub(crate) struct Held {
+    pub(crate) place: Box<Option<Service>>,
+}
+
+impl Model for Held {
+    ghost use Rattle.std.specs.Prelude.{Option};
+    ghost use Rattle.mpm_bdos.specs.Serving.{InService};
+
+    ghost Value = { Option InService };
+
+    ghost view = { λ h. h.place.value };
+}
+
+impl Held {
+    ghost use Rattle.std.specs.Prelude.{◌≡◌, None, Some, IfOk};
+
+    /// No call is in service.
+    ///
+    /// # Errors
+    /// Where no memory is found for one.
+    pub(crate) fn none(alloc: Global) -> Result<Held, AllocError>
+        ensures { IfOk result (λ held. held ≡ None) }
+    {
+        match Box::new(alloc, None) {
+            Ok(place) => Ok(Held { place }),
+            Err(_) => Err(AllocError),
+        }
+    }
+
+    /// The call in service.
+    pub(crate) fn get(&self) -> &Option<Service>
+        ensures { result.now ≡ self.now }
+    {
+        &self.place
+    }
+
+    /// A call enters service.
+    pub(crate) fn enter(&mut self, service: Service)
+        ensures { self.new ≡ Some service }
+    {
+        *self.place = Some(service);
+    }
+
+    /// No call is in service any more.
+    pub(crate) fn leave(&mut self)
+        ensures { self.new ≡ None }
+    {
+        *self.place = None;
+    }
 }

@@ -33,7 +33,8 @@ use mpm_mount::Mounted;
 use mpm_opens::{FileKey, Opens};
 use mpm_procs::Process;
 use mpm_refusals::{
-    Caller, Searches, ask, block_of_call, drive_of_call, item_number, refusal_of, word_of_call,
+    Caller, FileCall, Searches, ask, block_of_call, drive_of_call, item_number, refusal_of,
+    word_of_call,
 };
 
 /// The most records of a job.
@@ -130,21 +131,24 @@ fn begun_call(
     protected: &Protected,
     opens: &Opens,
     searches: &Searches,
-    caller: &Caller,
-    function: FileFunction,
-    call: &Call,
-    moment: [u8; 4],
+    file_call: &FileCall<'_>,
 ) -> Option<Work>
-    requires caller { IsCaller caller.now }
+    requires caller { IsCaller file_call.now.caller }
     requires users { HaveUsers opens.now }
     ensures { (image : List ℕ) (drives : List (Option Drive)) (marks : List ℕ)
-        → Stands image mounted.now (subjects.drive_at (called drives protected.now opens.now marks searches.now caller.now function call.now moment))
-        → refusals.refusal_of (called drives protected.now opens.now marks searches.now caller.now function call.now moment) ≡ None
-        → spec.BeginsJob image (Some mounted.now) (called drives protected.now opens.now marks searches.now caller.now function call.now moment) result }
+        → Stands image mounted.now (subjects.drive_at (called drives protected.now opens.now marks searches.now file_call.now.caller file_call.now.function file_call.now.call.now file_call.now.moment))
+        → refusals.refusal_of (called drives protected.now opens.now marks searches.now file_call.now.caller file_call.now.function file_call.now.call.now file_call.now.moment) ≡ None
+        → spec.BeginsJob image (Some mounted.now) (called drives protected.now opens.now marks searches.now file_call.now.caller file_call.now.function file_call.now.call.now file_call.now.moment) result }
 {
+    let FileCall {
+        caller,
+        function,
+        call,
+        ..
+    } = *file_call;
     let block = block_of_call(call);
     let number = item_number(call.word(0), &block, function);
-    let asked = ask(mounted, protected, opens, searches, caller, function, call);
+    let asked = ask(mounted, protected, opens, searches, file_call);
     let about = about_of(
         opens,
         caller.process,
@@ -154,9 +158,7 @@ fn begun_call(
         asked.owner,
         number,
     );
-    let job = job_by(
-        mounted, opens, caller, function, call, &block, moment, about,
-    );
+    let job = job_by(mounted, opens, file_call, &block, about);
     begun(mounted, job)
 }
 
@@ -167,25 +169,20 @@ fn begun_unless(
     protected: &Protected,
     opens: &Opens,
     searches: &Searches,
-    caller: &Caller,
-    function: FileFunction,
-    call: &Call,
-    moment: [u8; 4],
+    file_call: &FileCall<'_>,
 ) -> Option<Work>
-    requires caller { IsCaller caller.now }
+    requires caller { IsCaller file_call.now.caller }
     requires users { HaveUsers opens.now }
     ensures { (image : List ℕ) (drives : List (Option Drive)) (marks : List ℕ)
-        → StandsForDirectory image (option_copied mounted.entry) (called drives protected.now opens.now marks searches.now caller.now function call.now moment)
-        → refusal ≡ refusals.refusal_of (called drives protected.now opens.now marks searches.now caller.now function call.now moment)
-        → spec.BeginsJob image (option_copied mounted.entry) (called drives protected.now opens.now marks searches.now caller.now function call.now moment) result }
+        → StandsForDirectory image (option_copied mounted.entry) (called drives protected.now opens.now marks searches.now file_call.now.caller file_call.now.function file_call.now.call.now file_call.now.moment)
+        → refusal ≡ refusals.refusal_of (called drives protected.now opens.now marks searches.now file_call.now.caller file_call.now.function file_call.now.call.now file_call.now.moment)
+        → spec.BeginsJob image (option_copied mounted.entry) (called drives protected.now opens.now marks searches.now file_call.now.caller file_call.now.function file_call.now.call.now file_call.now.moment) result }
 {
     if refusal.is_some() {
         return None;
     }
     match mounted {
-        Some(mounted) => begun_call(
-            mounted, protected, opens, searches, caller, function, call, moment,
-        ),
+        Some(mounted) => begun_call(mounted, protected, opens, searches, file_call),
         None => None,
     }
 }
@@ -263,30 +260,29 @@ fn entered(
     opens: &Opens,
     marks: &Marks,
     searches: &Searches,
-    caller: &Caller,
-    function: FileFunction,
-    call: &Call,
-    moment: [u8; 4],
+    file_call: &FileCall<'_>,
 ) -> Service
-    requires caller { IsCaller caller.now }
+    requires caller { IsCaller file_call.now.caller }
     requires users { HaveUsers opens.now }
-    ensures entered { spec.IsEntered caller.now function call.now result }
+    ensures entered { spec.IsEntered file_call.now.caller file_call.now.function file_call.now.call.now result }
     ensures drive { result.drive ≡ drive }
     ensures all { (image : List ℕ) (drives : List (Option Drive))
-        → StandsForDirectory image (option_copied mounted.entry) (called drives protected.now opens.now marks.now searches.now caller.now function call.now moment)
-        → drive ≡ subjects.drive_number (called drives protected.now opens.now marks.now searches.now caller.now function call.now moment)
-        → spec.Enters image (option_copied mounted.entry) (called drives protected.now opens.now marks.now searches.now caller.now function call.now moment) result }
+        → StandsForDirectory image (option_copied mounted.entry) (called drives protected.now opens.now marks.now searches.now file_call.now.caller file_call.now.function file_call.now.call.now file_call.now.moment)
+        → drive ≡ subjects.drive_number (called drives protected.now opens.now marks.now searches.now file_call.now.caller file_call.now.function file_call.now.call.now file_call.now.moment)
+        → spec.Enters image (option_copied mounted.entry) (called drives protected.now opens.now marks.now searches.now file_call.now.caller file_call.now.function file_call.now.call.now file_call.now.moment) result }
 {
-    let refusal = refusal_of(
-        mounted, protected, opens, marks, searches, caller, function, call,
-    );
-    let work = begun_unless(
-        refusal, mounted, protected, opens, searches, caller, function, call, moment,
-    );
+    let FileCall {
+        caller,
+        function,
+        call,
+        moment,
+    } = *file_call;
+    let refusal = refusal_of(mounted, protected, opens, marks, searches, file_call);
+    let work = begun_unless(refusal, mounted, protected, opens, searches, file_call);
     let block = block_of_call(call);
-    let deleted = deleted_of(mounted, opens, caller, drive, &block, function);
+    let deleted = deleted_of(mounted, opens, &caller, drive, &block, function);
     Service {
-        caller: *caller,
+        caller,
         function,
         drive,
         call: copied(call),
@@ -304,19 +300,22 @@ fn entered_among(
     opens: &Opens,
     marks: &Marks,
     searches: &Searches,
-    caller: &Caller,
-    function: FileFunction,
-    call: &Call,
-    moment: [u8; 4],
+    file_call: &FileCall<'_>,
 ) -> Service
-    requires caller { IsCaller caller.now }
+    requires caller { IsCaller file_call.now.caller }
     requires users { HaveUsers opens.now }
-    ensures entered { spec.IsEntered caller.now function call.now result }
+    ensures entered { spec.IsEntered file_call.now.caller file_call.now.function file_call.now.call.now result }
     ensures drive { (drives : List (Option Drive))
-        → result.drive ≡ subjects.drive_number (called drives protected.now opens.now marks.now searches.now caller.now function call.now moment) }
+        → result.drive ≡ subjects.drive_number (called drives protected.now opens.now marks.now searches.now file_call.now.caller file_call.now.function file_call.now.call.now file_call.now.moment) }
     ensures all { (images : ℕ → List ℕ) (drives : List (Option Drive)) → StandEach images mounted.now drives
-        → spec.EntersAmong images mounted.now (called drives protected.now opens.now marks.now searches.now caller.now function call.now moment) result }
+        → spec.EntersAmong images mounted.now (called drives protected.now opens.now marks.now searches.now file_call.now.caller file_call.now.function file_call.now.call.now file_call.now.moment) result }
 {
+    let FileCall {
+        caller,
+        function,
+        call,
+        ..
+    } = *file_call;
     let search = searches.get(caller.process);
     let word = word_of_call(call);
     let block = block_of_call(call);
@@ -328,10 +327,7 @@ fn entered_among(
         opens,
         marks,
         searches,
-        caller,
-        function,
-        call,
-        moment,
+        file_call,
     )
 }
 
@@ -393,19 +389,22 @@ impl Bdos {
             None => return 0,
         };
         let caller = caller_of(p, process);
+        let file_call = FileCall {
+            caller,
+            function,
+            call,
+            moment: stamp(now),
+        };
         let service = entered_among(
             &self.mounted,
             &self.protected,
             &self.opens,
             &self.marks,
             &self.searches,
-            &caller,
-            function,
-            call,
-            stamp(now),
+            &file_call,
         );
         let turns = turns_of(&service.work);
-        self.service = Some(service);
+        self.service.enter(service);
         turns
     }
 }

@@ -1,4 +1,4 @@
-ghost use Rattle.std.specs.Prelude.{◌≡◌, ◌≢◌, ℕ, suc, ◌+◌, ◌<◌, ◌≤◌, Option, Some, Ok, IfOk, IfSome, OnOk, OnErr, option_map, is_some, false};
+ghost use Rattle.std.specs.Prelude.{◌≡◌, ℕ, suc, ◌<◌, Option, Some, Ok, IfOk, IfSome, OnOk, OnErr, option_map, is_some, false};
 ghost use Rattle.mpm_port.specs.Causes.{HasCause};
 ghost use Rattle.mpm_port.specs.Disks.{size_of};
 ghost use Rattle.mpm_blocks.specs.Geometries.{geometry_of};
@@ -6,15 +6,14 @@ ghost use Rattle.mpm_cache.specs.Coherent.{IsCoherent, HasNoAlias};
 ghost use Rattle.mpm_mount.specs.Directories.{IsDirectory};
 ghost use Rattle.mpm_mount.specs.Drives.{Drive};
 ghost use Rattle.mpm_jobs.specs.declared.jobs.Job.{Job};
-ghost use Rattle.mpm_jobs.specs.declared.jobs.JobKind.TheVariants as kinds;
 ghost use Rattle.mpm_files.specs.declared.turning.Progress.TheVariants as progress;
 ghost use Rattle.mpm_files.specs.Plans.{turns_of};
-ghost use Rattle.mpm_files.specs.Turning.{Suits, IsNextCached};
+ghost use Rattle.mpm_files.specs.Turning.{Suits};
 ghost use Rattle.mpm_directories.specs.Places.{directory_at};
-ghost use Rattle.mpm_bdos.specs.Turns.{FitsDrives, KeepsImages, KeepsToldOf, KeepsUnsynced, StaysBeside, progress_after, labelled, HasLeftDisk, IsWorking, IsWorkingOn, IsContainedAt, IsServing, IsServiceContained, IsReadingRecord, IsReadingCached, ServesReading, ServesCached, IsDiskIdle, has_work, drive_served, without_work};
+ghost use Rattle.mpm_bdos.specs.Turns.{FitsDrives, TurnLeaves, TakesTurn, progress_after, labelled, HasLeftDisk, IsWorking, IsWorkingOn, IsContainedAt, IsServing, IsServiceContained, IsReadingRecord, IsReadingCached, ServesReading, ServesCached, IsDiskIdle, has_work, drive_served, without_work};
 
 use crate::directories::Directories;
-use crate::service::Service;
+use crate::service::{Held, Service};
 use mpm_base::Steps;
 use mpm_cache::Cache;
 use mpm_files::{Progress, Work};
@@ -23,7 +22,7 @@ use mpm_port::{Drives, Failed};
 use std::sync::ledger::Ledger;
 
 /// Does the next unit of a job on a drive that is mounted; nothing where none is.
-#[tactic(auto)]
+#[tactic(auto, using(mpm_sectors::proofs::LeavesLaws::ready_of))]
 pub(crate) fn turn_at<D: Drives, L: Ledger>(
     place: &mut Option<Mounted>,
     cache: &mut Cache,
@@ -41,10 +40,7 @@ pub(crate) fn turn_at<D: Drives, L: Ledger>(
     ensures progress { (before : Drive) (job : Job) (j : ℕ) → IsWorking (D.disks drives.old) place.old before job j work.old
         → IfOk result (λ told. told ≡ progress_after (suc j) (turns_of before job)) }
     ensures same { option_map labelled place.new ≡ option_map labelled place.old }
-    ensures calls { steps.new ≤ steps.old + 20 }
-    ensures reads { work.old.job.kind ≡ kinds.Read → steps.new ≤ steps.old + 1 }
-    ensures reads_only { work.old.job.kind ≡ kinds.Read → (other : ℕ) → D.unsynced drives.new other ≡ D.unsynced drives.old other }
-    ensures cached { work.old.job.kind ≡ kinds.Read → IfSome place.old (λ d. IsNextCached cache.old d work.old) → steps.new ≡ steps.old }
+    ensures takes { TakesTurn (IsReadingRecord (Some work.old)) (IsReadingCached cache.old place.old (Some work.old)) steps.old steps.new (D.unsynced drives.old) (D.unsynced drives.new) }
     ensures directory { IfSome place.new (λ d. IsDirectory d.kind d.entries) }
     ensures leaves { HasLeftDisk D.disks D.told D.failed_names D.unsynced place.old cache.old cache.new drives.old drives.new }
     ensures cause { HasCause (D.faults drives.old) (D.faults drives.new) result }
@@ -78,18 +74,8 @@ impl Directories {
             → OnErr result (IsContainedAt (D.disks drives.new) (directory_at self.old number) before job j) }
         ensures progress { (before : Drive) (job : Job) (j : ℕ) → IsWorking (D.disks drives.old) (directory_at self.old number) before job j work.old
             → IfOk result (λ told. told ≡ progress_after (suc j) (turns_of before job)) }
-        ensures places { (other : ℕ) → Some number ≢ Some other → directory_at self.new other ≡ directory_at self.old other }
-        ensures labels { (other : ℕ) → option_map labelled (directory_at self.new other) ≡ option_map labelled (directory_at self.old other) }
-        ensures fits { FitsDrives D.disks self.new cache.new drives.new }
-        ensures images { KeepsImages (Some number) self.old (D.disks drives.old) (D.disks drives.new) }
-        ensures beside { StaysBeside self.old (D.disks drives.old) (D.disks drives.new) }
-        ensures told_are { KeepsToldOf self.old (D.disks drives.old) (D.told drives.old) (D.told drives.new) }
-        ensures names { D.failed_names drives.new ≡ D.failed_names drives.old }
-        ensures unsynced { KeepsUnsynced (Some number) (D.unsynced drives.old) (D.unsynced drives.new) }
-        ensures calls { steps.new ≤ steps.old + 20 }
-        ensures reads { work.old.job.kind ≡ kinds.Read → steps.new ≤ steps.old + 1 }
-        ensures reads_only { work.old.job.kind ≡ kinds.Read → (other : ℕ) → D.unsynced drives.new other ≡ D.unsynced drives.old other }
-        ensures cached { work.old.job.kind ≡ kinds.Read → IfSome (directory_at self.old number) (λ d. IsNextCached cache.old d work.old) → steps.new ≡ steps.old }
+        ensures left { TurnLeaves D.disks D.told D.failed_names D.unsynced (Some number) self.old self.new cache.new drives.old drives.new }
+        ensures takes { TakesTurn (IsReadingRecord (Some work.old)) (IsReadingCached cache.old (directory_at self.old number) (Some work.old)) steps.old steps.new (D.unsynced drives.old) (D.unsynced drives.new) }
         ensures cause { HasCause (D.faults drives.old) (D.faults drives.new) result }
     {
         let place = usize::from(number);
@@ -122,18 +108,8 @@ impl Service {
         ensures done { is_some self.old.work ≡ false → result ≡ Ok progress.Done }
         ensures still { is_some self.new.work ≡ is_some self.old.work }
         ensures kept { without_work self.new ≡ without_work self.old }
-        ensures places { (other : ℕ) → Some self.old.drive ≢ Some other → directory_at mounted.new other ≡ directory_at mounted.old other }
-        ensures labels { (other : ℕ) → option_map labelled (directory_at mounted.new other) ≡ option_map labelled (directory_at mounted.old other) }
-        ensures fits { FitsDrives D.disks mounted.new cache.new drives.new }
-        ensures images { KeepsImages (Some self.old.drive) mounted.old (D.disks drives.old) (D.disks drives.new) }
-        ensures beside { StaysBeside mounted.old (D.disks drives.old) (D.disks drives.new) }
-        ensures told_are { KeepsToldOf mounted.old (D.disks drives.old) (D.told drives.old) (D.told drives.new) }
-        ensures names { D.failed_names drives.new ≡ D.failed_names drives.old }
-        ensures unsynced { KeepsUnsynced (Some self.old.drive) (D.unsynced drives.old) (D.unsynced drives.new) }
-        ensures calls { steps.new ≤ steps.old + 20 }
-        ensures reads { IsReadingRecord self.old.work → steps.new ≤ steps.old + 1 }
-        ensures reads_only { IsReadingRecord self.old.work → (other : ℕ) → D.unsynced drives.new other ≡ D.unsynced drives.old other }
-        ensures cached { IsReadingCached cache.old (directory_at mounted.old self.old.drive) self.old.work → steps.new ≡ steps.old }
+        ensures left { TurnLeaves D.disks D.told D.failed_names D.unsynced (Some self.old.drive) mounted.old mounted.new cache.new drives.old drives.new }
+        ensures takes { TakesTurn (IsReadingRecord self.old.work) (IsReadingCached cache.old (directory_at mounted.old self.old.drive) self.old.work) steps.old steps.new (D.unsynced drives.old) (D.unsynced drives.new) }
         ensures cause { HasCause (D.faults drives.old) (D.faults drives.new) result }
     {
         let number = self.drive;
@@ -147,7 +123,7 @@ impl Service {
 /// Does the next unit of the job of the call in service, where one is and has one.
 #[tactic(auto, using(crate::proofs::Fitting::stays_same, crate::proofs::Fitting::told_same, crate::proofs::Fitting::unsynced_same))]
 pub(crate) fn turn_service<D: Drives, L: Ledger>(
-    service: &mut Option<Service>,
+    service: &mut Held,
     mounted: &mut Directories,
     cache: &mut Cache,
     drives: &mut D,
@@ -164,21 +140,11 @@ pub(crate) fn turn_service<D: Drives, L: Ledger>(
     ensures done { has_work service.old ≡ false → result ≡ Ok progress.Done }
     ensures still { has_work service.new ≡ has_work service.old }
     ensures kept { option_map without_work service.new ≡ option_map without_work service.old }
-    ensures places { (other : ℕ) → drive_served service.old ≢ Some other → directory_at mounted.new other ≡ directory_at mounted.old other }
-    ensures labels { (other : ℕ) → option_map labelled (directory_at mounted.new other) ≡ option_map labelled (directory_at mounted.old other) }
-    ensures fits { FitsDrives D.disks mounted.new cache.new drives.new }
-    ensures images { KeepsImages (drive_served service.old) mounted.old (D.disks drives.old) (D.disks drives.new) }
-    ensures beside { StaysBeside mounted.old (D.disks drives.old) (D.disks drives.new) }
-    ensures told_are { KeepsToldOf mounted.old (D.disks drives.old) (D.told drives.old) (D.told drives.new) }
-    ensures names { D.failed_names drives.new ≡ D.failed_names drives.old }
-    ensures unsynced { KeepsUnsynced (drive_served service.old) (D.unsynced drives.old) (D.unsynced drives.new) }
-    ensures calls { steps.new ≤ steps.old + 20 }
-    ensures reads { ServesReading service.old → steps.new ≤ steps.old + 1 }
-    ensures reads_only { ServesReading service.old → (other : ℕ) → D.unsynced drives.new other ≡ D.unsynced drives.old other }
-    ensures cached { ServesCached cache.old mounted.old service.old → steps.new ≡ steps.old }
+    ensures left { TurnLeaves D.disks D.told D.failed_names D.unsynced (drive_served service.old) mounted.old mounted.new cache.new drives.old drives.new }
+    ensures takes { TakesTurn (ServesReading service.old) (ServesCached cache.old mounted.old service.old) steps.old steps.new (D.unsynced drives.old) (D.unsynced drives.new) }
     ensures cause { HasCause (D.faults drives.old) (D.faults drives.new) result }
 {
-    match service {
+    match &mut *service.place {
         Some(service) => service.turn(mounted, cache, drives, steps),
         None => Ok(Progress::Done),
     }

@@ -1,6 +1,6 @@
-ghost use Rattle.std.specs.Prelude.{◌≡◌, ◌≢◌, ◌⊎◌, ℕ, true, ◌+◌, ◌≤◌, [], length, Option, IfOk, IfSome, IfNone, IsSome, IsOk, OnOk, OnErr, is_some, if◌then◌else◌};
+ghost use Rattle.std.specs.Prelude.{◌≡◌, ◌⊎◌, ℕ, ◌+◌, ◌≤◌, [], length, Option, IfOk, IfSome, IfNone, IsSome, OnOk, OnErr, is_some, if◌then◌else◌};
 ghost use Rattle.mpm_port.specs.Causes.{HasCause};
-ghost use Rattle.mpm_port.specs.Disks.{Disks, IsInsideDrive, WritesSector, KeepsTold, size_of, sector_of};
+ghost use Rattle.mpm_port.specs.Disks.{Disks, IsInsideDrive, WritesSector, size_of, sector_of};
 
 use crate::OutOfMemory;
 use lru::LruCache;
@@ -43,6 +43,7 @@ impl Model for Cache {
 impl Cache {
     ghost use Rattle.mpm_cache.specs.Cached.{cached_at, used, IsPut, taken_out, SameCached, CachesSector, Forgets};
     ghost use Rattle.mpm_cache.specs.Coherent.{IsCoherent, HasNoAlias, StayApart};
+    ghost use Rattle.mpm_cache.specs.Calls.{IsHit, CachesRead, CachesWritten, OnlyCountsFaults, IsAskedToWrite};
 
     /// No sector is cached. Room for 256 is taken here but for their bytes.
     #[tactic(auto, using(crate::proofs::CoherentLaws::coherent_none, crate::proofs::AliasLaws::no_alias_none))]
@@ -111,25 +112,10 @@ impl Cache {
         ensures coherent { IsCoherent self.new (D.disks drives.new) }
         ensures apart { StayApart drive self.old self.new (D.disks drives.old) (D.disks drives.new) }
         ensures calls { steps.new ≡ (if is_some (cached_at self.old drive sector) then steps.old else steps.old + 1) }
-
-        // A cached sector comes from the cache, and the drives aren't called.
-        ensures hit { IfSome (cached_at self.old drive sector) (λ cached. out.new ≡ cached) }
-        ensures succeeds { IsSome (cached_at self.old drive sector) → IsOk result }
-        ensures uncalled { IsSome (cached_at self.old drive sector) → drives.new ≡ drives.old }
-        ensures used { IsSome (cached_at self.old drive sector) → self.new ≡ used drive sector self.old }
-        ensures same { IsSome (cached_at self.old drive sector) → SameCached self.old self.new }
-
-        // What is cached afterwards.
-        ensures put { IfNone (cached_at self.old drive sector) (OnOk result (IsPut drive sector out.new self.old self.new)) }
-        ensures kept { OnOk result (CachesSector drive sector out.new self.old self.new) }
-        ensures err { OnErr result (self.new ≡ self.old) }
-
-        // What is so of the drives.
+        ensures hit { IsSome (cached_at self.old drive sector) → IsHit drive sector out.new self.old self.new drives.old drives.new result }
+        ensures cached { CachesRead drive sector out.new self.old self.new result }
+        ensures same { OnlyCountsFaults D.disks D.told D.failed_names D.unsynced drives.old drives.new }
         ensures cause { HasCause (D.faults drives.old) (D.faults drives.new) result }
-        ensures names { D.failed_names drives.new ≡ D.failed_names drives.old }
-        ensures disks { D.disks drives.new ≡ D.disks drives.old }
-        ensures told { D.told drives.new ≡ D.told drives.old }
-        ensures unsynced { D.unsynced drives.new ≡ D.unsynced drives.old }
     {
         if let Some(bytes) = self.find(drive, sector) {
             *out = bytes;
@@ -153,14 +139,9 @@ impl Cache {
         ensures coherent { IsCoherent self.new (D.disks drives.new) }
         ensures apart { StayApart drive self.old self.new (D.disks drives.old) (D.disks drives.new) }
         ensures calls { steps.new ≡ steps.old + 1 }
-        ensures put { OnOk result (IsPut drive sector out.new self.old self.new) }
-        ensures kept { OnOk result (CachesSector drive sector out.new self.old self.new) }
-        ensures err { OnErr result (self.new ≡ self.old) }
+        ensures cached { CachesRead drive sector out.new self.old self.new result }
+        ensures same { OnlyCountsFaults D.disks D.told D.failed_names D.unsynced drives.old drives.new }
         ensures cause { HasCause (D.faults drives.old) (D.faults drives.new) result }
-        ensures names { D.failed_names drives.new ≡ D.failed_names drives.old }
-        ensures disks { D.disks drives.new ≡ D.disks drives.old }
-        ensures told { D.told drives.new ≡ D.told drives.old }
-        ensures unsynced { D.unsynced drives.new ≡ D.unsynced drives.old }
     {
         steps.tick();
         match drives.read(drive, sector, out) {
@@ -192,19 +173,9 @@ impl Cache {
         ensures coherent { IsCoherent self.new (D.disks drives.new) }
         ensures apart { StayApart drive self.old self.new (D.disks drives.old) (D.disks drives.new) }
         ensures calls { steps.new ≡ steps.old + 1 }
-
-        // What is cached afterwards.
-        ensures put { OnOk result (IsPut drive sector bytes.now self.old self.new) }
-        ensures out { OnErr result (self.new ≡ taken_out drive sector self.old) }
-        ensures kept { OnOk result (CachesSector drive sector bytes.now self.old self.new) }
-        ensures forgotten { OnErr result (Forgets drive sector self.old self.new) }
-
-        // What is so of the drives.
+        ensures cached { CachesWritten drive sector bytes.now self.old self.new result }
+        ensures asked { IsAskedToWrite D.disks D.told D.failed_names D.unsynced drive drives.old drives.new }
         ensures cause { HasCause (D.faults drives.old) (D.faults drives.new) result }
-        ensures names { D.failed_names drives.new ≡ D.failed_names drives.old }
-        ensures told { KeepsTold ((D.disks drives.old).name_of drive) (D.told drives.old) (D.told drives.new) }
-        ensures unsynced { D.unsynced drives.new drive ≡ true }
-        ensures beside { (other : ℕ) → other ≢ drive → D.unsynced drives.new other ≡ D.unsynced drives.old other }
     {
         steps.tick();
         match drives.write(drive, sector, bytes) {

@@ -55,6 +55,7 @@ fn fail_last(drives: &mut MemoryDrives, writers: u8) -> Result<(), Fail>
 }
 
 /// Writes the record into a block, and says whether that went well.
+#[tactic(auto, using(mpm_sectors::proofs::LeavesLaws::ready_of))]
 fn put_block<L: Ledger>(
     cache: &mut Cache,
     drives: &mut MemoryDrives,
@@ -380,6 +381,7 @@ fn bytes_of(slot: Slot) -> [u8; 32] {
 }
 
 /// Does it, and says whether that went well.
+#[tactic(auto, using(mpm_sectors::proofs::LeavesLaws::ready_of))]
 fn acts<L: Ledger>(
     cache: &mut Cache,
     drives: &mut MemoryDrives,
@@ -514,6 +516,7 @@ fn entries_are_written_by_their_sectors(rt: HostRuntime) -> Result<(), Fail> {
 }
 
 /// Sector 16 of a floppy after the system's tracks, the first of block 2, is sector 71 of the image.
+#[tactic(auto, using(mpm_sectors::proofs::LeavesLaws::ready_of))]
 fn is_placed<L: Ledger>(cache: &mut Cache, drives: &mut MemoryDrives, steps: &mut Steps<L>) -> bool
     requires size { size_of (disks_of drives.old) 0 ≡ Some 256256 }
     requires coherent { IsCoherent cache.old (disks_of drives.old) }

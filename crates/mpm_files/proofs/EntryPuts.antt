@@ -3,6 +3,7 @@ use Rattle.std.proofs.Common.{◌≡◌, ◌⊎◌, inl, inr, ℕ, ◌+◌, ◌*
 use Rattle.std.specs.Prelude.{slice_set}
 use Rattle.mpm_port.specs.Disks.{Disks, with_sector}
 use Rattle.mpm_base.specs.declared.kind.Kind.{Kind}
+use Rattle.mpm_base.specs.declared.kind.Kind.TheVariants.{Ibm3740, Hd4, Hd8}
 use Rattle.mpm_blocks.specs.Geometries.{geometry_of, place_of}
 use Rattle.mpm_blocks.specs.Sectors.{Sectors, sectors_of, with_slot}
 use Rattle.mpm_blocks.proofs.Written.{spliced_size, sector_size}
@@ -21,6 +22,12 @@ use Rattle.mpm_sectors.specs.Slots.{slot_bytes, bytes_over, with_entry, slot_wri
 use Rattle.mpm_files.specs.Units.{last_of}
 use Rattle.mpm_files.specs.Standing.{StandsOn, StandsAmong, GoesThrough}
 use Rattle.mpm_files.proofs.StandingLaws.{among_first, among_last}
+
+-- a slot of the sector of a slot of the directory is one of the directory too
+pub beside_within : (kind : Kind) (slot other : ℕ) → other / 4 ≡ slot / 4 → slot ≤ (geometry_of kind).drm → other ≤ (geometry_of kind).drm
+beside_within Ibm3740 slot other same h = omega (arith, same, h)
+beside_within Hd4 slot other same h = omega (arith, same, h)
+beside_within Hd8 slot other same h = omega (arith, same, h)
 
 -- the first ones of one sector are none or it
 same_first : (v w : Write) (rest : List Write) → v ∷ rest ≡ w ∷ [] → v ≡ w

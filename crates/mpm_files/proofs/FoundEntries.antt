@@ -1,6 +1,6 @@
 -- What is known of the entry of a record, and of a file's XFCB, that were found in a directory.
-use Rattle.std.proofs.Common.{◌≡◌, ℕ, ◌+◌, ◌/◌, ◌<◌, ◌≤◌, Bool, true, false, ◌==◌, ◌&&◌, List, Some, None, length, get_or, refl, sym, ap, ◌∙◌, arith}
-use Rattle.std.specs.Prelude.{bytes_eq}
+use Rattle.std.proofs.Common.{◌≡◌, ℕ, ◌+◌, ◌/◌, ◌<◌, ◌≤◌, Bool, true, false, ◌==◌, ◌&&◌, List, Some, None, length, get_or, refl, sym, ap, subst, ◌∙◌, arith}
+use Rattle.std.specs.Prelude.{bytes_eq, IsSomeAnd, Option}
 use Rattle.std.proofs.lemmas.Bool.{false≢true, eqb-true}
 use Rattle.std.proofs.lemmas.List.Quantifiers.{position-Some}
 use Rattle.mpm_base.specs.declared.kind.Kind.{Kind}
@@ -22,7 +22,14 @@ use Rattle.mpm_mount.proofs.Puts.{ranges_at, still_xfcb_changed}
 use Rattle.mpm_mount.proofs.Still.{file_injective}
 use Rattle.mpm_files.specs.declared.stamps.Stamp.{Stamp}
 use Rattle.mpm_files.specs.declared.stamps.Stamp.TheVariants.{First, Second}
-use Rattle.mpm_files.specs.Lookups.{HasEntry, HasXfcb, stamped_entry}
+use Rattle.mpm_files.specs.Lookups.{HasEntry, HasXfcb, HasXfcbBeside, stamped_entry}
+
+-- no XFCB of a file is in the sector of a slot: it has none, or one in another sector
+pub none_beside : (d : Directory) (file : FileName) (slot : ℕ) → xfcb_slot d file ≡ None → HasXfcbBeside d file slot → ⊥
+none_beside d file slot none beside = let some = subst (λ (o : Option ℕ). IsSomeAnd o (λ other. other / 4 ≡ slot / 4)) none beside in some
+
+pub not_beside : (d : Directory) (file : FileName) (slot other : ℕ) → xfcb_slot d file ≡ Some other → (other / 4 ≡ slot / 4 → ⊥) → HasXfcbBeside d file slot → ⊥
+not_beside d file slot other is apart beside = apart (subst (λ (o : Option ℕ). IsSomeAnd o (λ other. other / 4 ≡ slot / 4)) is beside)
 
 -- a record is one of an extent that a file can have
 low_number : (kind : Kind) (f : FileEntry) (n : ℕ) → HasRanges f → entry_number kind (extent_of f) ≡ entry_number kind (n / 128) → n ≤ LAST_RECORD

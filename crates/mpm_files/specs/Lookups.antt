@@ -1,5 +1,5 @@
 -- What is found in a directory: the entry of a record, a file's XFCB; and what they are to become.
-use Rattle.std.specs.Prelude.{Bool, ◌≡◌, ◌≢◌, ℕ, ◌+◌, ◌*◌, ◌/◌, ◌%◌, ◌≤◌, ◌==◌, ◌&&◌, ◌||◌, List, Option, Some, None, length, nat_lt, nat_le, IsSome, slice_set, if◌then◌else◌}
+use Rattle.std.specs.Prelude.{Bool, ◌≡◌, ◌≢◌, ℕ, ◌+◌, ◌*◌, ◌/◌, ◌%◌, ◌≤◌, ◌==◌, ◌&&◌, ◌||◌, List, Option, Some, None, length, nat_lt, nat_le, IsSome, IsSomeAnd, slice_set, if◌then◌else◌}
 use Rattle.mpm_base.specs.declared.kind.Kind.{Kind}
 use Rattle.mpm_blocks.specs.Geometries.{geometry_of, block_records, place_of}
 use Rattle.mpm_cache.specs.declared.cache.SectorPlace.{SectorPlace}
@@ -38,6 +38,10 @@ pub record HasXfcb (d : Directory) (file : FileName) (slot : ℕ) (xfcb : XfcbEn
   pub within : slot ≤ (geometry_of d.kind).drm
   pub entry : entry_in d slot ≡ Xfcb xfcb
   pub proper : IsProper (geometry_of d.kind).wide (Xfcb xfcb)
+
+-- a file's XFCB is in the sector of a slot
+abbrev pub HasXfcbBeside : Directory → FileName → ℕ → Type 0
+HasXfcbBeside d file slot = IsSomeAnd (xfcb_slot d file) (λ other. other / 4 ≡ slot / 4)
 
 -- the sector of a record, where its entry holds its block
 pub record IsHeldAt (kind : Kind) (f : FileEntry) (n sector : ℕ) : Type 0 where

@@ -11,6 +11,11 @@ use Rattle.mpm_mount.specs.Directories.{Directory, Stands, free_block}
 use Rattle.mpm_files.specs.Units.{FileUnit, is_raising, raised, last_of, stages, applied}
 use Rattle.mpm_files.specs.Serving.{cleared_sectors, IsCleared}
 
+-- a directory is that of the same drive, of the same kind
+pub record SameDisk (d e : Directory) : Type 0 where
+  pub drive : e.drive ≡ d.drive
+  pub kind : e.kind ≡ d.kind
+
 -- the attached image of a directory's drive stands, with the directory, for a drive of files
 pub record StandsOn (disks : Disks) (d : Directory) (files : Drive) : Type 0 where
   pub image : List ℕ

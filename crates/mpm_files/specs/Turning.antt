@@ -1,5 +1,5 @@
 -- What a turn leaves of a job in service, on the attached image of its drive.
-use Rattle.std.specs.Prelude.{◌≡◌, ℕ, suc, ◌+◌, ◌*◌, ◌<◌, ◌≤◌, ◌==◌, ◌&&◌, not, false, List, ◌++◌, take, drop, Option, Some, None, is_some, if◌then◌else◌, length, Result, OnOk, OnErr}
+use Rattle.std.specs.Prelude.{◌≡◌, ℕ, suc, ◌+◌, ◌*◌, ◌<◌, ◌≤◌, ◌==◌, ◌&&◌, not, Bool, false, List, ◌++◌, take, drop, Option, Some, None, is_some, if◌then◌else◌, length, Result, OnOk, OnErr}
 use Rattle.std.specs.List.{list_any}
 use Rattle.std.specs.FinMap.{get}
 use Rattle.mpm_port.specs.Disks.{Disks}
@@ -100,6 +100,12 @@ with_record_read work bytes = record work {
 -- the sector of the record that is read next is cached
 abbrev pub IsNextCached : List (SectorPlace × List ℕ) → Directory → Work → Type 0
 IsNextCached cached d work = IsRecordCached cached d (file_of_job work.job) (work.job.first + work.ended)
+
+-- a turn that reads: one call of the drives at most, none where the sector of its record is cached, and no drive is owed a sync by it
+pub record OnlyReads (cached : List (SectorPlace × List ℕ)) (d : Directory) (work : Work) (before now : ℕ) (old new : ℕ → Bool) : Type 0 where
+  pub calls : now ≤ before + 1
+  pub uncalled : IsNextCached cached d work → now ≡ before
+  pub unsynced : (other : ℕ) → new other ≡ old other
 
 -- a job that a drive may be asked for
 pub record Suits (drive : Drive) (job : Job) : Type 0 where

@@ -1,16 +1,13 @@
 ghost use Rattle.std.specs.Prelude.{◌≡◌, ◌≢◌, ◌+◌, ◌/◌, ◌%◌, ◌<◌, ◌≤◌, ℕ, List, Some, None, map, nat_le, replicate};
 ghost use Rattle.std.specs.FinMap.{get};
-ghost use Rattle.mpm_port.specs.Disks.{size_of};
 ghost use Rattle.mpm_port.specs.Causes.{HasCause};
 ghost use Rattle.mpm_dirent.specs.Names.{plain};
 ghost use Rattle.mpm_dirent.specs.declared.limits.TheConstants.{LAST_EXTENT};
-ghost use Rattle.mpm_blocks.specs.Geometries.{geometry_of};
 ghost use Rattle.mpm_mount.specs.Drives.{Drive, entry_name, extents_of, free_entries};
 ghost use Rattle.mpm_mount.specs.Directories.{Stands};
-ghost use Rattle.mpm_cache.specs.Coherent.{IsCoherent, HasNoAlias};
 ghost use Rattle.mpm_mount.specs.Attributes.{attributes_of};
-ghost use Rattle.mpm_sectors.specs.Disks.{LeavesDisks};
-ghost use Rattle.mpm_files.specs.Standing.{DoesUnit};
+ghost use Rattle.mpm_sectors.specs.Disks.{IsReadyDisk, LeavesDisks};
+ghost use Rattle.mpm_files.specs.Standing.{DoesUnit, SameDisk};
 ghost use Rattle.mpm_files.specs.Units.{AddsEntry};
 ghost use Rattle.mpm_files.specs.Plans.{file_of_job};
 
@@ -72,14 +69,11 @@ pub(crate) fn add_entry<D: Drives, L: Ledger>(
     extent: u16,
     steps: &mut Steps<L>,
 ) -> Result<(), Failed>
-    requires size { size_of (D.disks drives.old) mounted.old.drive ≡ Some (geometry_of mounted.old.kind).bytes }
-    requires coherent { IsCoherent cache.old (D.disks drives.old) }
-    requires apart { HasNoAlias cache.old (D.disks drives.old) mounted.old.drive }
+    requires ready { IsReadyDisk (D.disks drives.old) mounted.old.drive mounted.old.kind cache.old }
     ensures does { (image : List ℕ) (files : Drive) → (D.disks drives.old).image mounted.old.drive ≡ Some image → Stands image mounted.old files
         → job.now.user < 16 → extent ≤ LAST_EXTENT → get files.extents (entry_name files.kind (file_of_job job.now) extent) ≡ None
         → free_entries files ≢ 0 → DoesUnit (D.disks drives.new) mounted.old.drive mounted.new files (AddsEntry (file_of_job job.now) extent) result }
-    ensures drive { mounted.new.drive ≡ mounted.old.drive }
-    ensures kind { mounted.new.kind ≡ mounted.old.kind }
+    ensures disk { SameDisk mounted.old mounted.new }
     ensures calls { steps.new ≤ steps.old + 2 }
     ensures leaves { LeavesDisks D.disks D.told D.failed_names D.unsynced mounted.old.drive cache.old cache.new drives.old drives.new }
     ensures cause { HasCause (D.faults drives.old) (D.faults drives.new) result }

@@ -1,11 +1,8 @@
 ghost use Rattle.std.specs.Prelude.{◌≡◌, ◌+◌, ◌≤◌, ℕ, List, Some, None, IfOk, if◌then◌else◌, true};
-ghost use Rattle.mpm_port.specs.Disks.{size_of};
 ghost use Rattle.mpm_port.specs.Causes.{HasCause};
-ghost use Rattle.mpm_blocks.specs.Geometries.{geometry_of};
 ghost use Rattle.mpm_mount.specs.Drives.{FileName, Drive};
 ghost use Rattle.mpm_mount.specs.Directories.{Stands, free_block};
-ghost use Rattle.mpm_cache.specs.Coherent.{IsCoherent, HasNoAlias};
-ghost use Rattle.mpm_sectors.specs.Disks.{LeavesDisks};
+ghost use Rattle.mpm_sectors.specs.Disks.{IsReadyDisk, LeavesDisks};
 ghost use Rattle.mpm_sectors.specs.Writes.{Puts, zeros_from, block_sector};
 ghost use Rattle.mpm_files.specs.Units.{ClearsBlock};
 ghost use Rattle.mpm_files.specs.Plans as plans;
@@ -36,9 +33,7 @@ pub(crate) fn clear_block<D: Drives, L: Ledger>(
     drives: &mut D,
     steps: &mut Steps<L>,
 ) -> Result<Option<u16>, Failed>
-    requires size { size_of (D.disks drives.old) mounted.now.drive ≡ Some (geometry_of mounted.now.kind).bytes }
-    requires coherent { IsCoherent cache.old (D.disks drives.old) }
-    requires apart { HasNoAlias cache.old (D.disks drives.old) mounted.now.drive }
+    requires ready { IsReadyDisk (D.disks drives.old) mounted.now.drive mounted.now.kind cache.old }
     ensures block { IfOk result (λ block. block ≡ (if plans.clears_blocks mounted.now.kind then free_block mounted.now else None)) }
     ensures does { (image : List ℕ) (files : Drive) (file : FileName) (n : ℕ) → (D.disks drives.old).image mounted.now.drive ≡ Some image
         → Stands image mounted.now files → DoesUnit (D.disks drives.new) mounted.now.drive mounted.now files (ClearsBlock file n) result }
@@ -69,9 +64,7 @@ fn clear_first<D: Drives, L: Ledger>(
     block: u16,
     steps: &mut Steps<L>,
 ) -> Result<(), Failed>
-    requires size { size_of (D.disks drives.old) mounted.now.drive ≡ Some (geometry_of mounted.now.kind).bytes }
-    requires coherent { IsCoherent cache.old (D.disks drives.old) }
-    requires apart { HasNoAlias cache.old (D.disks drives.old) mounted.now.drive }
+    requires ready { IsReadyDisk (D.disks drives.old) mounted.now.drive mounted.now.kind cache.old }
     requires clears { plans.clears_blocks mounted.now.kind ≡ true }
     requires free { free_block mounted.now ≡ Some block }
     ensures puts { Puts mounted.now.drive mounted.now.kind (zeros_from (block_sector mounted.now.kind block) 18) (D.disks drives.old) (D.disks drives.new) result }

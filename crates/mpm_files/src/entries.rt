@@ -1,5 +1,4 @@
 ghost use Rattle.std.specs.Prelude.{◌≡◌, ◌+◌, ◌/◌, ◌≤◌, ℕ, List, [], ◌∷◌, Some, None, OnOk, OnErr};
-ghost use Rattle.mpm_port.specs.Disks.{size_of};
 ghost use Rattle.mpm_port.specs.Causes.{HasCause};
 ghost use Rattle.mpm_blocks.specs.Geometries.{geometry_of};
 ghost use Rattle.mpm_blocks.specs.Sectors.{Sectors, sectors_of};
@@ -8,10 +7,9 @@ ghost use Rattle.mpm_mount.specs.Drives.{Drive};
 ghost use Rattle.mpm_mount.specs.Faults.{cause_of};
 ghost use Rattle.mpm_mount.specs.Changes.{exchanged};
 ghost use Rattle.mpm_mount.specs.Directories.{Stands, others, entry_in, with_entry};
-ghost use Rattle.mpm_cache.specs.Coherent.{IsCoherent, HasNoAlias};
-ghost use Rattle.mpm_sectors.specs.Disks.{LeavesDisks};
+ghost use Rattle.mpm_sectors.specs.Disks.{IsReadyDisk, LeavesDisks};
 ghost use Rattle.mpm_files.specs.Lookups.{IsSoundDirectory};
-ghost use Rattle.mpm_files.specs.Standing.{GoesThrough};
+ghost use Rattle.mpm_files.specs.Standing.{GoesThrough, SameDisk};
 
 use mpm_base::Steps;
 use mpm_cache::Cache;
@@ -33,6 +31,7 @@ pub(crate) fn disk_of(mounted: &Mounted) -> Disk
 }
 
 /// Puts a directory entry in the place of another: on the disk, and where that went well in the directory in memory.
+#[tactic(auto, using(mpm_sectors::proofs::LeavesLaws::few_slot_calls))]
 pub(crate) fn put_entry<D: Drives, L: Ledger>(
     mounted: &mut Mounted,
     cache: &mut Cache,
@@ -41,9 +40,7 @@ pub(crate) fn put_entry<D: Drives, L: Ledger>(
     entry: &Entry,
     steps: &mut Steps<L>,
 ) -> Result<(), Failed>
-    requires size { size_of (D.disks drives.old) mounted.old.drive ≡ Some (geometry_of mounted.old.kind).bytes }
-    requires coherent { IsCoherent cache.old (D.disks drives.old) }
-    requires apart { HasNoAlias cache.old (D.disks drives.old) mounted.old.drive }
+    requires ready { IsReadyDisk (D.disks drives.old) mounted.old.drive mounted.old.kind cache.old }
     requires slot { slot ≤ (geometry_of mounted.old.kind).drm }
     requires proper { IsProper (geometry_of mounted.old.kind).wide entry.now }
     requires faultless { cause_of mounted.old.kind (others mounted.old.entries slot) entry.now ≡ None }
@@ -52,8 +49,7 @@ pub(crate) fn put_entry<D: Drives, L: Ledger>(
         (exchanged (sectors_of image mounted.old.kind) files (entry_in mounted.old slot) entry.now ∷ []) result }
     ensures placed { OnOk result (mounted.new ≡ with_entry mounted.old slot entry.now) }
     ensures kept { OnErr result (mounted.new ≡ mounted.old) }
-    ensures drive { mounted.new.drive ≡ mounted.old.drive }
-    ensures kind { mounted.new.kind ≡ mounted.old.kind }
+    ensures disk { SameDisk mounted.old mounted.new }
     ensures calls { steps.new ≤ steps.old + 2 }
     ensures leaves { LeavesDisks D.disks D.told D.failed_names D.unsynced mounted.old.drive cache.old cache.new drives.old drives.new }
     ensures cause { HasCause (D.faults drives.old) (D.faults drives.new) result }
@@ -69,6 +65,7 @@ pub(crate) fn put_entry<D: Drives, L: Ledger>(
 }
 
 /// Puts two directory entries of one sector in the place of others, by one write.
+#[tactic(auto, using(crate::proofs::EntryPuts::beside_within, mpm_sectors::proofs::LeavesLaws::few_slot_calls))]
 pub(crate) fn put_entries<D: Drives, L: Ledger>(
     mounted: &mut Mounted,
     cache: &mut Cache,
@@ -79,11 +76,8 @@ pub(crate) fn put_entries<D: Drives, L: Ledger>(
     other: &Entry,
     steps: &mut Steps<L>,
 ) -> Result<(), Failed>
-    requires size { size_of (D.disks drives.old) mounted.old.drive ≡ Some (geometry_of mounted.old.kind).bytes }
-    requires coherent { IsCoherent cache.old (D.disks drives.old) }
-    requires apart { HasNoAlias cache.old (D.disks drives.old) mounted.old.drive }
+    requires ready { IsReadyDisk (D.disks drives.old) mounted.old.drive mounted.old.kind cache.old }
     requires slot { slot ≤ (geometry_of mounted.old.kind).drm }
-    requires other_slot { other_slot ≤ (geometry_of mounted.old.kind).drm }
     requires same { other_slot / 4 ≡ slot / 4 }
     requires proper { IsProper (geometry_of mounted.old.kind).wide entry.now }
     requires other_proper { IsProper (geometry_of mounted.old.kind).wide other.now }
@@ -94,8 +88,7 @@ pub(crate) fn put_entries<D: Drives, L: Ledger>(
         (entry_in (with_entry mounted.old slot entry.now) other_slot) other.now ≡ last)
         → GoesThrough (D.disks drives.new) mounted.old.drive mounted.new files
         (exchanged (sectors_of image mounted.old.kind) files (entry_in mounted.old slot) entry.now ∷ last ∷ []) result }
-    ensures drive { mounted.new.drive ≡ mounted.old.drive }
-    ensures kind { mounted.new.kind ≡ mounted.old.kind }
+    ensures disk { SameDisk mounted.old mounted.new }
     ensures calls { steps.new ≤ steps.old + 2 }
     ensures leaves { LeavesDisks D.disks D.told D.failed_names D.unsynced mounted.old.drive cache.old cache.new drives.old drives.new }
     ensures cause { HasCause (D.faults drives.old) (D.faults drives.new) result }

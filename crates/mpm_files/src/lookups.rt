@@ -5,7 +5,7 @@ ghost use Rattle.mpm_mount.specs.Drives as extents;
 ghost use Rattle.mpm_mount.specs.Faults.{block_at};
 ghost use Rattle.mpm_mount.specs.Directories.{extent_slot, xfcb_slot};
 ghost use Rattle.mpm_files.specs.Plans.{file_of_job};
-ghost use Rattle.mpm_files.specs.Lookups.{HasEntry, HasXfcb, IsHeldAt};
+ghost use Rattle.mpm_files.specs.Lookups.{HasEntry, HasXfcb, HasXfcbBeside, IsHeldAt};
 
 use crate::records::slot_of;
 use mpm_dirent::{Entry, FileEntry, XfcbEntry};
@@ -87,9 +87,11 @@ pub(crate) fn index_in(mounted: &Mounted, n: u32) -> u8
 }
 
 /// Finds the XFCB of a job's file where it is in the sector of a slot.
+#[tactic(auto, using(crate::proofs::FoundEntries::none_beside, crate::proofs::FoundEntries::not_beside))]
 pub(crate) fn find_xfcb_beside(mounted: &Mounted, job: &Job, slot: u16) -> Option<FoundXfcb>
     ensures found { IfSome result (λ found. HasXfcb mounted.now (file_of_job job.now) found.slot found.xfcb) }
     ensures beside { IfSome result (λ found. found.slot / 4 ≡ slot / 4) }
+    ensures missing { IfNone result (HasXfcbBeside mounted.now (file_of_job job.now) slot → ⊥) }
 {
     match find_xfcb(mounted, job) {
         Some(found) => {

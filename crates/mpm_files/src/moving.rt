@@ -1,12 +1,10 @@
-ghost use Rattle.mpm_port.specs.Disks.{size_of};
 ghost use Rattle.mpm_files.specs.declared.moving.Step.TheVariants as steps_of;
 ghost use Rattle.mpm_files.specs.Stepping as stepping;
-ghost use Rattle.std.specs.Prelude.{length, ℕ, ◌≡◌, ◌+◌, ◌*◌, ◌<◌, ◌≤◌, Some, None};
+ghost use Rattle.std.specs.Prelude.{length, ◌≡◌, ◌+◌, ◌*◌, ◌<◌, ◌≤◌, None};
 ghost use Rattle.mpm_dirent.specs.declared.limits.TheConstants.{LAST_NAMED};
 ghost use Rattle.mpm_port.specs.Causes.{HasCause};
-ghost use Rattle.mpm_blocks.specs.Geometries.{geometry_of};
-ghost use Rattle.mpm_cache.specs.Coherent.{IsCoherent, HasNoAlias};
-ghost use Rattle.mpm_sectors.specs.Disks.{LeavesDisks};
+ghost use Rattle.mpm_sectors.specs.Disks.{IsReadyDisk, LeavesDisks};
+ghost use Rattle.mpm_files.specs.Standing.{SameDisk};
 ghost use Rattle.mpm_jobs.specs.declared.jobs.JobKind.TheVariants as kinds;
 ghost use Rattle.mpm_files.specs.Turning.{DoesNext};
 ghost use Rattle.mpm_files.specs.Plans.{record_at};
@@ -64,17 +62,12 @@ pub(crate) fn read_next<D: Drives, L: Ledger>(
     work: &mut Work,
     steps: &mut Steps<L>,
 ) -> Result<(), Failed>
-    requires size { size_of (D.disks drives.old) mounted.old.drive ≡ Some (geometry_of mounted.old.kind).bytes }
-    requires coherent { IsCoherent cache.old (D.disks drives.old) }
-    requires apart { HasNoAlias cache.old (D.disks drives.old) mounted.old.drive }
+    requires ready { IsReadyDisk (D.disks drives.old) mounted.old.drive mounted.old.kind cache.old }
     ensures read { work.old.job.kind ≡ kinds.Read → DoesNext (D.disks drives.old) (D.disks drives.new) mounted.old mounted.new work.old work.new result }
     ensures ended { work.new.ended ≡ work.old.ended }
     ensures units { work.new.units ≡ work.old.units }
-    ensures drive { mounted.new.drive ≡ mounted.old.drive }
-    ensures kind { mounted.new.kind ≡ mounted.old.kind }
-    ensures calls { steps.new ≤ steps.old + 1 }
-    ensures cached { turning.IsNextCached cache.old mounted.old work.old → steps.new ≡ steps.old }
-    ensures unsynced { (other : ℕ) → D.unsynced drives.new other ≡ D.unsynced drives.old other }
+    ensures disk { SameDisk mounted.old mounted.new }
+    ensures reads { turning.OnlyReads cache.old mounted.old work.old steps.old steps.new (D.unsynced drives.old) (D.unsynced drives.new) }
     ensures leaves { LeavesDisks D.disks D.told D.failed_names D.unsynced mounted.old.drive cache.old cache.new drives.old drives.new }
     ensures cause { HasCause (D.faults drives.old) (D.faults drives.new) result }
 {
@@ -132,15 +125,12 @@ fn write_record<D: Drives, L: Ledger>(
     work: &mut Work,
     steps: &mut Steps<L>,
 ) -> Result<(), Failed>
-    requires size { size_of (D.disks drives.old) mounted.old.drive ≡ Some (geometry_of mounted.old.kind).bytes }
-    requires coherent { IsCoherent cache.old (D.disks drives.old) }
-    requires apart { HasNoAlias cache.old (D.disks drives.old) mounted.old.drive }
+    requires ready { IsReadyDisk (D.disks drives.old) mounted.old.drive mounted.old.kind cache.old }
     ensures write { work.old.job.kind ≡ kinds.Write → stepping.step_of mounted.old work.old (stepping.record_next work.old) ≡ steps_of.Record
         → DoesNext (D.disks drives.old) (D.disks drives.new) mounted.old mounted.new work.old work.new result }
     ensures ended { work.new.ended ≡ work.old.ended }
     ensures units { work.new.units ≡ work.old.units }
-    ensures drive { mounted.new.drive ≡ mounted.old.drive }
-    ensures kind { mounted.new.kind ≡ mounted.old.kind }
+    ensures disk { SameDisk mounted.old mounted.new }
     ensures calls { steps.new ≤ steps.old + 20 }
     ensures leaves { LeavesDisks D.disks D.told D.failed_names D.unsynced mounted.old.drive cache.old cache.new drives.old drives.new }
     ensures cause { HasCause (D.faults drives.old) (D.faults drives.new) result }
@@ -175,14 +165,11 @@ pub(crate) fn write_next<D: Drives, L: Ledger>(
     work: &mut Work,
     steps: &mut Steps<L>,
 ) -> Result<(), Failed>
-    requires size { size_of (D.disks drives.old) mounted.old.drive ≡ Some (geometry_of mounted.old.kind).bytes }
-    requires coherent { IsCoherent cache.old (D.disks drives.old) }
-    requires apart { HasNoAlias cache.old (D.disks drives.old) mounted.old.drive }
+    requires ready { IsReadyDisk (D.disks drives.old) mounted.old.drive mounted.old.kind cache.old }
     ensures write { work.old.job.kind ≡ kinds.Write → DoesNext (D.disks drives.old) (D.disks drives.new) mounted.old mounted.new work.old work.new result }
     ensures ended { work.new.ended ≡ work.old.ended }
     ensures units { work.new.units ≡ work.old.units }
-    ensures drive { mounted.new.drive ≡ mounted.old.drive }
-    ensures kind { mounted.new.kind ≡ mounted.old.kind }
+    ensures disk { SameDisk mounted.old mounted.new }
     ensures calls { steps.new ≤ steps.old + 20 }
     ensures leaves { LeavesDisks D.disks D.told D.failed_names D.unsynced mounted.old.drive cache.old cache.new drives.old drives.new }
     ensures cause { HasCause (D.faults drives.old) (D.faults drives.new) result }
@@ -215,14 +202,11 @@ pub(crate) fn test_next<D: Drives, L: Ledger>(
     work: &mut Work,
     steps: &mut Steps<L>,
 ) -> Result<(), Failed>
-    requires size { size_of (D.disks drives.old) mounted.old.drive ≡ Some (geometry_of mounted.old.kind).bytes }
-    requires coherent { IsCoherent cache.old (D.disks drives.old) }
-    requires apart { HasNoAlias cache.old (D.disks drives.old) mounted.old.drive }
+    requires ready { IsReadyDisk (D.disks drives.old) mounted.old.drive mounted.old.kind cache.old }
     ensures testwrite { work.old.job.kind ≡ kinds.TestWrite → DoesNext (D.disks drives.old) (D.disks drives.new) mounted.old mounted.new work.old work.new result }
     ensures ended { work.new.ended ≡ work.old.ended }
     ensures units { work.new.units ≡ work.old.units }
-    ensures drive { mounted.new.drive ≡ mounted.old.drive }
-    ensures kind { mounted.new.kind ≡ mounted.old.kind }
+    ensures disk { SameDisk mounted.old mounted.new }
     ensures calls { steps.new ≤ steps.old + 6 }
     ensures leaves { LeavesDisks D.disks D.told D.failed_names D.unsynced mounted.old.drive cache.old cache.new drives.old drives.new }
     ensures cause { HasCause (D.faults drives.old) (D.faults drives.new) result }

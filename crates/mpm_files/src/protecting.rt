@@ -1,14 +1,11 @@
 ghost use Rattle.std.specs.Prelude.{◌≡◌, ◌+◌, ◌<◌, ◌≤◌, ℕ, List, Some, None, not, is_some, slice_range};
 ghost use Rattle.std.specs.FinMap.{get};
-ghost use Rattle.mpm_port.specs.Disks.{size_of};
 ghost use Rattle.mpm_port.specs.Causes.{HasCause};
 ghost use Rattle.mpm_base.specs.Counts.{one_if};
-ghost use Rattle.mpm_blocks.specs.Geometries.{geometry_of};
 ghost use Rattle.mpm_mount.specs.Drives.{Drive, free_entries};
 ghost use Rattle.mpm_mount.specs.Directories.{Stands};
-ghost use Rattle.mpm_cache.specs.Coherent.{IsCoherent, HasNoAlias};
-ghost use Rattle.mpm_sectors.specs.Disks.{LeavesDisks};
-ghost use Rattle.mpm_files.specs.Standing.{DoesUnit};
+ghost use Rattle.mpm_sectors.specs.Disks.{IsReadyDisk, LeavesDisks};
+ghost use Rattle.mpm_files.specs.Standing.{DoesUnit, SameDisk};
 ghost use Rattle.mpm_files.specs.Units.{PutsXfcb, PutsLabel};
 ghost use Rattle.mpm_files.specs.Plans.{file_of_job, protection_in};
 ghost use Rattle.mpm_files.specs.Turning.{xfcb_of_job, label_of_job};
@@ -69,14 +66,11 @@ pub(crate) fn put_xfcb<D: Drives, L: Ledger>(
     job: &Job,
     steps: &mut Steps<L>,
 ) -> Result<(), Failed>
-    requires size { size_of (D.disks drives.old) mounted.old.drive ≡ Some (geometry_of mounted.old.kind).bytes }
-    requires coherent { IsCoherent cache.old (D.disks drives.old) }
-    requires apart { HasNoAlias cache.old (D.disks drives.old) mounted.old.drive }
+    requires ready { IsReadyDisk (D.disks drives.old) mounted.old.drive mounted.old.kind cache.old }
     ensures does { (image : List ℕ) (files : Drive) → (D.disks drives.old).image mounted.old.drive ≡ Some image → Stands image mounted.old files
         → job.now.user < 16 → one_if (not (is_some (get files.xfcbs (file_of_job job.now)))) ≤ free_entries files
         → DoesUnit (D.disks drives.new) mounted.old.drive mounted.new files (PutsXfcb (file_of_job job.now) (protection_in job.now)) result }
-    ensures drive { mounted.new.drive ≡ mounted.old.drive }
-    ensures kind { mounted.new.kind ≡ mounted.old.kind }
+    ensures disk { SameDisk mounted.old mounted.new }
     ensures calls { steps.new ≤ steps.old + 2 }
     ensures leaves { LeavesDisks D.disks D.told D.failed_names D.unsynced mounted.old.drive cache.old cache.new drives.old drives.new }
     ensures cause { HasCause (D.faults drives.old) (D.faults drives.new) result }
@@ -103,14 +97,11 @@ pub(crate) fn put_label<D: Drives, L: Ledger>(
     job: &Job,
     steps: &mut Steps<L>,
 ) -> Result<(), Failed>
-    requires size { size_of (D.disks drives.old) mounted.old.drive ≡ Some (geometry_of mounted.old.kind).bytes }
-    requires coherent { IsCoherent cache.old (D.disks drives.old) }
-    requires apart { HasNoAlias cache.old (D.disks drives.old) mounted.old.drive }
+    requires ready { IsReadyDisk (D.disks drives.old) mounted.old.drive mounted.old.kind cache.old }
     ensures does { (image : List ℕ) (files : Drive) → (D.disks drives.old).image mounted.old.drive ≡ Some image → Stands image mounted.old files
         → one_if (not (is_some files.label)) ≤ free_entries files
         → DoesUnit (D.disks drives.new) mounted.old.drive mounted.new files (PutsLabel (record { name = job.now.new_name; protection = protection_in job.now })) result }
-    ensures drive { mounted.new.drive ≡ mounted.old.drive }
-    ensures kind { mounted.new.kind ≡ mounted.old.kind }
+    ensures disk { SameDisk mounted.old mounted.new }
     ensures calls { steps.new ≤ steps.old + 2 }
     ensures leaves { LeavesDisks D.disks D.told D.failed_names D.unsynced mounted.old.drive cache.old cache.new drives.old drives.new }
     ensures cause { HasCause (D.faults drives.old) (D.faults drives.new) result }

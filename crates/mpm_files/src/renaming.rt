@@ -1,13 +1,11 @@
 ghost use Rattle.std.specs.Prelude.{◌≡◌, ◌+◌, ◌≤◌, ℕ, List, Some, None, IsSome, IfSome};
 ghost use Rattle.std.specs.FinMap.{get};
-ghost use Rattle.mpm_port.specs.Disks.{size_of};
 ghost use Rattle.mpm_port.specs.Causes.{HasCause};
 ghost use Rattle.mpm_blocks.specs.Geometries.{geometry_of};
 ghost use Rattle.mpm_mount.specs.Drives.{Drive};
 ghost use Rattle.mpm_mount.specs.Directories.{Stands, entry_in};
-ghost use Rattle.mpm_cache.specs.Coherent.{IsCoherent, HasNoAlias};
-ghost use Rattle.mpm_sectors.specs.Disks.{LeavesDisks};
-ghost use Rattle.mpm_files.specs.Standing.{DoesUnit};
+ghost use Rattle.mpm_sectors.specs.Disks.{IsReadyDisk, LeavesDisks};
+ghost use Rattle.mpm_files.specs.Standing.{DoesUnit, SameDisk};
 ghost use Rattle.mpm_dirent.specs.declared.kinds.Entry.TheVariants.{File};
 ghost use Rattle.mpm_dirent.specs.declared.kinds.FileEntry.{FileEntry};
 ghost use Rattle.mpm_mount.specs.Faults.{name_of};
@@ -50,15 +48,12 @@ pub(crate) fn set_attributes<D: Drives, L: Ledger>(
     job: &Job,
     steps: &mut Steps<L>,
 ) -> Result<(), Failed>
-    requires size { size_of (D.disks drives.old) mounted.old.drive ≡ Some (geometry_of mounted.old.kind).bytes }
-    requires coherent { IsCoherent cache.old (D.disks drives.old) }
-    requires apart { HasNoAlias cache.old (D.disks drives.old) mounted.old.drive }
+    requires ready { IsReadyDisk (D.disks drives.old) mounted.old.drive mounted.old.kind cache.old }
     requires slot { slot ≤ (geometry_of mounted.old.kind).drm }
     ensures does { (image : List ℕ) (files : Drive) (f : FileEntry) → (D.disks drives.old).image mounted.old.drive ≡ Some image → Stands image mounted.old files
         → entry_in mounted.old slot ≡ File f
         → DoesUnit (D.disks drives.new) mounted.old.drive mounted.new files (SetsAttributes (file_in f.user f.name) (name_of files.kind f).number (attributes_in job.now.name)) result }
-    ensures drive { mounted.new.drive ≡ mounted.old.drive }
-    ensures kind { mounted.new.kind ≡ mounted.old.kind }
+    ensures disk { SameDisk mounted.old mounted.new }
     ensures calls { steps.new ≤ steps.old + 2 }
     ensures leaves { LeavesDisks D.disks D.told D.failed_names D.unsynced mounted.old.drive cache.old cache.new drives.old drives.new }
     ensures cause { HasCause (D.faults drives.old) (D.faults drives.new) result }
@@ -82,16 +77,13 @@ pub(crate) fn rename_entry<D: Drives, L: Ledger>(
     job: &Job,
     steps: &mut Steps<L>,
 ) -> Result<(), Failed>
-    requires size { size_of (D.disks drives.old) mounted.old.drive ≡ Some (geometry_of mounted.old.kind).bytes }
-    requires coherent { IsCoherent cache.old (D.disks drives.old) }
-    requires apart { HasNoAlias cache.old (D.disks drives.old) mounted.old.drive }
+    requires ready { IsReadyDisk (D.disks drives.old) mounted.old.drive mounted.old.kind cache.old }
     requires slot { slot ≤ (geometry_of mounted.old.kind).drm }
     ensures does { (image : List ℕ) (files : Drive) (f : FileEntry) → (D.disks drives.old).image mounted.old.drive ≡ Some image → Stands image mounted.old files
         → entry_in mounted.old slot ≡ File f → f.user ≡ job.now.user
         → get files.extents (record { user = job.now.user; name = (new_file_of_job job.now).name; number = (name_of files.kind f).number }) ≡ None
         → DoesUnit (D.disks drives.new) mounted.old.drive mounted.new files (RenamesEntry (file_in f.user f.name) (name_of files.kind f).number (new_file_of_job job.now)) result }
-    ensures drive { mounted.new.drive ≡ mounted.old.drive }
-    ensures kind { mounted.new.kind ≡ mounted.old.kind }
+    ensures disk { SameDisk mounted.old mounted.new }
     ensures calls { steps.new ≤ steps.old + 2 }
     ensures leaves { LeavesDisks D.disks D.told D.failed_names D.unsynced mounted.old.drive cache.old cache.new drives.old drives.new }
     ensures cause { HasCause (D.faults drives.old) (D.faults drives.new) result }
@@ -118,14 +110,11 @@ pub(crate) fn rename_xfcb<D: Drives, L: Ledger>(
     job: &Job,
     steps: &mut Steps<L>,
 ) -> Result<(), Failed>
-    requires size { size_of (D.disks drives.old) mounted.old.drive ≡ Some (geometry_of mounted.old.kind).bytes }
-    requires coherent { IsCoherent cache.old (D.disks drives.old) }
-    requires apart { HasNoAlias cache.old (D.disks drives.old) mounted.old.drive }
+    requires ready { IsReadyDisk (D.disks drives.old) mounted.old.drive mounted.old.kind cache.old }
     ensures does { (image : List ℕ) (files : Drive) → (D.disks drives.old).image mounted.old.drive ≡ Some image → Stands image mounted.old files
         → get files.xfcbs (new_file_of_job job.now) ≡ None
         → DoesUnit (D.disks drives.new) mounted.old.drive mounted.new files (RenamesXfcb (file_of_job job.now) (new_file_of_job job.now)) result }
-    ensures drive { mounted.new.drive ≡ mounted.old.drive }
-    ensures kind { mounted.new.kind ≡ mounted.old.kind }
+    ensures disk { SameDisk mounted.old mounted.new }
     ensures calls { steps.new ≤ steps.old + 2 }
     ensures leaves { LeavesDisks D.disks D.told D.failed_names D.unsynced mounted.old.drive cache.old cache.new drives.old drives.new }
     ensures cause { HasCause (D.faults drives.old) (D.faults drives.new) result }

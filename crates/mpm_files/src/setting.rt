@@ -1,9 +1,7 @@
 ghost use Rattle.std.specs.Prelude.{◌≡◌, ◌+◌, ◌≤◌, Some, None};
-ghost use Rattle.mpm_port.specs.Disks.{size_of};
 ghost use Rattle.mpm_port.specs.Causes.{HasCause};
-ghost use Rattle.mpm_blocks.specs.Geometries.{geometry_of};
-ghost use Rattle.mpm_cache.specs.Coherent.{IsCoherent, HasNoAlias};
-ghost use Rattle.mpm_sectors.specs.Disks.{LeavesDisks};
+ghost use Rattle.mpm_sectors.specs.Disks.{IsReadyDisk, LeavesDisks};
+ghost use Rattle.mpm_files.specs.Standing.{SameDisk};
 ghost use Rattle.mpm_jobs.specs.declared.jobs.JobKind.TheVariants as kinds;
 ghost use Rattle.mpm_files.specs.Turning.{DoesNext};
 ghost use Rattle.mpm_files.specs.Turning as turning;
@@ -37,14 +35,11 @@ pub(crate) fn set_next<D: Drives, L: Ledger>(
     work: &mut Work,
     steps: &mut Steps<L>,
 ) -> Result<(), Failed>
-    requires size { size_of (D.disks drives.old) mounted.old.drive ≡ Some (geometry_of mounted.old.kind).bytes }
-    requires coherent { IsCoherent cache.old (D.disks drives.old) }
-    requires apart { HasNoAlias cache.old (D.disks drives.old) mounted.old.drive }
+    requires ready { IsReadyDisk (D.disks drives.old) mounted.old.drive mounted.old.kind cache.old }
     ensures attributes { work.old.job.kind ≡ kinds.Attributes → DoesNext (D.disks drives.old) (D.disks drives.new) mounted.old mounted.new work.old work.new result }
     ensures ended { work.new.ended ≡ work.old.ended }
     ensures units { work.new.units ≡ work.old.units }
-    ensures drive { mounted.new.drive ≡ mounted.old.drive }
-    ensures kind { mounted.new.kind ≡ mounted.old.kind }
+    ensures disk { SameDisk mounted.old mounted.new }
     ensures calls { steps.new ≤ steps.old + 2 }
     ensures leaves { LeavesDisks D.disks D.told D.failed_names D.unsynced mounted.old.drive cache.old cache.new drives.old drives.new }
     ensures cause { HasCause (D.faults drives.old) (D.faults drives.new) result }

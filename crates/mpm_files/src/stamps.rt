@@ -1,5 +1,4 @@
-ghost use Rattle.std.specs.Prelude.{◌≡◌, ◌+◌, ◌≤◌, ℕ, List, [], ◌∷◌, Some, None, ◌/◌, true};
-ghost use Rattle.mpm_port.specs.Disks.{size_of};
+ghost use Rattle.std.specs.Prelude.{◌≡◌, ◌+◌, ◌≤◌, ℕ, List, [], ◌∷◌, Some, None, IsSome, ◌/◌, true};
 ghost use Rattle.mpm_port.specs.Causes.{HasCause};
 ghost use Rattle.mpm_blocks.specs.Geometries.{geometry_of};
 ghost use Rattle.mpm_blocks.specs.Sectors.{sectors_of};
@@ -9,13 +8,12 @@ ghost use Rattle.mpm_mount.specs.Drives.{Drive};
 ghost use Rattle.mpm_mount.specs.Faults.{cause_of};
 ghost use Rattle.mpm_mount.specs.Changes.{exchanged};
 ghost use Rattle.mpm_mount.specs.Directories.{Stands, others, entry_in};
-ghost use Rattle.mpm_cache.specs.Coherent.{IsCoherent, HasNoAlias};
 ghost use Rattle.mpm_mount.specs.Files.{is_file};
-ghost use Rattle.mpm_sectors.specs.Disks.{LeavesDisks};
+ghost use Rattle.mpm_sectors.specs.Disks.{IsReadyDisk, LeavesDisks};
 ghost use Rattle.mpm_files.specs.Units.{Idles, stamped, with_stamp};
 ghost use Rattle.mpm_files.specs.Plans.{file_of_job};
-ghost use Rattle.mpm_files.specs.Lookups.{HasXfcb, stamped_in, stamped_entry};
-ghost use Rattle.mpm_files.specs.Standing.{GoesThrough, DoesUnit};
+ghost use Rattle.mpm_files.specs.Lookups.{HasXfcb, HasXfcbBeside, stamped_in, stamped_entry};
+ghost use Rattle.mpm_files.specs.Standing.{GoesThrough, DoesUnit, SameDisk};
 
 use crate::entries::{put_entries, put_entry};
 use crate::lookups::{FoundXfcb, find_xfcb, find_xfcb_beside};
@@ -62,14 +60,11 @@ pub(crate) fn put_stamp<D: Drives, L: Ledger>(
     moment: Option<[u8; 4]>,
     steps: &mut Steps<L>,
 ) -> Result<(), Failed>
-    requires size { size_of (D.disks drives.old) mounted.old.drive ≡ Some (geometry_of mounted.old.kind).bytes }
-    requires coherent { IsCoherent cache.old (D.disks drives.old) }
-    requires apart { HasNoAlias cache.old (D.disks drives.old) mounted.old.drive }
+    requires ready { IsReadyDisk (D.disks drives.old) mounted.old.drive mounted.old.kind cache.old }
     ensures puts { (image : List ℕ) (files : Drive) → (D.disks drives.old).image mounted.old.drive ≡ Some image → Stands image mounted.old files
         → GoesThrough (D.disks drives.new) mounted.old.drive mounted.new files
         (stamped (stamped_in stamp) (file_of_job job.now) moment files) result }
-    ensures drive { mounted.new.drive ≡ mounted.old.drive }
-    ensures kind { mounted.new.kind ≡ mounted.old.kind }
+    ensures disk { SameDisk mounted.old mounted.new }
     ensures calls { steps.new ≤ steps.old + 2 }
     ensures leaves { LeavesDisks D.disks D.told D.failed_names D.unsynced mounted.old.drive cache.old cache.new drives.old drives.new }
     ensures cause { HasCause (D.faults drives.old) (D.faults drives.new) result }
@@ -102,13 +97,10 @@ pub(crate) fn idle<D: Drives, L: Ledger>(
     moment: Option<[u8; 4]>,
     steps: &mut Steps<L>,
 ) -> Result<(), Failed>
-    requires size { size_of (D.disks drives.old) mounted.old.drive ≡ Some (geometry_of mounted.old.kind).bytes }
-    requires coherent { IsCoherent cache.old (D.disks drives.old) }
-    requires apart { HasNoAlias cache.old (D.disks drives.old) mounted.old.drive }
+    requires ready { IsReadyDisk (D.disks drives.old) mounted.old.drive mounted.old.kind cache.old }
     ensures does { (image : List ℕ) (files : Drive) → (D.disks drives.old).image mounted.old.drive ≡ Some image → Stands image mounted.old files
         → DoesUnit (D.disks drives.new) mounted.old.drive mounted.new files (Idles (file_of_job job.now) moment) result }
-    ensures drive { mounted.new.drive ≡ mounted.old.drive }
-    ensures kind { mounted.new.kind ≡ mounted.old.kind }
+    ensures disk { SameDisk mounted.old mounted.new }
     ensures calls { steps.new ≤ steps.old + 2 }
     ensures leaves { LeavesDisks D.disks D.told D.failed_names D.unsynced mounted.old.drive cache.old cache.new drives.old drives.new }
     ensures cause { HasCause (D.faults drives.old) (D.faults drives.new) result }
@@ -128,9 +120,7 @@ pub(crate) fn put_stamped<D: Drives, L: Ledger>(
     moment: Option<[u8; 4]>,
     steps: &mut Steps<L>,
 ) -> Result<(), Failed>
-    requires size { size_of (D.disks drives.old) mounted.old.drive ≡ Some (geometry_of mounted.old.kind).bytes }
-    requires coherent { IsCoherent cache.old (D.disks drives.old) }
-    requires apart { HasNoAlias cache.old (D.disks drives.old) mounted.old.drive }
+    requires ready { IsReadyDisk (D.disks drives.old) mounted.old.drive mounted.old.kind cache.old }
     requires slot { slot ≤ (geometry_of mounted.old.kind).drm }
     requires was { is_file (entry_in mounted.old slot) ≡ true }
     requires proper { IsProper (geometry_of mounted.old.kind).wide (File file.now) }
@@ -139,9 +129,9 @@ pub(crate) fn put_stamped<D: Drives, L: Ledger>(
         → GoesThrough (D.disks drives.new) mounted.old.drive mounted.new files
         (with_stamp (file_of_job job.now) moment files
         (exchanged (sectors_of image mounted.old.kind) files (entry_in mounted.old slot) (File file.now) ∷ [])) result }
-    ensures drive { mounted.new.drive ≡ mounted.old.drive }
-    ensures kind { mounted.new.kind ≡ mounted.old.kind }
+    ensures disk { SameDisk mounted.old mounted.new }
     ensures calls { steps.new ≤ steps.old + 4 }
+    ensures beside { IsSome moment → HasXfcbBeside mounted.old (file_of_job job.now) slot → steps.new ≤ steps.old + 2 }
     ensures leaves { LeavesDisks D.disks D.told D.failed_names D.unsynced mounted.old.drive cache.old cache.new drives.old drives.new }
     ensures cause { HasCause (D.faults drives.old) (D.faults drives.new) result }
 {
@@ -168,9 +158,7 @@ fn put_apart<D: Drives, L: Ledger>(
     moment: Option<[u8; 4]>,
     steps: &mut Steps<L>,
 ) -> Result<(), Failed>
-    requires size { size_of (D.disks drives.old) mounted.old.drive ≡ Some (geometry_of mounted.old.kind).bytes }
-    requires coherent { IsCoherent cache.old (D.disks drives.old) }
-    requires apart { HasNoAlias cache.old (D.disks drives.old) mounted.old.drive }
+    requires ready { IsReadyDisk (D.disks drives.old) mounted.old.drive mounted.old.kind cache.old }
     requires slot { slot ≤ (geometry_of mounted.old.kind).drm }
     requires proper { IsProper (geometry_of mounted.old.kind).wide (File file.now) }
     requires faultless { cause_of mounted.old.kind (others mounted.old.entries slot) (File file.now) ≡ None }
@@ -178,8 +166,7 @@ fn put_apart<D: Drives, L: Ledger>(
         → GoesThrough (D.disks drives.new) mounted.old.drive mounted.new files
         (with_stamp (file_of_job job.now) moment files
         (exchanged (sectors_of image mounted.old.kind) files (entry_in mounted.old slot) (File file.now) ∷ [])) result }
-    ensures drive { mounted.new.drive ≡ mounted.old.drive }
-    ensures kind { mounted.new.kind ≡ mounted.old.kind }
+    ensures disk { SameDisk mounted.old mounted.new }
     ensures calls { steps.new ≤ steps.old + 4 }
     ensures leaves { LeavesDisks D.disks D.told D.failed_names D.unsynced mounted.old.drive cache.old cache.new drives.old drives.new }
     ensures cause { HasCause (D.faults drives.old) (D.faults drives.new) result }
@@ -209,9 +196,7 @@ fn put_both<D: Drives, L: Ledger>(
     moment: [u8; 4],
     steps: &mut Steps<L>,
 ) -> Result<(), Failed>
-    requires size { size_of (D.disks drives.old) mounted.old.drive ≡ Some (geometry_of mounted.old.kind).bytes }
-    requires coherent { IsCoherent cache.old (D.disks drives.old) }
-    requires apart { HasNoAlias cache.old (D.disks drives.old) mounted.old.drive }
+    requires ready { IsReadyDisk (D.disks drives.old) mounted.old.drive mounted.old.kind cache.old }
     requires slot { slot ≤ (geometry_of mounted.old.kind).drm }
     requires was { is_file (entry_in mounted.old slot) ≡ true }
     requires xfcb { HasXfcb mounted.old (file_of_job job.now) found.now.slot found.now.xfcb }
@@ -222,8 +207,7 @@ fn put_both<D: Drives, L: Ledger>(
         → GoesThrough (D.disks drives.new) mounted.old.drive mounted.new files
         (with_stamp (file_of_job job.now) (Some moment) files
         (exchanged (sectors_of image mounted.old.kind) files (entry_in mounted.old slot) (File file.now) ∷ [])) result }
-    ensures drive { mounted.new.drive ≡ mounted.old.drive }
-    ensures kind { mounted.new.kind ≡ mounted.old.kind }
+    ensures disk { SameDisk mounted.old mounted.new }
     ensures calls { steps.new ≤ steps.old + 2 }
     ensures leaves { LeavesDisks D.disks D.told D.failed_names D.unsynced mounted.old.drive cache.old cache.new drives.old drives.new }
     ensures cause { HasCause (D.faults drives.old) (D.faults drives.new) result }

@@ -1,16 +1,14 @@
-ghost use Rattle.std.specs.Prelude.{◌≡◌, ℕ, suc, ◌+◌, ◌<◌, ◌≤◌, Some, IfOk, OnOk, OnErr, nat_lt, if◌then◌else◌};
-ghost use Rattle.mpm_port.specs.Disks.{size_of};
+ghost use Rattle.std.specs.Prelude.{◌≡◌, ℕ, suc, ◌+◌, ◌<◌, ◌≤◌, IfOk, OnOk, OnErr, nat_lt, if◌then◌else◌};
 ghost use Rattle.mpm_port.specs.Causes.{HasCause};
-ghost use Rattle.mpm_blocks.specs.Geometries.{geometry_of};
-ghost use Rattle.mpm_cache.specs.Coherent.{IsCoherent, HasNoAlias};
-ghost use Rattle.mpm_sectors.specs.Disks.{LeavesDisks};
+ghost use Rattle.mpm_sectors.specs.Disks.{IsReadyDisk, LeavesDisks};
+ghost use Rattle.mpm_files.specs.Standing.{SameDisk};
 ghost use Rattle.mpm_mount.specs.Drives.{Drive};
 ghost use Rattle.mpm_jobs.specs.declared.jobs.Job.{Job};
 ghost use Rattle.mpm_jobs.specs.declared.jobs.JobKind.TheVariants as kinds;
 ghost use Rattle.mpm_files.specs.declared.turning.Progress.TheVariants as progress;
 ghost use Rattle.mpm_files.specs.Plans.{turns_of};
 ghost use Rattle.mpm_files.specs.Serving.{turns_in};
-ghost use Rattle.mpm_files.specs.Turning.{Suits, JobInService, Contained, IsNextCached, DoesNext, one_ended};
+ghost use Rattle.mpm_files.specs.Turning.{Suits, JobInService, Contained, OnlyReads, DoesNext, one_ended};
 
 use crate::changing::{delete_next, make_next, put_next, rename_next};
 use crate::moving::{read_next, test_next, write_next};
@@ -40,18 +38,13 @@ fn do_next<D: Drives, L: Ledger>(
     work: &mut Work,
     steps: &mut Steps<L>,
 ) -> Result<(), Failed>
-    requires size { size_of (D.disks drives.old) mounted.old.drive ≡ Some (geometry_of mounted.old.kind).bytes }
-    requires coherent { IsCoherent cache.old (D.disks drives.old) }
-    requires apart { HasNoAlias cache.old (D.disks drives.old) mounted.old.drive }
+    requires ready { IsReadyDisk (D.disks drives.old) mounted.old.drive mounted.old.kind cache.old }
     ensures does { DoesNext (D.disks drives.old) (D.disks drives.new) mounted.old mounted.new work.old work.new result }
     ensures ended { work.new.ended ≡ work.old.ended }
     ensures units { work.new.units ≡ work.old.units }
-    ensures drive { mounted.new.drive ≡ mounted.old.drive }
-    ensures kind { mounted.new.kind ≡ mounted.old.kind }
+    ensures disk { SameDisk mounted.old mounted.new }
     ensures calls { steps.new ≤ steps.old + 20 }
-    ensures reads { work.old.job.kind ≡ kinds.Read → steps.new ≤ steps.old + 1 }
-    ensures reads_only { work.old.job.kind ≡ kinds.Read → (other : ℕ) → D.unsynced drives.new other ≡ D.unsynced drives.old other }
-    ensures cached { work.old.job.kind ≡ kinds.Read → IsNextCached cache.old mounted.old work.old → steps.new ≡ steps.old }
+    ensures reads { work.old.job.kind ≡ kinds.Read → OnlyReads cache.old mounted.old work.old steps.old steps.new (D.unsynced drives.old) (D.unsynced drives.new) }
     ensures leaves { LeavesDisks D.disks D.told D.failed_names D.unsynced mounted.old.drive cache.old cache.new drives.old drives.new }
     ensures cause { HasCause (D.faults drives.old) (D.faults drives.new) result }
 {
@@ -77,21 +70,17 @@ fn do_unit<D: Drives, L: Ledger>(
     work: &mut Work,
     steps: &mut Steps<L>,
 ) -> Result<(), Failed>
-    requires size { size_of (D.disks drives.old) mounted.old.drive ≡ Some (geometry_of mounted.old.kind).bytes }
-    requires coherent { IsCoherent cache.old (D.disks drives.old) }
-    requires apart { HasNoAlias cache.old (D.disks drives.old) mounted.old.drive }
+    requires ready { IsReadyDisk (D.disks drives.old) mounted.old.drive mounted.old.kind cache.old }
     ensures ok { (before : Drive) (job : Job) (j : ℕ) → Suits before job → JobInService (D.disks drives.old) mounted.old before job j work.old → j < turns_of before job
         → OnOk result (JobInService (D.disks drives.new) mounted.new before job (suc j) (one_ended work.new)) }
     ensures err { (before : Drive) (job : Job) (j : ℕ) → Suits before job → JobInService (D.disks drives.old) mounted.old before job j work.old → j < turns_of before job
         → OnErr result (Contained (D.disks drives.new) mounted.old.drive before job j) }
     ensures ended { work.new.ended ≡ work.old.ended }
     ensures units { work.new.units ≡ work.old.units }
-    ensures drive { mounted.new.drive ≡ mounted.old.drive }
-    ensures kind { mounted.new.kind ≡ mounted.old.kind }
+    ensures disk { SameDisk mounted.old mounted.new }
     ensures calls { steps.new ≤ steps.old + 20 }
-    ensures reads { work.old.job.kind ≡ kinds.Read → steps.new ≤ steps.old + 1 }
-    ensures reads_only { work.old.job.kind ≡ kinds.Read → (other : ℕ) → D.unsynced drives.new other ≡ D.unsynced drives.old other }
-    ensures cached { work.old.job.kind ≡ kinds.Read → IsNextCached cache.old mounted.old work.old → steps.new ≡ steps.old }
+    ensures reads { work.old.job.kind ≡ kinds.Read → OnlyReads cache.old mounted.old work.old steps.old steps.new (D.unsynced drives.old) (D.unsynced drives.new) }
+    ensures idle { work.old.units ≤ work.old.ended → (steps.new ≡ steps.old) × (drives.new ≡ drives.old) }
     ensures leaves { LeavesDisks D.disks D.told D.failed_names D.unsynced mounted.old.drive cache.old cache.new drives.old drives.new }
     ensures cause { HasCause (D.faults drives.old) (D.faults drives.new) result }
 {
@@ -111,9 +100,7 @@ pub fn turn<D: Drives, L: Ledger>(
     drives: &mut D,
     steps: &mut Steps<L>,
 ) -> Result<Progress, Failed>
-    requires size { size_of (D.disks drives.old) mounted.old.drive ≡ Some (geometry_of mounted.old.kind).bytes }
-    requires coherent { IsCoherent cache.old (D.disks drives.old) }
-    requires apart { HasNoAlias cache.old (D.disks drives.old) mounted.old.drive }
+    requires ready { IsReadyDisk (D.disks drives.old) mounted.old.drive mounted.old.kind cache.old }
     ensures ok { (before : Drive) (job : Job) (j : ℕ) → Suits before job → JobInService (D.disks drives.old) mounted.old before job j work.old → j < turns_of before job
         → OnOk result (JobInService (D.disks drives.new) mounted.new before job (suc j) work.new) }
     ensures err { (before : Drive) (job : Job) (j : ℕ) → Suits before job → JobInService (D.disks drives.old) mounted.old before job j work.old → j < turns_of before job
@@ -121,12 +108,10 @@ pub fn turn<D: Drives, L: Ledger>(
     ensures progress { IfOk result (λ told. told ≡ (if nat_lt (work.old.ended + 1) (turns_in work.old) then progress.Again else progress.Done)) }
     ensures counted { work.old.ended < turns_in work.old → OnOk result (work.new.ended ≡ work.old.ended + 1) }
     ensures units { work.new.units ≡ work.old.units }
-    ensures drive { mounted.new.drive ≡ mounted.old.drive }
-    ensures kind { mounted.new.kind ≡ mounted.old.kind }
+    ensures disk { SameDisk mounted.old mounted.new }
     ensures calls { steps.new ≤ steps.old + 20 }
-    ensures reads { work.old.job.kind ≡ kinds.Read → steps.new ≤ steps.old + 1 }
-    ensures reads_only { work.old.job.kind ≡ kinds.Read → (other : ℕ) → D.unsynced drives.new other ≡ D.unsynced drives.old other }
-    ensures cached { work.old.job.kind ≡ kinds.Read → IsNextCached cache.old mounted.old work.old → steps.new ≡ steps.old }
+    ensures reads { work.old.job.kind ≡ kinds.Read → OnlyReads cache.old mounted.old work.old steps.old steps.new (D.unsynced drives.old) (D.unsynced drives.new) }
+    ensures idle { work.old.units ≤ work.old.ended → (steps.new ≡ steps.old) × (drives.new ≡ drives.old) }
     ensures leaves { LeavesDisks D.disks D.told D.failed_names D.unsynced mounted.old.drive cache.old cache.new drives.old drives.new }
     ensures cause { HasCause (D.faults drives.old) (D.faults drives.new) result }
 {

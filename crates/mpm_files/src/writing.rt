@@ -1,16 +1,13 @@
 ghost use Rattle.std.specs.Prelude.{◌≡◌, ◌+◌, ◌<◌, ◌≤◌, ℕ, List, [], ◌∷◌, length, slice_set, ◌/◌, ◌%◌, Some, None, true, false};
 ghost use Rattle.mpm_dirent.specs.declared.limits.TheConstants.{LAST_NAMED, LAST_RECORD};
-ghost use Rattle.mpm_port.specs.Disks.{size_of};
 ghost use Rattle.mpm_port.specs.Causes.{HasCause};
 ghost use Rattle.mpm_blocks.specs.Geometries as geometries;
-ghost use Rattle.mpm_blocks.specs.Geometries.{geometry_of};
 ghost use Rattle.mpm_blocks.specs.Sectors.{sectors_of};
 ghost use Rattle.mpm_mount.specs.Drives.{Drive, with_extent};
 ghost use Rattle.mpm_mount.specs.Faults.{name_of};
 ghost use Rattle.mpm_mount.specs.Images.{contents_of, extent_in};
 ghost use Rattle.mpm_mount.specs.Directories.{Stands, free_block};
-ghost use Rattle.mpm_cache.specs.Coherent.{IsCoherent, HasNoAlias};
-ghost use Rattle.mpm_sectors.specs.Disks.{LeavesDisks};
+ghost use Rattle.mpm_sectors.specs.Disks.{IsReadyDisk, LeavesDisks};
 ghost use Rattle.mpm_sectors.specs.Writes.{Puts, block_writes, block_calls};
 ghost use Rattle.mpm_files.specs.Units.{WritesRecord, with_stamp};
 ghost use Rattle.mpm_files.specs.Plans as plans;
@@ -19,7 +16,7 @@ ghost use Rattle.mpm_files.specs.Counting.{lacks_entry, lacks_block};
 ghost use Rattle.mpm_files.specs.Lookups.{HasEntry, IsHeldAt};
 ghost use Rattle.mpm_files.specs.Lookups as entries;
 ghost use Rattle.mpm_files.specs.Standing as spec;
-ghost use Rattle.mpm_files.specs.Standing.{DoesUnit, GoesThrough, HasFreshBlock};
+ghost use Rattle.mpm_files.specs.Standing.{DoesUnit, GoesThrough, HasFreshBlock, SameDisk};
 
 use crate::clearing::{CLEARED, clears_blocks};
 use crate::entries::disk_of;
@@ -112,16 +109,13 @@ pub(crate) fn put_held<D: Drives, L: Ledger>(
     written: &Record,
     steps: &mut Steps<L>,
 ) -> Result<(), Failed>
+    requires ready { IsReadyDisk (D.disks drives.old) mounted.old.drive mounted.old.kind cache.old }
     requires number { written.now.number ≤ LAST_NAMED }
-    requires size { size_of (D.disks drives.old) mounted.old.drive ≡ Some (geometry_of mounted.old.kind).bytes }
-    requires coherent { IsCoherent cache.old (D.disks drives.old) }
-    requires apart { HasNoAlias cache.old (D.disks drives.old) mounted.old.drive }
     ensures does { (image : List ℕ) (files : Drive) → (D.disks drives.old).image mounted.old.drive ≡ Some image → Stands image mounted.old files
         → lacks_block mounted.old (file_of_job job.now) written.now.number ≡ false
         → DoesUnit (D.disks drives.new) mounted.old.drive mounted.new files
         (WritesRecord (file_of_job job.now) written.now.number written.now.bytes written.now.moment) result }
-    ensures drive { mounted.new.drive ≡ mounted.old.drive }
-    ensures kind { mounted.new.kind ≡ mounted.old.kind }
+    ensures disk { SameDisk mounted.old mounted.new }
     ensures calls { steps.new ≤ steps.old + 5 }
     ensures leaves { LeavesDisks D.disks D.told D.failed_names D.unsynced mounted.old.drive cache.old cache.new drives.old drives.new }
     ensures cause { HasCause (D.faults drives.old) (D.faults drives.new) result }
@@ -152,18 +146,15 @@ pub(crate) fn put_fresh<D: Drives, L: Ledger>(
     cleared: Option<u16>,
     steps: &mut Steps<L>,
 ) -> Result<(), Failed>
+    requires ready { IsReadyDisk (D.disks drives.old) mounted.old.drive mounted.old.kind cache.old }
     requires number { written.now.number ≤ LAST_NAMED }
-    requires size { size_of (D.disks drives.old) mounted.old.drive ≡ Some (geometry_of mounted.old.kind).bytes }
-    requires coherent { IsCoherent cache.old (D.disks drives.old) }
-    requires apart { HasNoAlias cache.old (D.disks drives.old) mounted.old.drive }
     ensures does { (image : List ℕ) (files : Drive) → (D.disks drives.old).image mounted.old.drive ≡ Some image → Stands image mounted.old files
         → lacks_entry mounted.old (file_of_job job.now) written.now.number ≡ false
         → lacks_block mounted.old (file_of_job job.now) written.now.number ≡ true
         → HasFreshBlock (plans.clears_blocks mounted.old.kind) (sectors_of image mounted.old.kind) mounted.old cleared
         → DoesUnit (D.disks drives.new) mounted.old.drive mounted.new files
         (WritesRecord (file_of_job job.now) written.now.number written.now.bytes written.now.moment) result }
-    ensures drive { mounted.new.drive ≡ mounted.old.drive }
-    ensures kind { mounted.new.kind ≡ mounted.old.kind }
+    ensures disk { SameDisk mounted.old mounted.new }
     ensures calls { steps.new ≤ steps.old + 20 }
     ensures leaves { LeavesDisks D.disks D.told D.failed_names D.unsynced mounted.old.drive cache.old cache.new drives.old drives.new }
     ensures cause { HasCause (D.faults drives.old) (D.faults drives.new) result }
@@ -205,10 +196,8 @@ fn put_sector<D: Drives, L: Ledger>(
     bytes: &[u8; 128],
     steps: &mut Steps<L>,
 ) -> Result<(), Failed>
-    requires size { size_of (D.disks drives.old) mounted.now.drive ≡ Some (geometry_of mounted.now.kind).bytes }
+    requires ready { IsReadyDisk (D.disks drives.old) mounted.now.drive mounted.now.kind cache.old }
     requires within { sector < geometries.logical_sectors mounted.now.kind }
-    requires coherent { IsCoherent cache.old (D.disks drives.old) }
-    requires apart { HasNoAlias cache.old (D.disks drives.old) mounted.now.drive }
     ensures puts { Puts mounted.now.drive mounted.now.kind (record { sector = sector; bytes = bytes.now } ∷ []) (D.disks drives.old) (D.disks drives.new) result }
     ensures long { length bytes.now ≡ 128 }
     ensures calls { steps.new ≤ steps.old + 1 }
@@ -229,9 +218,7 @@ fn put_in_block<D: Drives, L: Ledger>(
     sector: u32,
     steps: &mut Steps<L>,
 ) -> Result<(), Failed>
-    requires size { size_of (D.disks drives.old) mounted.now.drive ≡ Some (geometry_of mounted.now.kind).bytes }
-    requires coherent { IsCoherent cache.old (D.disks drives.old) }
-    requires apart { HasNoAlias cache.old (D.disks drives.old) mounted.now.drive }
+    requires ready { IsReadyDisk (D.disks drives.old) mounted.now.drive mounted.now.kind cache.old }
     requires entry { HasEntry mounted.now (file_of_job job.now) written.now.number found.now.slot found.now.file }
     requires held { IsHeldAt mounted.now.kind found.now.file written.now.number sector }
     ensures puts { (image : List ℕ) (files : Drive) → (D.disks drives.old).image mounted.now.drive ≡ Some image → Stands image mounted.now files
@@ -255,16 +242,13 @@ fn put_raised<D: Drives, L: Ledger>(
     found: &FoundEntry,
     steps: &mut Steps<L>,
 ) -> Result<(), Failed>
-    requires size { size_of (D.disks drives.old) mounted.old.drive ≡ Some (geometry_of mounted.old.kind).bytes }
-    requires coherent { IsCoherent cache.old (D.disks drives.old) }
-    requires apart { HasNoAlias cache.old (D.disks drives.old) mounted.old.drive }
+    requires ready { IsReadyDisk (D.disks drives.old) mounted.old.drive mounted.old.kind cache.old }
     requires entry { HasEntry mounted.old (file_of_job job.now) written.now.number found.now.slot found.now.file }
     ensures puts { (image : List ℕ) (files : Drive) → (D.disks drives.old).image mounted.old.drive ≡ Some image → Stands image mounted.old files
         → GoesThrough (D.disks drives.new) mounted.old.drive mounted.new files
         (with_stamp (file_of_job job.now) written.now.moment files
         (spec.raises mounted.old.kind written.now.number found.now.file files (extent_in (sectors_of image mounted.old.kind) mounted.old.kind found.now.file))) result }
-    ensures drive { mounted.new.drive ≡ mounted.old.drive }
-    ensures kind { mounted.new.kind ≡ mounted.old.kind }
+    ensures disk { SameDisk mounted.old mounted.new }
     ensures calls { steps.new ≤ steps.old + 4 }
     ensures leaves { LeavesDisks D.disks D.told D.failed_names D.unsynced mounted.old.drive cache.old cache.new drives.old drives.new }
     ensures cause { HasCause (D.faults drives.old) (D.faults drives.new) result }
@@ -305,9 +289,7 @@ fn put_with_block<D: Drives, L: Ledger>(
     bytes: &[u8; 128],
     steps: &mut Steps<L>,
 ) -> Result<(), Failed>
-    requires size { size_of (D.disks drives.old) mounted.now.drive ≡ Some (geometry_of mounted.now.kind).bytes }
-    requires coherent { IsCoherent cache.old (D.disks drives.old) }
-    requires apart { HasNoAlias cache.old (D.disks drives.old) mounted.now.drive }
+    requires ready { IsReadyDisk (D.disks drives.old) mounted.now.drive mounted.now.kind cache.old }
     requires free { free_block mounted.now ≡ Some block }
     requires clear { clear ≤ geometries.block_records mounted.now.kind }
     requires index { index < geometries.block_records mounted.now.kind }
@@ -333,9 +315,7 @@ fn put_taken<D: Drives, L: Ledger>(
     block: u16,
     steps: &mut Steps<L>,
 ) -> Result<(), Failed>
-    requires size { size_of (D.disks drives.old) mounted.old.drive ≡ Some (geometry_of mounted.old.kind).bytes }
-    requires coherent { IsCoherent cache.old (D.disks drives.old) }
-    requires apart { HasNoAlias cache.old (D.disks drives.old) mounted.old.drive }
+    requires ready { IsReadyDisk (D.disks drives.old) mounted.old.drive mounted.old.kind cache.old }
     requires entry { HasEntry mounted.old (file_of_job job.now) written.now.number found.now.slot found.now.file }
     requires free { free_block mounted.old ≡ Some block }
     ensures puts { (image : List ℕ) (files : Drive) → (D.disks drives.old).image mounted.old.drive ≡ Some image → Stands image mounted.old files
@@ -344,8 +324,7 @@ fn put_taken<D: Drives, L: Ledger>(
         (with_extent files (name_of mounted.old.kind found.now.file)
         (spec.with_taken mounted.old.kind written.now.number (contents_of (sectors_of image mounted.old.kind) mounted.old.kind block)
         (extent_in (sectors_of image mounted.old.kind) mounted.old.kind found.now.file)) ∷ [])) result }
-    ensures drive { mounted.new.drive ≡ mounted.old.drive }
-    ensures kind { mounted.new.kind ≡ mounted.old.kind }
+    ensures disk { SameDisk mounted.old mounted.new }
     ensures calls { steps.new ≤ steps.old + 4 }
     ensures leaves { LeavesDisks D.disks D.told D.failed_names D.unsynced mounted.old.drive cache.old cache.new drives.old drives.new }
     ensures cause { HasCause (D.faults drives.old) (D.faults drives.new) result }

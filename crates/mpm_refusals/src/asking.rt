@@ -7,7 +7,7 @@ ghost use Rattle.mpm_refusals.specs.Subjects as spec;
 ghost use Rattle.mpm_refusals.specs.Asking.{called, asked_of, IsOwnItem};
 ghost use Rattle.mpm_refusals.specs.Filing.{HaveUsers};
 
-use crate::caller::Caller;
+use crate::caller::{Caller, FileCall};
 use crate::finding::found;
 use crate::searches::{LastSearch, Searches};
 use crate::subjects::{OpenItem, drive_named, item_number, open_item, owner};
@@ -88,17 +88,21 @@ pub fn ask(
     protected: &Protected,
     opens: &Opens,
     searches: &Searches,
-    caller: &Caller,
-    function: FileFunction,
-    call: &Call,
+    file_call: &FileCall<'_>,
 ) -> Asked
-    ensures caller { result.caller ≡ caller.now }
-    ensures owner { HaveUsers opens.now → caller.now.user < 16 → result.owner < 16 }
-    ensures own { IfSome result.item (λ item. IsOwnItem opens.now caller.now.process item) }
+    ensures caller { result.caller ≡ file_call.now.caller }
+    ensures owner { HaveUsers opens.now → file_call.now.caller.user < 16 → result.owner < 16 }
+    ensures own { IfSome result.item (λ item. IsOwnItem opens.now file_call.now.caller.process item) }
     ensures asked { (image : List ℕ) (drives : List (Option Drive)) (marks moment : List ℕ)
-        → Stands image mounted.now (spec.drive_at (called drives protected.now opens.now marks searches.now caller.now function call.now moment))
-        → result ≡ asked_of (called drives protected.now opens.now marks searches.now caller.now function call.now moment) }
+        → Stands image mounted.now (spec.drive_at (called drives protected.now opens.now marks searches.now file_call.now.caller file_call.now.function file_call.now.call.now moment))
+        → result ≡ asked_of (called drives protected.now opens.now marks searches.now file_call.now.caller file_call.now.function file_call.now.call.now moment) }
 {
+    let FileCall {
+        caller,
+        function,
+        call,
+        ..
+    } = *file_call;
     let block = block_of_call(call);
     let word = word_of_call(call);
     let given = call.eight(0);
@@ -107,7 +111,7 @@ pub fn ask(
     let number = item_number(call.word(0), &block, function);
     let item = open_item(opens, caller.process, number, drive, &block.name);
     Asked {
-        caller: *caller,
+        caller,
         function,
         block,
         word,

@@ -1,4 +1,5 @@
-use mpm_base::Pid;
+use mpm_base::{Call, Pid};
+use mpm_file_functions::FileFunction;
 
 /// Who makes a file call, with what such a call takes of its process.
 #[derive(Clone, Copy, Debug, PartialEq, Eq)]
@@ -13,4 +14,17 @@ pub struct Caller {
     pub multi: u8,
     /// Its default password.
     pub password: [u8; 8],
+}
+
+/// A call on files or drives as it enters service.
+#[derive(Clone, Copy)]
+pub struct FileCall<'a> {
+    /// Who calls.
+    pub caller: Caller,
+    /// What is called.
+    pub function: FileFunction,
+    /// What is taken of the caller's registers and memory.
+    pub call: &'a Call,
+    /// The stamp of the moment when it enters.
+    pub moment: [u8; 4],
 }

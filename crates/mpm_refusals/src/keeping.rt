@@ -7,6 +7,8 @@ ghost use Rattle.mpm_refusals.specs.Searches.{searched, user_sought};
 ghost use Rattle.mpm_refusals.specs.Subjects.{found_by};
 ghost use Rattle.mpm_refusals.specs.Searches as spec;
 
+use crate::asking::Asked;
+use crate::caller::Caller;
 use crate::finding::FoundEntry;
 use crate::searches::{LastSearch, Searches};
 use crate::searching::{EntryPlace, place_of};
@@ -82,28 +84,29 @@ fn keep(searches: &mut Searches, p: Pid, search: Option<LastSearch>)
     }
 }
 
-/// Keeps the search of a call on a drive of a kind, where it found an entry.
-pub fn keep_found(
-    searches: &mut Searches,
-    p: Pid,
-    kind: Kind,
-    drive: u8,
-    user: u8,
-    block: &ControlBlock,
-    found: &Option<FoundEntry>,
-    function: FileFunction,
-)
-    ensures { (files : Drive) → option_map (found_as kind) found.now ≡ found_by files user block.now (slice_index_or searches.old p None) function
-        → searches.new ≡ spec.searches_by searches.old p (λ entry. spec.search_by (slice_index_or searches.old p None) drive user block.now entry function) (found_by files user block.now (slice_index_or searches.old p None) function) }
+/// Keeps the search of a call, by what was looked up of it, on a drive of a kind, where it found an entry.
+pub fn keep_found(searches: &mut Searches, asked: &Asked, kind: Kind, found: &Option<FoundEntry>)
+    ensures { (files : Drive) → option_map (found_as kind) found.now ≡ found_by files asked.now.caller.user asked.now.block (slice_index_or searches.old asked.now.caller.process None) asked.now.function
+        → searches.new ≡ spec.searches_by searches.old asked.now.caller.process
+        (λ entry. spec.search_by (slice_index_or searches.old asked.now.caller.process None) asked.now.drive asked.now.caller.user asked.now.block entry asked.now.function)
+        (found_by files asked.now.caller.user asked.now.block (slice_index_or searches.old asked.now.caller.process None) asked.now.function) }
 {
     match found {
         Some(entry) => {
-            let search = searches.get(p);
+            let Caller { process, user, .. } = asked.caller;
+            let search = searches.get(process);
             let place = place_of(kind, &entry.found);
             keep(
                 searches,
-                p,
-                search_behind(search, drive, user, block, place, function),
+                process,
+                search_behind(
+                    search,
+                    asked.drive,
+                    user,
+                    &asked.block,
+                    place,
+                    asked.function,
+                ),
             );
         }
         None => {}

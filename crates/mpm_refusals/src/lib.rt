@@ -20,7 +20,7 @@ mod subjects;
 
 pub use applies::{mode_needed, subject_key};
 pub use asking::{Asked, ask, block_of_call, drive_of_call, word_of_call};
-pub use caller::Caller;
+pub use caller::{Caller, FileCall};
 pub use deleting::Deleter;
 pub use finding::{FoundEntry, found};
 pub use keeping::keep_found;

@@ -12,10 +12,9 @@ ghost use Rattle.mpm_refusals.specs.Asking.{called, StandsForDirectory};
 
 use crate::applies::{each_refusal, first_refusal};
 use crate::asking::{Asked, ask, block_of_call, word_of_call};
-use crate::caller::Caller;
+use crate::caller::{Caller, FileCall};
 use crate::searches::Searches;
 use crate::subjects::drive_named;
-use mpm_base::Call;
 use mpm_file_functions::{FileFunction, Refusal, refusals_of};
 use mpm_marks::{Marks, Protected, are_busy};
 use mpm_mount::Mounted;
@@ -38,16 +37,14 @@ fn mounted_refusal(
     opens: &Opens,
     marks: &Marks,
     searches: &Searches,
-    caller: &Caller,
-    function: FileFunction,
-    call: &Call,
+    file_call: &FileCall<'_>,
 ) -> Option<Refusal>
     ensures { (image : List ℕ) (drives : List (Option Drive)) (moment : List ℕ)
-        → Stands image mounted.now (drive_at (called drives protected.now opens.now marks.now searches.now caller.now function call.now moment))
-        → spec.is_unmounted (called drives protected.now opens.now marks.now searches.now caller.now function call.now moment) (named (called drives protected.now opens.now marks.now searches.now caller.now function call.now moment)) ≡ false
-        → result ≡ spec.refusal_of (called drives protected.now opens.now marks.now searches.now caller.now function call.now moment) }
+        → Stands image mounted.now (drive_at (called drives protected.now opens.now marks.now searches.now file_call.now.caller file_call.now.function file_call.now.call.now moment))
+        → spec.is_unmounted (called drives protected.now opens.now marks.now searches.now file_call.now.caller file_call.now.function file_call.now.call.now moment) (named (called drives protected.now opens.now marks.now searches.now file_call.now.caller file_call.now.function file_call.now.call.now moment)) ≡ false
+        → result ≡ spec.refusal_of (called drives protected.now opens.now marks.now searches.now file_call.now.caller file_call.now.function file_call.now.call.now moment) }
 {
-    let asked = ask(mounted, protected, opens, searches, caller, function, call);
+    let asked = ask(mounted, protected, opens, searches, file_call);
     refusal_asked(mounted, opens, marks, &asked)
 }
 
@@ -82,20 +79,24 @@ fn unmounted_refusal(
     opens: &Opens,
     marks: &Marks,
     searches: &Searches,
-    caller: &Caller,
-    function: FileFunction,
-    call: &Call,
+    file_call: &FileCall<'_>,
 ) -> Option<Refusal>
     ensures { result ≡ asking.unmounted_refusal
-        (drive_by (slice_index_or searches.now caller.now.process None) caller.now.drive call.now.word (block_of call.now.fcb) function)
-        (asking.unnamed_refusal (in_use.are_busy opens.now marks.now caller.now.process function caller.now.drive call.now.word) function) }
+        (drive_by (slice_index_or searches.now file_call.now.caller.process None) file_call.now.caller.drive file_call.now.call.now.word (block_of file_call.now.call.now.fcb) file_call.now.function)
+        (asking.unnamed_refusal (in_use.are_busy opens.now marks.now file_call.now.caller.process file_call.now.function file_call.now.caller.drive file_call.now.call.now.word) file_call.now.function) }
 {
+    let FileCall {
+        caller,
+        function,
+        call,
+        ..
+    } = *file_call;
     let word = word_of_call(call);
     let block = block_of_call(call);
     let search = searches.get(caller.process);
     match drive_named(search, caller.drive, word, &block, function) {
         Some(_) => Some(Refusal::NotMounted),
-        None => unnamed_refusal(opens, marks, caller, function, word),
+        None => unnamed_refusal(opens, marks, &caller, function, word),
     }
 }
 
@@ -107,18 +108,14 @@ pub fn refusal_of(
     opens: &Opens,
     marks: &Marks,
     searches: &Searches,
-    caller: &Caller,
-    function: FileFunction,
-    call: &Call,
+    file_call: &FileCall<'_>,
 ) -> Option<Refusal>
     ensures { (image : List ℕ) (drives : List (Option Drive)) (moment : List ℕ)
-        → StandsForDirectory image (option_copied mounted.entry) (called drives protected.now opens.now marks.now searches.now caller.now function call.now moment)
-        → result ≡ spec.refusal_of (called drives protected.now opens.now marks.now searches.now caller.now function call.now moment) }
+        → StandsForDirectory image (option_copied mounted.entry) (called drives protected.now opens.now marks.now searches.now file_call.now.caller file_call.now.function file_call.now.call.now moment)
+        → result ≡ spec.refusal_of (called drives protected.now opens.now marks.now searches.now file_call.now.caller file_call.now.function file_call.now.call.now moment) }
 {
     match mounted {
-        Some(mounted) => mounted_refusal(
-            mounted, protected, opens, marks, searches, caller, function, call,
-        ),
-        None => unmounted_refusal(opens, marks, searches, caller, function, call),
+        Some(mounted) => mounted_refusal(mounted, protected, opens, marks, searches, file_call),
+        None => unmounted_refusal(opens, marks, searches, file_call),
     }
 }

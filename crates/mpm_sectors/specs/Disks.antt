@@ -1,9 +1,28 @@
--- What a call on a disk leaves of the cache and of the drives.
-use Rattle.std.specs.Prelude.{◌≡◌, ◌≢◌, ℕ, Bool, true, List}
-use Rattle.mpm_port.specs.Disks.{Disks, ToldImage, KeepsTold}
+-- What a call on a disk asks of the cache and of the drives, how many calls of the drives it takes, and what it leaves.
+use Rattle.std.specs.Prelude.{◌≡◌, ◌≢◌, ◌≤◌, ℕ, ◌+◌, Bool, true, List, Some, is_some, if◌then◌else◌, Result, OnOk}
+use Rattle.mpm_base.specs.declared.kind.Kind.{Kind}
+use Rattle.mpm_blocks.specs.Geometries.{geometry_of, place_of}
+use Rattle.mpm_port.specs.Disks.{Disks, ToldImage, KeepsTold, size_of}
 use Rattle.mpm_cache.specs.declared.cache.SectorPlace.{SectorPlace}
+use Rattle.mpm_cache.specs.Cached.{cached_at}
 use Rattle.mpm_cache.specs.Coherent.{IsCoherent, HasNoAlias, StayApart}
 use Rattle.mpm_sectors.specs.Writes.{Elsewhere}
+
+-- a drive is attached to an image of its kind's size, what is cached is what the images have, and no other drive of which a sector is
+-- cached has this one's image
+pub record IsReadyDisk (disks : Disks) (drive : ℕ) (kind : Kind) (cached : List (SectorPlace × List ℕ)) : Type 0 where
+  pub size : size_of disks drive ≡ Some (geometry_of kind).bytes
+  pub coherent : IsCoherent cached disks
+  pub apart : HasNoAlias cached disks drive
+
+-- so many calls of the drives after a success, and no more after a failure
+pub record TakesCalls {A E : Type 0} (before now calls : ℕ) (result : Result A E) : Type 0 where
+  pub all : OnOk result (now ≡ before + calls)
+  pub most : now ≤ before + calls
+
+-- how many calls the writing of a directory entry takes: its sector is read where it isn't cached, and then written
+abbrev pub slot_calls : List (SectorPlace × List ℕ) → ℕ → Kind → ℕ → ℕ
+slot_calls cached drive kind sector = if is_some (cached_at cached drive (place_of kind sector)) then 1 else 2
 
 -- what is cached is what the images have, and drives stay apart, this one too. All is as before but the image of one drive, what is known
 -- of it by its name, that it stays unsynced where it was, and the count of faults

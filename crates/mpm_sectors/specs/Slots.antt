@@ -1,11 +1,11 @@
 -- Directory entries in the sectors of the directory, four in each. (MP/M II Programmer's Guide, "Directory Entries" and
 -- "Extended File Control Blocks".)
-use Rattle.std.specs.Prelude.{ℕ, ◌*◌, ◌/◌, ◌%◌, ◌&&◌, Bool, List, ◌∷◌, ◌++◌, nat_le, take, drop, slice_index, if◌then◌else◌}
+use Rattle.std.specs.Prelude.{◌≡◌, ℕ, ◌*◌, ◌/◌, ◌%◌, ◌&&◌, Bool, List, ◌∷◌, ◌++◌, length, nat_le, take, drop, slice_index, if◌then◌else◌}
 use Rattle.mpm_base.specs.declared.kind.Kind.{Kind}
 use Rattle.mpm_blocks.specs.Geometries.{geometry_of}
 use Rattle.mpm_dirent.specs.declared.kinds.Entry.{Entry}
 use Rattle.mpm_dirent.specs.declared.kinds.Entry.TheVariants.{Free, File, Xfcb, Label, Kept}
-use Rattle.mpm_dirent.specs.Entries.{part, bytes_of}
+use Rattle.mpm_dirent.specs.Entries.{part, bytes_of, entry_of}
 use Rattle.mpm_blocks.specs.Sectors.{sectors_of, with_slot}
 use Rattle.mpm_sectors.specs.Writes.{Write}
 
@@ -28,6 +28,11 @@ bytes_over wide old (File f) = bytes_of (File f) wide
 bytes_over wide old (Xfcb x) = with_reserved old (bytes_of (Xfcb x) wide)
 bytes_over wide old (Label l) = with_reserved old (bytes_of (Label l) wide)
 bytes_over wide old (Kept bytes) = bytes_of (Kept bytes) wide
+
+-- an entry that is written over the bytes of another is read back as it was
+pub record IsReadBack (wide : Bool) (entry : Entry) : Type 0 where
+  pub back : (old : List ℕ) → length old ≡ 32 → entry_of (bytes_over wide old entry) wide ≡ entry
+  pub long : (old : List ℕ) → length old ≡ 32 → length (bytes_over wide old entry) ≡ 32
 
 -- a sector with an entry in the place of another
 unfoldable pub with_entry : Bool → List ℕ → ℕ → Entry → List ℕ

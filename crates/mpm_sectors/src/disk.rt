@@ -1,15 +1,14 @@
-ghost use Rattle.std.specs.Prelude.{◌≡◌, ℕ, ◌+◌, ◌/◌, ◌<◌, ◌≤◌, [], ◌∷◌, true, List, Some, IsSome, IsOk, OnOk, OnErr, is_some, length, if◌then◌else◌};
+ghost use Rattle.std.specs.Prelude.{◌≡◌, ℕ, ◌+◌, ◌/◌, ◌<◌, ◌≤◌, [], ◌∷◌, true, List, Some, IsSome, IsOk, OnOk, OnErr, is_some, if◌then◌else◌};
 ghost use Rattle.mpm_port.specs.Causes.{HasCause};
 ghost use Rattle.mpm_port.specs.Disks.{size_of};
 ghost use Rattle.mpm_blocks.specs.Geometries.{geometry_of, last_block, block_records, logical_sectors, place_of};
-ghost use Rattle.mpm_dirent.specs.Entries.{entry_of};
 ghost use Rattle.mpm_dirent.specs.Proper.{IsProper};
 ghost use Rattle.mpm_cache.specs.Cached.{cached_at};
-ghost use Rattle.mpm_cache.specs.Coherent.{IsCoherent, HasNoAlias};
+ghost use Rattle.mpm_cache.specs.Coherent.{IsCoherent};
 ghost use Rattle.mpm_blocks.specs.Sectors.{sectors_of};
 ghost use Rattle.mpm_sectors.specs.Writes.{Puts, zeros_from, block_writes, block_calls};
-ghost use Rattle.mpm_sectors.specs.Slots.{bytes_over, slot_write, slots_write};
-ghost use Rattle.mpm_sectors.specs.Disks.{LeavesDisks};
+ghost use Rattle.mpm_sectors.specs.Slots.{IsReadBack, slot_write, slots_write};
+ghost use Rattle.mpm_sectors.specs.Disks.{IsReadyDisk, TakesCalls, slot_calls, LeavesDisks};
 
 use crate::slots::{entry_bytes, put_entry};
 use mpm_base::{Kind, Steps};
@@ -71,10 +70,8 @@ impl Disk {
         bytes: &[u8; 128],
         steps: &mut Steps<L>,
     ) -> Result<(), Failed>
-        requires size { size_of (D.disks drives.old) self.now.drive ≡ Some (geometry_of self.now.kind).bytes }
+        requires ready { IsReadyDisk (D.disks drives.old) self.now.drive self.now.kind cache.old }
         requires within { sector < logical_sectors self.now.kind }
-        requires coherent { IsCoherent cache.old (D.disks drives.old) }
-        requires apart { HasNoAlias cache.old (D.disks drives.old) self.now.drive }
         ensures puts { Puts self.now.drive self.now.kind (record { sector = sector; bytes = bytes.now } ∷ []) (D.disks drives.old) (D.disks drives.new) result }
         ensures calls { steps.new ≡ steps.old + 1 }
         ensures leaves { LeavesDisks D.disks D.told D.failed_names D.unsynced self.now.drive cache.old cache.new drives.old drives.new }
@@ -85,6 +82,7 @@ impl Disk {
     }
 
     /// Writes zeros into some sectors in a row, by a call of the drives each, up to the first that fails.
+    #[tactic(auto, using(crate::proofs::LeavesLaws::ready_after))]
     pub fn clear<D: Drives, L: Ledger>(
         &self,
         cache: &mut Cache,
@@ -93,13 +91,10 @@ impl Disk {
         count: u32,
         steps: &mut Steps<L>,
     ) -> Result<(), Failed>
-        requires size { size_of (D.disks drives.old) self.now.drive ≡ Some (geometry_of self.now.kind).bytes }
+        requires ready { IsReadyDisk (D.disks drives.old) self.now.drive self.now.kind cache.old }
         requires within { first + count ≤ logical_sectors self.now.kind }
-        requires coherent { IsCoherent cache.old (D.disks drives.old) }
-        requires apart { HasNoAlias cache.old (D.disks drives.old) self.now.drive }
         ensures puts { Puts self.now.drive self.now.kind (zeros_from first count) (D.disks drives.old) (D.disks drives.new) result }
-        ensures calls { OnOk result (steps.new ≡ steps.old + count) }
-        ensures most { steps.new ≤ steps.old + count }
+        ensures calls { TakesCalls steps.old steps.new count result }
         ensures leaves { LeavesDisks D.disks D.told D.failed_names D.unsynced self.now.drive cache.old cache.new drives.old drives.new }
         ensures unsynced { OnErr result (D.unsynced drives.new self.now.drive ≡ true) }
         ensures owed { 0 < count → D.unsynced drives.new self.now.drive ≡ true }
@@ -116,6 +111,7 @@ impl Disk {
 
     /// Writes a record at its index into a fresh allocation block, of which so many sectors are zeros already. Zeros go into its other
     /// sectors, and then the record, by a call of the drives each, up to the first that fails.
+    #[tactic(auto, using(crate::proofs::LeavesLaws::ready_after))]
     pub fn put_block<D: Drives, L: Ledger>(
         &self,
         cache: &mut Cache,
@@ -126,15 +122,12 @@ impl Disk {
         bytes: &[u8; 128],
         steps: &mut Steps<L>,
     ) -> Result<(), Failed>
-        requires size { size_of (D.disks drives.old) self.now.drive ≡ Some (geometry_of self.now.kind).bytes }
+        requires ready { IsReadyDisk (D.disks drives.old) self.now.drive self.now.kind cache.old }
         requires block { block ≤ last_block self.now.kind }
         requires clear { clear ≤ block_records self.now.kind }
         requires index { index < block_records self.now.kind }
-        requires coherent { IsCoherent cache.old (D.disks drives.old) }
-        requires apart { HasNoAlias cache.old (D.disks drives.old) self.now.drive }
         ensures puts { Puts self.now.drive self.now.kind (block_writes self.now.kind block clear index bytes.now) (D.disks drives.old) (D.disks drives.new) result }
-        ensures calls { OnOk result (steps.new ≡ steps.old + block_calls self.now.kind clear index) }
-        ensures most { steps.new ≤ steps.old + block_calls self.now.kind clear index }
+        ensures calls { TakesCalls steps.old steps.new (block_calls self.now.kind clear index) result }
         ensures leaves { LeavesDisks D.disks D.told D.failed_names D.unsynced self.now.drive cache.old cache.new drives.old drives.new }
         ensures unsynced { D.unsynced drives.new self.now.drive ≡ true }
         ensures cause { HasCause (D.faults drives.old) (D.faults drives.new) result }
@@ -163,6 +156,7 @@ impl Disk {
 
     /// Writes a directory entry into its slot: its sector is read, which costs a call of the drives where it isn't cached, and
     /// written by one more. Bytes that the entry has no field for stay as they were.
+    #[tactic(auto, using(crate::proofs::LeavesLaws::ready_after))]
     pub fn put_slot<D: Drives, L: Ledger>(
         &self,
         cache: &mut Cache,
@@ -171,18 +165,13 @@ impl Disk {
         entry: &Entry,
         steps: &mut Steps<L>,
     ) -> Result<(), Failed>
-        requires size { size_of (D.disks drives.old) self.now.drive ≡ Some (geometry_of self.now.kind).bytes }
+        requires ready { IsReadyDisk (D.disks drives.old) self.now.drive self.now.kind cache.old }
         requires within { slot ≤ (geometry_of self.now.kind).drm }
         requires proper { IsProper (geometry_of self.now.kind).wide entry.now }
-        requires coherent { IsCoherent cache.old (D.disks drives.old) }
-        requires apart { HasNoAlias cache.old (D.disks drives.old) self.now.drive }
         ensures puts { (image : List ℕ) → (D.disks drives.old).image self.now.drive ≡ Some image
             → Puts self.now.drive self.now.kind (slot_write self.now.kind image slot entry.now ∷ []) (D.disks drives.old) (D.disks drives.new) result }
-        ensures back { (old : List ℕ) → length old ≡ 32
-            → entry_of (bytes_over (geometry_of self.now.kind).wide old entry.now) (geometry_of self.now.kind).wide ≡ entry.now }
-        ensures long { (old : List ℕ) → length old ≡ 32 → length (bytes_over (geometry_of self.now.kind).wide old entry.now) ≡ 32 }
-        ensures calls { OnOk result (steps.new ≡ (if is_some (cached_at cache.old self.now.drive (place_of self.now.kind (slot / 4))) then steps.old else steps.old + 1) + 1) }
-        ensures most { steps.new ≤ steps.old + 2 }
+        ensures read { IsReadBack (geometry_of self.now.kind).wide entry.now }
+        ensures calls { TakesCalls steps.old steps.new (slot_calls cache.old self.now.drive self.now.kind (slot / 4)) result }
         ensures leaves { LeavesDisks D.disks D.told D.failed_names D.unsynced self.now.drive cache.old cache.new drives.old drives.new }
         ensures unsynced { OnOk result (D.unsynced drives.new self.now.drive ≡ true) }
         ensures cause { HasCause (D.faults drives.old) (D.faults drives.new) result }
@@ -199,6 +188,7 @@ impl Disk {
     }
 
     /// Writes two directory entries into their slots, which are of one sector, as `put_slot` writes one.
+    #[tactic(auto, using(crate::proofs::LeavesLaws::ready_after))]
     pub fn put_slots<D: Drives, L: Ledger>(
         &self,
         cache: &mut Cache,
@@ -209,23 +199,16 @@ impl Disk {
         other: &Entry,
         steps: &mut Steps<L>,
     ) -> Result<(), Failed>
-        requires size { size_of (D.disks drives.old) self.now.drive ≡ Some (geometry_of self.now.kind).bytes }
+        requires ready { IsReadyDisk (D.disks drives.old) self.now.drive self.now.kind cache.old }
         requires within { slot ≤ (geometry_of self.now.kind).drm }
         requires same { other_slot / 4 ≡ slot / 4 }
         requires proper { IsProper (geometry_of self.now.kind).wide entry.now }
         requires other { IsProper (geometry_of self.now.kind).wide other.now }
-        requires coherent { IsCoherent cache.old (D.disks drives.old) }
-        requires apart { HasNoAlias cache.old (D.disks drives.old) self.now.drive }
         ensures puts { (image : List ℕ) → (D.disks drives.old).image self.now.drive ≡ Some image
             → Puts self.now.drive self.now.kind (slots_write self.now.kind image slot entry.now other_slot other.now ∷ []) (D.disks drives.old) (D.disks drives.new) result }
-        ensures back { (old : List ℕ) → length old ≡ 32
-            → entry_of (bytes_over (geometry_of self.now.kind).wide old entry.now) (geometry_of self.now.kind).wide ≡ entry.now }
-        ensures long { (old : List ℕ) → length old ≡ 32 → length (bytes_over (geometry_of self.now.kind).wide old entry.now) ≡ 32 }
-        ensures other_back { (old : List ℕ) → length old ≡ 32
-            → entry_of (bytes_over (geometry_of self.now.kind).wide old other.now) (geometry_of self.now.kind).wide ≡ other.now }
-        ensures other_long { (old : List ℕ) → length old ≡ 32 → length (bytes_over (geometry_of self.now.kind).wide old other.now) ≡ 32 }
-        ensures calls { OnOk result (steps.new ≡ (if is_some (cached_at cache.old self.now.drive (place_of self.now.kind (slot / 4))) then steps.old else steps.old + 1) + 1) }
-        ensures most { steps.new ≤ steps.old + 2 }
+        ensures read { IsReadBack (geometry_of self.now.kind).wide entry.now }
+        ensures other_read { IsReadBack (geometry_of self.now.kind).wide other.now }
+        ensures calls { TakesCalls steps.old steps.new (slot_calls cache.old self.now.drive self.now.kind (slot / 4)) result }
         ensures leaves { LeavesDisks D.disks D.told D.failed_names D.unsynced self.now.drive cache.old cache.new drives.old drives.new }
         ensures unsynced { OnOk result (D.unsynced drives.new self.now.drive ≡ true) }
         ensures cause { HasCause (D.faults drives.old) (D.faults drives.new) result }

@@ -1,7 +1,7 @@
-ghost use Rattle.std.specs.Prelude.{◌≡◌, ◌<◌, ◌≤◌, ◌∷◌, ℕ, List, drop, length};
-ghost use Rattle.mpm_dirent.specs.Entries.{part, entry_of, bytes_of};
+ghost use Rattle.std.specs.Prelude.{◌≡◌, ◌<◌, ◌≤◌, ◌∷◌, drop};
+ghost use Rattle.mpm_dirent.specs.Entries.{part, bytes_of};
 ghost use Rattle.mpm_dirent.specs.Proper.{IsProper};
-ghost use Rattle.mpm_sectors.specs.Slots.{with_reserved, bytes_over, with_entry};
+ghost use Rattle.mpm_sectors.specs.Slots.{IsReadBack, with_reserved, bytes_over, with_entry};
 
 use mpm_dirent::{Entry, write_entry};
 
@@ -9,8 +9,7 @@ use mpm_dirent::{Entry, write_entry};
 pub(crate) fn entry_bytes(entry: &Entry, wide: bool) -> [u8; 32]
     requires { IsProper wide entry.now }
     ensures bytes { result ≡ bytes_of entry.now wide }
-    ensures back { (old : List ℕ) → length old ≡ 32 → entry_of (bytes_over wide old entry.now) wide ≡ entry.now }
-    ensures long { (old : List ℕ) → length old ≡ 32 → length (bytes_over wide old entry.now) ≡ 32 }
+    ensures read { IsReadBack wide entry.now }
 {
     let mut bytes = [0; 32];
     bytes.copy_from_slice(&write_entry(entry, wide));

@@ -75,6 +75,7 @@ fn came_of(work: &Work) -> Came {
 }
 
 /// Does the turns of a job up to its last one, or up to a call of the drives that fails, and says whether it came to its end.
+#[tactic(auto, using(mpm_sectors::proofs::LeavesLaws::ready_of))]
 fn ends<L: Ledger>(
     mounted: &mut Mounted,
     cache: &mut Cache,

@@ -108,11 +108,17 @@ fn a_record_takes_its_block_with_zeros_before_it(rt: HostRuntime) -> Result<(), 
 }
 
 #[test]
+fn a_record_of_the_second_extent_takes_two_turns(rt: HostRuntime) -> Result<(), Fail> {
+    let kind = Kind::Hd8;
+    assert_eq!(rt; free_at_first(rt.alloc(), kind)?, 0xFF80);
+    assert_eq!(rt; turns_of(rt.alloc(), kind, 130)?, 2);
+    Ok(())
+}
+
+#[test]
 fn a_record_of_the_second_extent_is_in_the_first_entry(rt: HostRuntime) -> Result<(), Fail> {
     let kind = Kind::Hd8;
     let entry = [0, b'A', 1, 3, 0, 0];
-    assert_eq!(rt; free_at_first(rt.alloc(), kind)?, 0xFF80);
-    assert_eq!(rt; turns_of(rt.alloc(), kind, 130)?, 2);
     assert_eq!(rt;
         after_record(rt.alloc(), kind, 130, reading(128, 2))?,
         made(come_to(2, 2, None, [0, 0, 1, 1]), 0xFF60, entry, 2)

@@ -1,6 +1,5 @@
-use Rattle.std.proofs.Common.{◌∙◌, [], None, refl, sym, ap}
+use Rattle.std.proofs.Common.{◌∙◌, refl, sym}
 use Rattle.std.specs.Option.{option_copied}
-use Rattle.mpm_marks.specs.Driving.{protected_by, marks_by, freed_by}
 use Rattle.mpm_bdos.specs.Serving.{InService}
 use Rattle.mpm_bdos.specs.Finishing.{serving}
 use Rattle.mpm_bdos.proofs.UserLaws.{users_driven}
@@ -9,25 +8,21 @@ use Rattle.mpm_bdos.proofs.finishing.reply_granted.Goals as goal
 
 pub returns-then-is_on_drives-clause-users : goal.returns-then-is_on_drives-clause-users
 returns-then-is_on_drives-clause-users c =
-    users_driven c.args.opens.now c.reply_on_drives.new.opens c.args.caller.now.process c.word_of_call.result c.args.function c.reply_on_drives.ensures.opens c.requires.users
+    users_driven c.args.opens.now c.reply_on_drives.new.opens c.args.served.now.file_call.caller.process c.args.served.now.file_call.call.now.word c.args.served.now.file_call.function c.reply_on_drives.ensures.opens c.requires.users
 
 pub returns-else-is_on_drives-clause-users : goal.returns-else-is_on_drives-clause-users
 returns-else-is_on_drives-clause-users c = c.reply_on.ensures.users c.requires.users c.requires.caller.user
 
 pub returns-then-is_on_drives-clause-finished : goal.returns-then-is_on_drives-clause-finished
 returns-then-is_on_drives-clause-finished c = λ images s moment refusal serves none.
-    let service : InService = record { caller = c.args.caller.now; function = c.args.function; drive = c.args.drive; call = c.args.call.now; moment = moment; refusal = refusal; work = c.args.work.now; deleted = c.args.deleted.now } in
-    let p = c.args.caller.now.process in
+    let service : InService = record { caller = c.args.served.now.file_call.caller; function = c.args.served.now.file_call.function; drive = c.args.served.now.drive; call = c.args.served.now.file_call.call.now; moment = moment; refusal = refusal; work = c.args.served.now.work.now; deleted = c.args.served.now.deleted.now } in
     granted_on_drives images (serving c.args.mounted.now c.args.protected.now c.args.opens.now c.args.marks.now c.args.searches.now service) service s c.has.result c.reply_on_drives.new.reply c.reply_on_drives.new.protected c.reply_on_drives.new.opens c.reply_on_drives.new.marks
     refl serves none (sym c.is_on_drives.ensures ∙ c.if-is_on_drives.true) c.position_of_call.ensures.size c.has.ensures.value
-    (c.reply_on_drives.ensures.reply ∙ ap (λ dma. record { hl = 0; fcb = None; at = dma; bytes = [] }) c.dma_of_call.ensures)
-    (c.reply_on_drives.ensures.protected ∙ ap (λ word. protected_by c.args.protected.now c.has.result c.args.caller.now.drive word c.args.function) c.word_of_call.ensures)
-    (c.reply_on_drives.ensures.opens ∙ ap (λ word. freed_by c.args.opens.now p word c.args.function) c.word_of_call.ensures)
-    (c.reply_on_drives.ensures.marks ∙ ap (λ word. marks_by c.args.marks.now p word c.args.function) c.word_of_call.ensures)
+    c.reply_on_drives.ensures.reply c.reply_on_drives.ensures.protected c.reply_on_drives.ensures.opens c.reply_on_drives.ensures.marks
 
 pub returns-else-is_on_drives-clause-finished : goal.returns-else-is_on_drives-clause-finished
 returns-else-is_on_drives-clause-finished c = λ images s moment refusal serves none.
-    let service : InService = record { caller = c.args.caller.now; function = c.args.function; drive = c.args.drive; call = c.args.call.now; moment = moment; refusal = refusal; work = c.args.work.now; deleted = c.args.deleted.now } in
+    let service : InService = record { caller = c.args.served.now.file_call.caller; function = c.args.served.now.file_call.function; drive = c.args.served.now.drive; call = c.args.served.now.file_call.call.now; moment = moment; refusal = refusal; work = c.args.served.now.work.now; deleted = c.args.served.now.deleted.now } in
     granted_named images (serving c.args.mounted.now c.args.protected.now c.args.opens.now c.args.marks.now c.args.searches.now service) service s (option_copied c.get.result) c.reply_on.new.reply c.reply_on.new.opens c.reply_on.new.searches
     refl serves none (sym c.is_on_drives.ensures ∙ c.if-is_on_drives.false) c.requires.caller c.requires.users c.position_of_call.ensures.size c.position_of_call.ensures.low
     c.get.ensures (λ image d there answering. c.reply_on.ensures.replied image d s.filing.drives c.args.marks.now moment there answering)

@@ -7,10 +7,10 @@ use Rattle.mpm_bdos.proofs.finishing.reply_on.Goals as goal
 
 pub returns-in-Some-clause-replied : goal.returns-in-Some-clause-replied
 returns-in-Some-clause-replied c = λ image d drives marks moment there answering.
-    let s = called drives c.args.protected.now c.args.opens.now marks c.args.searches.now c.args.caller.now c.args.function c.args.call.now moment in
+    let s = called drives c.args.protected.now c.args.opens.now marks c.args.searches.now c.args.served.now.file_call.caller c.args.served.now.file_call.function c.args.served.now.file_call.call.now moment in
     let same = same_Some d c.in-Some.mounted.now (sym there ∙ ap option_copied c.in-Some.is) in
     c.reply_mounted.ensures.replied image drives marks moment
-    (subst (λ one. IsAnswering s image one c.args.work.now c.args.deleted.now) same answering)
+    (subst (λ one. IsAnswering s image one c.args.served.now.work.now c.args.served.now.deleted.now) same answering)
 
 pub returns-in-None-clause-replied : goal.returns-in-None-clause-replied
 returns-in-None-clause-replied c = λ image d drives marks moment there answering. absurd (none-some d (sym (ap option_copied c.in-None.is) ∙ there))

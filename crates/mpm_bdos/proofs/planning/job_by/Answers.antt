@@ -12,7 +12,7 @@ use Rattle.mpm_bdos.proofs.planning.job_by.Goals as goal
 
 pub returns-in-OpenFile : goal.returns-in-OpenFile
 returns-in-OpenFile c = λ image drives protected marks searches is.
-    let s : Situation = called drives protected c.args.opens.now marks searches c.args.caller.now c.args.function c.args.call.now c.args.moment in
+    let s : Situation = called drives protected c.args.opens.now marks searches c.args.file_call.now.caller c.args.file_call.now.function c.args.file_call.now.call.now c.args.file_call.now.moment in
     let found = is_found image c.args.mounted.now c.args.about s c.args.block.now is c.requires.block in
     ap Some (c.opening.ensures image (drive_at s) is.stands)
     ∙ opening_is s c.args.about c.args.block.now found
@@ -20,7 +20,7 @@ returns-in-OpenFile c = λ image drives protected marks searches is.
 
 pub returns-in-DeleteFile : goal.returns-in-DeleteFile
 returns-in-DeleteFile c = λ image drives protected marks searches is.
-    let s : Situation = called drives protected c.args.opens.now marks searches c.args.caller.now c.args.function c.args.call.now c.args.moment in
+    let s : Situation = called drives protected c.args.opens.now marks searches c.args.file_call.now.caller c.args.file_call.now.function c.args.file_call.now.call.now c.args.file_call.now.moment in
     let found = is_found image c.args.mounted.now c.args.about s c.args.block.now is c.requires.block in
     ap Some c.job_on.ensures
     ∙ deleting_is s c.args.about c.args.block.now found
@@ -28,7 +28,7 @@ returns-in-DeleteFile c = λ image drives protected marks searches is.
 
 pub returns-in-ReadSequential : goal.returns-in-ReadSequential
 returns-in-ReadSequential c = λ image drives protected marks searches is.
-    let s : Situation = called drives protected c.args.opens.now marks searches c.args.caller.now c.args.function c.args.call.now c.args.moment in
+    let s : Situation = called drives protected c.args.opens.now marks searches c.args.file_call.now.caller c.args.file_call.now.function c.args.file_call.now.call.now c.args.file_call.now.moment in
     let found = is_found image c.args.mounted.now c.args.about s c.args.block.now is c.requires.block in
     ap Some c.reading_job.ensures
     ∙ sequential_reading_is s c.args.about c.args.block.now found c.in-ReadSequential.is
@@ -36,7 +36,7 @@ returns-in-ReadSequential c = λ image drives protected marks searches is.
 
 pub returns-in-WriteSequential : goal.returns-in-WriteSequential
 returns-in-WriteSequential c = λ image drives protected marks searches is.
-    let s : Situation = called drives protected c.args.opens.now marks searches c.args.caller.now c.args.function c.args.call.now c.args.moment in
+    let s : Situation = called drives protected c.args.opens.now marks searches c.args.file_call.now.caller c.args.file_call.now.function c.args.file_call.now.call.now c.args.file_call.now.moment in
     let found = is_found image c.args.mounted.now c.args.about s c.args.block.now is c.requires.block in
     c.written.ensures image (drive_at s) is.stands
     ∙ ap (λ bytes. written (drive_at s) (count_until (is_locked_off s.filing.opens s.caller.process c.args.about.file) c.args.about.first s.caller.multi) c.args.block.now.name bytes s.moment c.args.about)
@@ -46,7 +46,7 @@ returns-in-WriteSequential c = λ image drives protected marks searches is.
 
 pub returns-in-MakeFile : goal.returns-in-MakeFile
 returns-in-MakeFile c = λ image drives protected marks searches is.
-    let s : Situation = called drives protected c.args.opens.now marks searches c.args.caller.now c.args.function c.args.call.now c.args.moment in
+    let s : Situation = called drives protected c.args.opens.now marks searches c.args.file_call.now.caller c.args.file_call.now.function c.args.file_call.now.call.now c.args.file_call.now.moment in
     let found = is_found image c.args.mounted.now c.args.about s c.args.block.now is c.requires.block in
     ap Some (c.making.ensures image (drive_at s) is.stands)
     ∙ making_is s c.args.about c.args.block.now found
@@ -54,7 +54,7 @@ returns-in-MakeFile c = λ image drives protected marks searches is.
 
 pub returns-in-RenameFile : goal.returns-in-RenameFile
 returns-in-RenameFile c = λ image drives protected marks searches is.
-    let s : Situation = called drives protected c.args.opens.now marks searches c.args.caller.now c.args.function c.args.call.now c.args.moment in
+    let s : Situation = called drives protected c.args.opens.now marks searches c.args.file_call.now.caller c.args.file_call.now.function c.args.file_call.now.call.now c.args.file_call.now.moment in
     let found = is_found image c.args.mounted.now c.args.about s c.args.block.now is c.requires.block in
     ap Some (c.renaming_job.ensures
     ∙ ap (λ new_name. with_new_name new_name (job_for kinds.Rename c.args.about.file.user c.args.block.now.name)) c.new_name.ensures)
@@ -63,7 +63,7 @@ returns-in-RenameFile c = λ image drives protected marks searches is.
 
 pub returns-in-SetAttributes : goal.returns-in-SetAttributes
 returns-in-SetAttributes c = λ image drives protected marks searches is.
-    let s : Situation = called drives protected c.args.opens.now marks searches c.args.caller.now c.args.function c.args.call.now c.args.moment in
+    let s : Situation = called drives protected c.args.opens.now marks searches c.args.file_call.now.caller c.args.file_call.now.function c.args.file_call.now.call.now c.args.file_call.now.moment in
     let found = is_found image c.args.mounted.now c.args.about s c.args.block.now is c.requires.block in
     ap Some c.job_on-in-SetAttributes.ensures
     ∙ setting_is s c.args.about c.args.block.now found
@@ -71,7 +71,7 @@ returns-in-SetAttributes c = λ image drives protected marks searches is.
 
 pub returns-in-ReadRandom : goal.returns-in-ReadRandom
 returns-in-ReadRandom c = λ image drives protected marks searches is.
-    let s : Situation = called drives protected c.args.opens.now marks searches c.args.caller.now c.args.function c.args.call.now c.args.moment in
+    let s : Situation = called drives protected c.args.opens.now marks searches c.args.file_call.now.caller c.args.file_call.now.function c.args.file_call.now.call.now c.args.file_call.now.moment in
     let found = is_found image c.args.mounted.now c.args.about s c.args.block.now is c.requires.block in
     ap Some c.reading_job-in-ReadRandom.ensures
     ∙ random_reading_is s c.args.about c.args.block.now found c.in-ReadRandom.is
@@ -79,7 +79,7 @@ returns-in-ReadRandom c = λ image drives protected marks searches is.
 
 pub returns-in-WriteRandom : goal.returns-in-WriteRandom
 returns-in-WriteRandom c = λ image drives protected marks searches is.
-    let s : Situation = called drives protected c.args.opens.now marks searches c.args.caller.now c.args.function c.args.call.now c.args.moment in
+    let s : Situation = called drives protected c.args.opens.now marks searches c.args.file_call.now.caller c.args.file_call.now.function c.args.file_call.now.call.now c.args.file_call.now.moment in
     let found = is_found image c.args.mounted.now c.args.about s c.args.block.now is c.requires.block in
     c.written-in-WriteRandom.ensures image (drive_at s) is.stands
     ∙ ap (λ bytes. written (drive_at s) (count_until (is_locked_off s.filing.opens s.caller.process c.args.about.file) c.args.about.first s.caller.multi) c.args.block.now.name bytes s.moment c.args.about)
@@ -89,7 +89,7 @@ returns-in-WriteRandom c = λ image drives protected marks searches is.
 
 pub returns-in-TestAndWrite : goal.returns-in-TestAndWrite
 returns-in-TestAndWrite c = λ image drives protected marks searches is.
-    let s : Situation = called drives protected c.args.opens.now marks searches c.args.caller.now c.args.function c.args.call.now c.args.moment in
+    let s : Situation = called drives protected c.args.opens.now marks searches c.args.file_call.now.caller c.args.file_call.now.function c.args.file_call.now.call.now c.args.file_call.now.moment in
     let found = is_found image c.args.mounted.now c.args.about s c.args.block.now is c.requires.block in
     c.tested.ensures image (drive_at s) is.stands
     ∙ ap (λ bytes. tested (drive_at s) (count_until (is_tested_off (drive_at s) s.filing.opens s.caller.process c.args.about.file) c.args.about.first s.caller.multi) s.caller.multi c.args.block.now.name bytes s.moment c.args.about)
@@ -99,7 +99,7 @@ returns-in-TestAndWrite c = λ image drives protected marks searches is.
 
 pub returns-in-SetLabel : goal.returns-in-SetLabel
 returns-in-SetLabel c = λ image drives protected marks searches is.
-    let s : Situation = called drives protected c.args.opens.now marks searches c.args.caller.now c.args.function c.args.call.now c.args.moment in
+    let s : Situation = called drives protected c.args.opens.now marks searches c.args.file_call.now.caller c.args.file_call.now.function c.args.file_call.now.call.now c.args.file_call.now.moment in
     let found = is_found image c.args.mounted.now c.args.about s c.args.block.now is c.requires.block in
     ap Some (c.labelling.ensures image (drive_at s) is.stands)
     ∙ labelling_is s c.args.about c.args.block.now found
@@ -107,7 +107,7 @@ returns-in-SetLabel c = λ image drives protected marks searches is.
 
 pub returns-in-WriteXfcb : goal.returns-in-WriteXfcb
 returns-in-WriteXfcb c = λ image drives protected marks searches is.
-    let s : Situation = called drives protected c.args.opens.now marks searches c.args.caller.now c.args.function c.args.call.now c.args.moment in
+    let s : Situation = called drives protected c.args.opens.now marks searches c.args.file_call.now.caller c.args.file_call.now.function c.args.file_call.now.call.now c.args.file_call.now.moment in
     let found = is_found image c.args.mounted.now c.args.about s c.args.block.now is c.requires.block in
     ap Some (c.guarding.ensures image (drive_at s) is.stands)
     ∙ guarding_is s c.args.about c.args.block.now found
@@ -115,8 +115,8 @@ returns-in-WriteXfcb c = λ image drives protected marks searches is.
 
 pub returns-in_default : goal.returns-in_default
 returns-in_default c = λ image drives protected marks searches is.
-    let s : Situation = called drives protected c.args.opens.now marks searches c.args.caller.now c.args.function c.args.call.now c.args.moment in
-    no_job s c.args.function (record {
+    let s : Situation = called drives protected c.args.opens.now marks searches c.args.file_call.now.caller c.args.file_call.now.function c.args.file_call.now.call.now c.args.file_call.now.moment in
+    no_job s c.args.file_call.now.function (record {
       opens = c.in_default.not-OpenFile;
       deletes = c.in_default.not-DeleteFile;
       reads = c.in_default.not-ReadSequential;

@@ -15,19 +15,19 @@ unfolding left_by
 grant-granted-requires-clause-item c = λ f.
     let a = c.args.asked.now in
     subst (λ opens. IfSome a.item (λ item. IsOwnItem opens a.caller.process item))
-    (sym (c.leave.ensures ∙ ap (left_by c.args.opens.now a c.subject_key-2.result c.moved_by.result c.args.deleted.now) f)) c.requires.own
+    (sym (c.leave.ensures ∙ ap (left_by c.args.opens.now a c.subject_key-2.result c.moved_by.result c.args.served.now.deleted.now) f)) c.requires.own
 
 pub returns-clause-users : goal.returns-clause-users
 returns-clause-users c = λ users low.
     c.grant-granted.ensures.users
-    (users_kept c.args.opens.now c.leave.new.opens c.args.asked.now c.subject_key-2.result c.moved_by.result c.args.deleted.now c.leave.ensures users) low
+    (users_kept c.args.opens.now c.leave.new.opens c.args.asked.now c.subject_key-2.result c.moved_by.result c.args.served.now.deleted.now c.leave.ensures users) low
 
 pub returns-clause-reply : goal.returns-clause-reply
 returns-clause-reply c = λ image drive records entry stands granted is.
     let a = c.args.asked.now in
     let opens = c.args.opens.now in
-    let work = c.args.work.now in
-    let deleted = c.args.deleted.now in
+    let work = c.args.served.now.work.now in
+    let deleted = c.args.served.now.deleted.now in
     let left : c.leave.new.opens ≡ left_first opens a work deleted =
     c.leave.ensures
     ∙ ap (λ key. left_by opens a key c.moved_by.result deleted a.function) c.subject_key-2.ensures
@@ -41,4 +41,4 @@ returns-clause-reply c = λ image drive records entry stands granted is.
     (λ reads. subst (λ (g : Granted). HasRead (done_by a.caller.multi (value_by drive g g.function)) work records) (sym same)
     (granted.read (sym (ap (λ (g : Granted). is_reading g.function) same) ∙ reads)))
     (c.told_found-told.ensures image drive stands ∙ ap (found_bytes drive) is)
-    ∙ ap (λ g. answer_by drive g records entry c.args.fcb.now c.args.dma) same
+    ∙ ap (λ g. answer_by drive g records entry c.args.served.now.file_call.call.now.fcb c.args.served.now.file_call.call.now.dma) same

@@ -20,39 +20,35 @@ returns-clause-users c = λ users low. c.answer_mounted.ensures.users users (c.a
 pub returns-clause-replied : goal.returns-clause-replied
 returns-clause-replied c = λ image drives marks moment answering.
     let d = c.args.mounted.now in
-    let f = c.args.function in
-    let user = c.args.caller.now.user in
-    let p = c.args.caller.now.process in
+    let f = c.args.served.now.file_call.function in
+    let caller = c.args.served.now.file_call.caller in
+    let p = caller.process in
     let opens = c.args.opens.now in
     let searches = c.args.searches.now in
-    let work = c.args.work.now in
-    let deleted = c.args.deleted.now in
-    let s = called drives c.args.protected.now opens marks searches c.args.caller.now f c.args.call.now moment in
+    let work = c.args.served.now.work.now in
+    let deleted = c.args.served.now.deleted.now in
+    let s = called drives c.args.protected.now opens marks searches caller f c.args.served.now.file_call.call.now moment in
     let after : Drive = (turned s (call_turns s)).drive in
-    let last = slice_index_or searches p None in
     let asked_is : c.ask-asked.result ≡ asked_of s =
     c.ask-asked.ensures.asked image (replicate (suc (drive_number s)) (Some after)) marks moment (subst (Stands image d) (sym (moved_drive s after)) answering.stands)
     ∙ asked_still s answering.served.none
     in
-    let block_is = ap (λ (a : Asked). a.block) asked_is in
-    let drive_is = ap (λ (a : Asked). a.drive) asked_is in
-    let found_here : option_map (found_as d.kind) c.found-found.result ≡ found_by after user c.ask-asked.result.block last f =
-    c.found-found.ensures image after answering.stands ∙ ap (λ l. found_by after user c.ask-asked.result.block l f) c.get-search.ensures
+    let found_of : Asked → Option (FileName × ℕ) = λ a. found_by after a.caller.user a.block (slice_index_or searches a.caller.process None) a.function in
+    let found_here : option_map (found_as d.kind) c.found-found.result ≡ found_of c.ask-asked.result =
+    c.found-found.ensures image after answering.stands
+    ∙ ap (λ l. found_by after c.ask-asked.result.caller.user c.ask-asked.result.block l c.ask-asked.result.function) c.get-search.ensures
     in
-    let finds : option_map (found_as d.kind) c.found-found.result ≡ found s =
-    found_here ∙ ap (λ b. found_by after user b last f) block_is ∙ still_found s answering.served.none
-    in
+    let finds : option_map (found_as d.kind) c.found-found.result ≡ found s = found_here ∙ ap found_of asked_is ∙ still_found s answering.served.none in
     record {
       answer_is = answered_so s image d work deleted c.found-found.result c.answer_mounted.new.reply answering finds
           (subst (λ (a : Asked). (drive : Drive) (records : List (List ℕ)) (entry : Option (FileName × ℕ)) → Stands image d drive → IsGranted drive opens a work deleted records
           → option_map (found_as d.kind) c.found-found.result ≡ entry
-          → c.answer_mounted.new.reply ≡ answer_by drive (granted_by drive (left_first opens a work deleted) a work) records entry c.args.call.now.fcb c.args.call.now.dma) asked_is
-          (λ drive records entry stands granted is. c.answer_mounted.ensures.reply image drive records entry stands granted is
-          ∙ (λ i. answer_by drive (granted_by drive (left_first opens c.ask-asked.result work deleted) c.ask-asked.result work) records entry (c.call.view_is i).fcb (c.call.view_is i).dma)));
+          → c.answer_mounted.new.reply ≡ answer_by drive (granted_by drive (left_first opens a work deleted) a work) records entry c.args.served.now.file_call.call.now.fcb c.args.served.now.file_call.call.now.dma) asked_is
+          (λ drive records entry stands granted is. c.answer_mounted.ensures.reply image drive records entry stands granted is));
       opens_are = opens_so s image d work deleted c.answer_mounted.new.opens answering c.answer_mounted.ensures.sound
           (subst (λ (a : Asked). (drive : Drive) → Stands image d drive → IsInFile a → c.answer_mounted.new.opens ≡ opens_left drive opens a work deleted) asked_is
           (λ drive stands inside. c.answer_mounted.ensures.opens image drive stands inside));
       searches_are = c.keep_found.ensures after (ap (λ kind. option_map (found_as kind) c.found-found.result) c.kind.ensures.kind ∙ found_here)
-          ∙ (λ i. searches_by searches p (λ entry. search_by last (drive_is i) user (block_is i) entry f) (found_by after user (block_is i) last f))
+          ∙ ap (λ (a : Asked). searches_by searches a.caller.process (λ entry. search_by (slice_index_or searches a.caller.process None) a.drive a.caller.user a.block entry a.function) (found_of a)) asked_is
           ∙ ap (searches_by searches p (search_of_call s)) (still_found s answering.served.none);
     }

@@ -20,11 +20,13 @@ returns-in-Some g c =
       progress = λ before job j working.
           let service : IsWorking disks (Some c.in-Some.mounted) before job j work = subst (λ place. IsWorking disks place before job j work) c.in-Some.is working in
           told_by_job before job j work result service.service.serving did.progress;
-      same = ap Some (labels_as c.in-Some.mounted c.turn-result.new.mounted did.drive did.kind) ∙ ap (option_map labelled) (sym c.in-Some.is);
-      calls = did.calls;
-      reads = did.reads;
-      reads_only = did.reads_only;
-      cached = λ read next. did.cached read (subst (λ place. IfSome place (λ d. IsNextCached c.args.cache.now d work)) c.in-Some.is next);
+      same = ap Some (labels_as c.in-Some.mounted c.turn-result.new.mounted did.disk.drive did.disk.kind) ∙ ap (option_map labelled) (sym c.in-Some.is);
+      takes = record {
+        calls = did.calls;
+        one_call = λ read. (did.reads read).calls;
+        unsynced = λ read. (did.reads read).unsynced;
+        no_call = λ next. (did.reads next.0).uncalled (subst (λ place. IfSome place (λ d. IsNextCached c.args.cache.now d work)) c.in-Some.is next.1);
+      };
       directory = c.kind.ensures.directory;
       leaves = subst (λ place. HasLeftDisk g.D.Drives.disks g.D.Drives.told g.D.Drives.failed_names g.D.Drives.unsynced place c.args.cache.now c.turn-result.new.cache c.args.drives.now c.turn-result.new.drives)
           (sym c.in-Some.is) did.leaves;
@@ -39,10 +41,7 @@ returns-in-None g c =
       err = λ before job j suits working h. tt;
       progress = λ before job j working. absurd (subst (λ place. IsWorking disks place before job j c.args.work.now) c.in-None.is working);
       same = refl;
-      calls = omega arith;
-      reads = λ read. omega arith;
-      reads_only = λ read other. refl;
-      cached = λ read next. refl;
+      takes = record { calls = omega arith; one_call = λ read. omega arith; unsynced = λ read other. refl; no_call = λ next. refl };
       directory = nothing_there _ c.args.place.now c.in-None.is;
       leaves = left_alone g.D.Drives.disks g.D.Drives.told g.D.Drives.failed_names g.D.Drives.unsynced c.args.place.now c.args.cache.now c.args.drives.now c.in-None.is;
       cause = cause_none _ _;

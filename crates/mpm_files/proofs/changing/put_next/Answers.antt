@@ -23,8 +23,7 @@ returns-in-Label g c = record {
   nothing = λ kind. let no : Label ≡ Nothing = sym c.in-Label.is ∙ kind in absurd (cc);
   ended = refl;
   units = refl;
-  drive = c.put_label.ensures.drive;
-  kind = c.put_label.ensures.kind;
+  disk = c.put_label.ensures.disk;
   calls = c.put_label.ensures.calls;
   leaves = c.put_label.ensures.leaves;
   cause = c.put_label.ensures.cause;
@@ -46,8 +45,7 @@ returns-in-Xfcb g c = record {
   nothing = λ kind. let no : Xfcb ≡ Nothing = sym c.in-Xfcb.is ∙ kind in absurd (cc);
   ended = refl;
   units = refl;
-  drive = c.put_xfcb.ensures.drive;
-  kind = c.put_xfcb.ensures.kind;
+  disk = c.put_xfcb.ensures.disk;
   calls = c.put_xfcb.ensures.calls;
   leaves = c.put_xfcb.ensures.leaves;
   cause = c.put_xfcb.ensures.cause;
@@ -68,8 +66,7 @@ returns-in_default g c = record {
       ));
   ended = refl;
   units = refl;
-  drive = c.idle.ensures.drive;
-  kind = c.idle.ensures.kind;
+  disk = c.idle.ensures.disk;
   calls = c.idle.ensures.calls;
   leaves = c.idle.ensures.leaves;
   cause = c.idle.ensures.cause;

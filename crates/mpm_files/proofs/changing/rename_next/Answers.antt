@@ -22,8 +22,7 @@ returns-in-Some g c = record {
       over_renamed image c.args.mounted.now before job j c.args.work.now c.in-Some.slot stands serving kind (may_rename before job j c.args.work.now serving kind suits) h (sym c.xfcb.ensures ∙ c.in-Some.is));
   ended = refl;
   units = refl;
-  drive = c.put_entry.ensures.drive;
-  kind = c.put_entry.ensures.kind;
+  disk = c.put_entry.ensures.disk;
   calls = c.put_entry.ensures.calls;
   leaves = c.put_entry.ensures.leaves;
   cause = c.put_entry.ensures.cause;
@@ -45,8 +44,7 @@ returns-in-Some-next g c = record {
       ));
   ended = refl;
   units = refl;
-  drive = c.rename_entry.ensures.drive;
-  kind = c.rename_entry.ensures.kind;
+  disk = c.rename_entry.ensures.disk;
   calls = c.rename_entry.ensures.calls;
   leaves = c.rename_entry.ensures.leaves;
   cause = c.rename_entry.ensures.cause;
@@ -66,8 +64,7 @@ returns-in-None-next g c = record {
       ));
   ended = refl;
   units = refl;
-  drive = c.rename_xfcb.ensures.drive;
-  kind = c.rename_xfcb.ensures.kind;
+  disk = c.rename_xfcb.ensures.disk;
   calls = c.rename_xfcb.ensures.calls;
   leaves = c.rename_xfcb.ensures.leaves;
   cause = c.rename_xfcb.ensures.cause;

@@ -10,7 +10,7 @@ returns-then-not-clears_blocks g c = record {
   does = λ image files file n told stands. clears_none (g.D.Drives.disks c.args.drives.now) c.args.mounted.now image files file n _ told stands;
   cleared = λ image files told stands. record { image = image; told = told; stands = stands; cleared_is = tt };
   calls = omega arith;
-  leaves = leaves_itself g.D.Drives.disks g.D.Drives.told g.D.Drives.failed_names g.D.Drives.unsynced c.args.mounted.now.drive c.args.cache.now c.args.drives.now c.requires.coherent;
+  leaves = leaves_itself g.D.Drives.disks g.D.Drives.told g.D.Drives.failed_names g.D.Drives.unsynced c.args.mounted.now.drive c.args.cache.now c.args.drives.now c.requires.ready.coherent;
   cause = cause_none _ _;
 }
 
@@ -20,7 +20,7 @@ returns-in-None g c = record {
   does = λ image files file n told stands. clears_none (g.D.Drives.disks c.args.drives.now) c.args.mounted.now image files file n _ told stands;
   cleared = λ image files told stands. record { image = image; told = told; stands = stands; cleared_is = tt };
   calls = omega arith;
-  leaves = leaves_itself g.D.Drives.disks g.D.Drives.told g.D.Drives.failed_names g.D.Drives.unsynced c.args.mounted.now.drive c.args.cache.now c.args.drives.now c.requires.coherent;
+  leaves = leaves_itself g.D.Drives.disks g.D.Drives.told g.D.Drives.failed_names g.D.Drives.unsynced c.args.mounted.now.drive c.args.cache.now c.args.drives.now c.requires.ready.coherent;
   cause = cause_none _ _;
 }
 

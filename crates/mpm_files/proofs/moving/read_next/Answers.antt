@@ -14,7 +14,7 @@ use Rattle.mpm_files.proofs.moving.read_next.Goals as goal
 pub returns-then-n-gt-LAST_NAMED-clause-read : goal.returns-then-n-gt-LAST_NAMED-clause-read
 returns-then-n-gt-LAST_NAMED-clause-read g c = λ kind.
     never_next (g.D.Drives.disks c.args.drives.now) (g.D.Drives.disks c.args.drives.now) c.args.mounted.now c.args.mounted.now c.args.work.now _ _ (λ image before job j suits service h.
-    omega (arith, read_small before job j c.args.work.now service.serving kind h suits, c.if-n-gt-LAST.true, c.saturating_add-n.ensures))
+    omega (arith, read_small before job j c.args.work.now service.serving kind h suits, c.if-n-gt-LAST_NAMED.true, c.saturating_add-n.ensures))
 
 pub returns-then-work-gt31-clause-read : goal.returns-then-work-gt31-clause-read
 returns-then-work-gt31-clause-read g c = λ kind.
@@ -26,7 +26,7 @@ returns-in-Ok-clause-read g c = λ kind.
     does_next (g.D.Drives.disks c.args.drives.now) (g.D.Drives.disks c.read_record.new.drives) c.args.mounted.now c.args.mounted.now c.args.work.now _ _
     (ap (λ (w : Work). w.cleared) c.keep.ensures.kept)
     (λ image before job j told suits service h.
-    let n : c.saturating_add-n.result ≡ read_now c.args.work.now = omega (arith, c.if-n-gt-LAST.false, c.saturating_add-n.ensures) in
+    let n : c.saturating_add-n.result ≡ read_now c.args.work.now = omega (arith, c.if-n-gt-LAST_NAMED.false, c.saturating_add-n.ensures) in
     let seen = c.in-Ok.ensures.visible image (units_done before job j) told service.stands
     (sym (read_error_same image c.args.mounted.now (units_done before job j) (file_of_job c.args.work.now.job) c.saturating_add-n.result service.stands)
     ∙ ap (read_error (units_done before job j) (file_of_job c.args.work.now.job)) n ∙ record_there before job j c.args.work.now service.serving kind h) in (
@@ -44,12 +44,18 @@ pub returns-in-Err-clause-read : goal.returns-in-Err-clause-read
 returns-in-Err-clause-read g c = λ kind.
     reading_failed (g.D.Drives.disks c.args.drives.now) (g.D.Drives.disks c.read_record.new.drives) c.args.mounted.now c.args.work.now _ c.in-Err.failed c.read_record.ensures.disks
 
-pub returns-in-Ok-clause-cached : goal.returns-in-Ok-clause-cached
-returns-in-Ok-clause-cached g c = λ cached.
-    c.in-Ok.ensures.cached
-    (subst (IsRecordCached c.args.cache.now c.args.mounted.now (file_of_job c.args.work.now.job)) (omega (arith, c.if-n-gt-LAST.false, c.saturating_add-n.ensures)) cached)
+pub returns-in-Ok-clause-reads : goal.returns-in-Ok-clause-reads
+returns-in-Ok-clause-reads g c = record {
+  calls = c.read_record.ensures.calls;
+  uncalled = λ cached. c.read_record.ensures.cached
+      (subst (IsRecordCached c.args.cache.now c.args.mounted.now (file_of_job c.args.work.now.job)) (omega (arith, c.if-n-gt-LAST_NAMED.false, c.saturating_add-n.ensures)) cached);
+  unsynced = c.read_record.ensures.unsynced;
+}
 
-pub returns-in-Err-clause-cached : goal.returns-in-Err-clause-cached
-returns-in-Err-clause-cached g c = λ cached.
-    c.in-Err.ensures.cached
-    (subst (IsRecordCached c.args.cache.now c.args.mounted.now (file_of_job c.args.work.now.job)) (omega (arith, c.if-n-gt-LAST.false, c.saturating_add-n.ensures)) cached)
+pub returns-in-Err-clause-reads : goal.returns-in-Err-clause-reads
+returns-in-Err-clause-reads g c = record {
+  calls = c.read_record.ensures.calls;
+  uncalled = λ cached. c.read_record.ensures.cached
+      (subst (IsRecordCached c.args.cache.now c.args.mounted.now (file_of_job c.args.work.now.job)) (omega (arith, c.if-n-gt-LAST_NAMED.false, c.saturating_add-n.ensures)) cached);
+  unsynced = c.read_record.ensures.unsynced;
+}

@@ -13,7 +13,7 @@ use Rattle.mpm_files.proofs.ReadTurns.{read_now, read_stands, reading_failed}
 use Rattle.mpm_sectors.proofs.LeavesLaws.{leaves_itself, leaves_over}
 use Rattle.mpm_files.proofs.Causing.{cause_none, cause_behind}
 use Rattle.mpm_files.proofs.moving.test_next.Goals as goal
-use Rattle.mpm_files.proofs.moving.test_next.Goals.{then-work-via-then-work, then-work-via-else-work+then-n-gt-LAST, then-work-via-else-work+else-n-gt-LAST+then-count-gt16, then-work-via-else-work+else-n-gt-LAST+else-count-gt16+then-work-count}
+use Rattle.mpm_files.proofs.moving.test_next.Goals.{then-work-via-then-work, then-work-via-else-work+then-n-gt-LAST_NAMED, then-work-via-else-work+else-n-gt-LAST_NAMED+then-count-gt16, then-work-via-else-work+else-n-gt-LAST_NAMED+else-count-gt16+then-work-count}
 
 pub returns-then-work : goal.returns-then-work
 returns-then-work g c = record {
@@ -28,22 +28,21 @@ returns-then-work g c = record {
                 (record { image = image; told = told; stands = service.stands }),
           ),
         ))
-    | then-work-via-else-work+then-n-gt-LAST w ↦
+    | then-work-via-else-work+then-n-gt-LAST_NAMED w ↦
         never_next (g.D.Drives.disks c.args.drives.now) (g.D.Drives.disks c.args.drives.now) c.args.mounted.now c.args.mounted.now c.args.work.now _ _ (λ image before job j suits service h.
-        omega (arith, (tests_few before job j c.args.work.now service.serving kind suits h).number, w.if-n-gt-LAST.true, c.saturating_add-n.ensures))
-    | then-work-via-else-work+else-n-gt-LAST+then-count-gt16 w ↦
+        omega (arith, (tests_few before job j c.args.work.now service.serving kind suits h).number, w.if-n-gt-LAST_NAMED.true, c.saturating_add-n.ensures))
+    | then-work-via-else-work+else-n-gt-LAST_NAMED+then-count-gt16 w ↦
         never_next (g.D.Drives.disks c.args.drives.now) (g.D.Drives.disks c.args.drives.now) c.args.mounted.now c.args.mounted.now c.args.work.now _ _ (λ image before job j suits service h.
         omega (arith, (tests_few before job j c.args.work.now service.serving kind suits h).count, w.if-count-gt16.true, c.from-count.ensures))
-    | then-work-via-else-work+else-n-gt-LAST+else-count-gt16+then-work-count w ↦
+    | then-work-via-else-work+else-n-gt-LAST_NAMED+else-count-gt16+then-work-count w ↦
         never_next (g.D.Drives.disks c.args.drives.now) (g.D.Drives.disks c.args.drives.now) c.args.mounted.now c.args.mounted.now c.args.work.now _ _ (λ image before job j suits service h.
         omega (arith, (tests_few before job j c.args.work.now service.serving kind suits h).more, w.if-work-count.true, c.from-count.ensures))
   ];
   ended = refl;
   units = refl;
-  drive = refl;
-  kind = refl;
+  disk = record { drive = refl; kind = refl };
   calls = omega arith;
-  leaves = leaves_itself g.D.Drives.disks g.D.Drives.told g.D.Drives.failed_names g.D.Drives.unsynced c.args.mounted.now.drive c.args.cache.now c.args.drives.now c.requires.coherent;
+  leaves = leaves_itself g.D.Drives.disks g.D.Drives.told g.D.Drives.failed_names g.D.Drives.unsynced c.args.mounted.now.drive c.args.cache.now c.args.drives.now c.requires.ready.coherent;
   cause = cause_none _ _;
 }
 
@@ -53,8 +52,7 @@ returns-in-Err g c = record {
       reading_failed (g.D.Drives.disks c.args.drives.now) (g.D.Drives.disks c.read_record.new.drives) c.args.mounted.now c.args.work.now _ c.in-Err.failed c.read_record.ensures.disks;
   ended = refl;
   units = refl;
-  drive = refl;
-  kind = refl;
+  disk = record { drive = refl; kind = refl };
   calls = omega (arith, c.read_record.ensures.calls);
   leaves = c.read_record.ensures.leaves;
   cause = c.in-Err.ensures.cause;
@@ -65,7 +63,7 @@ returns-then-ne g c = record {
   testwrite = λ kind.
       does_next (g.D.Drives.disks c.args.drives.now) (g.D.Drives.disks c.read_record.new.drives) c.args.mounted.now c.args.mounted.now c.args.work.now _ _ refl
       (λ image before job j told suits service h.
-      let n : read_now c.args.work.now ≡ c.saturating_add-n.result = omega (arith, c.if-n-gt-LAST.false, c.saturating_add-n.ensures) in
+      let n : read_now c.args.work.now ≡ c.saturating_add-n.result = omega (arith, c.if-n-gt-LAST_NAMED.false, c.saturating_add-n.ensures) in
       let there : record_of (units_done before job j) (file_of_job c.args.work.now.job) (read_now c.args.work.now) ≡ Some c.read_record.new.out =
       subst (λ m. lacks_block c.args.mounted.now (file_of_job c.args.work.now.job) m ≡ false → record_of (units_done before job j) (file_of_job c.args.work.now.job) m ≡ Some c.read_record.new.out) (sym n)
       (c.in-Ok.ensures.record image (units_done before job j) told service.stands)
@@ -82,8 +80,7 @@ returns-then-ne g c = record {
       ));
   ended = refl;
   units = refl;
-  drive = refl;
-  kind = refl;
+  disk = record { drive = refl; kind = refl };
   calls = omega (arith, c.read_record.ensures.calls);
   leaves = c.read_record.ensures.leaves;
   cause = c.in-Ok.ensures.cause;
@@ -93,10 +90,8 @@ pub put_held-requires : goal.put_held-requires
 put_held-requires g c =
     let left = c.read_record.ensures.leaves in
     record {
-      number = omega (arith, c.if-n-gt-LAST.false);
-      size = left.others.sizes c.args.mounted.now.drive ∙ c.requires.size;
-      coherent = left.coherent;
-      apart = left.alone c.requires.apart;
+      number = omega (arith, c.if-n-gt-LAST_NAMED.false);
+      ready = record { size = left.others.sizes c.args.mounted.now.drive ∙ c.requires.ready.size; coherent = left.coherent; apart = left.alone c.requires.ready.apart };
     }
 
 pub returns : goal.returns
@@ -104,7 +99,7 @@ returns g c = record {
   testwrite = λ kind.
       does_next (g.D.Drives.disks c.args.drives.now) (g.D.Drives.disks c.put_held.new.drives) c.args.mounted.now c.put_held.new.mounted c.args.work.now _ c.put_held.result refl
       (λ image before job j told suits service h.
-      let n : read_now c.args.work.now ≡ c.saturating_add-n.result = omega (arith, c.if-n-gt-LAST.false, c.saturating_add-n.ensures) in
+      let n : read_now c.args.work.now ≡ c.saturating_add-n.result = omega (arith, c.if-n-gt-LAST_NAMED.false, c.saturating_add-n.ensures) in
       let held = record_held image c.args.mounted.now before job j c.args.work.now service.stands service.serving kind h in
       let there : record_of (units_done before job j) (file_of_job c.args.work.now.job) (read_now c.args.work.now) ≡ Some c.read_record.new.out =
       subst (λ m. lacks_block c.args.mounted.now (file_of_job c.args.work.now.job) m ≡ false → record_of (units_done before job j) (file_of_job c.args.work.now.job) m ≡ Some c.read_record.new.out) (sym n)
@@ -132,8 +127,7 @@ returns g c = record {
       ));
   ended = refl;
   units = refl;
-  drive = c.put_held.ensures.drive;
-  kind = c.put_held.ensures.kind;
+  disk = c.put_held.ensures.disk;
   calls = omega (arith, c.read_record.ensures.calls, c.put_held.ensures.calls);
   leaves = leaves_over g.D.Drives.disks g.D.Drives.told g.D.Drives.failed_names g.D.Drives.unsynced c.args.mounted.now.drive c.args.cache.now c.read_record.new.cache c.put_held.new.cache c.args.drives.now c.read_record.new.drives c.put_held.new.drives c.read_record.ensures.leaves c.put_held.ensures.leaves;
   cause = cause_behind _ _ _ c.put_held.result c.in-Ok.ensures.cause.stays c.put_held.ensures.cause;

@@ -15,13 +15,13 @@ use Rattle.mpm_files.proofs.moving.write_next.Goals as goal
 pub returns-then-n-gt-LAST_NAMED-clause-write : goal.returns-then-n-gt-LAST_NAMED-clause-write
 returns-then-n-gt-LAST_NAMED-clause-write g c = λ kind.
     never_next (g.D.Drives.disks c.args.drives.now) (g.D.Drives.disks c.args.drives.now) c.args.mounted.now c.args.mounted.now c.args.work.now _ _ (λ image before job j suits service h.
-    omega (arith, number_small before job j c.args.work.now service.serving kind h suits, c.if-n-gt-LAST.true, c.saturating_add-n.ensures, c.from.ensures))
+    omega (arith, number_small before job j c.args.work.now service.serving kind h suits, c.if-n-gt-LAST_NAMED.true, c.saturating_add-n.ensures, c.from.ensures))
 
 pub returns-in-Entry-clause-write : goal.returns-in-Entry-clause-write
 returns-in-Entry-clause-write g c = λ kind.
     does_next (g.D.Drives.disks c.args.drives.now) (g.D.Drives.disks c.add_entry.new.drives) c.args.mounted.now c.add_entry.new.mounted c.args.work.now _ c.add_entry.result refl
     (λ image before job j told suits service h.
-    let n : stepping.record_next c.args.work.now ≡ c.saturating_add-n.result = omega (arith, c.if-n-gt-LAST.false, c.saturating_add-n.ensures, c.from.ensures) in
+    let n : stepping.record_next c.args.work.now ≡ c.saturating_add-n.result = omega (arith, c.if-n-gt-LAST_NAMED.false, c.saturating_add-n.ensures, c.from.ensures) in
     let missing = entry_missing image c.args.mounted.now before job j c.args.work.now service.stands
     (ap (stepping.step_of c.args.mounted.now c.args.work.now) n ∙ sym c.next_step.ensures ∙ c.in-Entry.is) in
     let written = entry_written before job j c.args.work.now service.serving kind h service.entered missing in (
@@ -40,12 +40,12 @@ returns-in-Entry-clause-write g c = λ kind.
 pub returns-in-Record-clause-write : goal.returns-in-Record-clause-write
 returns-in-Record-clause-write g c = λ kind.
     c.write_record.ensures.write kind
-    (ap (stepping.step_of c.args.mounted.now c.args.work.now) (omega (arith, c.if-n-gt-LAST.false, c.saturating_add-n.ensures, c.from.ensures)) ∙ sym c.next_step.ensures ∙ c.in-Record.is)
+    (ap (stepping.step_of c.args.mounted.now c.args.work.now) (omega (arith, c.if-n-gt-LAST_NAMED.false, c.saturating_add-n.ensures, c.from.ensures)) ∙ sym c.next_step.ensures ∙ c.in-Record.is)
 
 pub returns-in-Ok-clause-write : goal.returns-in-Ok-clause-write
 returns-in-Ok-clause-write g c = λ kind.
     clears_next (g.D.Drives.disks c.args.drives.now) (g.D.Drives.disks c.clear_block.new.drives) c.args.mounted.now c.args.work.now _ _ (λ image before job j told suits service h.
-    let step = ap (stepping.step_of c.args.mounted.now c.args.work.now) (omega (arith, c.if-n-gt-LAST.false, c.saturating_add-n.ensures, c.from.ensures)) ∙ sym c.next_step.ensures ∙ c.in-Block.is in
+    let step = ap (stepping.step_of c.args.mounted.now c.args.work.now) (omega (arith, c.if-n-gt-LAST_NAMED.false, c.saturating_add-n.ensures, c.from.ensures)) ∙ sym c.next_step.ensures ∙ c.in-Block.is in
     record {
       unit = ClearsBlock (file_of_job c.args.work.now.job) (stepping.record_next c.args.work.now);
       done = block_ready image c.args.mounted.now before job j c.args.work.now c.in-Ok.block service kind h step c.in-Ok.ensures.block;
@@ -57,7 +57,7 @@ returns-in-Ok-clause-write g c = λ kind.
 pub returns-in-Err-clause-write : goal.returns-in-Err-clause-write
 returns-in-Err-clause-write g c = λ kind.
     fails_next (g.D.Drives.disks c.args.drives.now) (g.D.Drives.disks c.clear_block.new.drives) c.args.mounted.now c.args.mounted.now c.args.work.now _ _ (λ image before job j told suits service h.
-    let step = ap (stepping.step_of c.args.mounted.now c.args.work.now) (omega (arith, c.if-n-gt-LAST.false, c.saturating_add-n.ensures, c.from.ensures)) ∙ sym c.next_step.ensures ∙ c.in-Block.is in (
+    let step = ap (stepping.step_of c.args.mounted.now c.args.work.now) (omega (arith, c.if-n-gt-LAST_NAMED.false, c.saturating_add-n.ensures, c.from.ensures)) ∙ sym c.next_step.ensures ∙ c.in-Block.is in (
       ClearsBlock (file_of_job c.args.work.now.job) (stepping.record_next c.args.work.now),
       (
         (block_ready image c.args.mounted.now before job j c.args.work.now _ service kind h step refl).unit_is,

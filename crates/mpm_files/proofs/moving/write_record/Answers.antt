@@ -16,7 +16,7 @@ returns-else-lacks_block g c = record {
   write = λ kind step.
       does_next (g.D.Drives.disks c.args.drives.now) (g.D.Drives.disks c.put_held.new.drives) c.args.mounted.now c.put_held.new.mounted c.args.work.now _ c.put_held.result refl
       (λ image before job j told suits service h.
-      let n : c.saturating_add-n.result ≡ record_next c.args.work.now = omega (arith, c.if-n-gt-LAST.false, c.saturating_add-n.ensures, c.from.ensures) in
+      let n : c.saturating_add-n.result ≡ record_next c.args.work.now = omega (arith, c.if-n-gt-LAST_NAMED.false, c.saturating_add-n.ensures, c.from.ensures) in
       let bytes : c.bytes_at.result ≡ bytes_now c.args.work.now = c.bytes_at.ensures ∙ ap (record_at c.args.work.now.job.bytes) c.from-2.ensures in
       let moment : c.stamp.result ≡ stamp_now c.args.work.now = c.stamp.ensures ∙ ap (stamp_left c.args.work.now.job.stamp) c.from-3.ensures in (
         WritesRecord (file_of_job c.args.work.now.job) (record_next c.args.work.now) (bytes_now c.args.work.now) (stamp_now c.args.work.now),
@@ -33,8 +33,7 @@ returns-else-lacks_block g c = record {
       ));
   ended = refl;
   units = refl;
-  drive = c.put_held.ensures.drive;
-  kind = c.put_held.ensures.kind;
+  disk = c.put_held.ensures.disk;
   calls = omega (arith, c.put_held.ensures.calls);
   leaves = c.put_held.ensures.leaves;
   cause = c.put_held.ensures.cause;
@@ -45,7 +44,7 @@ returns-then-lacks_block g c = record {
   write = λ kind step.
       does_next (g.D.Drives.disks c.args.drives.now) (g.D.Drives.disks c.put_fresh.new.drives) c.args.mounted.now c.put_fresh.new.mounted c.args.work.now _ c.put_fresh.result refl
       (λ image before job j told suits service h.
-      let n : c.saturating_add-n.result ≡ record_next c.args.work.now = omega (arith, c.if-n-gt-LAST.false, c.saturating_add-n.ensures, c.from.ensures) in
+      let n : c.saturating_add-n.result ≡ record_next c.args.work.now = omega (arith, c.if-n-gt-LAST_NAMED.false, c.saturating_add-n.ensures, c.from.ensures) in
       let bytes : c.bytes_at.result ≡ bytes_now c.args.work.now = c.bytes_at.ensures ∙ ap (record_at c.args.work.now.job.bytes) c.from-2.ensures in
       let moment : c.stamp.result ≡ stamp_now c.args.work.now = c.stamp.ensures ∙ ap (stamp_left c.args.work.now.job.stamp) c.from-3.ensures in (
         WritesRecord (file_of_job c.args.work.now.job) (record_next c.args.work.now) (bytes_now c.args.work.now) (stamp_now c.args.work.now),
@@ -65,24 +64,22 @@ returns-then-lacks_block g c = record {
       ));
   ended = refl;
   units = refl;
-  drive = c.put_fresh.ensures.drive;
-  kind = c.put_fresh.ensures.kind;
+  disk = c.put_fresh.ensures.disk;
   calls = omega (arith, c.put_fresh.ensures.calls);
   leaves = c.put_fresh.ensures.leaves;
   cause = c.put_fresh.ensures.cause;
 }
 
-pub returns-then-n-gt-LAST : goal.returns-then-n-gt-LAST
-returns-then-n-gt-LAST g c = record {
+pub returns-then-n-gt-LAST_NAMED : goal.returns-then-n-gt-LAST_NAMED
+returns-then-n-gt-LAST_NAMED g c = record {
   write = λ kind step.
       never_next (g.D.Drives.disks c.args.drives.now) (g.D.Drives.disks c.args.drives.now) c.args.mounted.now c.args.mounted.now c.args.work.now _ _ (λ image before job j suits service h.
-      omega (arith, number_small before job j c.args.work.now service.serving kind h suits, c.if-n-gt-LAST.true, c.saturating_add-n.ensures, c.from.ensures));
+      omega (arith, number_small before job j c.args.work.now service.serving kind h suits, c.if-n-gt-LAST_NAMED.true, c.saturating_add-n.ensures, c.from.ensures));
   ended = refl;
   units = refl;
-  drive = refl;
-  kind = refl;
+  disk = record { drive = refl; kind = refl };
   calls = omega arith;
-  leaves = leaves_itself g.D.Drives.disks g.D.Drives.told g.D.Drives.failed_names g.D.Drives.unsynced c.args.mounted.now.drive c.args.cache.now c.args.drives.now c.requires.coherent;
+  leaves = leaves_itself g.D.Drives.disks g.D.Drives.told g.D.Drives.failed_names g.D.Drives.unsynced c.args.mounted.now.drive c.args.cache.now c.args.drives.now c.requires.ready.coherent;
   cause = cause_none _ _;
 }
 
@@ -93,9 +90,8 @@ returns-then-work-gt31 g c = record {
       omega (arith, few_moved before job j c.args.work.now service.serving kind h suits, c.if-work-gt31.true));
   ended = refl;
   units = refl;
-  drive = refl;
-  kind = refl;
+  disk = record { drive = refl; kind = refl };
   calls = omega arith;
-  leaves = leaves_itself g.D.Drives.disks g.D.Drives.told g.D.Drives.failed_names g.D.Drives.unsynced c.args.mounted.now.drive c.args.cache.now c.args.drives.now c.requires.coherent;
+  leaves = leaves_itself g.D.Drives.disks g.D.Drives.told g.D.Drives.failed_names g.D.Drives.unsynced c.args.mounted.now.drive c.args.cache.now c.args.drives.now c.requires.ready.coherent;
   cause = cause_none _ _;
 }

@@ -12,7 +12,7 @@ use Rattle.mpm_files.proofs.Causing.{cause_none}
 use Rattle.mpm_files.proofs.renaming.rename_entry.Goals as goal
 
 pub returns-in_default-clause-leaves : goal.returns-in_default-clause-leaves
-returns-in_default-clause-leaves g c = leaves_itself g.D.Drives.disks g.D.Drives.told g.D.Drives.failed_names g.D.Drives.unsynced c.args.mounted.now.drive c.args.cache.now c.args.drives.now c.requires.coherent
+returns-in_default-clause-leaves g c = leaves_itself g.D.Drives.disks g.D.Drives.told g.D.Drives.failed_names g.D.Drives.unsynced c.args.mounted.now.drive c.args.cache.now c.args.drives.now c.requires.ready.coherent
 
 pub returns-in_default-clause-cause : goal.returns-in_default-clause-cause
 returns-in_default-clause-cause g c = cause_none _ _
@@ -26,10 +26,9 @@ returns-in-Some-extent g c = record {
   does = λ image files file told stands is user free.
       absurd (renamed_free image c.args.mounted.now files c.args.job.now c.args.slot c.in-Some-extent.field-0 c.in-Some.file file c.marked.result stands c.in-Some.ensures.found.entry is user c.marked.ensures.name
       (ap (extent_slot c.args.mounted.now (record { user = c.in-Some.file.user; name = plain c.marked.result })) (sym c.last_extent.ensures) ∙ sym c.extent.ensures ∙ c.in-Some-extent.is) free);
-  drive = refl;
-  kind = refl;
+  disk = record { drive = refl; kind = refl };
   calls = omega arith;
-  leaves = leaves_itself g.D.Drives.disks g.D.Drives.told g.D.Drives.failed_names g.D.Drives.unsynced c.args.mounted.now.drive c.args.cache.now c.args.drives.now c.requires.coherent;
+  leaves = leaves_itself g.D.Drives.disks g.D.Drives.told g.D.Drives.failed_names g.D.Drives.unsynced c.args.mounted.now.drive c.args.cache.now c.args.drives.now c.requires.ready.coherent;
   cause = cause_none _ _;
 }
 
@@ -40,8 +39,7 @@ returns-in-None g c = record {
       (RenamesEntry (file_in file.user file.name) (name_of files.kind file).number (new_file_of_job c.args.job.now)) c.put_entry.result (c.put_entry.ensures.puts image files told stands)
       (renamed_stage image c.args.mounted.now files c.args.job.now c.args.slot c.in-Some.file file c.marked.result stands c.in-Some.ensures.found
       (omega (arith, c.requires.slot, c.in-Some.ensures.found.sound.full)) is user c.marked.ensures.name c.marked.ensures.marks);
-  drive = c.put_entry.ensures.drive;
-  kind = c.put_entry.ensures.kind;
+  disk = c.put_entry.ensures.disk;
   calls = c.put_entry.ensures.calls;
   leaves = c.put_entry.ensures.leaves;
   cause = c.put_entry.ensures.cause;

@@ -10,20 +10,18 @@ use Rattle.mpm_files.proofs.writing.put_held.Goals as goal
 pub returns-in-None : goal.returns-in-None
 returns-in-None g c = record {
   does = λ image files told stands held. absurd (block_lacking c.args.mounted.now (file_of_job c.args.job.now) c.args.written.now.number c.in-None.ensures.missing held);
-  drive = refl;
-  kind = refl;
+  disk = record { drive = refl; kind = refl };
   calls = omega arith;
-  leaves = leaves_itself g.D.Drives.disks g.D.Drives.told g.D.Drives.failed_names g.D.Drives.unsynced c.args.mounted.now.drive c.args.cache.now c.args.drives.now c.requires.coherent;
+  leaves = leaves_itself g.D.Drives.disks g.D.Drives.told g.D.Drives.failed_names g.D.Drives.unsynced c.args.mounted.now.drive c.args.cache.now c.args.drives.now c.requires.ready.coherent;
   cause = cause_none _ _;
 }
 
 pub returns-in-None-held_sector : goal.returns-in-None-held_sector
 returns-in-None-held_sector g c = record {
   does = λ image files told stands held. absurd (number_lacking c.args.mounted.now (file_of_job c.args.job.now) c.args.written.now.number c.in-Some.found.slot c.in-Some.found.file c.in-Some.ensures.found c.in-None-held_sector.ensures.none held);
-  drive = refl;
-  kind = refl;
+  disk = record { drive = refl; kind = refl };
   calls = omega arith;
-  leaves = leaves_itself g.D.Drives.disks g.D.Drives.told g.D.Drives.failed_names g.D.Drives.unsynced c.args.mounted.now.drive c.args.cache.now c.args.drives.now c.requires.coherent;
+  leaves = leaves_itself g.D.Drives.disks g.D.Drives.told g.D.Drives.failed_names g.D.Drives.unsynced c.args.mounted.now.drive c.args.cache.now c.args.drives.now c.requires.ready.coherent;
   cause = cause_none _ _;
 }
 
@@ -33,9 +31,7 @@ pub put_raised-requires : goal.put_raised-requires
 put_raised-requires g c =
     let left = c.put_in_block.ensures.leaves in
     record {
-      size = left.others.sizes c.args.mounted.now.drive ∙ c.requires.size;
-      coherent = left.coherent;
-      apart = left.alone c.requires.apart;
+      ready = record { size = left.others.sizes c.args.mounted.now.drive ∙ c.requires.ready.size; coherent = left.coherent; apart = left.alone c.requires.ready.apart };
       entry = c.in-Some.ensures.found;
     }
 
@@ -45,8 +41,7 @@ returns-in-Ok g c = record {
       held_done image c.args.mounted.now c.put_raised.new.mounted files (file_of_job c.args.job.now) c.args.written.now.number c.in-Some.found.slot c.in-Some.found.file
       c.args.written.now.bytes c.args.written.now.moment (g.D.Drives.disks c.put_in_block.new.drives) (g.D.Drives.disks c.put_raised.new.drives) _ c.put_raised.result stands c.in-Some.ensures.found
       c.in-Some-held_sector.ensures.held.held (c.in-Ok.ensures.puts image files told stands) c.put_raised.ensures.puts;
-  drive = c.put_raised.ensures.drive;
-  kind = c.put_raised.ensures.kind;
+  disk = c.put_raised.ensures.disk;
   calls = omega (arith, c.put_in_block.ensures.calls, c.put_raised.ensures.calls);
   leaves = leaves_over g.D.Drives.disks g.D.Drives.told g.D.Drives.failed_names g.D.Drives.unsynced c.args.mounted.now.drive c.args.cache.now c.put_in_block.new.cache c.put_raised.new.cache c.args.drives.now c.put_in_block.new.drives c.put_raised.new.drives c.put_in_block.ensures.leaves c.put_raised.ensures.leaves;
   cause = cause_behind _ _ _ c.put_raised.result c.in-Ok.ensures.cause.stays c.put_raised.ensures.cause;
@@ -58,8 +53,7 @@ returns-in-Err g c = record {
       held_failed image c.args.mounted.now c.args.mounted.now files (file_of_job c.args.job.now) c.args.written.now.number c.in-Some.found.slot c.in-Some.found.file
       c.args.written.now.bytes c.args.written.now.moment (g.D.Drives.disks c.put_in_block.new.drives) _ stands c.in-Some.ensures.found
       c.in-Some-held_sector.ensures.held.held (c.in-Err.ensures.puts image files told stands);
-  drive = refl;
-  kind = refl;
+  disk = record { drive = refl; kind = refl };
   calls = omega (arith, c.put_in_block.ensures.calls);
   leaves = c.put_in_block.ensures.leaves;
   cause = c.in-Err.ensures.cause;

@@ -6,4 +6,4 @@ put_block-requires-clause-block g c = free_small c.args.mounted.now c.disk_of.re
 
 pub returns-clause-calls : goal.returns-clause-calls
 returns-clause-calls g c =
-    block_calls_few c.args.mounted.now c.disk_of.result c.args.clear c.args.index c.args.steps.now c.put_block.new.steps c.disk_of.ensures.disk c.requires.few c.put_block.ensures.most
+    block_calls_few c.args.mounted.now c.disk_of.result c.args.clear c.args.index c.args.steps.now c.put_block.new.steps c.disk_of.ensures.disk c.requires.few c.put_block.ensures.calls.most

@@ -11,13 +11,13 @@ use Rattle.mpm_refusals.proofs.OwnItems.{own_user}
 use Rattle.mpm_refusals.proofs.asking.ask.Goals as goal
 
 pub returns-clause-owner : goal.returns-clause-owner
-returns-clause-owner c = λ users low. c.owner.ensures.low low (own_user c.args.opens.now c.args.caller.now.process c.open_item-item.result users c.open_item-item.ensures.own)
+returns-clause-owner c = λ users low. c.owner.ensures.low low (own_user c.args.opens.now c.args.file_call.now.caller.process c.open_item-item.result users c.open_item-item.ensures.own)
 
 pub returns-clause-asked : goal.returns-clause-asked
 returns-clause-asked c = λ image drives marks moment stands.
-    let caller = c.args.caller.now in
-    let call = c.args.call.now in
-    let function = c.args.function in
+    let caller = c.args.file_call.now.caller in
+    let call = c.args.file_call.now.call.now in
+    let function = c.args.file_call.now.function in
     let opens = c.args.opens.now in
     let s = called drives c.args.protected.now opens marks c.args.searches.now caller function call moment in
     let block_is : c.block_of_call-block.result ≡ block_of call.fcb = c.block_of_call-block.ensures.block in

@@ -6,11 +6,11 @@ use Rattle.mpm_refusals.proofs.refusing.refusal_of.Goals as goal
 
 pub returns-in-Some : goal.returns-in-Some
 returns-in-Some c = λ image drives moment stands.
-    let s = called drives c.args.protected.now c.args.opens.now c.args.marks.now c.args.searches.now c.args.caller.now c.args.function c.args.call.now moment in
+    let s = called drives c.args.protected.now c.args.opens.now c.args.marks.now c.args.searches.now c.args.file_call.now.caller c.args.file_call.now.function c.args.file_call.now.call.now moment in
     let h = is_there s image c.in-Some.mounted.now (subst (λ m. StandsForDirectory image (option_copied m) s) c.in-Some.is stands) in
     c.mounted_refusal.ensures image drives moment h.stands h.there
 
 pub returns-in-None : goal.returns-in-None
 returns-in-None c = λ image drives moment stands.
-    let s = called drives c.args.protected.now c.args.opens.now c.args.marks.now c.args.searches.now c.args.caller.now c.args.function c.args.call.now moment in
+    let s = called drives c.args.protected.now c.args.opens.now c.args.marks.now c.args.searches.now c.args.file_call.now.caller c.args.file_call.now.function c.args.file_call.now.call.now moment in
     c.unmounted_refusal.ensures ∙ sym (unmounted_so s (is_not_there s image (subst (λ m. StandsForDirectory image (option_copied m) s) c.in-None.is stands)))

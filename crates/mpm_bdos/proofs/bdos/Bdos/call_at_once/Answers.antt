@@ -25,24 +25,19 @@ returns-then-not-is_file_call g c =
     let none : function_of c.args.call.now.function ≡ None = none_there (function_of c.args.call.now.function) (sym c.is_file_call.ensures ∙ c.if-not-is_file_call.true) in
     let never : (function : FileFunction) → function_of c.args.call.now.function ≡ Some function → ⊥ = λ function is. true≢false (ap is_some (sym is ∙ none)) in
     record {
-      ok = λ before function is stand. absurd (never function is);
-      err = λ before function is stand. absurd (never function is);
-      idle = λ before function is stand none. absurd (never function is);
-      alone = λ before function is. absurd (never function is);
-      unsynced = λ before function is. absurd (never function is);
-      calls = λ before function is stand. absurd (never function is);
-      none = λ free. refl;
-      unfailing = λ free. refl;
+      done = λ before function is stand. absurd (never function is);
+      own = λ before function is. absurd (never function is);
+      none = λ free. (refl, refl);
       service = λ function is. absurd (never function is);
-      other = λ is. record { kept = refl; answer = refl; device = refl; calls = refl };
-      unanswered = λ is. refl;
+      other = λ is. (record { kept = refl; answer = refl; device = refl; calls = refl }, refl);
       stopped = tt;
-      no_reply = tt;
-      labels = λ number. refl;
-      fits = c.requires.fits;
-      beside = stays_same c.args.self.now.mounted (g.D.Drives.disks c.args.drives.now);
-      told_are = told_same c.args.self.now.mounted (g.D.Drives.disks c.args.drives.now) (g.D.Drives.told c.args.drives.now);
-      names = refl;
+      left = record {
+        labels = λ number. refl;
+        fits = c.requires.fits;
+        beside = stays_same c.args.self.now.mounted (g.D.Drives.disks c.args.drives.now);
+        told_are = told_same c.args.self.now.mounted (g.D.Drives.disks c.args.drives.now) (g.D.Drives.told c.args.drives.now);
+        names = refl;
+      };
       cause = cause_none _ _;
     }
 
@@ -53,48 +48,52 @@ returns-in-Ok g c =
     let left = c.do_turns.ensures.left in
     let file : is_some (function_of c.args.call.now.function) ≡ true = sym c.is_file_call.ensures ∙ c.if-not-is_file_call.false in
     record {
-      ok = λ before function is stand.
-          let first = images_of (g.D.Drives.disks c.args.drives.now) in
-          let images = images_of (g.D.Drives.disks c.do_turns.new.drives) in
-          let s = entering c.args.self.now before (caller_of c.args.p c.args.process.now) function c.args.call.now (stamp c.args.now) in
-          let turns : c.start-turns.result ≡ call_turns s = c.start-turns.ensures.turns first before function is stand in
-          let all : 0 + c.start-turns.result ≡ call_turns s = omega (arith, turns) in
-          c.reply.ensures.comes images s
-          (subst (Serves images c.do_turns.new.self s) all (c.in-Ok.ensures.ok s 0 (c.start-turns.ensures.serves first before function is stand) (omega (arith, turns))));
-      err = λ before function is stand. tt;
-      idle = λ before function is stand none.
-          let images = images_of (g.D.Drives.disks c.args.drives.now) in
-          let s = entering c.args.self.now before (caller_of c.args.p c.args.process.now) function c.args.call.now (stamp c.args.now) in
-          let rest = c.do_turns.ensures.idle (idle_work images c.start-turns.new.self s 0 none (c.start-turns.ensures.serves images before function is stand)) in
-          (rest.device, rest.calls, refl);
-      alone = λ before function is.
-          let disks = g.D.Drives.disks in
-          let s = entering c.args.self.now before (caller_of c.args.p c.args.process.now) function c.args.call.now (stamp c.args.now) in
-          alone_still (drive_number s) c.args.self.now.mounted c.start-turns.new.self.mounted c.do_turns.new.self.mounted c.reply.new.self.mounted (disks c.args.drives.now) (disks c.do_turns.new.drives)
-          (ap (λ (kept : Kept). kept.mounted) c.start-turns.ensures.kept) (ap (λ (kept : Kept). kept.mounted) c.reply.ensures.kept)
-          (changes_alone disks g.D.Drives.told g.D.Drives.failed_names g.D.Drives.unsynced c.start-turns.new.self c.do_turns.new.self c.args.drives.now c.do_turns.new.drives (drive_number s)
-          (c.start-turns.ensures.drive before function is) c.do_turns.ensures.left);
-      unsynced = λ before function is.
-          let unsynced = g.D.Drives.unsynced in
-          subst (λ drive. KeepsUnsynced drive (unsynced c.args.drives.now) (unsynced c.do_turns.new.drives)) (c.start-turns.ensures.drive before function is) c.do_turns.ensures.left.kept_unsynced;
-      calls = λ before function is stand.
-          subst (λ n. c.do_turns.new.steps ≤ c.args.steps.now + 20 * n)
-          (c.start-turns.ensures.turns (images_of (g.D.Drives.disks c.args.drives.now)) before function is stand) c.do_turns.ensures.calls;
-      none = λ none.
-          (c.do_turns.ensures.idle (c.start-turns.ensures.workless (sym c.is_file_call.ensures ∙ c.if-not-is_file_call.false) none)).device;
-      unfailing = λ none. refl;
+      done = λ before function is stand. record {
+        ok =
+            let first = images_of (g.D.Drives.disks c.args.drives.now) in
+            let images = images_of (g.D.Drives.disks c.do_turns.new.drives) in
+            let s = entering c.args.self.now before (caller_of c.args.p c.args.process.now) function c.args.call.now (stamp c.args.now) in
+            let turns : c.start-turns.result ≡ call_turns s = c.start-turns.ensures.turns first before function is stand in
+            let all : 0 + c.start-turns.result ≡ call_turns s = omega (arith, turns) in
+            c.reply.ensures.comes images s
+            (subst (Serves images c.do_turns.new.self s) all (c.in-Ok.ensures.ok s 0 (c.start-turns.ensures.serves first before function is stand) (omega (arith, turns))));
+        err =
+            tt;
+        idle =
+            λ none.
+            let images = images_of (g.D.Drives.disks c.args.drives.now) in
+            let s = entering c.args.self.now before (caller_of c.args.p c.args.process.now) function c.args.call.now (stamp c.args.now) in
+            let rest = c.do_turns.ensures.idle (idle_work images c.start-turns.new.self s 0 none (c.start-turns.ensures.serves images before function is stand)) in
+            (rest.device, rest.calls, refl);
+        calls =
+            subst (λ n. c.do_turns.new.steps ≤ c.args.steps.now + 20 * n)
+            (c.start-turns.ensures.turns (images_of (g.D.Drives.disks c.args.drives.now)) before function is stand) c.do_turns.ensures.calls;
+      };
+      own = λ before function is. record {
+        alone =
+            let disks = g.D.Drives.disks in
+            let s = entering c.args.self.now before (caller_of c.args.p c.args.process.now) function c.args.call.now (stamp c.args.now) in
+            alone_still (drive_number s) c.args.self.now.mounted c.start-turns.new.self.mounted c.do_turns.new.self.mounted c.reply.new.self.mounted (disks c.args.drives.now) (disks c.do_turns.new.drives)
+            (ap (λ (kept : Kept). kept.mounted) c.start-turns.ensures.kept) (ap (λ (kept : Kept). kept.mounted) c.reply.ensures.kept)
+            (changes_alone disks g.D.Drives.told g.D.Drives.failed_names g.D.Drives.unsynced c.start-turns.new.self c.do_turns.new.self c.args.drives.now c.do_turns.new.drives (drive_number s)
+            (c.start-turns.ensures.drive before function is) c.do_turns.ensures.left);
+        kept_unsynced =
+            let unsynced = g.D.Drives.unsynced in
+            subst (λ drive. KeepsUnsynced drive (unsynced c.args.drives.now) (unsynced c.do_turns.new.drives)) (c.start-turns.ensures.drive before function is) c.do_turns.ensures.left.kept_unsynced;
+      };
+      none = λ none. ((c.do_turns.ensures.idle (c.start-turns.ensures.workless (sym c.is_file_call.ensures ∙ c.if-not-is_file_call.false) none)).device, refl);
       service = λ function is. ap (λ (kept : Kept). kept.service) c.reply.ensures.kept;
       other = λ none. absurd (true≢false (sym file ∙ ap is_some none));
-      unanswered = λ none. absurd (true≢false (sym file ∙ ap is_some none));
       stopped = tt;
-      no_reply = tt;
-      labels = λ number.
-          let labels : Kept → Option (ℕ × Kind) = λ kept. option_map labelled (directory_at kept.mounted number) in
-          ap labels c.reply.ensures.kept ∙ left.kept.labels number ∙ ap labels c.start-turns.ensures.kept;
-      fits = subst (λ (kept : Kept). FitsDrives g.D.Drives.disks kept.mounted kept.cached c.do_turns.new.drives) (sym c.reply.ensures.kept) left.fits;
-      beside = subst (λ (kept : Kept). StaysBeside kept.mounted (g.D.Drives.disks c.args.drives.now) (g.D.Drives.disks c.do_turns.new.drives)) c.start-turns.ensures.kept left.beside;
-      told_are = subst (λ (kept : Kept). KeepsToldOf kept.mounted (g.D.Drives.disks c.args.drives.now) (g.D.Drives.told c.args.drives.now) (g.D.Drives.told c.do_turns.new.drives)) c.start-turns.ensures.kept left.told_are;
-      names = left.names;
+      left = record {
+        labels = λ number.
+            let labels : Kept → Option (ℕ × Kind) = λ kept. option_map labelled (directory_at kept.mounted number) in
+            ap labels c.reply.ensures.kept ∙ left.kept.labels number ∙ ap labels c.start-turns.ensures.kept;
+        fits = subst (λ (kept : Kept). FitsDrives g.D.Drives.disks kept.mounted kept.cached c.do_turns.new.drives) (sym c.reply.ensures.kept) left.fits;
+        beside = subst (λ (kept : Kept). StaysBeside kept.mounted (g.D.Drives.disks c.args.drives.now) (g.D.Drives.disks c.do_turns.new.drives)) c.start-turns.ensures.kept left.beside;
+        told_are = subst (λ (kept : Kept). KeepsToldOf kept.mounted (g.D.Drives.disks c.args.drives.now) (g.D.Drives.told c.args.drives.now) (g.D.Drives.told c.do_turns.new.drives)) c.start-turns.ensures.kept left.told_are;
+        names = left.names;
+      };
       cause = record { later = c.in-Ok.ensures.cause.later; stays = c.in-Ok.ensures.cause.stays; failed = tt };
     }
 
@@ -105,53 +104,59 @@ returns-in-Err g c =
     let left = c.do_turns.ensures.left in
     let file : is_some (function_of c.args.call.now.function) ≡ true = sym c.is_file_call.ensures ∙ c.if-not-is_file_call.false in
     record {
-      ok = λ before function is stand. tt;
-      err = λ before function is stand.
-          let first = images_of (g.D.Drives.disks c.args.drives.now) in
-          let s = entering c.args.self.now before (caller_of c.args.p c.args.process.now) function c.args.call.now (stamp c.args.now) in
-          let turns : c.start-turns.result ≡ call_turns s = c.start-turns.ensures.turns first before function is stand in
-          c.in-Err.ensures.err s 0 (c.start-turns.ensures.serves first before function is stand) (omega (arith, turns));
-      idle = λ before function is stand none.
-          let images = images_of (g.D.Drives.disks c.args.drives.now) in
-          let s = entering c.args.self.now before (caller_of c.args.p c.args.process.now) function c.args.call.now (stamp c.args.now) in
-          let workless = idle_work images c.start-turns.new.self s 0 none (c.start-turns.ensures.serves images before function is stand) in
-          let rest = c.do_turns.ensures.idle workless in
-          (rest.device, rest.calls, c.in-Err.ensures.unfailing workless);
-      alone = λ before function is.
-          let disks = g.D.Drives.disks in
-          let s = entering c.args.self.now before (caller_of c.args.p c.args.process.now) function c.args.call.now (stamp c.args.now) in
-          alone_still (drive_number s) c.args.self.now.mounted c.start-turns.new.self.mounted c.do_turns.new.self.mounted c.leave_service.new.self.mounted (disks c.args.drives.now) (disks c.do_turns.new.drives)
-          (ap (λ (kept : Kept). kept.mounted) c.start-turns.ensures.kept) (ap (λ (kept : Kept). kept.mounted) c.leave_service.ensures)
-          (changes_alone disks g.D.Drives.told g.D.Drives.failed_names g.D.Drives.unsynced c.start-turns.new.self c.do_turns.new.self c.args.drives.now c.do_turns.new.drives (drive_number s)
-          (c.start-turns.ensures.drive before function is) c.do_turns.ensures.left);
-      unsynced = λ before function is.
-          let unsynced = g.D.Drives.unsynced in
-          subst (λ drive. KeepsUnsynced drive (unsynced c.args.drives.now) (unsynced c.do_turns.new.drives)) (c.start-turns.ensures.drive before function is) c.do_turns.ensures.left.kept_unsynced;
-      calls = λ before function is stand.
-          subst (λ n. c.do_turns.new.steps ≤ c.args.steps.now + 20 * n)
-          (c.start-turns.ensures.turns (images_of (g.D.Drives.disks c.args.drives.now)) before function is stand) c.do_turns.ensures.calls;
-      none = λ none.
-          (c.do_turns.ensures.idle (c.start-turns.ensures.workless (sym c.is_file_call.ensures ∙ c.if-not-is_file_call.false) none)).device;
-      unfailing = λ none.
-          c.in-Err.ensures.unfailing (c.start-turns.ensures.workless (sym c.is_file_call.ensures ∙ c.if-not-is_file_call.false) none);
+      done = λ before function is stand. record {
+        ok =
+            tt;
+        err =
+            let first = images_of (g.D.Drives.disks c.args.drives.now) in
+            let s = entering c.args.self.now before (caller_of c.args.p c.args.process.now) function c.args.call.now (stamp c.args.now) in
+            let turns : c.start-turns.result ≡ call_turns s = c.start-turns.ensures.turns first before function is stand in
+            c.in-Err.ensures.err s 0 (c.start-turns.ensures.serves first before function is stand) (omega (arith, turns));
+        idle =
+            λ none.
+            let images = images_of (g.D.Drives.disks c.args.drives.now) in
+            let s = entering c.args.self.now before (caller_of c.args.p c.args.process.now) function c.args.call.now (stamp c.args.now) in
+            let workless = idle_work images c.start-turns.new.self s 0 none (c.start-turns.ensures.serves images before function is stand) in
+            let rest = c.do_turns.ensures.idle workless in
+            (rest.device, rest.calls, c.in-Err.ensures.unfailing workless);
+        calls =
+            subst (λ n. c.do_turns.new.steps ≤ c.args.steps.now + 20 * n)
+            (c.start-turns.ensures.turns (images_of (g.D.Drives.disks c.args.drives.now)) before function is stand) c.do_turns.ensures.calls;
+      };
+      own = λ before function is. record {
+        alone =
+            let disks = g.D.Drives.disks in
+            let s = entering c.args.self.now before (caller_of c.args.p c.args.process.now) function c.args.call.now (stamp c.args.now) in
+            alone_still (drive_number s) c.args.self.now.mounted c.start-turns.new.self.mounted c.do_turns.new.self.mounted c.leave_service.new.self.mounted (disks c.args.drives.now) (disks c.do_turns.new.drives)
+            (ap (λ (kept : Kept). kept.mounted) c.start-turns.ensures.kept) (ap (λ (kept : Kept). kept.mounted) c.leave_service.ensures)
+            (changes_alone disks g.D.Drives.told g.D.Drives.failed_names g.D.Drives.unsynced c.start-turns.new.self c.do_turns.new.self c.args.drives.now c.do_turns.new.drives (drive_number s)
+            (c.start-turns.ensures.drive before function is) c.do_turns.ensures.left);
+        kept_unsynced =
+            let unsynced = g.D.Drives.unsynced in
+            subst (λ drive. KeepsUnsynced drive (unsynced c.args.drives.now) (unsynced c.do_turns.new.drives)) (c.start-turns.ensures.drive before function is) c.do_turns.ensures.left.kept_unsynced;
+      };
+      none = λ none. ((c.do_turns.ensures.idle (c.start-turns.ensures.workless (sym c.is_file_call.ensures ∙ c.if-not-is_file_call.false) none)).device, c.in-Err.ensures.unfailing (c.start-turns.ensures.workless (sym c.is_file_call.ensures ∙ c.if-not-is_file_call.false) none));
       service = λ function is. ap (λ (kept : Kept). kept.service) c.leave_service.ensures;
       other = λ none. absurd (true≢false (sym file ∙ ap is_some none));
-      unanswered = λ none. absurd (true≢false (sym file ∙ ap is_some none));
-      stopped =
-          let old = c.args.self.now in
-          let behind = c.do_turns.new.self in
-          let new = c.leave_service.new.self in
-          c.leave_service.ensures ∙ ap (λ (kept : Kept). record kept { service = None }) left.kept.rest
-          ∙ ap (λ (kept : Kept). record kept { mounted = behind.mounted; cached = behind.cached; service = None }) c.start-turns.ensures.kept
-          ∙ ap (λ m. record old { mounted = m; cached = behind.cached; service = None }) (sym (ap (λ (kept : Kept). kept.mounted) c.leave_service.ensures))
-          ∙ ap (λ x. record old { mounted = new.mounted; cached = x; service = None }) (sym (ap (λ (kept : Kept). kept.cached) c.leave_service.ensures));
-      no_reply = refl;
-      labels = λ number.
-          let labels : Kept → Option (ℕ × Kind) = λ kept. option_map labelled (directory_at kept.mounted number) in
-          ap labels c.leave_service.ensures ∙ left.kept.labels number ∙ ap labels c.start-turns.ensures.kept;
-      fits = subst (λ (kept : Kept). FitsDrives g.D.Drives.disks kept.mounted kept.cached c.do_turns.new.drives) (sym c.leave_service.ensures) left.fits;
-      beside = subst (λ (kept : Kept). StaysBeside kept.mounted (g.D.Drives.disks c.args.drives.now) (g.D.Drives.disks c.do_turns.new.drives)) c.start-turns.ensures.kept left.beside;
-      told_are = subst (λ (kept : Kept). KeepsToldOf kept.mounted (g.D.Drives.disks c.args.drives.now) (g.D.Drives.told c.args.drives.now) (g.D.Drives.told c.do_turns.new.drives)) c.start-turns.ensures.kept left.told_are;
-      names = left.names;
+      stopped = record {
+        kept =
+            let old = c.args.self.now in
+            let behind = c.do_turns.new.self in
+            let new = c.leave_service.new.self in
+            c.leave_service.ensures ∙ ap (λ (kept : Kept). record kept { service = None }) left.kept.rest
+            ∙ ap (λ (kept : Kept). record kept { mounted = behind.mounted; cached = behind.cached; service = None }) c.start-turns.ensures.kept
+            ∙ ap (λ m. record old { mounted = m; cached = behind.cached; service = None }) (sym (ap (λ (kept : Kept). kept.mounted) c.leave_service.ensures))
+            ∙ ap (λ x. record old { mounted = new.mounted; cached = x; service = None }) (sym (ap (λ (kept : Kept). kept.cached) c.leave_service.ensures));
+        answer = refl;
+      };
+      left = record {
+        labels = λ number.
+            let labels : Kept → Option (ℕ × Kind) = λ kept. option_map labelled (directory_at kept.mounted number) in
+            ap labels c.leave_service.ensures ∙ left.kept.labels number ∙ ap labels c.start-turns.ensures.kept;
+        fits = subst (λ (kept : Kept). FitsDrives g.D.Drives.disks kept.mounted kept.cached c.do_turns.new.drives) (sym c.leave_service.ensures) left.fits;
+        beside = subst (λ (kept : Kept). StaysBeside kept.mounted (g.D.Drives.disks c.args.drives.now) (g.D.Drives.disks c.do_turns.new.drives)) c.start-turns.ensures.kept left.beside;
+        told_are = subst (λ (kept : Kept). KeepsToldOf kept.mounted (g.D.Drives.disks c.args.drives.now) (g.D.Drives.told c.args.drives.now) (g.D.Drives.told c.do_turns.new.drives)) c.start-turns.ensures.kept left.told_are;
+        names = left.names;
+      };
       cause = record { later = c.in-Err.ensures.cause.later; stays = tt; failed = c.in-Err.ensures.cause.failed };
     }

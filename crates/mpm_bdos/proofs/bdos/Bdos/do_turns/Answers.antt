@@ -22,10 +22,9 @@ loop-turn-preserved g c =
     record {
       serves = λ s ended first few. subst (Serves (images_of (g.D.Drives.disks now.drives)) now.self s) (one_more ended turn)
           (c.in_default.ensures.ok s (ended + turn) (so.serves s ended first (omega (arith, few))) (omega (arith, few)));
-      left = one_more_turn g.D.Drives.disks g.D.Drives.told g.D.Drives.failed_names g.D.Drives.unsynced c.args.self.now c.loop-turn.self now.self c.args.drives.now c.loop-turn.drives now.drives so.left
-          (record { kept = does.kept; fits = does.fits; images = does.images; beside = does.beside; told_are = does.told_are; names = does.names; kept_unsynced = does.unsynced });
-      calls = omega (arith, does.calls, so.calls);
-      idle = λ none. rests_again c.args.self.now c.loop-turn.self now.self c.args.drives.now c.loop-turn.drives now.drives c.args.steps.now c.loop-turn.steps now.steps (so.idle none) does.kept
+      left = one_more_turn g.D.Drives.disks g.D.Drives.told g.D.Drives.failed_names g.D.Drives.unsynced c.args.self.now c.loop-turn.self now.self c.args.drives.now c.loop-turn.drives now.drives so.left does.left;
+      calls = omega (arith, does.takes.calls, so.calls);
+      idle = λ none. rests_again c.args.self.now c.loop-turn.self now.self c.args.drives.now c.loop-turn.drives now.drives c.args.steps.now c.loop-turn.steps now.steps (so.idle none) does.left.kept
           (does.idle (still_none c.args.self.now c.loop-turn.self (so.idle none).kept none));
       count = c.in_default.ensures.cause.stays ∙ so.count;
     }
@@ -44,9 +43,8 @@ returns-in-Err g c =
         its = omega (arith, few, c.loop-turn-test.true);
         stops = c.in-Err.ensures.err s (ended + turn) (so.serves s ended first (omega (arith, few, c.loop-turn-test.true))) (omega (arith, few, c.loop-turn-test.true));
       };
-      left = one_more_turn g.D.Drives.disks g.D.Drives.told g.D.Drives.failed_names g.D.Drives.unsynced c.args.self.now c.loop-turn.self now.self c.args.drives.now c.loop-turn.drives now.drives so.left
-          (record { kept = does.kept; fits = does.fits; images = does.images; beside = does.beside; told_are = does.told_are; names = does.names; kept_unsynced = does.unsynced });
-      calls = omega (arith, does.calls, so.calls, c.loop-turn-test.true);
+      left = one_more_turn g.D.Drives.disks g.D.Drives.told g.D.Drives.failed_names g.D.Drives.unsynced c.args.self.now c.loop-turn.self now.self c.args.drives.now c.loop-turn.drives now.drives so.left does.left;
+      calls = omega (arith, does.takes.calls, so.calls, c.loop-turn-test.true);
       idle = λ none. absurd (is_ok_or_err _ _ _ c.in-Err.is (does.done (still_none c.args.self.now c.loop-turn.self (so.idle none).kept none)));
       unfailing = λ none. absurd (is_ok_or_err _ _ _ c.in-Err.is (does.done (still_none c.args.self.now c.loop-turn.self (so.idle none).kept none)));
       cause = cause_since (g.D.Drives.faults c.args.drives.now) (g.D.Drives.faults c.loop-turn.drives) (g.D.Drives.faults now.drives) so.count

@@ -13,7 +13,7 @@ returns-clause-ok g c =
     let old : Kept = record { mounted = inside.mounted; cached = inside.cache; protected = inside.protected; opens = inside.opens; marks = inside.marks; searches = inside.searches; service = inside.service } in
     let new : Kept = record old { mounted = now.mounted; cached = now.cache; service = now.service } in
     λ s j serves turn. next_served disks old new c.args.drives.now now.drives s j c.args.steps.now now.steps c.turn_service.result does.ok does.idle
-    (record { rest = refl; service = does.kept; places = does.places; labels = does.labels }) does.images
+    (record { rest = refl; service = does.kept; places = does.left.places; labels = does.left.labels }) does.left.images
     (subst (λ one. Serves (images_of (disks c.args.drives.now)) one s j) (sym c.self.view_is) serves) turn
 
 pub returns-clause-err : goal.returns-clause-err

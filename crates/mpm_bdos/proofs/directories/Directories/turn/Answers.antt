@@ -38,30 +38,34 @@ returns-then-place-len g c =
           subst (λ d. OnErr result (IsContainedAt disks' d before job j)) (sym here)
           (did.err before job j suits (subst (λ d. IsWorking disks d before job j work) here working) h);
       progress = λ before job j working. did.progress before job j (subst (λ d. IsWorking disks d before job j work) here working);
-      places = λ other apart.
-          get_or-set_other mounted number other new None (λ same. apart (ap Some (sym c.from-place.ensures ∙ sym same))) ∙ ap (λ m. directory_at m other) c.self.view_is;
-      labels = λ other.
-          labels_stay mounted number other new (did.same ∙ ap (option_map labelled) (sym its)) ∙ ap (λ m. option_map labelled (directory_at m other)) c.self.view_is;
-      fits = fits_after g.D.Drives.disks g.D.Drives.told g.D.Drives.failed_names g.D.Drives.unsynced mounted number old new
-          c.args.cache.now c.turn_at.new.cache c.args.drives.now c.turn_at.new.drives c.self.invariant its did.same did.leaves fits;
-      images = subst (λ n. KeepsImages (Some n) c.args.self.now disks disks') c.from-place.ensures
-          (subst (λ m. KeepsImages (Some number) m disks disks') c.self.view_is
-          (images_after g.D.Drives.disks g.D.Drives.told g.D.Drives.failed_names g.D.Drives.unsynced mounted number old
-          c.args.cache.now c.turn_at.new.cache c.args.drives.now c.turn_at.new.drives c.self.invariant its did.leaves fits));
-      beside = subst (λ m. StaysBeside m disks disks') c.self.view_is
-          (stays_after g.D.Drives.disks g.D.Drives.told g.D.Drives.failed_names g.D.Drives.unsynced mounted number old
-          c.args.cache.now c.turn_at.new.cache c.args.drives.now c.turn_at.new.drives c.self.invariant its did.leaves);
-      told_are = subst (λ m. KeepsToldOf m disks (g.D.Drives.told c.args.drives.now) (g.D.Drives.told c.turn_at.new.drives)) c.self.view_is
-          (told_after g.D.Drives.disks g.D.Drives.told g.D.Drives.failed_names g.D.Drives.unsynced mounted number old
-          c.args.cache.now c.turn_at.new.cache c.args.drives.now c.turn_at.new.drives c.self.invariant its did.leaves);
-      names = left_names g.D.Drives.disks g.D.Drives.told g.D.Drives.failed_names g.D.Drives.unsynced old c.args.cache.now c.turn_at.new.cache c.args.drives.now c.turn_at.new.drives did.leaves;
-      unsynced = subst (λ n. KeepsUnsynced (Some n) (g.D.Drives.unsynced c.args.drives.now) (g.D.Drives.unsynced c.turn_at.new.drives)) c.from-place.ensures
-          (unsynced_after g.D.Drives.disks g.D.Drives.told g.D.Drives.failed_names g.D.Drives.unsynced mounted number old
-          c.args.cache.now c.turn_at.new.cache c.args.drives.now c.turn_at.new.drives c.self.invariant its did.leaves);
-      calls = did.calls;
-      reads = did.reads;
-      reads_only = did.reads_only;
-      cached = λ read next. did.cached read (subst (λ d. IfSome d (λ one. IsNextCached c.args.cache.now one work)) here next);
+      left = record {
+        places = λ other apart.
+            get_or-set_other mounted number other new None (λ same. apart (ap Some (sym c.from-place.ensures ∙ sym same))) ∙ ap (λ m. directory_at m other) c.self.view_is;
+        labels = λ other.
+            labels_stay mounted number other new (did.same ∙ ap (option_map labelled) (sym its)) ∙ ap (λ m. option_map labelled (directory_at m other)) c.self.view_is;
+        fits = fits_after g.D.Drives.disks g.D.Drives.told g.D.Drives.failed_names g.D.Drives.unsynced mounted number old new
+            c.args.cache.now c.turn_at.new.cache c.args.drives.now c.turn_at.new.drives c.self.invariant its did.same did.leaves fits;
+        images = subst (λ n. KeepsImages (Some n) c.args.self.now disks disks') c.from-place.ensures
+            (subst (λ m. KeepsImages (Some number) m disks disks') c.self.view_is
+            (images_after g.D.Drives.disks g.D.Drives.told g.D.Drives.failed_names g.D.Drives.unsynced mounted number old
+            c.args.cache.now c.turn_at.new.cache c.args.drives.now c.turn_at.new.drives c.self.invariant its did.leaves fits));
+        beside = subst (λ m. StaysBeside m disks disks') c.self.view_is
+            (stays_after g.D.Drives.disks g.D.Drives.told g.D.Drives.failed_names g.D.Drives.unsynced mounted number old
+            c.args.cache.now c.turn_at.new.cache c.args.drives.now c.turn_at.new.drives c.self.invariant its did.leaves);
+        told_are = subst (λ m. KeepsToldOf m disks (g.D.Drives.told c.args.drives.now) (g.D.Drives.told c.turn_at.new.drives)) c.self.view_is
+            (told_after g.D.Drives.disks g.D.Drives.told g.D.Drives.failed_names g.D.Drives.unsynced mounted number old
+            c.args.cache.now c.turn_at.new.cache c.args.drives.now c.turn_at.new.drives c.self.invariant its did.leaves);
+        names = left_names g.D.Drives.disks g.D.Drives.told g.D.Drives.failed_names g.D.Drives.unsynced old c.args.cache.now c.turn_at.new.cache c.args.drives.now c.turn_at.new.drives did.leaves;
+        kept_unsynced = subst (λ n. KeepsUnsynced (Some n) (g.D.Drives.unsynced c.args.drives.now) (g.D.Drives.unsynced c.turn_at.new.drives)) c.from-place.ensures
+            (unsynced_after g.D.Drives.disks g.D.Drives.told g.D.Drives.failed_names g.D.Drives.unsynced mounted number old
+            c.args.cache.now c.turn_at.new.cache c.args.drives.now c.turn_at.new.drives c.self.invariant its did.leaves);
+      };
+      takes = record {
+        calls = did.takes.calls;
+        one_call = did.takes.one_call;
+        unsynced = did.takes.unsynced;
+        no_call = λ next. did.takes.no_call (next.0, subst (λ d. IfSome d (λ one. IsNextCached c.args.cache.now one work)) here next.1);
+      };
       cause = did.cause;
     }
 
@@ -78,17 +82,16 @@ returns-else-place-len g c =
       ok = λ before job j suits working h. absurd (subst (λ d. IsWorking disks d before job j work) none working);
       err = λ before job j suits working h. tt;
       progress = λ before job j working. absurd (subst (λ d. IsWorking disks d before job j work) none working);
-      places = λ other apart. refl;
-      labels = λ other. refl;
-      fits = c.requires;
-      images = λ other apart has. refl;
-      beside = stays_same c.args.self.now disks;
-      told_are = told_same c.args.self.now disks (g.D.Drives.told c.args.drives.now);
-      names = refl;
-      unsynced = unsynced_same _ (g.D.Drives.unsynced c.args.drives.now);
-      calls = omega arith;
-      reads = λ read. omega arith;
-      reads_only = λ read other. refl;
-      cached = λ read next. refl;
+      left = record {
+        places = λ other apart. refl;
+        labels = λ other. refl;
+        fits = c.requires;
+        images = λ other apart has. refl;
+        beside = stays_same c.args.self.now disks;
+        told_are = told_same c.args.self.now disks (g.D.Drives.told c.args.drives.now);
+        names = refl;
+        kept_unsynced = unsynced_same _ (g.D.Drives.unsynced c.args.drives.now);
+      };
+      takes = record { calls = omega arith; one_call = λ read. omega arith; unsynced = λ read other. refl; no_call = λ next. refl };
       cause = cause_none _ _;
     }

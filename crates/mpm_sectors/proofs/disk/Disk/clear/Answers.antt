@@ -7,13 +7,10 @@ pub loop-number-init : goal.loop-number-init
 loop-number-init g c = record {
   written = zeros_at_first c.args.self.now.drive c.args.self.now.kind c.args.first (g.D.Drives.disks c.args.drives.now);
   calls = omega arith;
-  leaves = leaves_itself g.D.Drives.disks g.D.Drives.told g.D.Drives.failed_names g.D.Drives.unsynced c.args.self.now.drive c.args.cache.now c.args.drives.now c.requires.coherent;
+  leaves = leaves_itself g.D.Drives.disks g.D.Drives.told g.D.Drives.failed_names g.D.Drives.unsynced c.args.self.now.drive c.args.cache.now c.args.drives.now c.requires.ready.coherent;
   unsynced = λ some. absurd (omega (arith, some));
   faults = refl;
 }
-
-pub put-requires-clause-apart : goal.put-requires-clause-apart
-put-requires-clause-apart g c = c.loop-number.invariant.leaves.alone c.requires.apart
 
 pub returns-in-Err-clause-puts : goal.returns-in-Err-clause-puts
 returns-in-Err-clause-puts g c = record {

@@ -12,9 +12,6 @@ returns-in-Err-clause-puts g c =
     block_stopped c.args.self.now.drive c.args.self.now.kind c.args.block c.args.clear c.args.index c.args.bytes.now _ _ (g.D.Drives.disks c.args.drives.now) (g.D.Drives.disks c.clear.new.drives)
     c.in-Err.failed (cc) (cc) c.in-Err.ensures.puts.err
 
-pub clear-requires-2-clause-apart : goal.clear-requires-2-clause-apart
-clear-requires-2-clause-apart g c = c.clear.ensures.leaves.alone c.requires.apart
-
 pub returns-in-Err-clear-clause-puts : goal.returns-in-Err-clear-clause-puts
 returns-in-Err-clear-clause-puts g c =
     let k = c.geometry.ensures in
@@ -26,9 +23,6 @@ returns-in-Err-clear-clause-puts g c =
     let m = c.max-behind.ensures in
     block_stopped_behind c.args.self.now.drive c.args.self.now.kind c.args.block c.args.clear c.args.index c.args.bytes.now _ _ _ _ (g.D.Drives.disks c.args.drives.now)
     (g.D.Drives.disks c.clear.new.drives) (g.D.Drives.disks c.clear-2.new.drives) c.in-Err-clear.failed (cc) (cc) (cc) (cc) c.in-Ok.ensures.puts.ok c.in-Err-clear.ensures.puts.err
-
-pub put-requires-clause-apart : goal.put-requires-clause-apart
-put-requires-clause-apart g c = c.clear-2.ensures.leaves.alone (c.clear.ensures.leaves.alone c.requires.apart)
 
 pub returns-clause-puts : goal.returns-clause-puts
 returns-clause-puts g c =

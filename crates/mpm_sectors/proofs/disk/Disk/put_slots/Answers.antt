@@ -9,6 +9,3 @@ returns-in-Err-clause-puts g c = λ image told. record {
   err = first_none c.args.self.now.drive c.args.self.now.kind (slots_write c.args.self.now.kind image c.args.slot c.args.entry.now c.args.other_slot c.args.other.now ∷ [])
       (g.D.Drives.disks c.args.drives.now) (g.D.Drives.disks c.read.new.drives) c.read.ensures.disks;
 }
-
-pub put-requires-clause-apart : goal.put-requires-clause-apart
-put-requires-clause-apart g c = c.read.ensures.leaves.alone c.requires.apart
