@@ -1,6 +1,7 @@
 //! Terminal message processors, line by line, and who acts in a slot.
 use mpm_base::{Call, Pid, Reply, functions};
 use mpm_residents::{Act, Cli, Native, Residents, Tmp};
+use std::test::Fail;
 
 /// A processor, and the call and the reply with which it is driven.
 #[derive(Drop)]
@@ -316,8 +317,8 @@ fn answer(residents: &mut Residents, p: Pid) {
 }
 
 #[test]
-fn each_resident_goes_on_by_its_own_answers(rt: HostRuntime) {
-    let mut residents = Residents::none();
+fn each_resident_goes_on_by_its_own_answers(rt: HostRuntime) -> Result<(), Fail> {
+    let mut residents = Residents::none(rt.alloc())?;
     residents.add_interpreter(2);
     residents.add_terminal(0);
     residents.add_terminal(1);
@@ -335,4 +336,5 @@ fn each_resident_goes_on_by_its_own_answers(rt: HostRuntime) {
         functions::PRINT_STRING
     );
     assert_eq!(rt; next_function(&mut residents, Pid(3)), 0);
+    Ok(())
 }

@@ -7,7 +7,7 @@ use mpm_port::{FetchError, Fetched};
 use std::io::{self, ErrorKind, Read};
 
 /// How many bytes are asked for at once.
-const PIECE: usize = 65_536;
+const PIECE: usize = 4_096;
 
 /// Appends the bytes that are left to read, at most `limit` of them.
 #[tactic(auto, using(crate::proofs::Known::nothing_taken, crate::proofs::Known::more_taken, crate::proofs::Known::whole_taken, crate::proofs::Known::first_taken, crate::proofs::Known::part_taken))]

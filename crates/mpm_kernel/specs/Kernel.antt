@@ -130,12 +130,12 @@ IsOfTwo queues q = width_of queues q ≡ Some 2
 -- what is so of the kernel after each step. The owners of consoles and printers live. A process is in at most one place, and only living
 -- ones are. The system's queues are there, and so are those in whose resident procedures processes are
 pub record IsSoundKernel (kernel : Kernel) : Type 0 where
-  pub units : AreUnitsSound kernel.units
+  pub units : AreSoundConsoles kernel.units
   pub owners : (unit : Unit) (p : ℕ) → HasUnit kernel.units unit → owns kernel.units p unit ≡ true → Lives kernel.dispatcher.procs p
   pub slots : HasSlots kernel.dispatcher.procs
   pub table : IsTable kernel.dispatcher.lists
   pub flags : length kernel.flags ≡ 32
-  pub queues : AreSound kernel.queues
+  pub queues : AreSoundQueues kernel.queues
   pub system : (q : ℕ) → q < kernel.system_queues → IsMade kernel.queues q
   pub inside : (p q : ℕ) → Lives kernel.dispatcher.procs p → (process_in kernel.dispatcher.procs p).procedure ≡ Some q → IsOfTwo kernel.queues q
   pub fit : (p : ℕ) → Lives kernel.dispatcher.procs p → IsFit kernel.units (process_in kernel.dispatcher.procs p)

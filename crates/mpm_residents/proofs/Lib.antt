@@ -1,5 +1,5 @@
 pub mod InterpreterLaws
 pub mod Filling
 pub mod StandingLaws
-pub mod Refilling
+pub mod TakenLaws
 pub mod examples

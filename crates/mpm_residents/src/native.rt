@@ -20,18 +20,6 @@ pub enum Native {
     Sched { sched: Sched },
 }
 
-/// The terminal message processor of console 0, as it begins.
-impl Default for Native {
-    ghost use Rattle.mpm_residents.specs.Terminals.{opening};
-    ghost use Rattle.mpm_residents.specs.declared.native.Native.TheVariants.{Tmp as Terminal};
-
-    ghost is_default = { λ native. native ≡ Terminal (opening 0) };
-
-    fn default() -> Native {
-        Native::Tmp { tmp: Tmp::new(0) }
-    }
-}
-
 impl Native {
     /// What it does next. It fills in the call that it makes, or the bytes that it hands over; a call that is held, or has to be
     /// made again, is filled in again.

@@ -1,26 +1,32 @@
-ghost use Rattle.std.specs.Prelude.{◌≡◌, ◌<◌, ◌++◌, ◌∷◌, [], length, true, is_some, option_map, IfSome};
+ghost use Rattle.std.specs.Prelude.{◌≡◌, ◌<◌, ◌++◌, ◌∷◌, [], length, true, is_some, option_map, IfOk, IfSome};
 
 use crate::{Act, Cli, Native, Tmp};
-use arrayvec::ArrayVec;
 use mpm_base::{Call, Pid, Reply};
 use mpm_sched::Sched;
 use mpm_spool::Spool;
+use std::alloc::{AllocError, Global};
 use std::marker::Model;
 
-/// The residents that act, by their slots, of which the first is 0: eleven at most, an interpreter, a terminal message
-/// processor for each of eight consoles, a spooler and a scheduler.
+/// How many there are at most: an interpreter, a terminal message processor for each of eight consoles, a spooler and a scheduler.
+const MOST: usize = 11;
+
+/// The residents that act, by their slots, of which the first is 0, eleven at most. They stay where they are made, as one takes
+/// some 4 KiB.
 #[derive(Drop)]
 pub struct Residents {
-    natives: ArrayVec<Native, 11>,
+    natives: Vec<Native>,
 }
 
 impl Model for Residents {
-    ghost use Rattle.std.specs.Prelude.{List};
+    ghost use Rattle.std.specs.Prelude.{◌≤◌, List};
+    ghost use Rattle.std.specs.Vec.{vec_capacity};
     ghost use Rattle.mpm_residents.specs.declared.native.Native.{Native};
 
     ghost Value = { List Native };
 
     ghost view = { λ r. r.natives.items };
+
+    ghost invariant = { λ r. 11 ≤ vec_capacity r.natives };
 }
 
 impl Residents {
@@ -31,13 +37,15 @@ impl Residents {
     ghost use Rattle.mpm_sched.specs.Schedulers.{opening as opening_scheduler};
     ghost use Rattle.mpm_spool.specs.Spoolers.{opening as opening_spooler};
 
-    /// None.
-    pub fn none() -> Residents
-        ensures { result ≡ [] }
+    /// None. Room for eleven is taken here.
+    ///
+    /// # Errors
+    /// Where no memory is found.
+    pub fn none(alloc: Global) -> Result<Residents, AllocError>
+        ensures { IfOk result (λ residents. residents ≡ []) }
     {
-        Residents {
-            natives: ArrayVec::new(),
-        }
+        let natives = Vec::with_capacity(alloc, MOST)?;
+        Ok(Residents { natives })
     }
 
     /// The command line interpreter of a system with so many consoles, one at least, comes into the next slot.
@@ -46,7 +54,7 @@ impl Residents {
         requires room { length self.old < 11 }
         ensures { self.new ≡ self.old ++ Interpreter (opening_interpreter consoles) ∷ [] }
     {
-        self.natives.push(Native::Cli {
+        self.natives.push_reserved(Native::Cli {
             cli: Cli::new(consoles),
         });
     }
@@ -56,7 +64,7 @@ impl Residents {
         requires { length self.old < 11 }
         ensures { self.new ≡ self.old ++ Terminal (opening console) ∷ [] }
     {
-        self.natives.push(Native::Tmp {
+        self.natives.push_reserved(Native::Tmp {
             tmp: Tmp::new(console),
         });
     }
@@ -66,7 +74,7 @@ impl Residents {
         requires { length self.old < 11 }
         ensures { self.new ≡ self.old ++ Spooler opening_spooler ∷ [] }
     {
-        self.natives.push(Native::Spool {
+        self.natives.push_reserved(Native::Spool {
             spool: Spool::new(),
         });
     }
@@ -77,7 +85,7 @@ impl Residents {
         requires room { length self.old < 11 }
         ensures { self.new ≡ self.old ++ Scheduler (opening_scheduler queue) ∷ [] }
     {
-        self.natives.push(Native::Sched {
+        self.natives.push_reserved(Native::Sched {
             sched: Sched::new(queue),
         });
     }

@@ -65,13 +65,14 @@ impl System {
         let memory = Banks::new(alloc, file.segments.as_slice())?;
         let mut kernel = Kernel::new(alloc, file.consoles, file.printers, moment_of(file))?;
         kernel.set_disk_turn(file.disk_turn);
+        let residents = Residents::none(alloc)?;
         Ok(System {
             steps: 0,
             interrupts: Schedule::new(file.tick_every, script),
             kernel,
             memory,
             abort_deferred: false,
-            residents: Residents::none(),
+            residents,
             records: Records::new(),
             owed: Owed::new(),
         })

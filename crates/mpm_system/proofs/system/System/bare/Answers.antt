@@ -8,9 +8,9 @@ use Rattle.mpm_system.proofs.system.System.bare.Goals as goal
 
 pub returns-clause-booted : goal.returns-clause-booted
 returns-clause-booted c =
-    booted_is c.args.file.now c.args.script c.new-3.result c.set_disk_turn.new.self c.in_ok-memory.memory c.none.result c.new-4.result c.new-5.result c.new-3.ensures.interrupts
+    booted_is c.args.file.now c.args.script c.new-3.result c.set_disk_turn.new.self c.in_ok-memory.memory c.in_ok-residents.residents c.new-4.result c.new-5.result c.new-3.ensures.interrupts
     (c.set_disk_turn.ensures.kernel ∙ ap (in_turns c.args.file.now.disk_turn) (c.in_ok-kernel.ensures.kernel ∙ ap (new_kernel c.args.file.now.consoles c.args.file.now.printers) c.moment_of.ensures))
-    (c.in_ok-memory.ensures ∙ ap new_memory c.as_slice.ensures) c.none.ensures c.new-4.ensures c.new-5.ensures
+    (c.in_ok-memory.ensures ∙ ap new_memory c.as_slice.ensures) c.in_ok-residents.ensures c.new-4.ensures c.new-5.ensures
 
 pub returns-clause-bare : goal.returns-clause-bare
 returns-clause-bare c =

@@ -1,25 +1,16 @@
--- A list that takes the place of another one of its length, as what is lent of an array does; and so a resident that took its
--- answer.
-use Rattle.std.proofs.Common.{◌≡◌, ◌∙◌, ℕ, zero, suc, true, List, [], ◌∷◌, Option, Some, length, get_or, refl, sym, ap}
-use Rattle.std.proofs.Math.Nat.{suc_inj}
+-- A resident that took its answer, among the others.
+use Rattle.std.proofs.Common.{◌≡◌, ◌∙◌, ℕ, zero, suc, true, List, [], ◌∷◌, Option, Some, get_or, refl, sym, ap}
 use Rattle.std.specs.Prelude.{is_some, slice_get, slice_set}
-use Rattle.std.specs.List.{refill}
 use Rattle.mpm_base.specs.Calls.{Answer}
 use Rattle.mpm_residents.specs.Natives.{native_in, native_took, answer_taken}
 use Rattle.mpm_residents.specs.declared.native.Native.{Native}
-
-pub refilled : {X : Type 0} (old new : List X) → length new ≡ length old → refill (length old) old new ≡ new
-refilled [] [] same = refl
-refilled [] (x ∷ others) same = absurd (cc)
-refilled (x ∷ xs) [] same = absurd (cc)
-refilled (x ∷ xs) (y ∷ ys) same = ap (λ rest. y ∷ rest) (refilled xs ys (suc_inj same))
 
 found_there : {X : Type 0} (xs : List X) (p : ℕ) (other : X) → is_some (slice_get xs p) ≡ true → slice_get xs p ≡ Some (get_or xs p other)
 found_there [] p other some = absurd (cc)
 found_there (x ∷ xs) zero other some = refl
 found_there (x ∷ xs) (suc p) other some = found_there xs p other some
 
--- the residents as they are lent, of which one took its answer
+-- the residents, of which one took its answer
 pub taken_here : (natives lent : List Native) (p from : ℕ) (other taken : Native) (reply : Answer) → is_some (native_in natives p) ≡ true → lent ≡ natives → from ≡ p
     → taken ≡ native_took (get_or lent from other) reply → slice_set lent from taken ≡ answer_taken (native_in natives p) reply p natives
 taken_here natives lent p from other taken reply some whole here is =
