@@ -1,10 +1,16 @@
 -- A whole system stays whole through the disk's part of a step: a call that waits, the step of the call in service, its end, what is
 -- paid, and the entry of the next call.
-use Rattle.std.proofs.Common.{◌≡◌, ℕ, true, false, [], Option, Some, None, refl}
+use Rattle.std.proofs.Common.{◌≡◌, ◌∙◌, ◌<◌, ◌||◌, ℕ, true, false, [], Option, Some, None, option_map, refl, ap, arith}
+use Rattle.std.proofs.lemmas.Bool.{eq-eqb}
 use Rattle.mpm_base.proofs.Choices.{either}
+use Rattle.mpm_base.proofs.CountLaws.{one_if_true}
 use Rattle.mpm_procs.specs.Table.{Lives}
 use Rattle.mpm_dispatcher.specs.Dispatch.{IsReady}
-use Rattle.mpm_service.specs.Disk.{turn_answer, served_process, begun}
+use Rattle.mpm_ready.proofs.OrderLaws.{in_list_put_in}
+use Rattle.mpm_ready.specs.Order.{first_of, in_list}
+use Rattle.mpm_service.specs.Disk.{DiskService, answer_by, entered, turn_answer, served_process, begun}
+use Rattle.mpm_service.specs.Places.{at_disk}
+use Rattle.mpm_service.specs.declared.service.Served.{Served}
 use Rattle.mpm_service.specs.declared.service.Turn.{Turn}
 use Rattle.mpm_service.specs.declared.service.Turn.TheVariants.{Idle, Passing, Work, Starts}
 use Rattle.mpm_kernel.specs.Disk.{with_disk, waiting_for_disk, ready_again as made_ready_again, IsOver}
@@ -122,3 +128,24 @@ none_entered_unless None turns system = none_entered_by (turn_answer system.kern
 pub same_call_entered : (turns : ℕ) (system : System) → (call_entered turns system).kernel.dispatcher ≡ system.kernel.dispatcher
 unfolding call_entered
 same_call_entered turns system = none_entered_unless (served_process system.kernel.disk) turns system
+
+-- the turns of others, and who comes to wait
+
+-- no turn ends where no call is in service
+never_by : (turn_steps q : ℕ) (served : Option Served) (first : Option ℕ) → option_map (λ call. call.p) served ≡ None → answer_by turn_steps served first ≡ Work q true → ⊥
+never_by turn_steps q (Some call) first none is = absurd (cc)
+never_by turn_steps q None (Some p) none is = absurd (cc)
+never_by turn_steps q None None none is = absurd (cc)
+
+pub never_works : (service : DiskService) (q : ℕ) → served_process service ≡ None → turn_answer service ≡ Work q true → ⊥
+unfolding served_process turn_answer
+never_works service q none is = never_by service.turn_steps q service.served (first_of service.waiting) none is
+
+pub same_worker : (turn : Turn) (p q : ℕ) → turn ≡ Work p true → turn ≡ Work q true → q ≡ p
+same_worker turn p q one other = cc
+
+pub entered_there : (service : DiskService) (p priority : ℕ) → 0 < at_disk (entered service p priority) p
+unfolding at_disk entered
+entered_there service p priority =
+    let there = in_list_put_in p service.waiting (record { slot = p; priority = priority }) ∙ ap (λ b. b || in_list p service.waiting) (eq-eqb p p refl) in
+    omega (arith, one_if_true _ there)

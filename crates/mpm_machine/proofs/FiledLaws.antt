@@ -1,6 +1,6 @@
 -- What the step of a file call leaves of memory: each byte that isn't of its reply, or of one to a held call that is completed.
 use Rattle.std.proofs.Common.{◌≡◌, ◌∙◌, ℕ, ◌<◌, ◌≤◌, Bool, true, false, not, ◌&&◌, ◌==◌, ◌||◌, Option, Some, None, IfSome, inl, inr, refl, sym, ap, subst, arith}
-use Rattle.std.proofs.lemmas.Bool.{cases_eq, or_right}
+use Rattle.std.proofs.lemmas.Bool.{cases_eq, or_right, and_parts}
 use Rattle.std.specs.Prelude.{is_some, option_and_then, ◌⊎◌}
 use Rattle.mpm_base.proofs.Choices.{either}
 use Rattle.mpm_base.specs.Calls.{Answer}
@@ -212,6 +212,15 @@ unfolding file_caller
 caller_ready system w =
     let comes = is_some (coming (counted system)) in
     ready_by (file_caller_by comes system.kernel.dispatcher.running system) system w (caller_runs comes system.kernel.dispatcher.running system)
+
+file_calls : (comes : Bool) (running : Option ℕ) (system : System) → IfSome (file_caller_by comes running system) (λ p. calls_files p system ≡ true)
+file_calls comes None system = tt
+file_calls comes (Some p) system =
+    either (λ (o : Option ℕ). IfSome o (λ q. calls_files q system ≡ true)) (calls_files p system && not comes) (Some p) None (λ is. (and_parts (calls_files p system) _ is).0) (λ _. tt)
+
+pub caller_files : (system : System) → IfSome (file_caller system) (λ p. calls_files p system ≡ true)
+unfolding file_caller
+caller_files system = file_calls (is_some (coming (counted system))) system.kernel.dispatcher.running system
 
 -- what a step begins with, and the held calls that this completed
 

@@ -1,11 +1,14 @@
 -- Held calls that are completed, answered one after another.
-use Rattle.std.proofs.Common.{◌≡◌, ◌∙◌, ℕ, suc, ◌+◌, ◌≤◌, List, [], ◌∷◌, length, Option, Some, None, drop, arith, refl, sym, ap}
+use Rattle.std.proofs.Common.{◌≡◌, ◌∙◌, ℕ, suc, ◌+◌, ◌<◌, ◌≤◌, ◌==◌, Bool, true, false, if◌then◌else◌, List, [], ◌∷◌, length, Option, Some, None, drop, arith, refl, sym, ap}
+use Rattle.std.proofs.lemmas.Bool.{eq-eqb}
 use Rattle.std.proofs.lemmas.List.{length-append}
 use Rattle.mpm_base.proofs.Choices.{either}
+use Rattle.mpm_base.proofs.CountLaws.{count_cons, one_if_true}
 use Rattle.mpm_base.specs.Calls.{Taken}
 use Rattle.mpm_procs.specs.Table.{Lives, process_in, call_of}
 use Rattle.mpm_dispatcher.specs.Dispatch.{with_completed, first_completed}
 use Rattle.mpm_kernel.specs.Kernel.{Kernel, dispatched}
+use Rattle.mpm_kernel.specs.Awaiting.{completions}
 use Rattle.mpm_kernel.specs.Completion.{completion_of}
 use Rattle.mpm_kernel.specs.Waiting.{completion_reply}
 use Rattle.mpm_kernel.specs.Events.{with_first, handed_out}
@@ -199,3 +202,14 @@ rest_have_room p old handed first room out done =
       first_records p (command_let_in p handed),
       ap (λ (s : System). length s.records) out,
     )
+
+-- who is handed out first is among the completed
+pub some_first : (q : ℕ) (completed : List ℕ) → first_completed completed ≡ Some q → 0 < completions q completed
+some_first q [] first = absurd (cc)
+some_first q (p ∷ ps) first =
+    let same : p ≡ q = cc in
+    omega (arith, count_cons (λ x. x == q) p ps, one_if_true (p == q) (eq-eqb p q same))
+
+pub few_awaited : (b : Bool) (places : ℕ) → places ≤ 1 → (if b then 1 else places) ≤ 1
+few_awaited true places few = omega arith
+few_awaited false places few = few

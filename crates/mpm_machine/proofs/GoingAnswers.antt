@@ -1,11 +1,9 @@
 -- The command line interpreter goes on with the segment that it has reserved: through the event that comes, the answers to held calls,
 -- and the ends that are due.
-use Rattle.std.proofs.Common.{ℕ, zero, suc, [], ◌≡◌, ◌≢◌, ◌∙◌, ◌<◌, ◌≤◌, ◌==◌, Bool, true, false, List, ◌∷◌, length, if◌then◌else◌, Option, Some, None, IfSome, refl, sym, ap, subst, arith}
+use Rattle.std.proofs.Common.{ℕ, zero, suc, [], ◌≡◌, ◌≢◌, ◌∙◌, true, false, List, ◌∷◌, length, Option, Some, None, IfSome, refl, sym, ap, subst, arith}
 use Rattle.std.proofs.lemmas.Bool.{and_parts, false≢true}
-use Rattle.std.proofs.lemmas.Bool.Decides.{nat_tests}
 use Rattle.std.specs.List.{range_with_len}
 use Rattle.mpm_base.proofs.Choices.{either}
-use Rattle.mpm_base.proofs.CountLaws.{count_cons, one_if_true}
 use Rattle.mpm_residents.specs.Interpreters.{Interpreter}
 use Rattle.mpm_residents.specs.declared.cli.table.Row.{Row}
 use Rattle.mpm_residents.specs.declared.cli.table.Row.TheVariants.{ReadCommand, OpenQueue, WriteQueue, SetUser, OpenRelocatable, OpenAbsolute, ReadHeader, ComputeSize, SetUserZero, Reserve, Place, Patch, ReadOn, Free, CloseAfter, Close, Tell, Give, PlaceBasePage, Begin}
@@ -16,7 +14,7 @@ use Rattle.mpm_kernel.proofs.AwaitingEnds.{awaits_happened, awaits_handed_out, a
 use Rattle.mpm_kernel.proofs.DiskLaws.{ready_not_at_disk}
 use Rattle.mpm_kernel.proofs.DiskStays.{disk_happened, disk_handed_out}
 use Rattle.mpm_kernel.proofs.HomeLaws.{beside_happened, consoles_happened, beside_handed_out, units_handed_out}
-use Rattle.mpm_kernel.specs.Awaiting.{AwaitsIn, completions}
+use Rattle.mpm_kernel.specs.Awaiting.{AwaitsIn}
 use Rattle.mpm_kernel.specs.Consoling.{abort_taken}
 use Rattle.mpm_kernel.specs.Events.{MayCome, happened, handed_out}
 use Rattle.mpm_kernel.specs.Kernel.{Kernel, is_aborted}
@@ -27,7 +25,7 @@ use Rattle.mpm_system.specs.Sending.{chains, is_command}
 use Rattle.mpm_system.specs.Whole.{IsWhole}
 use Rattle.mpm_system.specs.Coming.{unhalted}
 use Rattle.mpm_system.specs.declared.system.System.{System}
-use Rattle.mpm_machine.proofs.FinishLaws.{first_finished, left_completed}
+use Rattle.mpm_machine.proofs.FinishLaws.{some_first, few_awaited, first_finished, left_completed}
 use Rattle.mpm_machine.proofs.GoingOn.{not_chaining}
 use Rattle.mpm_machine.proofs.GoingOwn.{same_interpreter, goes_acted}
 use Rattle.mpm_machine.proofs.GoingParts.{same_place, goes_aborted, goes_ended, goes_fulfilling, goes_kernel, goes_passed, goes_regs, goes_same, none_passed}
@@ -95,17 +93,6 @@ goes_dequeued system i =
     (same_place system.kernel (handed_out system.kernel) (disk_handed_out system.kernel)) (λ k x. awaits_handed_out k 0 system.kernel x) i
 
 -- who is handed out is ready, and so not at the disk
-some_first : (q : ℕ) (completed : List ℕ) → first_completed completed ≡ Some q → 0 < completions q completed
-some_first q [] first = absurd (cc)
-some_first q (p ∷ ps) first =
-    let same : p ≡ q = cc in
-    let itself : (p == q) ≡ true = grind (arith, nat_tests, same) in
-    omega (arith, count_cons (λ x. x == q) p ps, one_if_true (p == q) itself)
-
-few_awaited : (b : Bool) (places : ℕ) → places ≤ 1 → (if b then 1 else places) ≤ 1
-few_awaited true places few = omega arith
-few_awaited false places few = few
-
 pub handed_out_gone : (system : System) → IsWhole system → (i : Interprets system) → first_completed system.kernel.dispatcher.completed ≡ Some 0 → at_disk system.kernel.disk 0 ≡ 0
 handed_out_gone system w i first =
     let few = few_awaited (is_reading i.acting.cli.row) (at_disk system.kernel.disk 0) (omega (arith, w.sound.once 0)) in

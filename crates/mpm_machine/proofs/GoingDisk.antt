@@ -1,21 +1,19 @@
 -- The command line interpreter goes on with the segment that it has reserved through the disk's part of a step. That is a step of the call
 -- in service, which is over after its last turn, what is paid, and the entry of the next call.
-use Rattle.std.proofs.Common.{ℕ, zero, suc, ◌≡◌, ◌≢◌, true, false, Option, Some, None, option_map, refl, subst}
+use Rattle.std.proofs.Common.{ℕ, zero, suc, ◌≡◌, ◌≢◌, true, false, Option, Some, None, refl, subst}
 use Rattle.mpm_directories.specs.Direct.{Directly}
 use Rattle.mpm_kernel.proofs.AwaitingLaws.{awaits_heir}
 use Rattle.mpm_kernel.proofs.Beside.{beside_same}
 use Rattle.mpm_kernel.proofs.DiskLaws.{over_turned}
 use Rattle.mpm_kernel.specs.Disk.{with_disk, ready_again as made_ready_again}
 use Rattle.mpm_procs.specs.Table.{Lives}
-use Rattle.mpm_ready.specs.Order.{first_of}
 use Rattle.mpm_service.proofs.PlaceLaws.{at_begun, at_turned_still}
-use Rattle.mpm_service.specs.Disk.{DiskService, served_process, turned, answer_by, turn_answer, begun}
-use Rattle.mpm_service.specs.declared.service.Served.{Served}
+use Rattle.mpm_service.specs.Disk.{served_process, turned, turn_answer, begun}
 use Rattle.mpm_service.specs.declared.service.Turn.{Turn}
 use Rattle.mpm_service.specs.declared.service.Turn.TheVariants.{Idle, Passing, Work, Starts}
 use Rattle.mpm_system.specs.Whole.{IsWhole}
 use Rattle.mpm_system.specs.declared.system.System.{System}
-use Rattle.mpm_machine.proofs.DiskStepLaws.{whole_passed, whole_ready_again}
+use Rattle.mpm_machine.proofs.DiskStepLaws.{never_works, same_worker, whole_passed, whole_ready_again}
 use Rattle.mpm_machine.proofs.FileLaws.{whole_concluded}
 use Rattle.mpm_machine.proofs.GoingAnswers.{goes_all_finished}
 use Rattle.mpm_machine.proofs.GoingFiles.{FilesAt, goes_concluded, own_over}
@@ -25,16 +23,6 @@ use Rattle.mpm_machine.specs.FileCalls.{concluded}
 use Rattle.mpm_machine.specs.Interpreting.{Interprets}
 use Rattle.mpm_machine.specs.Stepping.{Telling, paid_after, entered_after}
 
--- no turn ends where no call is in service
-never_by : (turn_steps q : ℕ) (served : Option Served) (first : Option ℕ) → option_map (λ call. call.p) served ≡ None → answer_by turn_steps served first ≡ Work q true → ⊥
-never_by turn_steps q (Some call) first none is = absurd (cc)
-never_by turn_steps q None (Some p) none is = absurd (cc)
-never_by turn_steps q None None none is = absurd (cc)
-
-never_works : (service : DiskService) (q : ℕ) → served_process service ≡ None → turn_answer service ≡ Work q true → ⊥
-unfolding served_process turn_answer
-never_works service q none is = never_by service.turn_steps q service.served (first_of service.waiting) none is
-
 -- a step of the disk in which the interpreter's call isn't over
 goes_turned : (system : System) → (turn_answer system.kernel.disk ≡ Work 0 true → ⊥) → Interprets system → Interprets (step_passed system)
 goes_turned system last i =
@@ -42,9 +30,6 @@ goes_turned system last i =
     goes_kernel system (with_disk turned system.kernel) (beside_same 0 procs procs refl) refl (at_turned_still system.kernel.disk 0 last) (λ k x. x) i
 
 -- another's is over
-same_worker : (turn : Turn) (p q : ℕ) → turn ≡ Work p true → turn ≡ Work q true → q ≡ p
-same_worker turn p q one other = cc
-
 others_over : (p : ℕ) (system : System) → IsWhole system → 0 ≢ p → turn_answer system.kernel.disk ≡ Work p true → Interprets system
     → Interprets (ready_again p (step_passed system))
 others_over p system w other last i =

@@ -1,10 +1,9 @@
 -- The command line interpreter makes a file call, which is done at once, or waits for the disk, is served, and is over in a later step.
 -- While it is at the disk, the interpreter's row is one that makes such a call, and after it the interpreter awaits nothing.
-use Rattle.std.proofs.Common.{ℕ, zero, suc, ◌≡◌, ◌≢◌, ◌∙◌, ◌==◌, ◌<◌, ◌||◌, if◌then◌else◌, Bool, true, false, Option, Some, None, inl, inr, refl, sym, ap, subst, arith}
-use Rattle.std.proofs.lemmas.Bool.{false≢true, cases_lt, eq-eqb}
+use Rattle.std.proofs.Common.{ℕ, zero, suc, ◌≡◌, ◌≢◌, ◌∙◌, ◌==◌, if◌then◌else◌, Bool, true, false, Option, Some, None, inl, inr, refl, sym, ap, subst, arith}
+use Rattle.std.proofs.lemmas.Bool.{false≢true, cases_lt}
 use Rattle.std.specs.Option.{option_map}
 use Rattle.mpm_base.proofs.Choices.{either}
-use Rattle.mpm_base.proofs.CountLaws.{one_if_true}
 use Rattle.mpm_base.specs.Calls.{Answer}
 use Rattle.mpm_directories.specs.Direct.{Directly, CallerChange, Resets, Selects, Stays}
 use Rattle.mpm_file_functions.specs.declared.refusals.Extended.{Extended}
@@ -18,13 +17,11 @@ use Rattle.mpm_kernel.proofs.DiskLaws.{ready_not_at_disk, sound_turned, over_tur
 use Rattle.mpm_kernel.specs.Awaiting.{completions}
 use Rattle.mpm_kernel.specs.Disk.{with_disk, waiting_for_disk, ready_again as made_ready_again}
 use Rattle.mpm_procs.specs.Table.{Lives, process_in, call_of}
-use Rattle.mpm_ready.proofs.OrderLaws.{in_list_put_in}
 use Rattle.mpm_ready.proofs.TableLaws.{table_removed}
-use Rattle.mpm_ready.specs.Order.{in_list}
 use Rattle.mpm_residents.specs.Natives.{native_in, native_call}
 use Rattle.mpm_residents.specs.declared.native.Native.{Native}
 use Rattle.mpm_service.proofs.PlaceLaws.{at_entered_other, at_last}
-use Rattle.mpm_service.specs.Disk.{DiskService, entered, turned, turn_answer}
+use Rattle.mpm_service.specs.Disk.{entered, turned, turn_answer}
 use Rattle.mpm_service.specs.Places.{at_disk}
 use Rattle.mpm_service.specs.declared.service.Turn.TheVariants.{Work}
 use Rattle.mpm_kernel.specs.Columns.{spoke}
@@ -34,6 +31,7 @@ use Rattle.mpm_system.specs.Taking.{asked, keeping}
 use Rattle.mpm_system.specs.Whole.{SystemChange, IsWhole, speaking}
 use Rattle.mpm_system.specs.Coming.{counted}
 use Rattle.mpm_system.specs.declared.system.System.{System}
+use Rattle.mpm_machine.proofs.DiskStepLaws.{entered_there}
 use Rattle.mpm_machine.proofs.FileLaws.{whole_caller, whole_told}
 use Rattle.mpm_machine.proofs.GoingOn.{another, own_call, acts_with}
 use Rattle.mpm_machine.proofs.GoingOwn.{same_interpreter, mild_next, nothing_left}
@@ -200,12 +198,6 @@ files_made p system w ready i is =
     files_by seg p s (whole_counted system w) ready refl b (ap is_file_number (counted_calls seg p system) ∙ is)
 
 -- it waits for the disk
-
-entered_there : (service : DiskService) (p priority : ℕ) → 0 < at_disk (entered service p priority) p
-unfolding at_disk entered
-entered_there service p priority =
-    let there = in_list_put_in p service.waiting (record { slot = p; priority = priority }) ∙ ap (λ b. b || in_list p service.waiting) (eq-eqb p p refl) in
-    omega (arith, one_if_true _ there)
 
 awaits_places : (cli : Interpreter) (places : ℕ) → is_of_files (next_call cli).function ≡ true → awaited places cli.row ≡ places
 awaits_places cli places files = ap (λ (b : Bool). if b then 1 else places) (neither_at cli files).1

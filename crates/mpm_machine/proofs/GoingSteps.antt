@@ -1,8 +1,5 @@
 -- The command line interpreter goes on with the segment that it has reserved in every step.
-use Rattle.std.proofs.Common.{ℕ, zero, suc, ◌≡◌, ◌&&◌, not, Bool, true, Option, Some, None, IfSome, refl, sym, subst}
-use Rattle.std.specs.Prelude.{is_some}
-use Rattle.std.proofs.lemmas.Bool.{and_parts}
-use Rattle.mpm_base.proofs.Choices.{either}
+use Rattle.std.proofs.Common.{ℕ, zero, suc, ◌≡◌, Bool, true, Option, Some, None, IfSome, refl, sym, subst}
 use Rattle.mpm_directories.specs.Direct.{Directly}
 use Rattle.mpm_dispatcher.specs.Dispatch.{IsReady}
 use Rattle.mpm_procs.specs.Table.{Lives}
@@ -11,7 +8,7 @@ use Rattle.mpm_system.specs.Whole.{SystemChange, IsWhole}
 use Rattle.mpm_system.specs.Coming.{coming, counted}
 use Rattle.mpm_system.specs.declared.system.System.{System}
 use Rattle.mpm_machine.proofs.FileLaws.{makes}
-use Rattle.mpm_machine.proofs.FiledLaws.{caller_lives, caller_ready, whole_begun, whole_begun_as}
+use Rattle.mpm_machine.proofs.FiledLaws.{caller_files, caller_lives, caller_ready, whole_begun, whole_begun_as}
 use Rattle.mpm_machine.proofs.GoingAnswers.{goes_begun, goes_all_answered, goes_with_ends}
 use Rattle.mpm_machine.proofs.GoingDisk.{goes_all_paid, goes_entered_after}
 use Rattle.mpm_machine.proofs.GoingFiles.{files_made, goes_file_called}
@@ -22,7 +19,7 @@ use Rattle.mpm_machine.proofs.NextLaws.{next_is, whole_after}
 use Rattle.mpm_machine.specs.State.{State}
 use Rattle.mpm_machine.specs.After.{after, IsOfSome}
 use Rattle.mpm_machine.specs.DiskStep.{all_paid}
-use Rattle.mpm_machine.specs.FileCalls.{calls_files, file_caller, file_caller_by}
+use Rattle.mpm_machine.specs.FileCalls.{calls_files, file_caller}
 use Rattle.mpm_machine.specs.Interpreting.{Interprets}
 use Rattle.mpm_machine.specs.Stepping.{Telling, begun_as, begun_with, ended_after, entered_after, is_instruction, rest_of, step_with, telling_of}
 
@@ -36,15 +33,6 @@ goes_begun_with None told system w h ready files i =
     goes_begun (coming begun) begun (coming_may begun whole) whole (goes_same system begun refl refl refl refl refl refl refl i)
 goes_begun_with (Some p) told system w h ready files i =
     let made = makes p system w h in goes_file_called told p (call_made p system) made.whole made.lives (files_made p system w ready i files)
-
-file_calls : (comes : Bool) (running : Option ℕ) (system : System) → IfSome (file_caller_by comes running system) (λ p. calls_files p system ≡ true)
-file_calls comes None system = tt
-file_calls comes (Some p) system =
-    either (λ (o : Option ℕ). IfSome o (λ q. calls_files q system ≡ true)) (calls_files p system && not comes) (Some p) None (λ is. (and_parts (calls_files p system) _ is).0) (λ _. tt)
-
-pub caller_files : (system : System) → IfSome (file_caller system) (λ p. calls_files p system ≡ true)
-unfolding file_caller
-caller_files system = file_calls (is_some (coming (counted system))) system.kernel.dispatcher.running system
 
 pub goes_begun_as : (told : Directly) (system : System) → IsWhole system → Interprets system → Interprets (begun_as told system).system
 unfolding begun_as

@@ -55,6 +55,7 @@ pub mod QuietlyLaws
 pub mod MountedLaws
 pub mod FirstFiles
 pub mod DriveLaws
+pub mod PartsLaws
 pub mod FailingLaws
 pub mod AfterLaws
 pub mod LockLaws
@@ -76,3 +77,15 @@ pub mod EndStepLaws
 pub mod BehindLaws
 pub mod SettlingLaws
 pub mod CarryingLaws
+pub mod PrintedLaws
+pub mod PrinterCalls
+pub mod PrinterEnds
+pub mod SparedParts
+pub mod SparedActs
+pub mod SparedResidents
+pub mod SpoolingLaws
+pub mod SpoolingRows
+pub mod SpoolingSteps
+pub mod SpoolingFiles
+pub mod SpoolingDisk
+pub mod SpoolingAfter

@@ -38,14 +38,14 @@ use Rattle.mpm_system.specs.declared.system.System.{System}
 use Rattle.mpm_machine.proofs.Containment.{ended_alike}
 use Rattle.mpm_machine.proofs.DiskStepLaws.{whole_passed, whole_ready_again}
 use Rattle.mpm_machine.proofs.FileLaws.{makes, whole_caller, whole_concluded, whole_told}
-use Rattle.mpm_machine.proofs.FiledLaws.{call_memory, caller_lives, caller_ready, whole_begun, whole_begun_as}
+use Rattle.mpm_machine.proofs.FiledLaws.{caller_files, call_memory, caller_lives, caller_ready, whole_begun, whole_begun_as}
 use Rattle.mpm_machine.proofs.FinishLaws.{first_finished, home_dequeued, left_completed}
 use Rattle.mpm_machine.proofs.GoingAnswers.{goes_dequeued, goes_finished, goes_finished_or_ended, goes_if_due, goes_let_in, handed_behind, handed_out_gone, none_let_in, not_due}
 use Rattle.mpm_machine.proofs.GoingDisk.{files_over, goes_entered_after}
 use Rattle.mpm_machine.proofs.GoingFiles.{FilesAt, files_made, files_with_caller, goes_concluded, goes_told}
 use Rattle.mpm_machine.proofs.GoingOwn.{same_interpreter}
 use Rattle.mpm_machine.proofs.GoingParts.{goes_ended, goes_same}
-use Rattle.mpm_machine.proofs.GoingSteps.{caller_files, goes_begun_as, goes_begun_with, interprets_after}
+use Rattle.mpm_machine.proofs.GoingSteps.{goes_begun_as, goes_begun_with, interprets_after}
 use Rattle.mpm_machine.proofs.LoadedLaws.{loaded_whole}
 use Rattle.mpm_machine.proofs.LoadedParts.{Rests, loads_begun, loads_still, loads_taking, rests_alike, rests_home, rests_loading, rests_took, took_so}
 use Rattle.mpm_machine.proofs.LoadedRows.{hands, unloaded}

@@ -103,6 +103,10 @@ due_there : (table : Table) (p : ℕ) (new : NewProcess) → HasSlots table → 
 unfolding opening_process
 due_there table p new slots within = ap (λ (x : Process). x.abort_due) (process_added table p new (omega (arith, within, slots.processes)))
 
+printer_there : (table : Table) (p : ℕ) (new : NewProcess) → HasSlots table → p < 32 → (process_in (added table p new) p).printer ≡ 0
+unfolding opening_process
+printer_there table p new slots within = ap (λ (x : Process). x.printer) (process_added table p new (omega (arith, within, slots.processes)))
+
 call_there : (table : Table) (p : ℕ) (new : NewProcess) (process : Process) → HasSlots table → p < 32 → call_of (begun_in table p new process) p ≡ no_call
 unfolding added
 call_there table p new process slots within = call_after (added table p new) p p process ∙ get_or-set_same table.calls p no_call no_call (omega (arith, within, slots.calls))
@@ -123,18 +127,28 @@ module _ (system : System) (w : IsWhole system) (p : ℕ) (few : p < 32) (free :
       record {
         lives = lives_as_before table p q new process apart ∙ has.lives;
         name = ap (λ (x : Process). x.name) (same_as_before table p q new process apart) ∙ has.name;
+        resides = ap (λ (x : Process). x.seg) (same_as_before table p q new process apart) ∙ has.resides;
+        answers = ap (λ (x : Process). x.error_mode) (same_as_before table p q new process apart) ∙ has.answers;
+        goes_on = ap (λ (x : Process). x.abort_due) (same_as_before table p q new process apart) ∙ has.goes_on;
+        printer = ap (λ (x : Process). x.printer) (same_as_before table p q new process apart) ∙ has.printer;
+        calls = ap (λ (c : Taken). c.function) (call_as_before table p q new process apart) ∙ has.calls;
         resident = front system.residents (native ∷ []) q other has.resident;
       }
 
-  resident_there : (named : Name8) → new.name ≡ named → length system.residents ≡ p → HasResident p named native with_it
+  resident_there : (named : Name8) → new.name ≡ named → new.seg ≡ None → length system.residents ≡ p → HasResident p named native with_it
   unfolding with_resident with_begun
-  resident_there named is many =
+  resident_there named is home many =
       let table = system.kernel.dispatcher.procs in
       let slots = w.sound.slots in
       let process = record (process_in (added table p new) p) { error_mode = 255 } in
       record {
         lives = lives_there table p new process (omega (arith, few, slots.alive));
         name = ap (λ (x : Process). x.name) (same_there table p new process slots few) ∙ name_there table p new slots few ∙ is;
+        resides = ap (λ (x : Process). x.seg) (same_there table p new process slots few) ∙ seg_there table p new slots few ∙ home;
+        answers = ap (λ (x : Process). x.error_mode) (same_there table p new process slots few);
+        goes_on = ap (λ (x : Process). x.abort_due) (same_there table p new process slots few) ∙ due_there table p new slots few;
+        printer = ap (λ (x : Process). x.printer) (same_there table p new process slots few) ∙ printer_there table p new slots few;
+        calls = ap (λ (c : Taken). c.function) (call_there table p new process slots few);
         resident = ap (slice_get (system.residents ++ native ∷ [])) (sym many) ∙ last system.residents native;
       }
 
@@ -208,6 +222,10 @@ terminal_called : (console : ℕ) → (terminal_process console).name ≡ termin
 unfolding resident_process
 terminal_called console = refl
 
+terminal_home : (console : ℕ) → (terminal_process console).seg ≡ None
+unfolding resident_process
+terminal_home console = refl
+
 lodges_terminal : (consoles n : ℕ) (system : System) → IsWhole system → n < 8 → lowest_free system.kernel.dispatcher.procs ≡ Some (n + 1) → Lodges consoles n (n + 1) system
     → Lodges consoles (n + 1) (n + 1 + 1) (with_terminal (Some (n + 1)) n system)
 lodges_terminal consoles n system w few free has =
@@ -219,7 +237,7 @@ lodges_terminal consoles n system w few free has =
         | inr past ↦
             let same : k ≡ n = omega (arith, less, past) in
             subst (λ (j : ℕ). HasTerminal j (with_terminal (Some (n + 1)) n system)) (sym same)
-            (resident_there system w (n + 1) (omega (arith, few)) free (terminal_process n) (Tmp (opening n)) (terminal_name n) (terminal_called n) has.residents)
+            (resident_there system w (n + 1) (omega (arith, few)) free (terminal_process n) (Tmp (opening n)) (terminal_name n) (terminal_called n) (terminal_home n) has.residents)
       ];
       some = next.some;
       above = omega arith;
@@ -260,7 +278,7 @@ lodges_kernel consoles n count system kernel same has =
         calls = has.interpreter.calls;
         resident = has.interpreter.resident;
       };
-      terminals = λ k less. let there = has.terminals k less in record { lives = there.lives; name = there.name; resident = there.resident };
+      terminals = λ k less. let there = has.terminals k less in record { lives = there.lives; name = there.name; resides = there.resides; answers = there.answers; goes_on = there.goes_on; printer = there.printer; calls = there.calls; resident = there.resident };
       some = has.some;
       above = has.above;
       taken = has.taken;
@@ -277,7 +295,7 @@ resident_kernel : (q : ℕ) (named : Name8) (other : Native) (system : System) (
     → HasResident q named other (record system { kernel = kernel })
 resident_kernel q named other system kernel same has =
     let P : Dispatcher → Type 0 = λ d. HasResident q named other (record system { kernel = record kernel { dispatcher = d } }) in
-    subst P (sym same) (record { lives = has.lives; name = has.name; resident = has.resident })
+    subst P (sym same) (record { lives = has.lives; name = has.name; resides = has.resides; answers = has.answers; goes_on = has.goes_on; printer = has.printer; calls = has.calls; resident = has.resident })
 
 record LodgesOne (consoles n count : ℕ) (named : Name8) (native : Native) (old system : System) : Type 0 where
   lodges : Lodges consoles n (count + 1) system
@@ -292,7 +310,7 @@ one_lodges consoles n count named priority native system w few has =
     let new = resident_process named priority 0 in
     subst (λ (o : Option ℕ). LodgesOne consoles n count named native system (with_resident o new native system)) (sym free) (record {
       lodges = lodges_next consoles n count system new native w few free has;
-      there = resident_there system w count few free new native named refl has.residents;
+      there = resident_there system w count few free new native named refl refl has.residents;
       stays = λ q who other apart there. resident_stays system w count few free new native q who other apart there;
     })
 
@@ -418,7 +436,7 @@ record Opens (file : MachineFile) (system : System) : Type 0 where
   pub memory : system.memory ≡ new_memory file.segments
 
 stays_picked : (q : ℕ) (named : Name8) (native : Native) (system : System) → HasResident q named native system → HasResident q named native (record system { kernel = dispatched (picked false) system.kernel })
-stays_picked q named native system has = record { lives = has.lives; name = has.name; resident = has.resident }
+stays_picked q named native system has = record { lives = has.lives; name = has.name; resides = has.resides; answers = has.answers; goes_on = has.goes_on; printer = has.printer; calls = has.calls; resident = has.resident }
 
 picked_too : (consoles : ℕ) (spool sched : Bool) (system : System) → LodgesAll consoles spool sched system → OnlyHas (resident_queues spool sched) system.kernel
     → HasResidents consoles spool sched (record system { kernel = dispatched (picked false) system.kernel })

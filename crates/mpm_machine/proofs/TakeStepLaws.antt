@@ -47,7 +47,7 @@ no_turn system none = ap (λ (call : Option Served). is_some call && is_work (tu
 
 -- and one that fails does
 
-no_sink : DiskFault ≡ WriteFault → ⊥
+pub no_sink : DiskFault ≡ WriteFault → ⊥
 no_sink is = absurd (cc)
 
 -- what it begins with fails only where the disk has no work

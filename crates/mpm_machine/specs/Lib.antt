@@ -23,6 +23,9 @@ pub mod Contained
 pub mod After
 pub mod AtEnd
 pub mod OneStep
+pub mod Parts
 pub mod Quietly
 pub mod Settling
 pub mod Housing
+pub mod Printed
+pub mod Spooling

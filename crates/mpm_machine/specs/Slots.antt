@@ -27,10 +27,16 @@ pub record HasInterpreter (consoles : ℕ) (system : System) : Type 0 where
   pub calls : (call_of system.kernel.dispatcher.procs 0).function ≡ 0
   pub resident : native_in system.residents 0 ≡ Some (Cli (opening_interpreter consoles))
 
--- a slot has the process of a name, in which a resident acts
+-- a slot has the process of a name, in which a resident acts; it lives in no segment, takes extended errors as answers, no end of it is put
+-- off, it prints on printer 0, and it has called nothing yet
 pub record HasResident (p : ℕ) (named : Name8) (native : Native) (system : System) : Type 0 where
   pub lives : Lives system.kernel.dispatcher.procs p
   pub name : (process_in system.kernel.dispatcher.procs p).name ≡ named
+  pub resides : (process_in system.kernel.dispatcher.procs p).seg ≡ None
+  pub answers : (process_in system.kernel.dispatcher.procs p).error_mode ≡ 255
+  pub goes_on : (process_in system.kernel.dispatcher.procs p).abort_due ≡ false
+  pub printer : (process_in system.kernel.dispatcher.procs p).printer ≡ 0
+  pub calls : (call_of system.kernel.dispatcher.procs p).function ≡ 0
   pub resident : native_in system.residents p ≡ Some native
 
 -- the slot after the number of a console has the process of its terminal message processor, which is at its opening

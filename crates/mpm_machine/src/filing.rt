@@ -1,4 +1,4 @@
-ghost use Rattle.std.specs.Prelude.{◌≡◌, ◌<◌, ◌≤◌, ◌+◌, ◌*◌, ℕ, true, false, List, Option, Some, None, IsSome, IsOk, IfOk, OnOk, OnErr};
+ghost use Rattle.std.specs.Prelude.{◌≡◌, ◌<◌, ◌≤◌, ◌+◌, ◌*◌, ℕ, false, List, Option, Some, None, IsSome, IsOk, IfOk, OnOk, OnErr};
 ghost use Rattle.mpm_port.specs.Causes.{HasCause};
 ghost use Rattle.mpm_procs.specs.Table.{Lives, process_in, call_of};
 ghost use Rattle.mpm_port.specs.Disks.{Disks};
@@ -16,9 +16,10 @@ ghost use Rattle.mpm_system.specs.Whole.{IsWhole};
 ghost use Rattle.mpm_machine.specs.Files.{FilesInService, StandsBetween, StandsForFiles, StandsWorked, all_left};
 ghost use Rattle.mpm_machine.specs.Holding.{HoldsKept};
 ghost use Rattle.mpm_machine.specs.FileCalls.{outcome_in, situation_of, looked_at as as_looked_at};
-ghost use Rattle.mpm_machine.specs.Mounting.{HasNoDrive, KeepsMounted};
-ghost use Rattle.mpm_machine.specs.Failing.{HaveImagesOf, FailsWithin, working_if, working_turn_of, works_in_turn, turns_done};
+ghost use Rattle.mpm_machine.specs.Mounting.{HasNoDrive};
+ghost use Rattle.mpm_machine.specs.Failing.{HaveImagesOf, FailsWithin, working_turn_of, works_in_turn};
 ghost use Rattle.mpm_machine.specs.Filed.{IsOutcome, left_if};
+ghost use Rattle.mpm_machine.specs.Parts.{of_drive, UsesDrives, CallsNone, ComesToOutcome};
 
 use mpm_base::{Pid, Reply, Steps};
 use mpm_bdos::{Bdos, Extended, FileFunction, in_places};
@@ -77,18 +78,10 @@ pub(crate) fn call_files<D: Drives, L: Ledger>(
     requires whole { IsWhole system.now }
     requires lives { Lives system.now.kernel.dispatcher.procs p }
     requires fits { FitsDrives D.disks bdos.old.mounted bdos.old.cached drives.old }
-    ensures ok { (filing : Filing) → StandsBetween bdos.old (D.disks drives.old) filing
-        → IfOk result (IsOutcome (D.disks drives.new) (outcome_in filing p system.now) bdos.new reply.new) }
-    ensures err { (filing : Filing) → StandsBetween bdos.old (D.disks drives.old) filing
-        → OnErr result (HaveImagesOf (FailsWithin (working_if true filing p system.now)) (D.disks drives.new) bdos.new.mounted) }
-    ensures calls { (filing : Filing) → StandsBetween bdos.old (D.disks drives.old) filing → steps.new ≤ steps.old + 20 * turns_done (working_if true filing p system.now) }
-    ensures keeps { KeepsMounted (D.told drives.old) (D.told drives.new) (D.disks drives.old) (D.disks drives.new) bdos.old.mounted bdos.new.mounted }
+    ensures done { (filing : Filing) → StandsBetween bdos.old (D.disks drives.old) filing
+        → ComesToOutcome filing p system.now bdos.new reply.new (D.disks drives.new) steps.old steps.new result }
+    ensures uses { UsesDrives D.disks D.told D.failed_names D.unsynced of_drive bdos.old.mounted bdos.new.mounted drives.old drives.new result }
     ensures fits { FitsDrives D.disks bdos.new.mounted bdos.new.cached drives.new }
-    ensures names { D.failed_names drives.new ≡ D.failed_names drives.old }
-    ensures unsynced { (number : ℕ) → D.unsynced drives.old number ≡ true → D.unsynced drives.new number ≡ true }
-    ensures bare { HasNoDrive bdos.old.mounted → HasNoDrive bdos.new.mounted }
-    ensures none { HasNoDrive bdos.old.mounted → drives.new ≡ drives.old }
-    ensures unfailing { HasNoDrive bdos.old.mounted → OnErr result ⊥ }
     ensures cause { HasCause (D.faults drives.old) (D.faults drives.new) result }
     ensures within { (images : ℕ → List ℕ) (s : Situation) (j : ℕ) → function_of (call_of system.now.kernel.dispatcher.procs p).function ≡ None → Serves images bdos.old s j
         → IfOk result (λ extended. (reply.new ≡ (outcome_in s.filing p system.now).answer) × (extended ≡ (outcome_in s.filing p system.now).extended)) }
@@ -116,18 +109,10 @@ fn call_disk<D: Drives, L: Ledger>(
     requires lives { Lives system.now.kernel.dispatcher.procs p }
     requires fits { FitsDrives D.disks bdos.old.mounted bdos.old.cached drives.old }
     requires function { IsSome (function_of (call_of system.now.kernel.dispatcher.procs p).function) }
-    ensures ok { (filing : Filing) → StandsBetween bdos.old (D.disks drives.old) filing
-        → IfOk result (IsOutcome (D.disks drives.new) (outcome_in filing p system.now) bdos.new reply.new) }
-    ensures err { (filing : Filing) → StandsBetween bdos.old (D.disks drives.old) filing
-        → OnErr result (HaveImagesOf (FailsWithin (working_if true filing p system.now)) (D.disks drives.new) bdos.new.mounted) }
-    ensures calls { (filing : Filing) → StandsBetween bdos.old (D.disks drives.old) filing → steps.new ≤ steps.old + 20 * turns_done (working_if true filing p system.now) }
-    ensures keeps { KeepsMounted (D.told drives.old) (D.told drives.new) (D.disks drives.old) (D.disks drives.new) bdos.old.mounted bdos.new.mounted }
+    ensures done { (filing : Filing) → StandsBetween bdos.old (D.disks drives.old) filing
+        → ComesToOutcome filing p system.now bdos.new reply.new (D.disks drives.new) steps.old steps.new result }
+    ensures uses { UsesDrives D.disks D.told D.failed_names D.unsynced of_drive bdos.old.mounted bdos.new.mounted drives.old drives.new result }
     ensures fits { FitsDrives D.disks bdos.new.mounted bdos.new.cached drives.new }
-    ensures names { D.failed_names drives.new ≡ D.failed_names drives.old }
-    ensures unsynced { (number : ℕ) → D.unsynced drives.old number ≡ true → D.unsynced drives.new number ≡ true }
-    ensures bare { HasNoDrive bdos.old.mounted → HasNoDrive bdos.new.mounted }
-    ensures none { HasNoDrive bdos.old.mounted → drives.new ≡ drives.old }
-    ensures unfailing { HasNoDrive bdos.old.mounted → OnErr result ⊥ }
     ensures cause { HasCause (D.faults drives.old) (D.faults drives.new) result }
     ensures service { bdos.new.service ≡ None }
 {
@@ -190,15 +175,10 @@ pub(crate) fn work<D: Drives, L: Ledger>(
         → OnOk result (StandsWorked system.now.kernel.disk bdos.new (D.disks drives.new) files) }
     ensures err { (files : FilesInService) → StandsForFiles system.now.kernel.disk bdos.old (D.disks drives.old) files
         → OnErr result (HaveImagesOf (FailsWithin (working_turn_of system.now files)) (D.disks drives.new) bdos.new.mounted) }
-    ensures keeps { KeepsMounted (D.told drives.old) (D.told drives.new) (D.disks drives.old) (D.disks drives.new) bdos.old.mounted bdos.new.mounted }
-    ensures names { D.failed_names drives.new ≡ D.failed_names drives.old }
-    ensures unsynced { (number : ℕ) → D.unsynced drives.old number ≡ true → D.unsynced drives.new number ≡ true }
-    ensures bare { HasNoDrive bdos.old.mounted → HasNoDrive bdos.new.mounted }
-    ensures none { HasNoDrive bdos.old.mounted → drives.new ≡ drives.old }
+    ensures uses { UsesDrives D.disks D.told D.failed_names D.unsynced of_drive bdos.old.mounted bdos.new.mounted drives.old drives.new result }
     ensures holds { HoldsKept D.disks system.now.kernel bdos.new drives.new }
-    ensures unfailing { HasNoDrive bdos.old.mounted → IsOk result }
     ensures workless { has_work bdos.old.service ≡ false → IsOk result }
-    ensures idle { works_in_turn system.now ≡ false → IsOk result × (drives.new ≡ drives.old) × (steps.new ≡ steps.old) }
+    ensures idle { works_in_turn system.now ≡ false → CallsNone of_drive drives.old drives.new steps.old steps.new result }
     ensures few { steps.new ≤ steps.old + 20 }
     ensures cause { HasCause (D.faults drives.old) (D.faults drives.new) result }
 {

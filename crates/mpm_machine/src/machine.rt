@@ -1,4 +1,4 @@
-ghost use Rattle.std.specs.Prelude.{◌≡◌, ℕ, ◌+◌, ◌-◌, ◌*◌, ◌<◌, ◌≤◌, true, false, List, [], Option, Some, None, IfOk, OnOk, IfErr, OnErr, MatchOption, length, option_map};
+ghost use Rattle.std.specs.Prelude.{◌≡◌, ℕ, ◌+◌, ◌-◌, ◌*◌, ◌<◌, ◌≤◌, true, false, List, [], Option, Some, None, IfOk, OnOk, IfErr, MatchOption, MatchResult, length, option_map};
 ghost use Rattle.mpm_script.specs.declared.line.TheConstants.{GREATEST_STEP};
 
 use crate::filing::{bdos_of, work};
@@ -58,18 +58,18 @@ impl Machine {
     ghost use Rattle.mpm_machine.specs.State.{State, IsAt, StandsWithDrives};
     ghost use Rattle.mpm_machine.specs.Files.{FilesInService, Between, StandsForFiles};
     ghost use Rattle.mpm_machine.specs.Holding.{HoldsDrives};
-    ghost use Rattle.mpm_machine.specs.Stepping.{Telling, step_with, stepped};
     ghost use Rattle.mpm_service.specs.Disk.{no_service};
     ghost use Rattle.mpm_machine.specs.Faults.{counts, HaveCause, itself, of_run};
-    ghost use Rattle.mpm_machine.specs.Due.{NobodyDue};
     ghost use Rattle.mpm_machine.specs.Slots.{HasResidents};
     ghost use Rattle.mpm_machine.specs.Interpreting.{Interprets};
+    ghost use Rattle.mpm_machine.specs.Spooling.{IsSpooling};
     ghost use Rattle.mpm_system.specs.Opening.{booted, opened, IsBare, MayPlace, with_placed, opening_system, OnlyHas, with_residents};
     ghost use Rattle.mpm_queues.specs.Queues.{no_queues};
     ghost use Rattle.mpm_machine.specs.OneStep.{LeavesMachine, StopsStep, StopsRun, LeavesDrives};
-    ghost use Rattle.mpm_machine.specs.After.{next, after, IsOfSome, IsStepOf, HasSteppedTo, StopsBy, ShowsBefore, EndsInStep};
-    ghost use Rattle.mpm_machine.specs.Mounting.{HasMounted, HasNoDrive, HasDrives, KeepsMounted, OpensOn, untouched};
-    ghost use Rattle.mpm_machine.specs.Failing.{leaving, HaveImagesOf, StopsOn, StopsWithImages, does_work, turns_done, working_in};
+    ghost use Rattle.mpm_machine.specs.Parts.{IsBetweenSteps, HasMadeStep, HasAdvanced, StopsTaking, UsesDrives, CallsInStep};
+    ghost use Rattle.mpm_machine.specs.After.{next, after, IsStepOf, HasSteppedTo};
+    ghost use Rattle.mpm_machine.specs.Mounting.{HasMounted, HasNoDrive, HasDrives, OpensOn, untouched};
+    ghost use Rattle.mpm_machine.specs.Failing.{leaving, does_work, turns_done, working_in};
 
     /// The machine of a machine file, and of its script's events, as it is run. It has the command queue, the command line interpreter, a
     /// terminal message processor for each console, and the spooler and the scheduler with their queues, where the file asks for them. Its
@@ -89,6 +89,7 @@ impl Machine {
         ensures opening { IfOk result (λ machine. machine.system ≡ opened file.now script) }
         ensures residents { IfOk result (λ machine. HasResidents file.now.consoles file.now.spool file.now.sched machine.system) }
         ensures interprets { IfOk result (λ machine. Interprets machine.system) }
+        ensures spools { IfOk result (λ machine. file.now.spool ≡ true → IsSpooling (file.now.consoles + 1) machine.system []) }
         ensures start { IfOk result (λ machine. machine.system.steps ≡ 0) }
         ensures whole { IfOk result (λ machine. IsWhole machine.system) }
         ensures no_completions { IfOk result (λ machine. NoCompletions machine.system) }
@@ -335,32 +336,16 @@ impl Machine {
         steps: &mut Steps<L>,
     ) -> Result<(), StepFault>
         requires most { self.old.system.steps < GREATEST_STEP }
-        requires whole { IsWhole self.old.system }
-        requires no_completions { NoCompletions self.old.system }
-        requires holds { HoldsDrives D.disks self.old.system.kernel self.old.bdos drives.old }
+        requires between { IsBetweenSteps D.disks self.old drives.old }
         ensures ok { (files : FilesInService) → StandsForFiles self.old.system.kernel.disk self.old.bdos (D.disks drives.old) files
             → OnOk result (HasSteppedTo files (seen S.written S.faults render.old sink.old) (seen S.written S.faults render.new sink.new) self.old.system self.new.system self.new.bdos (D.disks drives.new)) }
-        ensures err { (files : FilesInService) → StandsForFiles self.old.system.kernel.disk self.old.bdos (D.disks drives.old) files
-            → IfErr result (λ fault. StopsBy fault (seen S.written S.faults render.old sink.old) (seen S.written S.faults render.new sink.new) (stepped self.old.system files).change.emitted) }
-        ensures images { (files : FilesInService) → StandsForFiles self.old.system.kernel.disk self.old.bdos (D.disks drives.old) files
-            → IfErr result (λ fault. HaveImagesOf (StopsOn fault self.old.system files) (D.disks drives.new) self.new.bdos.mounted) }
-        ensures made { OnOk result (IsOfSome (λ (telling : Telling). (step_with telling self.old.system).system) self.new.system) }
+        ensures stops { (files : FilesInService) → StandsForFiles self.old.system.kernel.disk self.old.bdos (D.disks drives.old) files
+            → IfErr result (λ fault. StopsTaking fault (seen S.written S.faults render.old sink.old) (seen S.written S.faults render.new sink.new) self.old.system self.new.bdos (D.disks drives.new) files) }
+        ensures made { OnOk result (HasMadeStep D.disks self.old self.new drives.new) }
+        ensures uses { UsesDrives D.disks D.told D.failed_names D.unsynced itself self.old.bdos.mounted self.new.bdos.mounted drives.old drives.new result }
+        ensures calls { CallsInStep (D.disks drives.old) self.old drives.old drives.new steps.old steps.new result }
         ensures trace { render.new.trace ≡ render.old.trace }
         ensures cause { HaveCause itself (counts S.faults D.faults sink.old drives.old) (counts S.faults D.faults sink.new drives.new) result }
-        ensures keeps { KeepsMounted (D.told drives.old) (D.told drives.new) (D.disks drives.old) (D.disks drives.new) self.old.bdos.mounted self.new.bdos.mounted }
-        ensures holds { OnOk result (HoldsDrives D.disks self.new.system.kernel self.new.bdos drives.new) }
-        ensures names { D.failed_names drives.new ≡ D.failed_names drives.old }
-        ensures unsynced { (number : ℕ) → D.unsynced drives.old number ≡ true → D.unsynced drives.new number ≡ true }
-        ensures bare { HasNoDrive self.old.bdos.mounted → HasNoDrive self.new.bdos.mounted }
-        ensures none { HasNoDrive self.old.bdos.mounted → drives.new ≡ drives.old }
-        ensures unfailing { HasNoDrive self.old.bdos.mounted → IfErr result (λ fault. fault ≡ StepFault.WriteFault) }
-        ensures sink { does_work self.old.system ≡ false → IfErr result (λ fault. fault ≡ StepFault.WriteFault) }
-        ensures drives { does_work self.old.system ≡ false → drives.new ≡ drives.old }
-        ensures device_calls { does_work self.old.system ≡ false → steps.new ≡ steps.old }
-        ensures calls { (files : FilesInService) → StandsForFiles self.old.system.kernel.disk self.old.bdos (D.disks drives.old) files
-            → steps.new ≤ steps.old + 20 * turns_done (working_in self.old.system files) }
-        ensures few { 0 < self.old.system.kernel.disk.turn_steps → steps.new ≤ steps.old + 20 }
-        ensures turn_steps { OnOk result (self.new.system.kernel.disk.turn_steps ≡ self.old.system.kernel.disk.turn_steps) }
     {
         if let Err(Failed) = work(&self.system, &mut self.bdos, drives, steps) {
             return Err(StepFault::DiskFault);
@@ -430,40 +415,22 @@ impl Machine {
     ) -> Result<u64, RunFault>
         requires some { 0 < most }
         requires room { self.old.system.steps + most ≤ GREATEST_STEP }
-        requires whole { IsWhole self.old.system }
-        requires no_completions { NoCompletions self.old.system }
-        requires holds { HoldsDrives D.disks self.old.system.kernel self.old.bdos drives.old }
+        requires between { IsBetweenSteps D.disks self.old drives.old }
         ensures ok { (s : State) (first : List ℕ) → StandsWithDrives self.old render.old (S.written sink.old) (D.disks drives.old) s first
             → IfOk result (λ more. StandsWithDrives self.new render.new (S.written sink.new) (D.disks drives.new) (after more s) first) }
         ensures model { (s : State) → IsAt self.old (D.disks drives.old) s → IfOk result (λ more. IsAt self.new (D.disks drives.new) (after more s)) }
-        ensures err { (s : State) (first : List ℕ) → StandsWithDrives self.old render.old (S.written sink.old) (D.disks drives.old) s first
-            → IfErr result (λ error. EndsInStep error.fault render.old.trace (S.written sink.new) first s most error.step) }
-        ensures shown { (s : State) (first : List ℕ) → StandsWithDrives self.old render.old (S.written sink.old) (D.disks drives.old) s first
-            → IfErr result (λ error. ShowsBefore error.fault render.new (S.written sink.new) (after (error.step - 1 - s.system.steps) s) first) }
-        ensures images { (s : State) (first : List ℕ) → StandsWithDrives self.old render.old (S.written sink.old) (D.disks drives.old) s first
-            → IfErr result (λ error. StopsWithImages error.fault (D.disks drives.new) self.new.bdos.mounted (after (error.step - 1 - s.system.steps) s)) }
-        ensures interprets { Interprets self.old.system → OnOk result (Interprets self.new.system) }
-        ensures due { OnOk result (NobodyDue self.new.system.kernel) }
-        ensures some { IfOk result (λ more. 0 < more) }
-        ensures few { IfOk result (λ more. more ≤ most) }
-        ensures whole { OnOk result (IsWhole self.new.system) }
-        ensures no_completions { OnOk result (NoCompletions self.new.system) }
-        ensures count { IfOk result (λ more. self.new.system.steps ≡ self.old.system.steps + more) }
+        ensures stops { (s : State) (first : List ℕ) → StandsWithDrives self.old render.old (S.written sink.old) (D.disks drives.old) s first
+            → IfErr result (λ error. StopsRun error render.old.trace (leaving S.written D.disks render.new sink.new drives.new self.new.bdos.mounted) most s first) }
+        ensures advanced { IfOk result (λ more. HasAdvanced most more self.old self.new) }
+        ensures holds { OnOk result (HoldsDrives D.disks self.new.system.kernel self.new.bdos drives.new) }
+        ensures uses { UsesDrives D.disks D.told D.failed_names D.unsynced of_run self.old.bdos.mounted self.new.bdos.mounted drives.old drives.new result }
+        ensures calls { 0 < self.old.system.kernel.disk.turn_steps → MatchResult result (λ more. steps.new ≤ steps.old + 20 * more) (λ _. steps.new ≤ steps.old + 20 * most) }
         ensures trace { render.new.trace ≡ render.old.trace }
         ensures cause { HaveCause of_run (counts S.faults D.faults sink.old drives.old) (counts S.faults D.faults sink.new drives.new) result }
-        ensures keeps { KeepsMounted (D.told drives.old) (D.told drives.new) (D.disks drives.old) (D.disks drives.new) self.old.bdos.mounted self.new.bdos.mounted }
-        ensures holds { OnOk result (HoldsDrives D.disks self.new.system.kernel self.new.bdos drives.new) }
-        ensures names { D.failed_names drives.new ≡ D.failed_names drives.old }
-        ensures unsynced { (number : ℕ) → D.unsynced drives.old number ≡ true → D.unsynced drives.new number ≡ true }
-        ensures bare { HasNoDrive self.old.bdos.mounted → HasNoDrive self.new.bdos.mounted }
-        ensures none { HasNoDrive self.old.bdos.mounted → drives.new ≡ drives.old }
-        ensures unfailing { HasNoDrive self.old.bdos.mounted → IfErr result (λ error. error.fault ≡ StepFault.WriteFault) }
-        ensures calls { 0 < self.old.system.kernel.disk.turn_steps → IfOk result (λ more. steps.new ≤ steps.old + 20 * more) }
-        ensures last_calls { 0 < self.old.system.kernel.disk.turn_steps → OnErr result (steps.new ≤ steps.old + 20 * most) }
-        ensures turn_steps { OnOk result (self.new.system.kernel.disk.turn_steps ≡ self.old.system.kernel.disk.turn_steps) }
     {
         let done = self.run_on(most, drives, render, sink);
         if done == most {
+            self.bdos.tell_sound();
             return Ok(done);
         }
         let step = self.steps_done() + 1;

@@ -28,11 +28,12 @@ impl Machine {
     ghost use Rattle.mpm_system.specs.Whole.{IsWhole, NoCompletions};
     ghost use Rattle.mpm_machine.specs.State.{State, StandsWithDrives};
     ghost use Rattle.mpm_machine.specs.Files.{FilesInService, Within, StandsForFiles, filing_in};
-    ghost use Rattle.mpm_machine.specs.Holding.{HoldsKept, HoldsDrives};
+    ghost use Rattle.mpm_machine.specs.Holding.{HoldsDrives};
     ghost use Rattle.mpm_machine.specs.Faults.{counts, HaveCause, itself, EndsBy, OnDiskFault};
     ghost use Rattle.mpm_machine.specs.Mounting.{HasNoDrive, KeepsMounted};
     ghost use Rattle.mpm_machine.specs.Failing.{leaving, HaveImages};
     ghost use Rattle.mpm_machine.specs.After.{EndKeeps};
+    ghost use Rattle.mpm_machine.specs.Parts.{IsBetweenSteps, UsesDrives};
     ghost use Rattle.mpm_machine.specs.Settling.{carried_out, turns_passed, HasCarried, StopsCarrying};
     ghost use Rattle.mpm_machine.specs.AtEnd.{EndsRun, StopsAtEnd, StopsSettling, called, TurnsCall, SyncsAll, SyncsTo, BehindTurns};
 
@@ -116,25 +117,19 @@ impl Machine {
         sink: &mut S,
         steps: &mut Steps<L>,
     ) -> Result<(), StepFault>
-        requires whole { IsWhole self.old.system }
-        requires no_completions { NoCompletions self.old.system }
-        requires holds { HoldsKept D.disks self.old.system.kernel self.old.bdos drives.old }
+        requires between { IsBetweenSteps D.disks self.old drives.old }
         ensures ok { (files : FilesInService) → StandsForFiles self.old.system.kernel.disk self.old.bdos (D.disks drives.old) files
             → OnOk result (HasCarried files (seen S.written S.faults render.old sink.old) (seen S.written S.faults render.new sink.new) self.old.system self.new.system self.new.bdos (D.disks drives.new)) }
         ensures err { (files : FilesInService) → StandsForFiles self.old.system.kernel.disk self.old.bdos (D.disks drives.old) files
             → IfErr result (λ fault. StopsCarrying fault files (seen S.written S.faults render.old sink.old) (seen S.written S.faults render.new sink.new) self.old.system self.new.bdos.mounted (D.disks drives.new)) }
         ensures whole { OnOk result (IsWhole self.new.system) }
         ensures serves { OnErr result (IsSome self.old.system.kernel.disk.served) }
+        ensures idle { self.old.system.kernel.disk.served ≡ None → drives.new ≡ drives.old }
+        ensures uses { UsesDrives D.disks D.told D.failed_names D.unsynced itself self.old.bdos.mounted self.new.bdos.mounted drives.old drives.new result }
+        ensures called { TurnsCall self.old.system self.old.bdos (called D.unsynced drives.old steps.old) (called D.unsynced drives.new steps.new) }
+        ensures fits { FitsDrives D.disks self.new.bdos.mounted self.new.bdos.cached drives.new }
         ensures trace { render.new.trace ≡ render.old.trace }
         ensures cause { HaveCause itself (counts S.faults D.faults sink.old drives.old) (counts S.faults D.faults sink.new drives.new) result }
-        ensures keeps { KeepsMounted (D.told drives.old) (D.told drives.new) (D.disks drives.old) (D.disks drives.new) self.old.bdos.mounted self.new.bdos.mounted }
-        ensures names { D.failed_names drives.new ≡ D.failed_names drives.old }
-        ensures called { TurnsCall self.old.system self.old.bdos (called D.unsynced drives.old steps.old) (called D.unsynced drives.new steps.new) }
-        ensures bare { HasNoDrive self.old.bdos.mounted → HasNoDrive self.new.bdos.mounted }
-        ensures none { HasNoDrive self.old.bdos.mounted → drives.new ≡ drives.old }
-        ensures unfailing { HasNoDrive self.old.bdos.mounted → IfErr result (λ fault. fault ≡ StepFault.WriteFault) }
-        ensures fits { FitsDrives D.disks self.new.bdos.mounted self.new.bdos.cached drives.new }
-        ensures idle { self.old.system.kernel.disk.served ≡ None → drives.new ≡ drives.old }
     {
         match self.system.kernel.disk().serving() {
             Some(p) => self.carry_call(p, drives, render, sink, steps),
@@ -151,24 +146,18 @@ impl Machine {
         sink: &mut S,
         steps: &mut Steps<L>,
     ) -> Result<(), StepFault>
-        requires whole { IsWhole self.old.system }
-        requires no_completions { NoCompletions self.old.system }
+        requires between { IsBetweenSteps D.disks self.old drives.old }
         requires served { served_process self.old.system.kernel.disk ≡ Some p }
-        requires holds { HoldsKept D.disks self.old.system.kernel self.old.bdos drives.old }
         ensures ok { (files : FilesInService) → StandsForFiles self.old.system.kernel.disk self.old.bdos (D.disks drives.old) files
             → OnOk result (HasCarried files (seen S.written S.faults render.old sink.old) (seen S.written S.faults render.new sink.new) self.old.system self.new.system self.new.bdos (D.disks drives.new)) }
         ensures err { (files : FilesInService) → StandsForFiles self.old.system.kernel.disk self.old.bdos (D.disks drives.old) files
             → IfErr result (λ fault. StopsCarrying fault files (seen S.written S.faults render.old sink.old) (seen S.written S.faults render.new sink.new) self.old.system self.new.bdos.mounted (D.disks drives.new)) }
         ensures whole { OnOk result (IsWhole self.new.system) }
+        ensures uses { UsesDrives D.disks D.told D.failed_names D.unsynced itself self.old.bdos.mounted self.new.bdos.mounted drives.old drives.new result }
+        ensures called { TurnsCall self.old.system self.old.bdos (called D.unsynced drives.old steps.old) (called D.unsynced drives.new steps.new) }
+        ensures fits { FitsDrives D.disks self.new.bdos.mounted self.new.bdos.cached drives.new }
         ensures trace { render.new.trace ≡ render.old.trace }
         ensures cause { HaveCause itself (counts S.faults D.faults sink.old drives.old) (counts S.faults D.faults sink.new drives.new) result }
-        ensures keeps { KeepsMounted (D.told drives.old) (D.told drives.new) (D.disks drives.old) (D.disks drives.new) self.old.bdos.mounted self.new.bdos.mounted }
-        ensures names { D.failed_names drives.new ≡ D.failed_names drives.old }
-        ensures called { TurnsCall self.old.system self.old.bdos (called D.unsynced drives.old steps.old) (called D.unsynced drives.new steps.new) }
-        ensures bare { HasNoDrive self.old.bdos.mounted → HasNoDrive self.new.bdos.mounted }
-        ensures none { HasNoDrive self.old.bdos.mounted → drives.new ≡ drives.old }
-        ensures unfailing { HasNoDrive self.old.bdos.mounted → IfErr result (λ fault. fault ≡ StepFault.WriteFault) }
-        ensures fits { FitsDrives D.disks self.new.bdos.mounted self.new.bdos.cached drives.new }
     {
         let turns = self.system.kernel.finish_disk_call();
         if let Err(Failed) = self.bdos.do_turns(turns, drives, steps) {

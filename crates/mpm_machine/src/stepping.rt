@@ -1,5 +1,4 @@
-ghost use Rattle.std.specs.Prelude.{◌≡◌, ℕ, ◌+◌, ◌*◌, ◌<◌, ◌≤◌, ◌&&◌, true, false, List, [], Option, Some, None, IfOk, OnOk, IfErr, OnErr, IsSome, length, is_some};
-ghost use Rattle.mpm_script.specs.declared.line.TheConstants.{GREATEST_STEP};
+ghost use Rattle.std.specs.Prelude.{◌≡◌, ℕ, ◌+◌, ◌*◌, ◌<◌, ◌≤◌, ◌&&◌, false, List, [], Option, Some, None, IfOk, OnOk, IfErr, OnErr, IsSome, length, is_some};
 
 use crate::acting::begin_alone;
 use crate::disk::{end_file_call, is_done_at_once};
@@ -20,14 +19,13 @@ impl Machine {
     ghost use Rattle.mpm_bdos.specs.Serving.{Serves, filing_of};
     ghost use Rattle.mpm_output.specs.Outside.{seen};
     ghost use Rattle.mpm_output.specs.Writing.{CameOut, Stopped};
-    ghost use Rattle.mpm_system.specs.Whole.{silent, IsWhole, NoCompletions, HasRoom, HasRoomForAll};
+    ghost use Rattle.mpm_system.specs.Whole.{silent, IsWhole, HasRoom, HasRoomForAll};
     ghost use Rattle.mpm_machine.specs.Files.{FilesInService, Between, StandsBetween, StandsWorked, StandsForFiles, drives_in, all_left};
-    ghost use Rattle.mpm_machine.specs.Holding.{OwnsService, AreFiled, HoldsKept};
+    ghost use Rattle.mpm_machine.specs.Holding.{OwnsService, HoldsKept};
     ghost use Rattle.mpm_machine.specs.DiskStep.{is_done_at_once, file_called, files_called, told_at_gate, told_of_call, call_over, disk_served, files_served, all_paid, call_entered, files_entered, turns_within};
-    ghost use Rattle.mpm_machine.specs.Stepping.{Telling, begun_as, is_instruction, entered_after, rest_of, nothing_told, before_disk, files_begun, told_within, telling_then, files_rest};
+    ghost use Rattle.mpm_machine.specs.Stepping.{Telling, is_instruction, entered_after, rest_of, nothing_told, told_within, telling_then, files_rest};
     ghost use Rattle.mpm_service.specs.Disk.{HasBegun};
     ghost use Rattle.mpm_kernel.specs.Disk.{IsOver};
-    ghost use Rattle.mpm_dispatcher.specs.Dispatch.{IsReady};
     ghost use Rattle.mpm_mount.specs.Drives.{Drive};
     ghost use Rattle.mpm_port.specs.Disks.{Disks};
     ghost use Rattle.mpm_port.specs.Causes.{HasCause};
@@ -37,12 +35,12 @@ impl Machine {
     ghost use Rattle.mpm_bdos.specs.Outcomes.{file_call};
     ghost use Rattle.mpm_bdos.specs.Turns.{has_work, images_of};
     ghost use Rattle.mpm_machine.specs.Faults.{counts, HaveCause, itself, OnDiskFault, OnWriteFault};
-    ghost use Rattle.mpm_machine.specs.Due.{NobodyDue};
     ghost use Rattle.mpm_machine.specs.FileCalls.{file_caller, told_of, concluded};
     ghost use Rattle.mpm_machine.specs.After.{IsOfSome, StopsBy, HasBegunTo, HasEndedTo, HasCalled, HasServedTo, EndKeeps};
     ghost use Rattle.mpm_directories.specs.Direct.{Directly};
-    ghost use Rattle.mpm_machine.specs.Mounting.{HasNoDrive, KeepsMounted};
+    ghost use Rattle.mpm_machine.specs.Mounting.{HasNoDrive};
     ghost use Rattle.mpm_machine.specs.Failing.{FailsWithin, HaveImages, HaveImagesOf, turns_done, working_if, working_in, works_at_once};
+    ghost use Rattle.mpm_machine.specs.Parts.{MayBegin, MayCall, MayEnd, HoldsCalls, HasBegunStep, HasEndedStep, StopsBeginning, EndLeaves, UsesDrives, CallsAtOnce};
 
     /// What a step begins with, and the held calls that this completed. Answers whether it was an instruction. A drive may fail only
     /// where a file call is done at once, before anything is written.
@@ -54,35 +52,15 @@ impl Machine {
         sink: &mut S,
         steps: &mut Steps<L>,
     ) -> Result<bool, StepFault>
-        requires most { self.old.system.steps < GREATEST_STEP }
-        requires whole { IsWhole self.old.system }
-        requires no_completions { NoCompletions self.old.system }
-        requires holds { HoldsKept D.disks self.old.system.kernel self.old.bdos drives.old }
+        requires may { MayBegin D.disks self.old drives.old }
         ensures ok { (files : FilesInService) → StandsWorked self.old.system.kernel.disk self.old.bdos (D.disks drives.old) files
             → OnOk result (HasBegunTo files (seen S.written S.faults render.old sink.old) (seen S.written S.faults render.new sink.new) self.old.system self.new.system self.new.bdos (D.disks drives.new)) }
-        ensures err { (files : FilesInService) → StandsWorked self.old.system.kernel.disk self.old.bdos (D.disks drives.old) files
-            → IfErr result (λ fault. StopsBy fault (seen S.written S.faults render.old sink.old) (seen S.written S.faults render.new sink.new) (before_disk self.old.system files).emitted) }
-        ensures images { (files : FilesInService) → StandsWorked self.old.system.kernel.disk self.old.bdos (D.disks drives.old) files
-            → IfErr result (λ fault. OnDiskFault fault (HaveImagesOf (FailsWithin (working_in self.old.system files)) (D.disks drives.new) self.new.bdos.mounted)) }
-        ensures stands { (files : FilesInService) → StandsWorked self.old.system.kernel.disk self.old.bdos (D.disks drives.old) files
-            → IfErr result (λ fault. OnWriteFault fault (StandsWorked self.old.system.kernel.disk self.new.bdos (D.disks drives.new) (files_begun self.old.system files))) }
+        ensures stops { (files : FilesInService) → StandsWorked self.old.system.kernel.disk self.old.bdos (D.disks drives.old) files
+            → IfErr result (λ fault. StopsBeginning fault (seen S.written S.faults render.old sink.old) (seen S.written S.faults render.new sink.new) self.old.system self.new.bdos (D.disks drives.new) files) }
         ensures instruction { IfOk result (λ instruction. instruction ≡ is_instruction (file_caller self.old.system) self.old.system) }
-        ensures made { OnOk result (IsOfSome (λ (told : Directly). (begun_as told self.old.system).system) self.new.system) }
-        ensures served { OnOk result (self.new.system.kernel.disk.served ≡ self.old.system.kernel.disk.served) }
-        ensures turn_steps { OnOk result (self.new.system.kernel.disk.turn_steps ≡ self.old.system.kernel.disk.turn_steps) }
-        ensures whole { OnOk result (IsWhole self.new.system) }
-        ensures completed { OnOk result (self.new.system.kernel.dispatcher.completed ≡ []) }
-        ensures room { OnOk result (HasRoomForAll (length self.new.system.records + 1)) }
-        ensures keeps { KeepsMounted (D.told drives.old) (D.told drives.new) (D.disks drives.old) (D.disks drives.new) self.old.bdos.mounted self.new.bdos.mounted }
-        ensures names { D.failed_names drives.new ≡ D.failed_names drives.old }
-        ensures unsynced { (number : ℕ) → D.unsynced drives.old number ≡ true → D.unsynced drives.new number ≡ true }
-        ensures bare { HasNoDrive self.old.bdos.mounted → HasNoDrive self.new.bdos.mounted }
-        ensures none { HasNoDrive self.old.bdos.mounted → drives.new ≡ drives.old }
-        ensures holds { OnOk result (HoldsKept D.disks self.new.system.kernel self.new.bdos drives.new) }
-        ensures unfailing { HasNoDrive self.old.bdos.mounted → IfErr result (λ fault. fault ≡ StepFault.WriteFault) }
-        ensures idle { works_at_once (file_caller self.old.system) self.old.system ≡ false
-            → IfErr result (λ fault. fault ≡ StepFault.WriteFault) × (drives.new ≡ drives.old) × (steps.new ≡ steps.old) }
-        ensures apart { IsSome self.old.system.kernel.disk.served → IfErr result (λ fault. fault ≡ StepFault.WriteFault) × (drives.new ≡ drives.old) × (steps.new ≡ steps.old) }
+        ensures begun { OnOk result (HasBegunStep D.disks self.old self.new drives.new) }
+        ensures uses { UsesDrives D.disks D.told D.failed_names D.unsynced itself self.old.bdos.mounted self.new.bdos.mounted drives.old drives.new result }
+        ensures rests { CallsAtOnce (works_at_once (file_caller self.old.system) self.old.system) self.old.system.kernel.disk.served drives.old drives.new steps.old steps.new result }
         ensures calls { (files : FilesInService) → StandsWorked self.old.system.kernel.disk self.old.bdos (D.disks drives.old) files
             → steps.new ≤ steps.old + 20 * turns_done (working_in self.old.system files) }
         ensures trace { render.new.trace ≡ render.old.trace }
@@ -111,35 +89,15 @@ impl Machine {
         sink: &mut S,
         steps: &mut Steps<L>,
     ) -> Result<(), StepFault>
-        requires most { self.old.system.steps < GREATEST_STEP }
-        requires whole { IsWhole self.old.system }
-        requires no_completions { NoCompletions self.old.system }
+        requires may { MayBegin D.disks self.old drives.old }
         requires caller { file_caller self.old.system ≡ Some p }
-        requires holds { HoldsKept D.disks self.old.system.kernel self.old.bdos drives.old }
         ensures ok { (files : FilesInService) → StandsWorked self.old.system.kernel.disk self.old.bdos (D.disks drives.old) files
             → OnOk result (HasBegunTo files (seen S.written S.faults render.old sink.old) (seen S.written S.faults render.new sink.new) self.old.system self.new.system self.new.bdos (D.disks drives.new)) }
-        ensures err { (files : FilesInService) → StandsWorked self.old.system.kernel.disk self.old.bdos (D.disks drives.old) files
-            → IfErr result (λ fault. StopsBy fault (seen S.written S.faults render.old sink.old) (seen S.written S.faults render.new sink.new) (before_disk self.old.system files).emitted) }
-        ensures images { (files : FilesInService) → StandsWorked self.old.system.kernel.disk self.old.bdos (D.disks drives.old) files
-            → IfErr result (λ fault. OnDiskFault fault (HaveImagesOf (FailsWithin (working_in self.old.system files)) (D.disks drives.new) self.new.bdos.mounted)) }
-        ensures stands { (files : FilesInService) → StandsWorked self.old.system.kernel.disk self.old.bdos (D.disks drives.old) files
-            → IfErr result (λ fault. OnWriteFault fault (StandsWorked self.old.system.kernel.disk self.new.bdos (D.disks drives.new) (files_begun self.old.system files))) }
-        ensures made { OnOk result (IsOfSome (λ (told : Directly). (begun_as told self.old.system).system) self.new.system) }
-        ensures served { OnOk result (self.new.system.kernel.disk.served ≡ self.old.system.kernel.disk.served) }
-        ensures turn_steps { OnOk result (self.new.system.kernel.disk.turn_steps ≡ self.old.system.kernel.disk.turn_steps) }
-        ensures whole { OnOk result (IsWhole self.new.system) }
-        ensures completed { OnOk result (self.new.system.kernel.dispatcher.completed ≡ []) }
-        ensures room { OnOk result (HasRoomForAll (length self.new.system.records + 1)) }
-        ensures keeps { KeepsMounted (D.told drives.old) (D.told drives.new) (D.disks drives.old) (D.disks drives.new) self.old.bdos.mounted self.new.bdos.mounted }
-        ensures names { D.failed_names drives.new ≡ D.failed_names drives.old }
-        ensures unsynced { (number : ℕ) → D.unsynced drives.old number ≡ true → D.unsynced drives.new number ≡ true }
-        ensures bare { HasNoDrive self.old.bdos.mounted → HasNoDrive self.new.bdos.mounted }
-        ensures none { HasNoDrive self.old.bdos.mounted → drives.new ≡ drives.old }
-        ensures holds { OnOk result (HoldsKept D.disks self.new.system.kernel self.new.bdos drives.new) }
-        ensures unfailing { HasNoDrive self.old.bdos.mounted → IfErr result (λ fault. fault ≡ StepFault.WriteFault) }
-        ensures idle { works_at_once (file_caller self.old.system) self.old.system ≡ false
-            → IfErr result (λ fault. fault ≡ StepFault.WriteFault) × (drives.new ≡ drives.old) × (steps.new ≡ steps.old) }
-        ensures apart { IsSome self.old.system.kernel.disk.served → IfErr result (λ fault. fault ≡ StepFault.WriteFault) × (drives.new ≡ drives.old) × (steps.new ≡ steps.old) }
+        ensures stops { (files : FilesInService) → StandsWorked self.old.system.kernel.disk self.old.bdos (D.disks drives.old) files
+            → IfErr result (λ fault. StopsBeginning fault (seen S.written S.faults render.old sink.old) (seen S.written S.faults render.new sink.new) self.old.system self.new.bdos (D.disks drives.new) files) }
+        ensures begun { OnOk result (HasBegunStep D.disks self.old self.new drives.new) }
+        ensures uses { UsesDrives D.disks D.told D.failed_names D.unsynced itself self.old.bdos.mounted self.new.bdos.mounted drives.old drives.new result }
+        ensures rests { CallsAtOnce (works_at_once (file_caller self.old.system) self.old.system) self.old.system.kernel.disk.served drives.old drives.new steps.old steps.new result }
         ensures calls { (files : FilesInService) → StandsWorked self.old.system.kernel.disk self.old.bdos (D.disks drives.old) files
             → steps.new ≤ steps.old + 20 * turns_done (working_in self.old.system files) }
         ensures trace { render.new.trace ≡ render.old.trace }
@@ -164,12 +122,7 @@ impl Machine {
         sink: &mut S,
         steps: &mut Steps<L>,
     ) -> Result<(), StepFault>
-        requires whole { IsWhole self.old.system }
-        requires completed { self.old.system.kernel.dispatcher.completed ≡ [] }
-        requires none { self.old.system.records ≡ [] }
-        requires lives { Lives self.old.system.kernel.dispatcher.procs p }
-        requires ready { IsReady self.old.system.kernel.dispatcher p }
-        requires holds { HoldsKept D.disks self.old.system.kernel self.old.bdos drives.old }
+        requires may { MayCall D.disks p self.old drives.old }
         ensures ok { (files : FilesInService) → StandsWorked self.old.system.kernel.disk self.old.bdos (D.disks drives.old) files
             → OnOk result (HasCalled (told_at_gate p self.old.system files) p (seen S.written S.faults render.old sink.old) (seen S.written S.faults render.new sink.new) self.old.system self.new.system
             × StandsWorked self.new.system.kernel.disk self.new.bdos (D.disks drives.new) (files_called p self.old.system files)) }
@@ -180,16 +133,10 @@ impl Machine {
         ensures stands { (files : FilesInService) → StandsWorked self.old.system.kernel.disk self.old.bdos (D.disks drives.old) files
             → IfErr result (λ fault. OnWriteFault fault (StandsWorked self.old.system.kernel.disk self.new.bdos (D.disks drives.new) (files_called p self.old.system files))) }
         ensures made { OnOk result (IsOfSome (λ (told : Directly). (file_called told p self.old.system).system) self.new.system) }
-        ensures keeps { KeepsMounted (D.told drives.old) (D.told drives.new) (D.disks drives.old) (D.disks drives.new) self.old.bdos.mounted self.new.bdos.mounted }
-        ensures names { D.failed_names drives.new ≡ D.failed_names drives.old }
-        ensures unsynced { (number : ℕ) → D.unsynced drives.old number ≡ true → D.unsynced drives.new number ≡ true }
-        ensures bare { HasNoDrive self.old.bdos.mounted → HasNoDrive self.new.bdos.mounted }
-        ensures none { HasNoDrive self.old.bdos.mounted → drives.new ≡ drives.old }
+        ensures uses { UsesDrives D.disks D.told D.failed_names D.unsynced itself self.old.bdos.mounted self.new.bdos.mounted drives.old drives.new result }
         ensures holds { HoldsKept D.disks self.old.system.kernel self.new.bdos drives.new }
-        ensures unfailing { HasNoDrive self.old.bdos.mounted → IfErr result (λ fault. fault ≡ StepFault.WriteFault) }
-        ensures idle { (is_some (function_of (call_of self.old.system.kernel.dispatcher.procs p).function) && is_done_at_once p self.old.system) ≡ false
-            → IfErr result (λ fault. fault ≡ StepFault.WriteFault) × (drives.new ≡ drives.old) × (steps.new ≡ steps.old) }
-        ensures apart { IsSome self.old.system.kernel.disk.served → IfErr result (λ fault. fault ≡ StepFault.WriteFault) × (drives.new ≡ drives.old) × (steps.new ≡ steps.old) }
+        ensures rests { CallsAtOnce (is_some (function_of (call_of self.old.system.kernel.dispatcher.procs p).function) && is_done_at_once p self.old.system) self.old.system.kernel.disk.served
+            drives.old drives.new steps.old steps.new result }
         ensures calls { (filing : Filing) → StandsWorked self.old.system.kernel.disk self.old.bdos (D.disks drives.old) (Between filing)
             → steps.new ≤ steps.old + 20 * turns_done (working_if (is_done_at_once p self.old.system) filing p self.old.system) }
         ensures trace { render.new.trace ≡ render.old.trace }
@@ -243,12 +190,8 @@ impl Machine {
         render: &mut Render,
         sink: &mut S,
     ) -> Result<(), Failed>
-        requires whole { IsWhole self.old.system }
-        requires completed { self.old.system.kernel.dispatcher.completed ≡ [] }
+        requires may { MayEnd self.old }
         requires room { HasRoomForAll (length self.old.system.records + 1) }
-        requires begun { HasBegun self.old.system.kernel.disk }
-        requires filed { AreFiled self.old.system.kernel }
-        requires own { OwnsService self.old.system.kernel self.old.bdos.service }
         ensures ok { (disks : Disks) (files : FilesInService) → StandsWorked self.old.system.kernel.disk self.old.bdos disks files
             → OnOk result (HasEndedTo instruction files (seen S.written S.faults render.old sink.old) (seen S.written S.faults render.new sink.new) self.old.system self.new.system self.new.bdos disks) }
         ensures err { (disks : Disks) (files : FilesInService) → StandsWorked self.old.system.kernel.disk self.old.bdos disks files
@@ -256,16 +199,8 @@ impl Machine {
         ensures stands { (disks : Disks) (files : FilesInService) → StandsWorked self.old.system.kernel.disk self.old.bdos disks files
             → OnErr result (HaveImages disks self.new.bdos.mounted (drives_in (rest_of instruction (telling_then nothing_told self.old.system files) (silent self.old.system)).system.kernel.disk.served (files_rest self.old.system files))) }
         ensures made { OnOk result (IsOfSome (λ (telling : Telling). (rest_of instruction telling (silent self.old.system)).system) self.new.system) }
-        ensures due { OnOk result (NobodyDue self.new.system.kernel) }
-        ensures whole { OnOk result (IsWhole self.new.system) }
-        ensures no_completions { OnOk result (NoCompletions self.new.system) }
-        ensures count { OnOk result (self.new.system.steps ≡ self.old.system.steps) }
-        ensures begun { OnOk result (HasBegun self.new.system.kernel.disk) }
-        ensures filed { OnOk result (AreFiled self.new.system.kernel) }
-        ensures own { OnOk result (OwnsService self.new.system.kernel self.new.bdos.service) }
-        ensures turn_steps { OnOk result (self.new.system.kernel.disk.turn_steps ≡ self.old.system.kernel.disk.turn_steps) }
-        ensures kept { EndKeeps self.old.bdos self.new.bdos }
-        ensures workless { HasNoDrive self.old.bdos.mounted → has_work self.old.bdos.service ≡ false → has_work self.new.bdos.service ≡ false }
+        ensures ended { OnOk result (HasEndedStep self.old self.new) }
+        ensures leaves { EndLeaves self.old.bdos self.new.bdos }
         ensures trace { render.new.trace ≡ render.old.trace }
         ensures cause { HasCause (S.faults sink.old) (S.faults sink.new) result }
     {
@@ -284,24 +219,15 @@ impl Machine {
     /// and the next call enters service.
     #[inline(always)]
     fn serve_disk<S: Sink>(&mut self, render: &mut Render, sink: &mut S) -> Result<(), Failed>
-        requires whole { IsWhole self.old.system }
-        requires completed { self.old.system.kernel.dispatcher.completed ≡ [] }
+        requires may { MayEnd self.old }
         requires room { HasRoomForAll (length self.old.system.records + 1) }
-        requires begun { HasBegun self.old.system.kernel.disk }
-        requires filed { AreFiled self.old.system.kernel }
-        requires own { OwnsService self.old.system.kernel self.old.bdos.service }
         ensures ok { (disks : Disks) (files : FilesInService) → StandsWorked self.old.system.kernel.disk self.old.bdos disks files
             → OnOk result (HasServedTo files (seen S.written S.faults render.old sink.old) (seen S.written S.faults render.new sink.new) self.old.system self.new.system self.new.bdos disks) }
         ensures err { (disks : Disks) (files : FilesInService) → StandsWorked self.old.system.kernel.disk self.old.bdos disks files
             → OnErr result (Stopped (seen S.written S.faults render.old sink.old) (seen S.written S.faults render.new sink.new) (disk_served (told_within files self.old.system) self.old.system).emitted) }
         ensures made { OnOk result (IsOfSome (λ (telling : Telling). entered_after telling self.old.system) self.new.system) }
-        ensures begun { OnOk result (HasBegun self.new.system.kernel.disk) }
-        ensures filed { OnOk result (AreFiled self.new.system.kernel) }
-        ensures own { OnOk result (OwnsService self.new.system.kernel self.new.bdos.service) }
-        ensures whole { OnOk result (IsWhole self.new.system) }
-        ensures completed { OnOk result (self.new.system.kernel.dispatcher.completed ≡ []) }
-        ensures kept { EndKeeps self.old.bdos self.new.bdos }
-        ensures workless { HasNoDrive self.old.bdos.mounted → has_work self.old.bdos.service ≡ false → has_work self.new.bdos.service ≡ false }
+        ensures may { OnOk result (MayEnd self.new) }
+        ensures leaves { EndLeaves self.old.bdos self.new.bdos }
         ensures trace { render.new.trace ≡ render.old.trace }
         ensures cause { HasCause (S.faults sink.old) (S.faults sink.new) result }
     {
@@ -315,12 +241,8 @@ impl Machine {
 
     /// A step of the call in service, if there is one.
     fn pass_turn<S: Sink>(&mut self, render: &mut Render, sink: &mut S) -> Result<(), Failed>
-        requires whole { IsWhole self.old.system }
-        requires completed { self.old.system.kernel.dispatcher.completed ≡ [] }
+        requires may { MayEnd self.old }
         requires room { HasRoomForAll (length self.old.system.records + 1) }
-        requires begun { HasBegun self.old.system.kernel.disk }
-        requires filed { AreFiled self.old.system.kernel }
-        requires own { OwnsService self.old.system.kernel self.old.bdos.service }
         ensures ok { (disks : Disks) (files : FilesInService) → StandsWorked self.old.system.kernel.disk self.old.bdos disks files
             → OnOk result (self.new.system ≡ (disk_served (told_within files self.old.system) self.old.system).system
             × CameOut (seen S.written S.faults render.old sink.old) (seen S.written S.faults render.new sink.new) (disk_served (told_within files self.old.system) self.old.system).emitted
@@ -328,13 +250,8 @@ impl Machine {
         ensures err { (disks : Disks) (files : FilesInService) → StandsWorked self.old.system.kernel.disk self.old.bdos disks files
             → OnErr result (Stopped (seen S.written S.faults render.old sink.old) (seen S.written S.faults render.new sink.new) (disk_served (told_within files self.old.system) self.old.system).emitted) }
         ensures made { OnOk result (IsOfSome (λ (told : Directly). (disk_served told self.old.system).system) self.new.system) }
-        ensures begun { OnOk result (HasBegun self.new.system.kernel.disk) }
-        ensures filed { OnOk result (AreFiled self.new.system.kernel) }
-        ensures own { OnOk result (OwnsService self.new.system.kernel self.new.bdos.service) }
-        ensures whole { OnOk result (IsWhole self.new.system) }
-        ensures completed { OnOk result (self.new.system.kernel.dispatcher.completed ≡ []) }
-        ensures kept { EndKeeps self.old.bdos self.new.bdos }
-        ensures workless { HasNoDrive self.old.bdos.mounted → has_work self.old.bdos.service ≡ false → has_work self.new.bdos.service ≡ false }
+        ensures may { OnOk result (MayEnd self.new) }
+        ensures leaves { EndLeaves self.old.bdos self.new.bdos }
         ensures trace { render.new.trace ≡ render.old.trace }
         ensures cause { HasCause (S.faults sink.old) (S.faults sink.new) result }
     {
@@ -413,9 +330,7 @@ impl Machine {
     #[inline(always)]
     fn enter_call(&mut self)
         requires whole { IsWhole self.old.system }
-        requires begun { HasBegun self.old.system.kernel.disk }
-        requires filed { AreFiled self.old.system.kernel }
-        requires own { OwnsService self.old.system.kernel self.old.bdos.service }
+        requires calls { HoldsCalls self.old.system.kernel self.old.bdos.service }
         ensures ok { (disks : Disks) (files : FilesInService) → StandsForFiles self.old.system.kernel.disk self.old.bdos disks files
             → (self.new.system ≡ call_entered (turns_within (files_entered self.old.system files)) self.old.system)
             × StandsForFiles self.new.system.kernel.disk self.new.bdos disks (files_entered self.old.system files) }

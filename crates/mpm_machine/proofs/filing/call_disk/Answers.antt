@@ -2,6 +2,7 @@ use Rattle.std.proofs.Common.{◌≤◌, sym, subst}
 use Rattle.mpm_procs.specs.declared.process.Process.{Process}
 use Rattle.mpm_machine.proofs.FilingLaws.{disk_is, at_once_idle, at_once_owed, bare_still}
 use Rattle.mpm_machine.proofs.FailingLaws.{disk_fails, disk_calls}
+use Rattle.mpm_machine.proofs.PartsLaws.{none_fails}
 use Rattle.mpm_machine.proofs.filing.call_disk.Goals as goal
 
 pub looked_at-caller-requires-clause-some : goal.looked_at-caller-requires-clause-some
@@ -12,31 +13,42 @@ pub looked_at-caller-requires-clause-few : goal.looked_at-caller-requires-clause
 looked_at-caller-requires-clause-few g c =
     subst (λ (one : Process). one.multi ≤ 16) (sym c.living.ensures) (c.requires.whole.sound.fit c.args.p c.requires.lives).few
 
-pub returns-clause-ok : goal.returns-clause-ok
-returns-clause-ok g c filing stands =
-    disk_is (g.D.Drives.disks c.args.drives.now) (g.D.Drives.disks c.call_at_once.new.drives) filing c.args.p c.args.system.now c.args.bdos.now c.call_at_once.new.self
-    c.looked_at-caller.result c.living.result.now c.kept_call.result.now c.now-now.result c.call_at_once.new.reply c.call_at_once.result
-    c.looked_at-caller.ensures.process c.living.ensures c.kept_call.ensures c.now-now.ensures.moment c.requires.function stands c.call_at_once.ensures.service c.call_at_once.ensures.ok
+pub returns-clause-done : goal.returns-clause-done
+returns-clause-done g c filing stands =
+    let called = c.call_at_once.ensures in
+    record {
+      ok = disk_is (g.D.Drives.disks c.args.drives.now) (g.D.Drives.disks c.call_at_once.new.drives) filing c.args.p c.args.system.now c.args.bdos.now c.call_at_once.new.self
+          c.looked_at-caller.result c.living.result.now c.kept_call.result.now c.now-now.result c.call_at_once.new.reply c.call_at_once.result
+          c.looked_at-caller.ensures.process c.living.ensures c.kept_call.ensures c.now-now.ensures.moment c.requires.function stands called.service
+          (λ before function is stand. (called.done before function is stand).ok);
+      err = disk_fails (g.D.Drives.disks c.args.drives.now) (g.D.Drives.disks c.call_at_once.new.drives) filing c.args.p c.args.system.now c.args.bdos.now c.call_at_once.new.self
+          c.looked_at-caller.result c.living.result.now c.kept_call.result.now c.now-now.result c.call_at_once.result
+          c.looked_at-caller.ensures.process c.living.ensures c.kept_call.ensures c.now-now.ensures.moment c.requires.function stands
+          (λ before function is stand. (called.done before function is stand).err) (λ before function is. (called.own before function is).alone) called.left.labels;
+      calls = disk_calls (g.D.Drives.disks c.args.drives.now) filing c.args.p c.args.system.now c.args.bdos.now c.looked_at-caller.result c.living.result.now c.kept_call.result.now c.now-now.result
+          _ _ c.looked_at-caller.ensures.process c.living.ensures c.kept_call.ensures c.now-now.ensures.moment c.requires.function stands
+          (λ before function is stand. (called.done before function is stand).calls);
+    }
 
-pub returns-clause-bare : goal.returns-clause-bare
-returns-clause-bare g c none = bare_still c.args.bdos.now.mounted c.call_at_once.new.self.mounted c.call_at_once.ensures.labels none
-
-pub returns-clause-err : goal.returns-clause-err
-returns-clause-err g c filing stands =
-    disk_fails (g.D.Drives.disks c.args.drives.now) (g.D.Drives.disks c.call_at_once.new.drives) filing c.args.p c.args.system.now c.args.bdos.now c.call_at_once.new.self
-    c.looked_at-caller.result c.living.result.now c.kept_call.result.now c.now-now.result c.call_at_once.result
-    c.looked_at-caller.ensures.process c.living.ensures c.kept_call.ensures c.now-now.ensures.moment c.requires.function stands c.call_at_once.ensures.err c.call_at_once.ensures.alone
-    c.call_at_once.ensures.labels
-
-pub returns-clause-calls : goal.returns-clause-calls
-returns-clause-calls g c filing stands =
-    disk_calls (g.D.Drives.disks c.args.drives.now) filing c.args.p c.args.system.now c.args.bdos.now c.looked_at-caller.result c.living.result.now c.kept_call.result.now c.now-now.result _ _
-    c.looked_at-caller.ensures.process c.living.ensures c.kept_call.ensures c.now-now.ensures.moment c.requires.function stands c.call_at_once.ensures.calls
+pub returns-clause-uses : goal.returns-clause-uses
+returns-clause-uses g c =
+    let called = c.call_at_once.ensures in
+    record {
+      drives = record {
+        keeps = record { labels = called.left.labels; beside = called.left.beside; told_are = called.left.told_are };
+        names = called.left.names;
+        unsynced = at_once_owed c.kept_call.result.now _ _ (g.D.Drives.unsynced c.args.drives.now) (g.D.Drives.unsynced c.call_at_once.new.drives) c.kept_call.ensures c.requires.function
+            (λ before function is. (called.own before function is).kept_unsynced);
+      };
+      none = λ bare. record {
+        sink = none_fails c.call_at_once.result (called.none bare).1;
+        drives = (called.none bare).0;
+        bare = bare_still c.args.bdos.now.mounted c.call_at_once.new.self.mounted called.left.labels bare;
+      };
+    }
 
 pub returns-clause-service : goal.returns-clause-service
 returns-clause-service g c = at_once_idle _ _ c.kept_call.ensures c.requires.function c.call_at_once.ensures.service
 
-pub returns-clause-unsynced : goal.returns-clause-unsynced
-returns-clause-unsynced g c =
-    at_once_owed c.kept_call.result.now _ _ (g.D.Drives.unsynced c.args.drives.now) (g.D.Drives.unsynced c.call_at_once.new.drives) c.kept_call.ensures c.requires.function
-    c.call_at_once.ensures.unsynced
+pub returns-clause-fits : goal.returns-clause-fits
+returns-clause-fits g c = c.call_at_once.ensures.left.fits

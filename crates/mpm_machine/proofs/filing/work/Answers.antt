@@ -2,29 +2,40 @@ use Rattle.std.proofs.Common.{◌∙◌, true, refl, sym, ap, arith}
 use Rattle.std.proofs.lemmas.Bool.{false≢true}
 use Rattle.mpm_service.specs.Disk.{turn_answer}
 use Rattle.mpm_service.specs.declared.service.Turn.TheVariants.{Work}
+use Rattle.mpm_machine.specs.Parts.{of_drive}
 use Rattle.mpm_machine.proofs.TurnLaws.{turn_works, nothing_to_work}
-use Rattle.mpm_machine.proofs.DriveLaws.{keeps_still}
 use Rattle.mpm_machine.proofs.WorkLaws.{works_here, no_work_here, works_in, turn_failed, holds_worked}
+use Rattle.mpm_machine.proofs.PartsLaws.{uses_none, uses_turns, done_fails}
 use Rattle.mpm_machine.proofs.filing.work.Goals as goal
+
+-- a drive failed in the turn
 
 pub returns-in-Err-clause-err : goal.returns-in-Err-clause-err
 returns-in-Err-clause-err g c files stands =
     turn_failed (g.D.Drives.disks c.args.drives.now) (g.D.Drives.disks c.turn.new.drives) c.args.system.now c.args.bdos.now c.turn.new.self.mounted files
     (works_here c.args.system.now.kernel.disk c.ahead.result (Work c.in-Work.p c.in-Work.last) true (c.ahead.ensures ∙ ap turn_answer c.disk.ensures) c.in-Work.is refl)
-    stands c.in-Err.ensures.err c.turn.ensures.images c.turn.ensures.kept.labels
+    stands c.in-Err.ensures.err c.turn.ensures.left.images c.turn.ensures.left.kept.labels
+
+pub returns-in-Err-clause-uses : goal.returns-in-Err-clause-uses
+returns-in-Err-clause-uses g c =
+    let turned = c.turn.ensures in
+    uses_turns g.D.Drives.disks g.D.Drives.told g.D.Drives.failed_names g.D.Drives.unsynced of_drive c.args.bdos.now c.turn.new.self c.args.drives.now c.turn.new.drives _ turned.left
+    (λ bare. (turned.idle (c.requires.holds.workless bare)).drives) (λ bare. absurd (done_fails (c.in-Err.ensures.done (c.requires.holds.workless bare))))
 
 pub returns-in-Err-clause-holds : goal.returns-in-Err-clause-holds
 returns-in-Err-clause-holds g c =
     holds_worked g.D.Drives.disks c.args.system.now.kernel c.args.bdos.now c.turn.new.self c.args.drives.now c.turn.new.drives
-    c.requires.holds c.turn.ensures.kept c.turn.ensures.still c.turn.ensures.fits
-
-pub returns-in-Err-clause-unsynced : goal.returns-in-Err-clause-unsynced
-returns-in-Err-clause-unsynced g c = c.turn.ensures.unsynced.owed
+    c.requires.holds c.turn.ensures.left.kept c.turn.ensures.still c.turn.ensures.left.fits
 
 pub returns-in-Err-clause-idle : goal.returns-in-Err-clause-idle
 returns-in-Err-clause-idle g c idle =
     absurd (false≢true (sym idle ∙ works_in c.args.system.now
     (works_here c.args.system.now.kernel.disk c.ahead.result (Work c.in-Work.p c.in-Work.last) true (c.ahead.ensures ∙ ap turn_answer c.disk.ensures) c.in-Work.is refl)))
+
+pub returns-in-Err-clause-few : goal.returns-in-Err-clause-few
+returns-in-Err-clause-few g c = c.turn.ensures.takes.calls
+
+-- the turn was done
 
 pub returns-in_default-turn-clause-ok : goal.returns-in_default-turn-clause-ok
 returns-in_default-turn-clause-ok g c files stands =
@@ -32,18 +43,26 @@ returns-in_default-turn-clause-ok g c files stands =
     (works_here c.args.system.now.kernel.disk c.ahead.result (Work c.in-Work.p c.in-Work.last) true (c.ahead.ensures ∙ ap turn_answer c.disk.ensures) c.in-Work.is refl)
     stands c.in_default-turn.ensures.ok
 
+pub returns-in_default-turn-clause-uses : goal.returns-in_default-turn-clause-uses
+returns-in_default-turn-clause-uses g c =
+    let turned = c.turn.ensures in
+    uses_turns g.D.Drives.disks g.D.Drives.told g.D.Drives.failed_names g.D.Drives.unsynced of_drive c.args.bdos.now c.turn.new.self c.args.drives.now c.turn.new.drives _ turned.left
+    (λ bare. (turned.idle (c.requires.holds.workless bare)).drives) (λ bare. tt)
+
 pub returns-in_default-turn-clause-holds : goal.returns-in_default-turn-clause-holds
 returns-in_default-turn-clause-holds g c =
     holds_worked g.D.Drives.disks c.args.system.now.kernel c.args.bdos.now c.turn.new.self c.args.drives.now c.turn.new.drives
-    c.requires.holds c.turn.ensures.kept c.turn.ensures.still c.turn.ensures.fits
-
-pub returns-in_default-turn-clause-unsynced : goal.returns-in_default-turn-clause-unsynced
-returns-in_default-turn-clause-unsynced g c = c.turn.ensures.unsynced.owed
+    c.requires.holds c.turn.ensures.left.kept c.turn.ensures.still c.turn.ensures.left.fits
 
 pub returns-in_default-turn-clause-idle : goal.returns-in_default-turn-clause-idle
 returns-in_default-turn-clause-idle g c idle =
     absurd (false≢true (sym idle ∙ works_in c.args.system.now
     (works_here c.args.system.now.kernel.disk c.ahead.result (Work c.in-Work.p c.in-Work.last) true (c.ahead.ensures ∙ ap turn_answer c.disk.ensures) c.in-Work.is refl)))
+
+pub returns-in_default-turn-clause-few : goal.returns-in_default-turn-clause-few
+returns-in_default-turn-clause-few g c = c.turn.ensures.takes.calls
+
+-- nothing was to be done
 
 pub returns-in_default : goal.returns-in_default
 returns-in_default g c = record {
@@ -51,15 +70,10 @@ returns-in_default g c = record {
       nothing_to_work c.args.system.now.kernel.disk c.args.bdos.now (g.D.Drives.disks c.args.drives.now) files
       (no_work_here c.args.system.now.kernel.disk c.ahead.result (c.ahead.ensures ∙ ap turn_answer c.disk.ensures) c.in_default.not-Work) stands;
   err = λ files stands. tt;
-  keeps = keeps_still (g.D.Drives.told c.args.drives.now) (g.D.Drives.disks c.args.drives.now) c.args.bdos.now.mounted c.args.bdos.now.mounted refl;
-  names = refl;
-  unsynced = λ number was. was;
-  bare = λ none. none;
-  none = λ none. refl;
+  uses = uses_none _ _ _ _ of_drive _ _ _ tt;
   holds = c.requires.holds;
-  unfailing = λ none. refl;
   workless = λ less. refl;
-  idle = λ idle. (refl, refl, refl);
+  idle = λ idle. record { sink = tt; drives = refl; calls = refl };
   few = omega arith;
   cause = record { later = omega arith; stays = refl; failed = tt };
 }

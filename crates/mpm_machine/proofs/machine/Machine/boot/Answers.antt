@@ -6,6 +6,7 @@ use Rattle.mpm_machine.specs.Holding.{HoldsDrives}
 use Rattle.mpm_machine.proofs.MountedLaws.{holds_again}
 use Rattle.mpm_machine.proofs.FirstFiles.{opens_again}
 use Rattle.mpm_machine.proofs.SlotLaws.{has_residents, interprets_opened}
+use Rattle.mpm_machine.proofs.SpoolingAfter.{spools_at_first}
 use Rattle.mpm_machine.proofs.machine.Machine.boot.Goals as goal
 
 pub begin_residents-requires : goal.begin_residents-requires
@@ -35,6 +36,14 @@ pub returns-clause-interprets : goal.returns-clause-interprets
 returns-clause-interprets g c =
     interprets_opened c.args.file.now c.args.script c.in-Ok.machine.system c.begin_residents.new.self.system c.args.file.now.disk_turn c.requires c.in-Ok.ensures.booted c.in-Ok.ensures.bare.whole
     (opened_here c.args.file.now c.args.script c.in-Ok.machine.system c.begin_residents.new.self.system c.in-Ok.ensures.booted c.begin_residents.ensures.system)
+    c.begin_residents.ensures.whole c.begin_residents.ensures.no_completions (c.begin_residents.ensures.disk ∙ c.in-Ok.ensures.disk)
+
+pub returns-clause-spools : goal.returns-clause-spools
+returns-clause-spools g c =
+    let file = c.args.file.now in
+    spools_at_first file.consoles file.spool file.sched c.begin_residents.new.self.system file.disk_turn
+    (has_residents file c.args.script c.in-Ok.machine.system c.begin_residents.new.self.system c.in-Ok.ensures.booted c.in-Ok.ensures.bare.whole
+    (opened_here file c.args.script c.in-Ok.machine.system c.begin_residents.new.self.system c.in-Ok.ensures.booted c.begin_residents.ensures.system))
     c.begin_residents.ensures.whole c.begin_residents.ensures.no_completions (c.begin_residents.ensures.disk ∙ c.in-Ok.ensures.disk)
 
 pub returns-clause-disk : goal.returns-clause-disk

@@ -1,4 +1,4 @@
-use Rattle.std.proofs.Common.{◌≡◌, ◌∙◌, ℕ, ◌+◌, ◌<◌, ◌≤◌, Option, refl, sym, ap, subst, arith}
+use Rattle.std.proofs.Common.{◌≡◌, ◌∙◌, ℕ, ◌+◌, ◌<◌, ◌≤◌, Option, Err, refl, sym, ap, subst, arith}
 use Rattle.mpm_output.specs.Outside.{seen}
 use Rattle.mpm_service.specs.Ahead.{left_to}
 use Rattle.mpm_kernel.specs.Kernel.{Kernel}
@@ -6,20 +6,29 @@ use Rattle.mpm_bdos.specs.Serving.{Kept, Serves}
 use Rattle.mpm_bdos.specs.Jobs.{call_turns}
 use Rattle.mpm_bdos.specs.Turns.{FitsDrives, images_of}
 use Rattle.mpm_bdos.specs.AtOnce.{FailsSince}
-use Rattle.mpm_machine.specs.declared.machine.StepFault.TheVariants.{WriteFault}
+use Rattle.mpm_machine.specs.declared.machine.StepFault.TheVariants.{DiskFault, WriteFault}
+use Rattle.mpm_machine.specs.Faults.{itself}
 use Rattle.mpm_machine.specs.Files.{FilesInService}
-use Rattle.mpm_machine.specs.Mounting.{HasNoDrive, KeepsMounted}
 use Rattle.mpm_machine.specs.Failing.{Working, HaveImagesOf, FailsWithin}
 use Rattle.mpm_machine.specs.Settling.{HasCarried, StopsCarrying}
-use Rattle.mpm_machine.proofs.FilingLaws.{label_none}
 use Rattle.mpm_machine.proofs.FailingLaws.{turns_fail}
 use Rattle.mpm_machine.proofs.CarryingLaws.{in_call, all_left_turns, whole_unserved, nobody_left, never_both}
 use Rattle.mpm_machine.proofs.SettlingLaws.{turns_call}
+use Rattle.mpm_machine.proofs.PartsLaws.{uses_turns, uses_kept}
 use Rattle.mpm_machine.proofs.machine.Machine.carry_call.Goals as goal
+
+pub finish_disk_call-turns-requires : goal.finish_disk_call-turns-requires
+finish_disk_call-turns-requires g c = record { sound = c.requires.between.whole.sound }
+
+pub do_turns-requires : goal.do_turns-requires
+do_turns-requires g c = record { fits = c.requires.between.holds.calls.fits }
+
+pub end_call-requires-clause-none : goal.end_call-requires-clause-none
+end_call-requires-clause-none g c = c.requires.between.no_completions.written
 
 pub end_call-requires-clause-whole : goal.end_call-requires-clause-whole
 end_call-requires-clause-whole g c =
-    whole_unserved c.args.self.now.system c.finish_disk_call-turns.new.self c.requires.whole c.finish_disk_call-turns.ensures.kernel c.finish_disk_call-turns.ensures.sound
+    whole_unserved c.args.self.now.system c.finish_disk_call-turns.new.self c.requires.between.whole c.finish_disk_call-turns.ensures.kernel c.finish_disk_call-turns.ensures.sound
 
 pub end_call-requires-clause-over : goal.end_call-requires-clause-over
 end_call-requires-clause-over g c = c.finish_disk_call-turns.ensures.over c.args.p c.requires.served
@@ -46,17 +55,10 @@ returns-in-Err-clause-err g c files stands =
           left.images left.kept.labels),
     )
 
-pub returns-in-Err-clause-keeps : goal.returns-in-Err-clause-keeps
-returns-in-Err-clause-keeps g c = record { labels = c.do_turns.ensures.left.kept.labels; beside = c.do_turns.ensures.left.beside; told_are = c.do_turns.ensures.left.told_are }
-
-pub returns-in-Err-clause-bare : goal.returns-in-Err-clause-bare
-returns-in-Err-clause-bare g c none number = label_none _ _ (c.do_turns.ensures.left.kept.labels number) (none number)
-
-pub returns-in-Err-clause-none : goal.returns-in-Err-clause-none
-returns-in-Err-clause-none g c none = (c.do_turns.ensures.idle (c.requires.holds.workless none)).device
-
-pub returns-in-Err-clause-unfailing : goal.returns-in-Err-clause-unfailing
-returns-in-Err-clause-unfailing g c none = never_both c.do_turns.result _ _ c.in-Err.is (c.do_turns.ensures.unfailing (c.requires.holds.workless none))
+pub returns-in-Err-clause-uses : goal.returns-in-Err-clause-uses
+returns-in-Err-clause-uses g c =
+    uses_turns g.D.Drives.disks g.D.Drives.told g.D.Drives.failed_names g.D.Drives.unsynced itself c.args.self.now.bdos c.do_turns.new.self c.args.drives.now c.do_turns.new.drives (Err DiskFault)
+    c.do_turns.ensures.left (λ bare. (c.do_turns.ensures.idle (c.requires.between.holds.calls.workless bare)).device) (λ bare. never_both c.do_turns.result _ _ c.in-Err.is (c.do_turns.ensures.unfailing (c.requires.between.holds.calls.workless bare)))
 
 pub returns-in-Err-clause-called : goal.returns-in-Err-clause-called
 returns-in-Err-clause-called g c =
@@ -81,17 +83,11 @@ returns-in-Ok-clause-ok g c files stands =
     subst (λ (f : FilesInService). HasCarried f before behind c.args.self.now.system c.end_call.new.self.system c.end_call.new.self.bdos now) (sym its.is)
     (c.in-Ok.ensures.ok now its.call c.args.self.now.system serves its.whose passed)
 
-pub returns-in-Ok-clause-keeps : goal.returns-in-Ok-clause-keeps
-returns-in-Ok-clause-keeps g c =
-    subst (λ (k : Kept). KeepsMounted (g.D.Drives.told c.args.drives.now) (g.D.Drives.told c.do_turns.new.drives) (g.D.Drives.disks c.args.drives.now) (g.D.Drives.disks c.do_turns.new.drives) c.args.self.now.bdos.mounted k.mounted) (sym c.end_call.ensures.kept)
-    (record { labels = c.do_turns.ensures.left.kept.labels; beside = c.do_turns.ensures.left.beside; told_are = c.do_turns.ensures.left.told_are })
-
-pub returns-in-Ok-clause-bare : goal.returns-in-Ok-clause-bare
-returns-in-Ok-clause-bare g c none =
-    subst (λ (k : Kept). HasNoDrive k.mounted) (sym c.end_call.ensures.kept) (λ number. label_none _ _ (c.do_turns.ensures.left.kept.labels number) (none number))
-
-pub returns-in-Ok-clause-none : goal.returns-in-Ok-clause-none
-returns-in-Ok-clause-none g c none = (c.do_turns.ensures.idle (c.requires.holds.workless none)).device
+pub returns-in-Ok-clause-uses : goal.returns-in-Ok-clause-uses
+returns-in-Ok-clause-uses g c =
+    uses_kept _ _ _ _ itself _ _ c.end_call.new.self.bdos.mounted _ _ _ (ap (λ (k : Kept). k.mounted) c.end_call.ensures.kept)
+    (uses_turns g.D.Drives.disks g.D.Drives.told g.D.Drives.failed_names g.D.Drives.unsynced itself c.args.self.now.bdos c.do_turns.new.self c.args.drives.now c.do_turns.new.drives _
+    c.do_turns.ensures.left (λ bare. (c.do_turns.ensures.idle (c.requires.between.holds.calls.workless bare)).device) (λ bare. tt))
 
 pub returns-in-Ok-clause-fits : goal.returns-in-Ok-clause-fits
 returns-in-Ok-clause-fits g c =
@@ -121,17 +117,11 @@ returns-in-Err-end_call-clause-err g c files stands =
     subst (λ (f : FilesInService). StopsCarrying WriteFault f before behind c.args.self.now.system c.end_call.new.self.bdos.mounted now) (sym its.is)
     (c.in-Err-end_call.ensures.err now its.call c.args.self.now.system serves its.whose passed)
 
-pub returns-in-Err-end_call-clause-keeps : goal.returns-in-Err-end_call-clause-keeps
-returns-in-Err-end_call-clause-keeps g c =
-    subst (λ (k : Kept). KeepsMounted (g.D.Drives.told c.args.drives.now) (g.D.Drives.told c.do_turns.new.drives) (g.D.Drives.disks c.args.drives.now) (g.D.Drives.disks c.do_turns.new.drives) c.args.self.now.bdos.mounted k.mounted) (sym c.end_call.ensures.kept)
-    (record { labels = c.do_turns.ensures.left.kept.labels; beside = c.do_turns.ensures.left.beside; told_are = c.do_turns.ensures.left.told_are })
-
-pub returns-in-Err-end_call-clause-bare : goal.returns-in-Err-end_call-clause-bare
-returns-in-Err-end_call-clause-bare g c none =
-    subst (λ (k : Kept). HasNoDrive k.mounted) (sym c.end_call.ensures.kept) (λ number. label_none _ _ (c.do_turns.ensures.left.kept.labels number) (none number))
-
-pub returns-in-Err-end_call-clause-none : goal.returns-in-Err-end_call-clause-none
-returns-in-Err-end_call-clause-none g c none = (c.do_turns.ensures.idle (c.requires.holds.workless none)).device
+pub returns-in-Err-end_call-clause-uses : goal.returns-in-Err-end_call-clause-uses
+returns-in-Err-end_call-clause-uses g c =
+    uses_kept _ _ _ _ itself _ _ c.end_call.new.self.bdos.mounted _ _ _ (ap (λ (k : Kept). k.mounted) c.end_call.ensures.kept)
+    (uses_turns g.D.Drives.disks g.D.Drives.told g.D.Drives.failed_names g.D.Drives.unsynced itself c.args.self.now.bdos c.do_turns.new.self c.args.drives.now c.do_turns.new.drives (Err WriteFault)
+    c.do_turns.ensures.left (λ bare. (c.do_turns.ensures.idle (c.requires.between.holds.calls.workless bare)).device) (λ bare. refl))
 
 pub returns-in-Err-end_call-clause-fits : goal.returns-in-Err-end_call-clause-fits
 returns-in-Err-end_call-clause-fits g c =

@@ -8,13 +8,16 @@ use Rattle.mpm_machine.proofs.BehindLaws.{rest_images}
 use Rattle.mpm_machine.proofs.CarryingLaws.{keeps_paid, stopped_behind}
 use Rattle.mpm_machine.proofs.machine.Machine.end_step.Goals as goal
 
+pub end_all-requires : goal.end_all-requires
+end_all-requires g c = record { whole = c.in_default.ensures.may.whole }
+
 -- the sink failed in the disk's step
 pub returns-in-Err-clause-err : goal.returns-in-Err-clause-err
 returns-in-Err-clause-err g c disks files stands = serving_stopped c.args.instruction files _ _ c.args.self.now.system (c.in-Err.ensures.err disks files stands)
 
 pub returns-in-Err-clause-stands : goal.returns-in-Err-clause-stands
 returns-in-Err-clause-stands g c disks files stands =
-    rest_images c.args.instruction c.args.self.now.system c.args.self.now.bdos c.serve_disk.new.self.bdos disks files c.serve_disk.ensures.kept stands
+    rest_images c.args.instruction c.args.self.now.system c.args.self.now.bdos c.serve_disk.new.self.bdos disks files c.serve_disk.ensures.leaves.kept stands
 
 -- or after it
 
@@ -26,7 +29,7 @@ returns-in-Err-end_all-clause-err g c disks files stands =
 
 pub returns-in-Err-end_all-clause-stands : goal.returns-in-Err-end_all-clause-stands
 returns-in-Err-end_all-clause-stands g c disks files stands =
-    rest_images c.args.instruction c.args.self.now.system c.args.self.now.bdos c.serve_disk.new.self.bdos disks files c.serve_disk.ensures.kept stands
+    rest_images c.args.instruction c.args.self.now.system c.args.self.now.bdos c.serve_disk.new.self.bdos disks files c.serve_disk.ensures.leaves.kept stands
 
 pub returns-in-Err-end_all-clause-trace : goal.returns-in-Err-end_all-clause-trace
 returns-in-Err-end_all-clause-trace g c = c.in-Err-end_all.ensures.wrote.err.trace ∙ c.serve_disk.ensures.trace
@@ -40,7 +43,7 @@ returns-in-Err-end_all-clause-cause g c =
 
 pub pick-requires : goal.pick-requires
 pick-requires g c =
-    ended_sound c.serve_disk.new.self.system c.end_all.new.system c.pay.new.self.system c.in_default.ensures.whole c.in_default-end_all.ensures.system c.pay.ensures.system
+    ended_sound c.serve_disk.new.self.system c.end_all.new.system c.pay.new.self.system c.in_default.ensures.may.whole c.in_default-end_all.ensures.system c.pay.ensures.system
 
 pub returns : goal.returns
 returns g c =
@@ -59,7 +62,7 @@ returns g c =
     let picks = ap (λ (k : Kernel). record paid.system { kernel = k }) c.pick.ensures.kernel in
     let same = λ (some : is_some ended.kernel.disk.served ≡ true). ap (λ (machine : Machine). machine.bdos) (c.pay.ensures.served some) in
     let made = ended_made instruction old.system served.system ended paid.system new c.in_default.ensures.made ends c.pay.ensures.system picks in
-    let so = ends_served instruction served.system ended paid.system new c.in_default.ensures.whole ends c.pay.ensures.system picks in
+    let so = ends_served instruction served.system ended paid.system new c.in_default.ensures.may.whole ends c.pay.ensures.system picks in
     record {
       ok = λ disks files stands.
           has_ended_to instruction files o m n old.system served.system ended paid.system new served.bdos paid.bdos disks (c.in_default.ensures.ok disks files stands) ends wrote
@@ -67,16 +70,22 @@ returns g c =
       err = λ disks files stands. tt;
       stands = λ disks files stands. tt;
       made = made;
-      due = ended_nobody_due instruction old.system new c.requires.whole made;
-      whole = ended_whole instruction old.system new c.requires.whole made;
-      no_completions = ended_no_completions instruction old.system new c.requires.completed made;
-      count = ended_steps instruction old.system new made;
-      begun = ended_begun instruction served.system new so c.in_default.ensures.begun;
-      filed = ended_filed instruction served.system new so c.in_default.ensures.filed;
-      own = ended_own instruction served.system new served.bdos paid.bdos so c.pay.ensures.rest c.in_default.ensures.own;
-      turn_steps = ended_turn_steps instruction old.system served.system new so c.in_default.ensures.made;
-      kept = keeps_paid old.bdos served.bdos paid.bdos c.serve_disk.ensures.kept c.pay.ensures.rest;
-      workless = λ none less. workless_paid served.bdos paid.bdos c.pay.ensures.rest (c.serve_disk.ensures.workless none less);
+      ended = record {
+        due = ended_nobody_due instruction old.system new c.requires.may.whole made;
+        whole = ended_whole instruction old.system new c.requires.may.whole made;
+        no_completions = ended_no_completions instruction old.system new c.requires.may.completed made;
+        count = ended_steps instruction old.system new made;
+        calls = record {
+          filed = ended_filed instruction served.system new so c.in_default.ensures.may.calls.filed;
+          own = ended_own instruction served.system new served.bdos paid.bdos so c.pay.ensures.rest c.in_default.ensures.may.calls.own;
+          begun = ended_begun instruction served.system new so c.in_default.ensures.may.calls.begun;
+        };
+        turn_steps = ended_turn_steps instruction old.system served.system new so c.in_default.ensures.made;
+      };
+      leaves = record {
+        kept = keeps_paid old.bdos served.bdos paid.bdos c.serve_disk.ensures.leaves.kept c.pay.ensures.rest;
+        workless = λ none less. workless_paid served.bdos paid.bdos c.pay.ensures.rest (c.serve_disk.ensures.leaves.workless none less);
+      };
       trace = wrote.trace ∙ c.serve_disk.ensures.trace;
       cause = record { later = omega (arith, faults); stays = faults; failed = tt };
     }

@@ -16,6 +16,15 @@ returns-then-is_some-clause-made c =
     let old = c.args.self.now.system in
     still_made old (served_by_some old.kernel.disk c.serving.result c.is_some.result (c.serving.ensures.served ∙ ap served_process c.disk.ensures) c.is_some.ensures c.if-is_some.true)
 
+pub returns-then-is_some-clause-begun : goal.returns-then-is_some-clause-begun
+returns-then-is_some-clause-begun c = c.requires.calls.begun
+
+pub returns-then-is_some-clause-own : goal.returns-then-is_some-clause-own
+returns-then-is_some-clause-own c = c.requires.calls.own
+
+pub turn_disk-requires : goal.turn_disk-requires
+turn_disk-requires c = record { sound = c.requires.whole.sound; begun = c.requires.calls.begun }
+
 -- one that waits enters
 
 pub start_call-turns-requires-clause-whole : goal.start_call-turns-requires-clause-whole
@@ -27,7 +36,7 @@ start_call-turns-requires-clause-lives c =
 
 pub start_call-turns-requires-clause-function : goal.start_call-turns-requires-clause-function
 start_call-turns-requires-clause-function c =
-    starts_filed c.args.self.now.system.kernel c.turn_disk.new.self c.in-Starts.p c.turn_disk.ensures.kernel (sym c.turn_disk.ensures.answer ∙ c.in-Starts.is) c.requires.filed
+    starts_filed c.args.self.now.system.kernel c.turn_disk.new.self c.in-Starts.p c.turn_disk.ensures.kernel (sym c.turn_disk.ensures.answer ∙ c.in-Starts.is) c.requires.calls.filed
 
 pub returns-in-Starts : goal.returns-in-Starts
 returns-in-Starts c =
@@ -48,12 +57,12 @@ returns-in-Starts c =
     let is = begun_is turns old c.turn_disk.new.self c.begin_disk_call.new.self c.turn_disk.ensures.kernel c.begin_disk_call.ensures.kernel in
     let made = entered_made old _ p turns is starts none in
     record {
-      ok = λ disks files stands. enters_so old _ p turns c.args.self.now.bdos new disks files is starts none c.requires.filed begins stands;
+      ok = λ disks files stands. enters_so old _ p turns c.args.self.now.bdos new disks files is starts none c.requires.calls.filed begins stands;
       served = λ some. absurd (not_both old.kernel.disk.served none some);
       made = made;
       whole = enters_whole old _ c.requires.whole made;
       begun = c.begin_disk_call.ensures.begun;
-      own = owns_entered old _ p turns c.args.self.now.bdos new is starts none c.requires.filed begins;
+      own = owns_entered old _ p turns c.args.self.now.bdos new is starts none c.requires.calls.filed begins;
       kept = c.start_call-turns.ensures.kept;
       workless = λ bare less. c.start_call-turns.ensures.workless bare;
       reply = refl;

@@ -15,6 +15,7 @@ use Rattle.mpm_machine.proofs.DiskStepLaws.{whole_passed}
 use Rattle.mpm_machine.proofs.EnterLaws.{nothing_passes, none_made, passed_filed, filed_if_passed}
 use Rattle.mpm_machine.proofs.ServeLaws.{IsOverFrom, over_made, passed_is, works_last, works_on, never_on, none_behind, pass_over, pass_stops, nobody_behind, none_holds, passes_so, passed_made, begun_so, own_so}
 use Rattle.mpm_machine.proofs.WorkLaws.{nobody_served, somebody_served}
+use Rattle.mpm_machine.proofs.PartsLaws.{may_end}
 use Rattle.mpm_machine.proofs.machine.Machine.pass_turn.Goals as goal
 
 -- nobody is served
@@ -29,11 +30,17 @@ returns-then-is_none-clause-made g c =
     let old = c.args.self.now.system in
     none_made old (nobody_served old.kernel.disk c.serving.result c.is_none.result (c.serving.ensures.served ∙ ap served_process c.disk.ensures) c.is_none.ensures c.if-is_none.true)
 
+pub returns-then-is_none-clause-leaves : goal.returns-then-is_none-clause-leaves
+returns-then-is_none-clause-leaves g c = record { kept = refl; workless = λ none less. less }
+
+pub turn_disk-requires : goal.turn_disk-requires
+turn_disk-requires g c = record { sound = c.requires.may.whole.sound; begun = c.requires.may.calls.begun }
+
 -- its turn was the last
 
 pub answer_call-requires-clause-whole : goal.answer_call-requires-clause-whole
 answer_call-requires-clause-whole g c =
-    subst IsWhole (sym (passed_is c.args.self.now.system c.turn_disk.new.self c.turn_disk.ensures.kernel)) (whole_passed c.args.self.now.system c.requires.whole)
+    subst IsWhole (sym (passed_is c.args.self.now.system c.turn_disk.new.self c.turn_disk.ensures.kernel)) (whole_passed c.args.self.now.system c.requires.may.whole)
 
 pub returns-then-last-clause-ok : goal.returns-then-last-clause-ok
 returns-then-last-clause-ok g c disks files stands =
@@ -67,31 +74,22 @@ returns-then-last-clause-made g c =
     (subst (λ (passed : System). OnOk c.answer_call.result (IsOverFrom c.in-Work.p passed c.answer_call.new.self.system))
     (passed_is old c.turn_disk.new.self c.turn_disk.ensures.kernel) c.answer_call.ensures.made)
 
-pub returns-then-last-clause-begun : goal.returns-then-last-clause-begun
-returns-then-last-clause-begun g c =
-    let old = c.args.self.now.system in
-    let works = works_last old.kernel.disk c.turn_disk.result c.in-Work.p c.in-Work.last c.turn_disk.ensures.answer c.in-Work.is c.if-last.true in
-    none_holds c.answer_call.result (λ (call : Served). 0 < call.left) c.answer_call.new.self.system.kernel.disk
-    (nobody_behind c.answer_call.result c.in-Work.p old c.answer_call.new.self.system works
-    (subst (λ (passed : System). OnOk c.answer_call.result (IsOverFrom c.in-Work.p passed c.answer_call.new.self.system))
-    (passed_is old c.turn_disk.new.self c.turn_disk.ensures.kernel) c.answer_call.ensures.made))
-
-pub returns-then-last-clause-own : goal.returns-then-last-clause-own
-returns-then-last-clause-own g c =
+pub returns-then-last-clause-may : goal.returns-then-last-clause-may
+returns-then-last-clause-may g c =
     let old = c.args.self.now.system in
     let works = works_last old.kernel.disk c.turn_disk.result c.in-Work.p c.in-Work.last c.turn_disk.ensures.answer c.in-Work.is c.if-last.true in
     let new = c.answer_call.new.self in
-    none_holds c.answer_call.result (λ (call : Served). IsOwnCall new.system.kernel.dispatcher.procs call.p new.bdos.service) new.system.kernel.disk
-    (nobody_behind c.answer_call.result c.in-Work.p old new.system works
-    (subst (λ (passed : System). OnOk c.answer_call.result (IsOverFrom c.in-Work.p passed new.system))
-    (passed_is old c.turn_disk.new.self c.turn_disk.ensures.kernel) c.answer_call.ensures.made))
+    let result = c.answer_call.result in
+    let nobody =
+    nobody_behind result c.in-Work.p old new.system works
+    (subst (λ (passed : System). OnOk result (IsOverFrom c.in-Work.p passed new.system)) (passed_is old c.turn_disk.new.self c.turn_disk.ensures.kernel) c.answer_call.ensures.made) in
+    may_end result new c.answer_call.ensures.whole c.answer_call.ensures.completed
+    (filed_if_passed result old new.system c.requires.may.whole c.requires.may.calls.filed (returns-then-last-clause-made g c))
+    (none_holds result (λ (call : Served). IsOwnCall new.system.kernel.dispatcher.procs call.p new.bdos.service) new.system.kernel.disk nobody)
+    (none_holds result (λ (call : Served). 0 < call.left) new.system.kernel.disk nobody)
 
-pub returns-then-last-clause-filed : goal.returns-then-last-clause-filed
-returns-then-last-clause-filed g c =
-    filed_if_passed c.answer_call.result c.args.self.now.system c.answer_call.new.self.system c.requires.whole c.requires.filed (returns-then-last-clause-made g c)
-
-pub returns-then-last-clause-workless : goal.returns-then-last-clause-workless
-returns-then-last-clause-workless g c none less = ap has_work c.answer_call.ensures.idle
+pub returns-then-last-clause-leaves : goal.returns-then-last-clause-leaves
+returns-then-last-clause-leaves g c = record { kept = c.answer_call.ensures.kept; workless = λ none less. ap has_work c.answer_call.ensures.idle }
 
 -- it isn't the last
 
@@ -109,18 +107,23 @@ returns-else-last-clause-made g c =
     let more = works_on old.kernel.disk c.turn_disk.result c.in-Work.p c.in-Work.last c.turn_disk.ensures.answer c.in-Work.is c.if-last.false in
     passed_made old c.turn_disk.new.self c.turn_disk.ensures.kernel some more
 
-pub returns-else-last-clause-filed : goal.returns-else-last-clause-filed
-returns-else-last-clause-filed g c = passed_filed c.args.self.now.system _ c.requires.whole c.requires.filed (returns-else-last-clause-made g c)
-
-pub returns-else-last-clause-whole : goal.returns-else-last-clause-whole
-returns-else-last-clause-whole g c =
-    subst IsWhole (sym (passed_is c.args.self.now.system c.turn_disk.new.self c.turn_disk.ensures.kernel)) (whole_passed c.args.self.now.system c.requires.whole)
-
-pub returns-else-last-clause-own : goal.returns-else-last-clause-own
-returns-else-last-clause-own g c =
+pub returns-else-last-clause-may : goal.returns-else-last-clause-may
+returns-else-last-clause-may g c =
     let old = c.args.self.now.system in
     let some = somebody_served old.kernel.disk c.serving.result c.is_none.result (c.serving.ensures.served ∙ ap served_process c.disk.ensures) c.is_none.ensures c.if-is_none.false in
-    own_so old.kernel c.turn_disk.new.self c.args.self.now.bdos.service c.turn_disk.ensures.kernel some c.requires.own
+    let may = c.requires.may in
+    record {
+      whole = subst IsWhole (sym (passed_is old c.turn_disk.new.self c.turn_disk.ensures.kernel)) (whole_passed old may.whole);
+      completed = ap (λ (k : Kernel). k.dispatcher.completed) c.turn_disk.ensures.kernel ∙ may.completed;
+      calls = record {
+        filed = passed_filed old _ may.whole may.calls.filed (returns-else-last-clause-made g c);
+        own = own_so old.kernel c.turn_disk.new.self c.args.self.now.bdos.service c.turn_disk.ensures.kernel some may.calls.own;
+        begun = begun_so old.kernel.disk c.turn_disk.new.self.disk c.turn_disk.result some c.turn_disk.ensures.answer c.turn_disk.ensures.after;
+      };
+    }
+
+pub returns-else-last-clause-leaves : goal.returns-else-last-clause-leaves
+returns-else-last-clause-leaves g c = record { kept = refl; workless = λ none less. less }
 
 pub returns-in_default : goal.returns-in_default
 returns-in_default g c =
@@ -132,13 +135,16 @@ returns-in_default g c =
       ok = λ disks files stands. passes_so files _ old c.turn_disk.new.self c.args.self.now.bdos disks c.turn_disk.ensures.kernel some more stands;
       err = λ disks files stands. tt;
       made = made;
-      begun = begun_so old.kernel.disk c.turn_disk.new.self.disk c.turn_disk.result some c.turn_disk.ensures.answer c.turn_disk.ensures.after;
-      filed = passed_filed old _ c.requires.whole c.requires.filed made;
-      own = own_so old.kernel c.turn_disk.new.self c.args.self.now.bdos.service c.turn_disk.ensures.kernel some c.requires.own;
-      whole = subst IsWhole (sym (passed_is old c.turn_disk.new.self c.turn_disk.ensures.kernel)) (whole_passed old c.requires.whole);
-      completed = ap (λ (k : Kernel). k.dispatcher.completed) c.turn_disk.ensures.kernel ∙ c.requires.completed;
-      kept = refl;
-      workless = λ none less. less;
+      may = record {
+        whole = subst IsWhole (sym (passed_is old c.turn_disk.new.self c.turn_disk.ensures.kernel)) (whole_passed old c.requires.may.whole);
+        completed = ap (λ (k : Kernel). k.dispatcher.completed) c.turn_disk.ensures.kernel ∙ c.requires.may.completed;
+        calls = record {
+          filed = passed_filed old _ c.requires.may.whole c.requires.may.calls.filed made;
+          own = own_so old.kernel c.turn_disk.new.self c.args.self.now.bdos.service c.turn_disk.ensures.kernel some c.requires.may.calls.own;
+          begun = begun_so old.kernel.disk c.turn_disk.new.self.disk c.turn_disk.result some c.turn_disk.ensures.answer c.turn_disk.ensures.after;
+        };
+      };
+      leaves = record { kept = refl; workless = λ none less. less };
       trace = refl;
       cause = record { later = omega arith; stays = refl; failed = tt };
     }

@@ -34,35 +34,46 @@ loop-left-init g c = record {
   unsynced = λ number was. was;
 }
 
+pub advance-requires : goal.advance-requires
+advance-requires g c =
+    let so_far = c.loop-left.invariant in
+    record {
+      some = c.loop-left-test.true;
+      room = omega (arith, c.requires.most, so_far.is, so_far.steps);
+      between = record { whole = so_far.whole; no_completions = so_far.no_completions; holds = so_far.holds };
+    }
+
 pub loop-left-preserved : goal.loop-left-preserved
-loop-left-preserved g c = record {
-  done = c.loop-left.invariant.done + c.in-Ok.more;
-  is = omega (arith, c.in-Ok.ensures.few, c.loop-left.invariant.is);
-  stands = λ s first stands.
-      let P : State → Type 0 = λ t. StandsWithDrives c.advance.new.self c.advance.new.render (g.S.Sink.written c.advance.new.sink) (g.D.Drives.disks c.advance.new.drives) t first in
-      subst P (sym (after_both c.loop-left.invariant.done c.in-Ok.more s))
-      (c.in-Ok.ensures.ok (after c.loop-left.invariant.done s) first (c.loop-left.invariant.stands s first stands));
-  model = λ s here.
-      subst (IsAt c.advance.new.self (g.D.Drives.disks c.advance.new.drives)) (sym (after_both c.loop-left.invariant.done c.in-Ok.more s))
-      (c.in-Ok.ensures.model (after c.loop-left.invariant.done s) (c.loop-left.invariant.model s here));
-  interprets = λ i. c.in-Ok.ensures.interprets (c.loop-left.invariant.interprets i);
-  due = λ some. c.in-Ok.ensures.due;
-  few = omega (arith, c.in-Ok.ensures.few, c.loop-left.invariant.is);
-  whole = c.in-Ok.ensures.whole;
-  no_completions = c.in-Ok.ensures.no_completions;
-  steps = omega (arith, c.in-Ok.ensures.count, c.loop-left.invariant.steps);
-  faults = c.in-Ok.ensures.cause.stays ∙ c.loop-left.invariant.faults;
-  trace = c.in-Ok.ensures.trace ∙ c.loop-left.invariant.trace;
-  holds = c.in-Ok.ensures.holds;
-  names = c.in-Ok.ensures.names ∙ c.loop-left.invariant.names;
-  keeps = keeps_both _ _ _ _ _ _ c.args.self.now.bdos.mounted c.loop-left.self.bdos.mounted c.advance.new.self.bdos.mounted c.loop-left.invariant.keeps c.in-Ok.ensures.keeps;
-  bare = λ none. c.in-Ok.ensures.bare (c.loop-left.invariant.bare none);
-  still = λ zero. absurd (omega (arith, zero, c.in-Ok.ensures.some));
-  none = λ none. c.in-Ok.ensures.none (c.loop-left.invariant.bare none) ∙ c.loop-left.invariant.none none;
-  calls = λ turns. omega (arith, c.loop-left.invariant.calls turns, c.in-Ok.ensures.calls (omega (arith, turns, c.loop-left.invariant.turn_steps)));
-  turn_steps = c.in-Ok.ensures.turn_steps ∙ c.loop-left.invariant.turn_steps;
-  unsynced = λ number was. c.in-Ok.ensures.unsynced number (c.loop-left.invariant.unsynced number was);
-}
+loop-left-preserved g c =
+    let so_far = c.loop-left.invariant in
+    let done = c.in-Ok.ensures in
+    let leaves = done.advanced.leaves in
+    record {
+      done = so_far.done + c.in-Ok.more;
+      is = omega (arith, done.advanced.few, so_far.is);
+      stands = λ s first stands.
+          let P : State → Type 0 = λ t. StandsWithDrives c.advance.new.self c.advance.new.render (g.S.Sink.written c.advance.new.sink) (g.D.Drives.disks c.advance.new.drives) t first in
+          subst P (sym (after_both so_far.done c.in-Ok.more s)) (done.ok (after so_far.done s) first (so_far.stands s first stands));
+      model = λ s here.
+          subst (IsAt c.advance.new.self (g.D.Drives.disks c.advance.new.drives)) (sym (after_both so_far.done c.in-Ok.more s)) (done.model (after so_far.done s) (so_far.model s here));
+      interprets = λ i. leaves.interprets (so_far.interprets i);
+      due = λ some. leaves.due done.advanced.some;
+      few = omega (arith, done.advanced.few, so_far.is);
+      whole = leaves.whole;
+      no_completions = leaves.no_completions;
+      steps = omega (arith, leaves.count, so_far.steps);
+      faults = done.cause.stays ∙ so_far.faults;
+      trace = done.trace ∙ so_far.trace;
+      holds = done.holds;
+      names = done.uses.drives.names ∙ so_far.names;
+      keeps = keeps_both _ _ _ _ _ _ c.args.self.now.bdos.mounted c.loop-left.self.bdos.mounted c.advance.new.self.bdos.mounted so_far.keeps done.uses.drives.keeps;
+      bare = λ none. (done.uses.none (so_far.bare none)).bare;
+      still = λ zero. absurd (omega (arith, zero, done.advanced.some));
+      none = λ none. (done.uses.none (so_far.bare none)).drives ∙ so_far.none none;
+      calls = λ turns. omega (arith, so_far.calls turns, done.calls (omega (arith, turns, so_far.turn_steps)));
+      turn_steps = leaves.turn_steps ∙ so_far.turn_steps;
+      unsynced = λ number was. done.uses.drives.unsynced number (so_far.unsynced number was);
+    }
 
 -- a step failed
 
@@ -82,12 +93,11 @@ returns-in-Err g c =
           let P : Bool → Type 0 = λ trace. EndsInStep fault trace written first (after done s) (c.args.n - done) step in
           let Q : ℕ → Type 0 = λ most. EndsInStep fault c.loop-left.render.trace written first (after done s) most step in
           let there = so_far.stands s first stands in
-          let ends = c.in-Err.ensures.err (after done s) first there in
+          let stops = c.in-Err.ensures.stops (after done s) first there in
           record {
-            text = ends_later fault c.args.render.now.trace written first s c.args.n done step so_far.few (subst P so_far.trace (subst Q left ends));
-            shown = so_later (λ t. ShowsBefore fault c.advance.new.render written t first) s done step ends.later (c.in-Err.ensures.shown (after done s) first there);
-            images =
-                so_later (StopsWithImages fault disks c.advance.new.self.bdos.mounted) s done step ends.later (c.in-Err.ensures.images (after done s) first there);
+            text = ends_later fault c.args.render.now.trace written first s c.args.n done step so_far.few (subst P so_far.trace (subst Q left stops.text));
+            shown = so_later (λ t. ShowsBefore fault c.advance.new.render written t first) s done step stops.text.later stops.shown;
+            images = so_later (StopsWithImages fault disks c.advance.new.self.bdos.mounted) s done step stops.text.later stops.images;
           };
       each = λ s is k below. step_in_run k s c.args.self.now.system is c.requires.whole c.requires.no_completions;
       leaves = tt;
@@ -97,14 +107,14 @@ returns-in-Err g c =
         failed = subst (λ (old : FailureCounts). HasFailed fault old (counts g.S.Sink.faults g.D.Drives.faults c.advance.new.sink c.advance.new.drives)) so_far.faults c.in-Err.ensures.cause.failed;
       };
       drives = record {
-        keeps = keeps_both _ _ _ _ _ _ c.args.self.now.bdos.mounted c.loop-left.self.bdos.mounted c.advance.new.self.bdos.mounted so_far.keeps c.in-Err.ensures.keeps;
-        names = c.in-Err.ensures.names ∙ so_far.names;
-        unsynced = λ number was. c.in-Err.ensures.unsynced number (so_far.unsynced number was);
+        keeps = keeps_both _ _ _ _ _ _ c.args.self.now.bdos.mounted c.loop-left.self.bdos.mounted c.advance.new.self.bdos.mounted so_far.keeps c.in-Err.ensures.uses.drives.keeps;
+        names = c.in-Err.ensures.uses.drives.names ∙ so_far.names;
+        unsynced = λ number was. c.in-Err.ensures.uses.drives.unsynced number (so_far.unsynced number was);
       };
       holds = tt;
       still = λ zero. absurd (omega (arith, zero, c.loop-left.invariant.is, c.loop-left-test.true));
-      none = λ none. (c.in-Err.ensures.unfailing (so_far.bare none), c.in-Err.ensures.none (so_far.bare none) ∙ so_far.none none, c.in-Err.ensures.bare (so_far.bare none));
-      few = λ turns. omega (arith, so_far.calls turns, so_far.is, c.in-Err.ensures.last_calls (omega (arith, turns, so_far.turn_steps)));
+      none = λ none. let bare = c.in-Err.ensures.uses.none (so_far.bare none) in (bare.sink, bare.drives ∙ so_far.none none, bare.bare);
+      few = λ turns. omega (arith, so_far.calls turns, so_far.is, c.in-Err.ensures.calls (omega (arith, turns, so_far.turn_steps)));
     }
 
 -- all were done

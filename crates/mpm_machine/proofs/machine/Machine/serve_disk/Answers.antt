@@ -6,18 +6,20 @@ use Rattle.mpm_machine.proofs.EndStepLaws.{served_nobody, keeps_then, keeps_ente
 use Rattle.mpm_machine.proofs.CarryingLaws.{keeps_paid}
 use Rattle.mpm_machine.proofs.machine.Machine.serve_disk.Goals as goal
 
-pub enter_call-requires-clause-whole : goal.enter_call-requires-clause-whole
-enter_call-requires-clause-whole g c = paid_whole c.pass_turn.new.self.system c.pay.new.self.system c.pay.ensures.system c.in_default.ensures.whole
-
-pub enter_call-requires-clause-begun : goal.enter_call-requires-clause-begun
-enter_call-requires-clause-begun g c = paid_begun c.pass_turn.new.self.system c.pay.new.self.system c.pay.ensures.system c.in_default.ensures.begun
-
-pub enter_call-requires-clause-filed : goal.enter_call-requires-clause-filed
-enter_call-requires-clause-filed g c = paid_filed c.pass_turn.new.self.system c.pay.new.self.system c.pay.ensures.system c.in_default.ensures.filed
-
-pub enter_call-requires-clause-own : goal.enter_call-requires-clause-own
-enter_call-requires-clause-own g c =
-    paid_own c.pass_turn.new.self.system c.pay.new.self.system c.pass_turn.new.self.bdos c.pay.new.self.bdos c.pay.ensures.system c.pay.ensures.rest c.in_default.ensures.own
+pub enter_call-requires : goal.enter_call-requires
+enter_call-requires g c =
+    let passed = c.pass_turn.new.self in
+    let paid = c.pay.new.self in
+    let may = c.in_default.ensures.may in
+    let pays = c.pay.ensures.system in
+    record {
+      whole = paid_whole passed.system paid.system pays may.whole;
+      calls = record {
+        filed = paid_filed passed.system paid.system pays may.calls.filed;
+        own = paid_own passed.system paid.system passed.bdos paid.bdos pays c.pay.ensures.rest may.calls.own;
+        begun = paid_begun passed.system paid.system pays may.calls.begun;
+      };
+    }
 
 pub returns-clause-ok : goal.returns-clause-ok
 returns-clause-ok g c disks files stands =
@@ -34,22 +36,27 @@ pub returns-clause-made : goal.returns-clause-made
 returns-clause-made g c =
     served_made c.args.self.now.system c.pass_turn.new.self.system c.pay.new.self.system c.enter_call.new.self.system c.in_default.ensures.made c.pay.ensures.system c.enter_call.ensures.made
 
-pub returns-clause-filed : goal.returns-clause-filed
-returns-clause-filed g c = served_filed c.args.self.now.system c.enter_call.new.self.system c.requires.whole c.requires.filed (returns-clause-made g c)
+pub returns-clause-may : goal.returns-clause-may
+returns-clause-may g c =
+    let old = c.args.self.now.system in
+    let new = c.enter_call.new.self.system in
+    let may = c.requires.may in
+    let made = returns-clause-made g c in
+    record {
+      whole = c.enter_call.ensures.whole;
+      completed = served_nobody old new may.completed made;
+      calls = record { filed = served_filed old new may.whole may.calls.filed made; own = c.enter_call.ensures.own; begun = c.enter_call.ensures.begun };
+    }
 
-pub returns-clause-completed : goal.returns-clause-completed
-returns-clause-completed g c = served_nobody c.args.self.now.system c.enter_call.new.self.system c.requires.completed (returns-clause-made g c)
-
-pub returns-clause-kept : goal.returns-clause-kept
-returns-clause-kept g c =
-    keeps_then c.args.self.now.bdos c.pay.new.self.bdos c.enter_call.new.self.bdos
-    (keeps_paid c.args.self.now.bdos c.pass_turn.new.self.bdos c.pay.new.self.bdos c.pass_turn.ensures.kept c.pay.ensures.rest)
-    (keeps_entered c.pay.new.self.bdos c.enter_call.new.self.bdos c.enter_call.ensures.kept)
-
-pub returns-clause-workless : goal.returns-clause-workless
-returns-clause-workless g c none less =
+pub returns-clause-leaves : goal.returns-clause-leaves
+returns-clause-leaves g c =
     let old = c.args.self.now.bdos in
     let passed = c.pass_turn.new.self.bdos in
     let paid = c.pay.new.self.bdos in
-    c.enter_call.ensures.workless (keeps_none old paid (keeps_paid old passed paid c.pass_turn.ensures.kept c.pay.ensures.rest) none)
-    (workless_paid passed paid c.pay.ensures.rest (c.pass_turn.ensures.workless none less))
+    let new = c.enter_call.new.self.bdos in
+    let first = c.pass_turn.ensures.leaves in
+    let kept = keeps_paid old passed paid first.kept c.pay.ensures.rest in
+    record {
+      kept = keeps_then old paid new kept (keeps_entered paid new c.enter_call.ensures.kept);
+      workless = λ none less. c.enter_call.ensures.workless (keeps_none old paid kept none) (workless_paid passed paid c.pay.ensures.rest (first.workless none less));
+    }

@@ -9,8 +9,11 @@ use Rattle.mpm_machine.specs.AtEnd.{called, TurnsCall}
 use Rattle.mpm_machine.proofs.SettlingLaws.{carried_shows, ends_run, carried_images, stops_carrying, err_seen, err_stops, syncs_after, keeps_synced, same_still, same_count, none_counted, sink_alone, cause_behind, ok_so}
 use Rattle.mpm_machine.proofs.machine.Machine.settle.Goals as goal
 
-pub carry-requires-clause-holds : goal.carry-requires-clause-holds
-carry-requires-clause-holds g c = c.requires.holds.calls
+pub carry-requires : goal.carry-requires
+carry-requires g c = record { between = record { whole = c.requires.whole; no_completions = c.requires.no_completions; holds = c.requires.holds } }
+
+pub close-requires : goal.close-requires
+close-requires g c = c.in-Ok.ensures.fits
 
 pub returns-in-Ok-clause-ok : goal.returns-in-Ok-clause-ok
 returns-in-Ok-clause-ok g c s first stands =
@@ -39,19 +42,19 @@ pub returns-in-Ok-clause-cause : goal.returns-in-Ok-clause-cause
 returns-in-Ok-clause-cause g c = cause_behind itself _ _ _ c.close.result c.in-Ok.ensures.cause.stays c.close.ensures.cause
 
 pub returns-in-Ok-clause-keeps : goal.returns-in-Ok-clause-keeps
-returns-in-Ok-clause-keeps g c = keeps_synced _ _ _ _ _ _ _ _ c.in-Ok.ensures.keeps c.close.ensures.drives.images c.close.ensures.drives.told_are
+returns-in-Ok-clause-keeps g c = keeps_synced _ _ _ _ _ _ _ _ c.in-Ok.ensures.uses.drives.keeps c.close.ensures.drives.images c.close.ensures.drives.told_are
 
 pub returns-in-Ok-clause-idle : goal.returns-in-Ok-clause-idle
 returns-in-Ok-clause-idle g c none =
     subst (λ d. SameDrives g.D.Drives.disks g.D.Drives.told g.D.Drives.failed_names d c.close.new.drives) (c.in-Ok.ensures.idle none) c.close.ensures.drives
 
 pub returns-in-Ok-clause-names : goal.returns-in-Ok-clause-names
-returns-in-Ok-clause-names g c = c.close.ensures.drives.failed ∙ c.in-Ok.ensures.names
+returns-in-Ok-clause-names g c = c.close.ensures.drives.failed ∙ c.in-Ok.ensures.uses.drives.names
 
 pub returns-in-Ok-clause-none : goal.returns-in-Ok-clause-none
 returns-in-Ok-clause-none g c none = (
-  sink_alone c.close.result c.carry.new.self.bdos.mounted (c.in-Ok.ensures.bare none) c.close.ensures.some,
-  c.close.ensures.none (none_counted c.carry.new.self.bdos.mounted (c.in-Ok.ensures.bare none)) ∙ c.in-Ok.ensures.none none,
+  sink_alone c.close.result c.carry.new.self.bdos.mounted (c.in-Ok.ensures.uses.none none).bare c.close.ensures.some,
+  c.close.ensures.none (none_counted c.carry.new.self.bdos.mounted (c.in-Ok.ensures.uses.none none).bare) ∙ (c.in-Ok.ensures.uses.none none).drives,
 )
 
 pub returns-in-Ok-clause-trace : goal.returns-in-Ok-clause-trace
@@ -68,7 +71,7 @@ returns-in-Ok-clause-syncs g c =
 
 pub returns-in-Ok-clause-calls : goal.returns-in-Ok-clause-calls
 returns-in-Ok-clause-calls g c =
-    omega (arith, c.in-Ok.ensures.called.calls, c.close.ensures.calls, same_count c.args.self.now.bdos.mounted c.carry.new.self.bdos.mounted c.in-Ok.ensures.keeps.labels)
+    omega (arith, c.in-Ok.ensures.called.calls, c.close.ensures.calls, same_count c.args.self.now.bdos.mounted c.carry.new.self.bdos.mounted c.in-Ok.ensures.uses.drives.keeps.labels)
 
 -- or it stopped
 
@@ -98,13 +101,13 @@ pub returns-in-Err-clause-cause : goal.returns-in-Err-clause-cause
 returns-in-Err-clause-cause g c = c.in-Err.ensures.cause
 
 pub returns-in-Err-clause-keeps : goal.returns-in-Err-clause-keeps
-returns-in-Err-clause-keeps g c = c.in-Err.ensures.keeps
+returns-in-Err-clause-keeps g c = c.in-Err.ensures.uses.drives.keeps
 
 pub returns-in-Err-clause-synced : goal.returns-in-Err-clause-synced
 returns-in-Err-clause-synced g c = tt
 
 pub returns-in-Err-clause-names : goal.returns-in-Err-clause-names
-returns-in-Err-clause-names g c = c.in-Err.ensures.names
+returns-in-Err-clause-names g c = c.in-Err.ensures.uses.drives.names
 
 pub returns-in-Err-clause-none : goal.returns-in-Err-clause-none
-returns-in-Err-clause-none g c none = (c.in-Err.ensures.unfailing none, c.in-Err.ensures.none none)
+returns-in-Err-clause-none g c bare = let none = c.in-Err.ensures.uses.none bare in (none.sink, none.drives)

@@ -5,6 +5,12 @@ use Rattle.mpm_machine.proofs.FailingLaws.{step_leaves}
 use Rattle.mpm_machine.proofs.MadeLaws.{made_whole, made_no_completions, made_nobody_due, made_steps}
 use Rattle.mpm_machine.proofs.machine.Machine.step.Goals as goal
 
+pub take_step-requires : goal.take_step-requires
+take_step-requires g c = record {
+  most = c.requires.most;
+  between = record { whole = c.requires.whole; no_completions = c.requires.no_completions; holds = c.requires.holds };
+}
+
 -- it stopped
 pub returns-in-Err : goal.returns-in-Err
 returns-in-Err g c =
@@ -13,22 +19,22 @@ returns-in-Err g c =
       ok = λ s first stands. tt;
       model = λ s here. tt;
       stops = λ s first stands. record {
-        text = step_stops c.args.self.now _ c.in-Err.fault _ _ s first failed.err stands;
-        shown = step_shows c.args.self.now _ c.in-Err.fault _ _ s first failed.err stands;
+        text = step_stops c.args.self.now _ c.in-Err.fault _ _ s first (λ files so. (failed.stops files so).text) stands;
+        shown = step_shows c.args.self.now _ c.in-Err.fault _ _ s first (λ files so. (failed.stops files so).text) stands;
         images =
             step_leaves c.args.self.now (g.D.Drives.disks c.args.drives.now) (g.D.Drives.disks c.take_step.new.drives) c.take_step.new.self.bdos.mounted c.in-Err.fault
-            c.args.render.now (g.S.Sink.written c.args.sink.now) s first failed.images stands;
+            c.args.render.now (g.S.Sink.written c.args.sink.now) s first (λ files so. (failed.stops files so).images) stands;
       };
       law = λ s is. step_by s c.args.self.now.system is c.requires.whole c.requires.no_completions;
       leaves = tt;
       holds = tt;
-      drives = record { keeps = failed.keeps; names = failed.names; unsynced = failed.unsynced };
+      drives = failed.uses.drives;
       trace = failed.trace;
       cause = failed.cause;
-      rests = λ off. (failed.sink off, failed.drives off, failed.device_calls off);
-      none = λ bare. (failed.unfailing bare, failed.none bare, failed.bare bare);
-      calls = failed.calls;
-      few = failed.few;
+      rests = λ off. let rests = failed.calls.rests off in (rests.sink, rests.drives, rests.calls);
+      none = λ bare. let none = failed.uses.none bare in (none.sink, none.drives, none.bare);
+      calls = failed.calls.calls;
+      few = failed.calls.few;
     }
 
 -- it was done
@@ -44,20 +50,20 @@ returns-in-Ok g c =
       stops = λ s first stands. tt;
       law = λ s is. step_by s old is c.requires.whole c.requires.no_completions;
       leaves = record {
-        count = made_steps old new done.made;
-        whole = made_whole old new c.requires.whole done.made;
-        no_completions = made_no_completions old new done.made;
-        due = λ some. made_nobody_due old new c.requires.whole done.made;
+        count = made_steps old new done.made.made;
+        whole = made_whole old new c.requires.whole done.made.made;
+        no_completions = made_no_completions old new done.made.made;
+        due = λ some. made_nobody_due old new c.requires.whole done.made.made;
         locks = c.tell_sound.ensures;
-        interprets = interprets_stepped old new c.requires.whole done.made;
-        turn_steps = done.turn_steps;
+        interprets = interprets_stepped old new c.requires.whole done.made.made;
+        turn_steps = done.made.turn_steps;
       };
-      holds = done.holds;
-      drives = record { keeps = done.keeps; names = done.names; unsynced = done.unsynced };
+      holds = done.made.holds;
+      drives = done.uses.drives;
       trace = done.trace;
       cause = done.cause;
-      rests = λ off. (tt, done.drives off, done.device_calls off);
-      none = λ bare. (tt, done.none bare, done.bare bare);
-      calls = done.calls;
-      few = done.few;
+      rests = λ off. let rests = done.calls.rests off in (tt, rests.drives, rests.calls);
+      none = λ bare. let none = done.uses.none bare in (tt, none.drives, none.bare);
+      calls = done.calls.calls;
+      few = done.calls.few;
     }

@@ -1,0 +1,104 @@
+-- The spooler goes on: through what leaves its slot, and as it takes an answer.
+use Rattle.std.proofs.Common.{ℕ, [], ◌≡◌, ◌≢◌, ◌∙◌, true, false, List, ◌∷◌, ◌++◌, zero, suc, reverse, Option, Some, None, refl, sym, ap, subst, arith}
+use Rattle.std.specs.Prelude.{slice_get, slice_set}
+use Rattle.std.proofs.lemmas.Bool.{false≢true}
+use Rattle.mpm_base.specs.Calls.{Answer}
+use Rattle.mpm_consoles.specs.Consoles.{owner_of}
+use Rattle.mpm_base.specs.declared.unit.Unit.TheVariants.{Printer}
+use Rattle.mpm_kernel.specs.Awaiting.{AwaitsIn}
+use Rattle.mpm_kernel.specs.Kernel.{Kernel}
+use Rattle.mpm_port.specs.Texts.{Begins}
+use Rattle.mpm_procs.specs.Table.{call_of}
+use Rattle.mpm_render.specs.Outputs.{Output}
+use Rattle.mpm_residents.specs.Natives.{native_in, native_took, answer_taken}
+use Rattle.mpm_residents.specs.declared.native.Native.{Native}
+use Rattle.mpm_residents.specs.declared.native.Native.TheVariants.{Spool}
+use Rattle.mpm_service.specs.Places.{at_disk}
+use Rattle.mpm_spool.specs.Spoolers.{Spooler, took, after}
+use Rattle.mpm_spool.specs.declared.table.Row.TheVariants.{Attach}
+use Rattle.mpm_system.specs.Residents.{taking}
+use Rattle.mpm_system.specs.Whole.{SystemChange}
+use Rattle.mpm_system.specs.declared.system.System.{System}
+use Rattle.mpm_machine.proofs.SparedParts.{Spares, bytes_both}
+use Rattle.mpm_machine.specs.Interpreting.{sets_or_chains}
+use Rattle.mpm_machine.specs.Printed.{printed_in, has_printer, bytes_to}
+use Rattle.mpm_machine.specs.Spooling.{IsAtHome, IsFiled, IsSpooling, spooler_awaits, opens_or_attaches}
+
+-- what leaves its slot leaves it
+
+pub home_by : (q : ℕ) (old : System) (change : SystemChange) → Spares q old change → IsAtHome q old → IsAtHome q change.system
+home_by q old change s h = record {
+  lives = s.beside.living ∙ h.lives;
+  resides = s.beside.seg ∙ h.resides;
+  answers = s.beside.answers (λ is. false≢true (sym h.calls ∙ ap sets_or_chains is)) ∙ h.answers;
+  goes_on = s.beside.due ∙ h.goes_on;
+  calls = ap sets_or_chains s.beside.function ∙ h.calls;
+  number = s.printer.number ∙ h.number;
+}
+
+pub begins_still : (part : List ℕ) (emitted outputs : List Output) → bytes_to 0 emitted ≡ [] → Begins part (bytes_to 0 outputs) → Begins part (bytes_to 0 (emitted ++ outputs))
+begins_still part emitted outputs none b = record {
+  rest = b.rest;
+  whole_is = bytes_both 0 emitted outputs ∙ ap (λ (xs : List ℕ). xs ++ bytes_to 0 outputs) none ∙ b.whole_is;
+}
+
+unfoldable pub spooling_by : (q : ℕ) (old : System) (change : SystemChange) (outputs : List Output) → Spares q old change → IsSpooling q old outputs → IsSpooling q change.system (change.emitted ++ outputs)
+spooling_by q old change outputs s i = record {
+  answers = i.answers;
+  acts = s.resident ∙ i.acts;
+  home = home_by q old change s i.home;
+  asks = λ is. ap opens_or_attaches s.beside.function ∙ i.asks is;
+  filed = λ some. filed_still (i.filed (omega (arith, some, s.place)));
+  awaits = subst (λ (places : ℕ). AwaitsIn (spooler_awaits places (after i.answers).row) q change.system.kernel) (sym s.place) (s.awaits (spooler_awaits (at_disk old.kernel.disk q) (after i.answers).row) i.awaits);
+  owns = λ has. s.printer.owner 0 (i.owns has);
+  printed = λ has. begins_still (reverse (printed_in i.answers)) change.emitted outputs (s.nothing 0 (i.owns has)) (i.printed has);
+} where
+  filed_still : IsFiled q i.answers old → IsFiled q i.answers change.system
+  filed_still f = record { files = f.files; kept = s.beside.function ∙ f.kept }
+
+-- it takes an answer
+
+set_itself : (natives : List Native) (q : ℕ) (native new : Native) → slice_get natives q ≡ Some native → slice_get (slice_set natives q new) q ≡ Some new
+set_itself [] q native new is = absurd (cc)
+set_itself (first ∷ others) zero native new is = refl
+set_itself (first ∷ others) (suc q) native new is = set_itself others q native new is
+
+took_itself : (o : Option Native) (natives : List Native) (q : ℕ) (s : Spooler) (reply : Answer) → slice_get natives q ≡ o → o ≡ Some (Spool s)
+    → slice_get (answer_taken o reply q natives) q ≡ Some (Spool (took s reply))
+took_itself None natives q s reply at is = absurd (cc)
+took_itself (Some native) natives q s reply at is =
+    set_itself natives q native (native_took native reply) at ∙ ap (λ (n : Native). Some (native_took n reply)) (same_native native (Spool s) is)
+  where
+    same_native : (a b : Native) → Some a ≡ Some b → a ≡ b
+    same_native a b e = cc
+
+pub acts_took : (q : ℕ) (system : System) (answers : List Answer) (reply : Answer) → native_in system.residents q ≡ Some (Spool (after answers))
+    → native_in (taking reply q system).residents q ≡ Some (Spool (after (reply ∷ answers)))
+unfolding after
+acts_took q system answers reply is = took_itself (native_in system.residents q) system.residents q (after answers) reply refl is
+
+pub awaits_more : (k q : ℕ) (kernel : Kernel) → AwaitsIn 0 q kernel → AwaitsIn k q kernel
+awaits_more k q kernel a = record { table = a.table; few = omega (arith, a.few); at_once = λ _. a.at_once (omega arith) }
+
+-- nothing is at the disk, nothing is awaited, and where a printer is its own then, that has what was printed
+pub record Takes (q : ℕ) (answers : List Answer) (reply : Answer) (system : System) (outputs : List Output) : Type 0 where
+  pub acts : native_in system.residents q ≡ Some (Spool (after answers))
+  pub home : IsAtHome q system
+  pub none : AwaitsIn 0 q system.kernel
+  pub gone : at_disk system.kernel.disk q ≡ 0
+  pub asks : (after (reply ∷ answers)).row ≡ Attach → opens_or_attaches (call_of system.kernel.dispatcher.procs q).function ≡ true
+  pub owns : has_printer (after (reply ∷ answers)).row ≡ true → owner_of system.kernel.units (Printer 0) ≡ Some q
+  pub printed : has_printer (after (reply ∷ answers)).row ≡ true → Begins (reverse (printed_in (reply ∷ answers))) (bytes_to 0 outputs)
+
+pub spooling_took : (q : ℕ) (answers : List Answer) (reply : Answer) (system : System) (outputs : List Output) → Takes q answers reply system outputs
+    → IsSpooling q (taking reply q system) outputs
+spooling_took q answers reply system outputs t = record {
+  answers = reply ∷ answers;
+  acts = acts_took q system answers reply t.acts;
+  home = record { lives = t.home.lives; resides = t.home.resides; answers = t.home.answers; goes_on = t.home.goes_on; calls = t.home.calls; number = t.home.number };
+  asks = t.asks;
+  filed = λ some. absurd (omega (arith, some, t.gone));
+  awaits = awaits_more (spooler_awaits (at_disk system.kernel.disk q) (after (reply ∷ answers)).row) q system.kernel t.none;
+  owns = t.owns;
+  printed = t.printed;
+}
