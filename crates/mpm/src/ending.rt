@@ -1,8 +1,7 @@
 ghost use Rattle.std.specs.Prelude.{◌≡◌};
 ghost use Rattle.mpm.specs.Endings.{number_of};
 
-use mpm_top::Status;
-use std::fmt;
+use mpm_top::{Message, Status};
 
 /// The exit status that stands for an ending.
 pub fn number(status: Status) -> u8
@@ -19,60 +18,6 @@ pub fn number(status: Status) -> u8
         Status::DiskFault { .. } => 7,
         Status::WriteFault { .. } => 8,
         Status::OutOfMemory => 9,
-    }
-}
-
-/// The letter of a drive, numbered from 0 to 15.
-#[derive(Clone, Copy, Drop)]
-struct Letter(u8);
-
-impl fmt::Display for Letter {
-    ghost use Rattle.std.specs.Prelude.{Some, [], ◌∷◌};
-    ghost use Rattle.mpm.specs.Endings.{letter_of};
-
-    ghost output = { λ letter. Some (letter_of letter.0 ∷ []) };
-
-    fn fmt<W: fmt::Write>(&self, f: &mut fmt::Formatter<W>) -> fmt::Result {
-        let letter = char::from(b'A' + self.0 % 16);
-        write!(f, "{letter}")
-    }
-}
-
-/// What is said of an ending on the standard error; nothing where all steps are done.
-#[derive(Clone, Copy, Drop)]
-pub struct Message(pub Status);
-
-impl fmt::Display for Message {
-    ghost use Rattle.std.specs.Prelude.{Some};
-    ghost use Rattle.mpm.specs.Endings.{message_of};
-
-    ghost output = { λ message. Some (message_of message.0) };
-
-    fn fmt<W: fmt::Write>(&self, f: &mut fmt::Formatter<W>) -> fmt::Result {
-        match self.0 {
-            Status::Ran => write!(f, ""),
-            Status::Usage => {
-                write!(
-                    f,
-                    "usage: mpm program FILE STEPS [--trace] or mpm run MACHINE STEPS [--trace]"
-                )
-            }
-            Status::MachineFault => write!(f, "bad machine file"),
-            Status::ScriptFault { line } => write!(f, "bad script line {line}"),
-            Status::ImageFault {
-                drive,
-                cause,
-                place,
-            } => {
-                let letter = Letter(drive);
-                write!(f, "bad image {letter}: cause {cause} at {place}")
-            }
-            Status::TooLong { .. } => write!(f, "input too long"),
-            Status::ReadFault => write!(f, "cannot read"),
-            Status::DiskFault { step } => write!(f, "disk failed at step {step}"),
-            Status::WriteFault { step } => write!(f, "output failed at step {step}"),
-            Status::OutOfMemory => write!(f, "out of memory"),
-        }
     }
 }
 

@@ -1,8 +1,8 @@
 //! Each ending with its exit status and its text.
-use crate::ending::{self, Message};
+use crate::ending;
 use mpm_devices::Passage;
 use mpm_host::{RealDrives, RealFiles, RealSink};
-use mpm_top::{Status, run_words};
+use mpm_top::{Message, Status, run_words};
 use std::fs::{self, File};
 use std::test::Fail;
 

@@ -1,6 +1,6 @@
 ghost use Rattle.std.specs.Prelude.{◌≡◌, ◌++◌, ◌∷◌, [], IfOk};
 
-use mpm_port::OutOfMemory;
+use mpm_port::{Failed, OutOfMemory, Sink};
 use rtrb::{Consumer, Producer, RingBuffer};
 use std::alloc::Global;
 use std::marker::Model;
@@ -54,5 +54,21 @@ impl Passage {
         self.producer.push_reserved(byte);
         let _waiting = self.consumer.slots_beside(&mut self.producer);
         self.consumer.pop_known()
+    }
+}
+
+/// A sink that keeps nothing. Contracts see the whole text. It never fails.
+impl Sink for Passage {
+    ghost written = { λ p. p };
+
+    ghost faults = { λ _. 0 };
+
+    ghost took = { λ old bytes new. new ≡ old ++ bytes };
+
+    ghost dropped = { λ old bytes new. ⊥ };
+
+    fn put(&mut self, bytes: &[u8]) -> Result<(), Failed> {
+        self.pass_all(bytes);
+        Ok(())
     }
 }

@@ -13,7 +13,7 @@ use Rattle.z80_decode.specs.declared.page_forms.BitForm.{BitForm}
 use Rattle.z80_decode.specs.declared.page_forms.ExtendedForm.{ExtendedForm}
 use Rattle.z80_decode.specs.declared.page_forms.IndexForm.{IndexForm}
 use Rattle.z80_decode.specs.Opcodes.{form_of}
-use Rattle.z80_decode.specs.PageOpcodes.{extended_form_of, index_form_of, indexed_bit_form_of}
+use Rattle.z80_decode.specs.PageOpcodes.{third_quarter, transfer_of, extended_form_of, index_form_of, indexed_bit_form_of}
 use Rattle.z80_decode.specs.Decoding.{tail_of, extended_tail_of, index_tail_of, instr_with, bit_instr_of, extended_instr_by, index_instr_by, index_bit_instr_by, index_instr_of, prefixed_instr_of, main_instr_by, main_instr_of, main_or_prefixed, instr_of}
 use Rattle.mpm_replay.specs.Ports.{reads_main, reads_extended, reads_on, reads_port, reads_of}
 
@@ -50,6 +50,11 @@ unfolding prefixed_instr_of
 extended_reads opcode second third fourth none is =
     sym (ap reads_of (prefixed opcode second third fourth none ∙ ap (λ o. prefixed_instr_of (o ∷ second ∷ third ∷ fourth ∷ [])) is)
     ∙ by_extended (extended_form_of second) second third fourth refl)
+
+-- LDIR, EDh B0h, reads none
+pub load_up_reads : (opcode : ℕ) → opcode ≡ 176 → reads_extended (extended_form_of opcode) ≡ false
+unfolding extended_form_of third_quarter transfer_of
+load_up_reads opcode is = ap (λ o. reads_extended (extended_form_of o)) is
 
 -- those after the other prefixes read none
 by_index : (form : Option IndexForm) (page : Page) (second third fourth : ℕ) → reads_on page second ≡ false → reads_of (index_instr_by form page second third fourth) ≡ false

@@ -1,27 +1,30 @@
 -- A replay, instruction by instruction.
-use Rattle.std.proofs.Common.{◌≡◌, ◌∙◌, ℕ, ◌+◌, ◌<◌, Bool, List, Option, Some, None, true, false, if◌then◌else◌, inl, inr, refl, sym, ap, arith, add-one}
-use Rattle.std.specs.Prelude.{◌↔◌, IsNone, replicate}
+use Rattle.std.proofs.Common.{◌≡◌, ◌∙◌, ℕ, ◌+◌, ◌<◌, Bool, List, Option, Some, None, true, false, inl, inr, refl, sym, ap, arith, add-one}
+use Rattle.std.specs.Prelude.{◌↔◌, IsNone, IsSome, replicate}
 use Rattle.std.proofs.lemmas.Bool.{cases_eq, false≢true}
 use Rattle.z80_decode.specs.declared.instr.Instr.{Instr}
 use Rattle.z80_decode.specs.Decoding.{instr_of}
 use Rattle.z80_ext.specs.declared.stepped.Stepped.{Stepped}
 use Rattle.z80_ext.specs.declared.stepped.Stepped.TheVariants.{Ran, Illegal as Unlisted}
+use Rattle.z80_ext.proofs.Next.{unlisted_exactly}
 use Rattle.mpm_base.specs.declared.devices.Devices.{Devices}
+use Rattle.mpm_banks.specs.Memory.{byte_at}
+use Rattle.mpm_banks.specs.Ports.{port_byte}
 use Rattle.mpm_gate.specs.Gates.{gate_of}
 use Rattle.mpm_gate.specs.declared.gate.Gate.{Gate as GateThere}
 use Rattle.mpm_processor.specs.Moving.{View, instruction_in, moved, moves}
 use Rattle.mpm_processor.proofs.MovingLaws.{unmoved, ran_or_not}
 use Rattle.mpm_replay.specs.declared.stopping.Why.{Why}
-use Rattle.mpm_replay.specs.declared.stopping.Why.TheVariants.{Steps, Illegal, Input}
+use Rattle.mpm_replay.specs.declared.stopping.Why.TheVariants.{Steps, Illegal}
 use Rattle.mpm_replay.specs.Ports.{reads_of, reads_unless}
-use Rattle.mpm_replay.specs.Replays.{no_devices, bytes_at, stop_of, stop_by, stop_unless, stop_at, held_by, held_at, left_by, Advances, IsReplay}
+use Rattle.mpm_replay.specs.Replays.{no_devices, bytes_at, stop_of, stop_by, stop_unless, stop_at, input_if, held_by, held_at, left_by, Advances, IsReplay}
 
 pub no_devices_yet : (devices : Devices) → devices.ready ≡ replicate 16 false → devices.last ≡ replicate 16 0 → devices ≡ no_devices
 no_devices_yet devices ready last = ap (λ r. record devices { ready = r }) ready ∙ ap (λ l. record no_devices { last = l }) last
 
 -- what holds a process stops it, and where nothing does its instruction is done, or isn't listed
 
-held_instr : (instr : Option Instr) (why : Why) → (if reads_of instr then Some Input else None) ≡ Some why → stop_of instr ≡ Some why
+held_instr : (instr : Option Instr) (why : Why) → input_if (reads_of instr) ≡ Some why → stop_of instr ≡ Some why
 held_instr None why held = absurd (cc held)
 held_instr (Some instr) why held = held
 
@@ -31,7 +34,7 @@ held_stops (Some gate) halted bytes why held = held
 held_stops None true bytes why held = absurd (cc held)
 held_stops None false bytes why held = held_instr (instr_of bytes) why held
 
-free_instr : (instr : Option Instr) → (if reads_of instr then Some Input else None) ≡ None → (IsNone instr → ⊥) → stop_of instr ≡ None
+free_instr : (instr : Option Instr) → input_if (reads_of instr) ≡ None → (IsNone instr → ⊥) → stop_of instr ≡ None
 free_instr None free listed = absurd (listed refl)
 free_instr (Some instr) free listed = free
 
@@ -63,6 +66,16 @@ holds inside old new held why is same some = record {
 pub record Answers (view : View) (stepped : Stepped) : Type 0 where
   pub illegal : (stepped ≡ Unlisted) ↔ IsNone (instruction_in 0 view)
   pub unlisted : (stepped ≡ Unlisted) ↔ ((view.regs.halted ≡ false) × IsNone (instr_of (bytes_at view)))
+
+-- a transfer of LDIR is an instruction
+pub loaded : (view : View) → IsSome (instruction_in 0 view) → Answers view Ran
+loaded view listed = record {
+  illegal = ((λ is. absurd (ran_or_not Ran refl is)), (λ none. absurd (false≢true (sym none ∙ listed))));
+  unlisted = (
+    (λ is. absurd (ran_or_not Ran refl is)),
+    (λ none. absurd (false≢true (sym ((unlisted_exactly view.regs (byte_at view.memory 0) (port_byte view.devices)).1 none) ∙ listed))),
+  );
+}
 
 pub ran_on : (inside : Bool) (now new : View) (stepped : Stepped) → held_at inside now ≡ None → Answers now stepped → new ≡ moved 0 now → stepped ≡ Ran
     → Advances inside now new None

@@ -14,6 +14,8 @@ use Rattle.mpm_processor.specs.Moving.{View, view_of, moved, moves}
 use Rattle.mpm_replay.specs.Ports.{reads_port, reads_unless}
 use Rattle.mpm_replay.specs.declared.stopping.Why.{Why}
 use Rattle.mpm_replay.specs.declared.stopping.Why.TheVariants.{Steps, Gate, Illegal, Input}
+use Rattle.mpm_replay.specs.declared.stopping.Next.{Next}
+use Rattle.mpm_replay.specs.declared.stopping.Next.TheVariants as next
 use Rattle.mpm_replay.specs.declared.replaying.Replayed.{Replayed}
 
 -- no device has sent anything: no instruction that is done here reads one
@@ -50,12 +52,21 @@ unfoldable pub stop_at : Bool → View → Option Why
 stop_at inside view = stop_by (gate_of inside view.memory 0 view.regs.pc) (stop_unless view.regs.halted (bytes_at view))
 
 -- what stops it before its instruction is decoded whole: a gate, or an instruction that reads a port
+abbrev pub input_if : Bool → Option Why
+input_if reads = if reads then Some Input else None
+
 abbrev pub held_by : Option GateThere → Bool → Option Why
 held_by (Some gate) reads = Some Gate
-held_by None reads = if reads then Some Input else None
+held_by None reads = input_if reads
 
 unfoldable pub held_at : Bool → View → Option Why
 held_at inside view = held_by (gate_of inside view.memory 0 view.regs.pc) (reads_unless view.regs.halted (instr_of (bytes_at view)))
+
+-- what stops a process that does this next
+abbrev pub stopped_by : Next → Option Why
+stopped_by (next.Stops why) = Some why
+stopped_by next.Loads = None
+stopped_by next.Steps = None
 
 -- what is left of a view: what an instruction leaves, where there was no reason to stop
 abbrev pub left_by : Option Why → View → View

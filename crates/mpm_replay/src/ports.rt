@@ -1,9 +1,12 @@
 ghost use Rattle.std.specs.Prelude.{◌≡◌, Some};
+ghost use Rattle.z80_regs.specs.Words.{onward};
 ghost use Rattle.z80_decode.specs.Decoding.{instr_of};
 ghost use Rattle.z80_decode.specs.PageOpcodes.{extended_form_of};
 ghost use Rattle.z80_ext.specs.Instruction.{four_from};
 ghost use Rattle.mpm_replay.specs.Ports.{reads_main, reads_extended, reads_of};
+ghost use Rattle.mpm_replay.specs.Replays.{input_if, stopped_by};
 
+use crate::stopping::{Next, Why};
 use z80_decode::{ExtendedForm, Form, Transfer, extended_form, main_form};
 use z80_regs::Bus;
 
@@ -29,20 +32,43 @@ fn extended_reads(opcode: u8) -> bool
     }
 }
 
-/// Whether the instruction at an address reads a port: IN, INI, IND, INIR and INDR do. (UM0080, "Input and Output Group".)
+/// What is next where an opcode stands after EDh.
+#[tactic(auto, using(crate::proofs::ReadLaws::load_up_reads))]
+fn extended_next(opcode: u8) -> Next
+    ensures stops { stopped_by result ≡ input_if (reads_extended (extended_form_of opcode)) }
+    ensures loads { result ≡ Next.Loads → opcode ≡ 176 }
+{
+    if opcode == 0xB0 {
+        Next::Loads
+    } else if extended_reads(opcode) {
+        Next::Stops(Why::Input)
+    } else {
+        Next::Steps
+    }
+}
+
+/// What is next where an instruction stands at an address: it stops there if that reads a port, as IN, INI, IND, INIR and INDR do.
+/// (UM0080, "Input and Output Group".)
 #[inline(always)]
 #[tactic(auto, using(crate::proofs::ReadLaws::main_reads, crate::proofs::ReadLaws::extended_reads, crate::proofs::ReadLaws::others_read))]
-pub(crate) fn reads_port_at<B: Bus>(address: u16, bus: &B) -> bool
-    ensures { result ≡ reads_of (instr_of (four_from (B.byte bus.now) address)) }
+pub(crate) fn next_at<B: Bus>(address: u16, bus: &B) -> Next
+    ensures stops { stopped_by result ≡ input_if (reads_of (instr_of (four_from (B.byte bus.now) address))) }
+    ensures loads { result ≡ Next.Loads → (B.byte bus.now address ≡ 237) × (B.byte bus.now (onward address 1) ≡ 176) }
 {
     let opcode = bus.read(address);
     match main_form(opcode) {
-        Some(form) => form_reads(form),
+        Some(form) => {
+            if form_reads(form) {
+                Next::Stops(Why::Input)
+            } else {
+                Next::Steps
+            }
+        }
         None => {
             if opcode == 0xED {
-                extended_reads(bus.read(address.wrapping_add(1)))
+                extended_next(bus.read(address.wrapping_add(1)))
             } else {
-                false
+                Next::Steps
             }
         }
     }

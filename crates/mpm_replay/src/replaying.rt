@@ -1,6 +1,6 @@
-ghost use Rattle.std.specs.Prelude.{◌≡◌, ◌↔◌, ℕ, false, IsNone, length};
+ghost use Rattle.std.specs.Prelude.{◌≡◌, ◌↔◌, ℕ, false, IsNone, IsSome, length};
 ghost use Rattle.z80_decode.specs.Decoding.{instr_of};
-ghost use Rattle.z80_ext.specs.Instruction.{four_from, instruction, registers_after, actions_of};
+ghost use Rattle.z80_ext.specs.Instruction.{IsLoadUpAt, four_from, instruction, registers_after, actions_of};
 ghost use Rattle.mpm_banks.specs.Allocations.{FitsBelowCommon};
 ghost use Rattle.mpm_banks.specs.Memory.{byte_at};
 ghost use Rattle.mpm_banks.specs.Ports.{port_byte};
@@ -10,10 +10,10 @@ ghost use Rattle.mpm_processor.specs.Moving.{View, view_of};
 ghost use Rattle.mpm_replay.specs.Replays.{IsReplay, Advances, portless};
 ghost use Rattle.mpm_replay.specs.Agreeing.{own_of, FollowEach, Agrees};
 
-use crate::stopping::{Why, hold};
+use crate::stopping::{Next, Why, find_next};
 use mpm_banks::SliceBus;
 use mpm_base::{Devices, SegmentSpec};
-use z80_ext::{Stepped, step};
+use z80_ext::{Stepped, step, step_load_up};
 use z80_regs::Regs;
 
 /// How many instructions a replay did, and why it ended.
@@ -48,6 +48,30 @@ fn execute(
     step(regs, &mut bus)
 }
 
+/// One transfer of LDIR, which is at PC.
+#[inline(always)]
+fn execute_load(
+    spec: SegmentSpec,
+    regs: &mut Regs,
+    segment: &mut [u8],
+    common: &mut [u8],
+    devices: &mut Devices,
+)
+    requires { IsLoadUpAt regs.old (byte_at (alone spec segment.old common.old) 0) }
+    ensures listed { IsSome (instruction regs.old (byte_at (alone spec segment.old common.old) 0) (port_byte devices.old)) }
+    ensures registers { regs.new ≡ registers_after (instruction regs.old (byte_at (alone spec segment.old common.old) 0) (port_byte devices.old)) regs.old }
+    ensures memory { alone spec segment.new common.new ≡ memory_after (actions_of (instruction regs.old (byte_at (alone spec segment.old common.old) 0) (port_byte devices.old))) 0 (alone spec segment.old common.old) }
+    ensures devices { devices.new ≡ devices_after (actions_of (instruction regs.old (byte_at (alone spec segment.old common.old) 0) (port_byte devices.old))) devices.old }
+{
+    let mut bus = SliceBus {
+        spec,
+        segment,
+        common,
+        devices,
+    };
+    step_load_up(regs, &mut bus);
+}
+
 /// Does one instruction, or answers why none is done.
 #[inline(always)]
 fn advance(
@@ -64,12 +88,16 @@ fn advance(
     ensures segment { length segment.new ≡ length segment.old }
     ensures common { length common.new ≡ length common.old }
 {
-    match hold(inside, spec, regs, segment, common, devices) {
-        None => match execute(spec, regs, segment, common, devices) {
+    match find_next(inside, spec, regs, segment, common, devices) {
+        Next::Stops(why) => Some(why),
+        Next::Loads => {
+            execute_load(spec, regs, segment, common, devices);
+            None
+        }
+        Next::Steps => match execute(spec, regs, segment, common, devices) {
             Stepped::Ran => None,
             Stepped::Illegal => Some(Why::Illegal),
         },
-        Some(why) => Some(why),
     }
 }
 

@@ -1,11 +1,14 @@
 ghost use Rattle.std.specs.Prelude.{◌≡◌};
 ghost use Rattle.z80_decode.specs.Decoding.{instr_of};
+ghost use Rattle.z80_ext.specs.Instruction.{IsLoadUpAt};
 ghost use Rattle.mpm_banks.specs.Allocations.{FitsBelowCommon};
+ghost use Rattle.mpm_banks.specs.Memory.{byte_at};
+ghost use Rattle.mpm_banks.specs.Sides.{alone};
 ghost use Rattle.mpm_processor.specs.Moving.{view_of};
 ghost use Rattle.mpm_replay.specs.Ports.{reads_unless};
-ghost use Rattle.mpm_replay.specs.Replays.{held_at, bytes_at};
+ghost use Rattle.mpm_replay.specs.Replays.{input_if, stopped_by, held_at, bytes_at};
 
-use crate::ports::reads_port_at;
+use crate::ports::next_at;
 use mpm_banks::{SliceBus, last_page};
 use mpm_base::{Devices, SegmentSpec};
 use mpm_gate::is_gate;
@@ -24,22 +27,34 @@ pub enum Why {
     Input,
 }
 
-/// Whether the processor is about to read a port.
+/// What a process does next.
+#[derive(Clone, Copy)]
+pub(crate) enum Next {
+    /// Nothing: it stops.
+    Stops(Why),
+    /// A transfer of LDIR, which has code of its own.
+    Loads,
+    /// Another instruction, if one is listed.
+    Steps,
+}
+
+/// What a process does next that is at no gate.
 #[inline(always)]
-fn reads_port(
+fn next_off_gates(
     spec: SegmentSpec,
     regs: &Regs,
     segment: &mut [u8],
     common: &mut [u8],
     devices: &mut Devices,
-) -> bool
-    ensures reads { result ≡ reads_unless regs.now.halted (instr_of (bytes_at (view_of spec regs.now segment.old common.old devices.old))) }
+) -> Next
+    ensures stops { stopped_by result ≡ input_if (reads_unless regs.now.halted (instr_of (bytes_at (view_of spec regs.now segment.old common.old devices.old)))) }
+    ensures loads { result ≡ Next.Loads → IsLoadUpAt regs.now (byte_at (alone spec segment.old common.old) 0) }
     ensures segment { segment.new ≡ segment.old }
     ensures common { common.new ≡ common.old }
     ensures devices { devices.new ≡ devices.old }
 {
     if regs.halted {
-        return false;
+        return Next::Steps;
     }
     let bus = SliceBus {
         spec,
@@ -47,32 +62,29 @@ fn reads_port(
         common,
         devices,
     };
-    reads_port_at(regs.pc, &bus)
+    next_at(regs.pc, &bus)
 }
 
-/// What stops a process before its instruction is decoded whole, if anything does.
+/// What a process does next, before its instruction is decoded whole.
 #[inline(always)]
 #[tactic(auto, unfolding(crate::specs::Replays::held_at))]
-pub(crate) fn hold(
+pub(crate) fn find_next(
     inside: bool,
     spec: SegmentSpec,
     regs: &Regs,
     segment: &mut [u8],
     common: &mut [u8],
     devices: &mut Devices,
-) -> Option<Why>
+) -> Next
     requires { FitsBelowCommon spec }
-    ensures held { result ≡ held_at inside (view_of spec regs.now segment.old common.old devices.old) }
+    ensures held { stopped_by result ≡ held_at inside (view_of spec regs.now segment.old common.old devices.old) }
+    ensures loads { result ≡ Next.Loads → IsLoadUpAt regs.now (byte_at (alone spec segment.old common.old) 0) }
     ensures segment { segment.new ≡ segment.old }
     ensures common { common.new ≡ common.old }
     ensures devices { devices.new ≡ devices.old }
 {
     if is_gate(inside, last_page(spec), regs.pc) {
-        return Some(Why::Gate);
+        return Next::Stops(Why::Gate);
     }
-    if reads_port(spec, regs, segment, common, devices) {
-        Some(Why::Input)
-    } else {
-        None
-    }
+    next_off_gates(spec, regs, segment, common, devices)
 }

@@ -10,3 +10,4 @@ pub mod SeedFiles
 pub mod SeedImages
 pub mod BootLaws
 pub mod SeedLaws
+pub mod Letters

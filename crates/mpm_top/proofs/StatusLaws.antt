@@ -46,6 +46,10 @@ unfetched_unread contents script old new (DiskFault step) why = why
 unfetched_unread contents script old new (WriteFault step) why = why
 unfetched_unread contents script old new OutOfMemory why = why
 
+-- no output failed where all is done
+pub ran_wrote : (step : ℕ) → Ran ≡ WriteFault step → ⊥
+ran_wrote step is = subst (λ (status : Status). UnlessWriteFault status ⊥) (sym is) tt
+
 -- it ended before the first step
 
 pub early_ran : (status : Status) → IsEarly status → status ≡ Ran → ⊥

@@ -5,3 +5,4 @@ pub mod Endings
 pub mod Promises
 pub mod Data
 pub mod Seeds
+pub mod Messages

@@ -6,6 +6,7 @@ use Rattle.mpm_port.specs.Disks.{Disks}
 use Rattle.mpm_drives.specs.Images.{Images}
 use Rattle.mpm_drives.specs.Mounted.{AsksNoWrite}
 use Rattle.mpm_render.specs.Outputs.{closed}
+use Rattle.mpm_system.specs.declared.system.System.{System}
 use Rattle.mpm_machine.specs.State.{State}
 use Rattle.mpm_machine.specs.After.{after}
 use Rattle.mpm_machine.specs.Settling.{carried}
@@ -47,6 +48,11 @@ pub record WritesAll (command : Command) (old new : Seen) : Type 0 where
   pub images : StandFor new.disks new.host.images (drives_listed command.form begins.bytes) (drives_left (after command.steps start))
   pub synced : AreSyncedOf new.unsynced (drives_listed command.form begins.bytes)
   pub others : KeepsOthers old.host.images new.host.images old.disks new.disks (drives_listed command.form begins.bytes)
+
+-- And someone saw what the machine was after the last step, before the end
+pub record SeesLast (Saw : System → Type 0) (command : Command) (old new : Seen) : Type 0 where
+  pub writes : WritesAll command old new
+  pub saw : Saw (after command.steps writes.start).system
 
 -- The output failed in a step: there are such bytes, and what was written is the text of the steps before it, and a first part of its own;
 -- each image stands for what is on its drive after it. Or it failed so in the end, after all steps

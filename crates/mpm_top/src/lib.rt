@@ -3,6 +3,8 @@
 
 mod boot;
 mod data;
+mod looking;
+mod message;
 mod report;
 mod run;
 mod seeded;
@@ -10,6 +12,9 @@ mod seeds;
 mod status;
 mod words;
 
-pub use run::run_words;
+pub use looking::Look;
+pub use message::Message;
+pub use run::{run_command, run_words};
 pub use seeds::generated;
 pub use status::{Input, Status};
+pub use words::{Asked, Form, asked_by, steps_of};

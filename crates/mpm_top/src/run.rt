@@ -9,15 +9,16 @@ ghost use Rattle.mpm_machine.specs.Files.{Between, StandsForFiles};
 ghost use Rattle.mpm_machine.specs.Holding.{HoldsDrives};
 ghost use Rattle.mpm_machine.specs.Faults.{counts};
 ghost use Rattle.mpm_machine.specs.Mounting.{HasDrives, HasNoDrive, untouched};
-ghost use Rattle.mpm_machine.specs.After.{ShowsBefore};
+ghost use Rattle.mpm_machine.specs.After.{after, ShowsBefore};
 ghost use Rattle.mpm_top.specs.Words.{Command, texts, command_of};
 ghost use Rattle.mpm_top.specs.Beginnings.{command_on, input_of as input_said, room_for, script_name, host, failed, begun};
 ghost use Rattle.mpm_top.specs.Runs.{printed, StandFor, KeepsOthers, IsAttachedAs, SyncsAttached, RunsOut, StopsRunBy, ClosesAfter, Causes};
 ghost use Rattle.mpm_top.specs.Endings.{stopped_by, Ends, EndsAs, IsRefusal};
-ghost use Rattle.mpm_top.specs.Promises.{seen, Writes, Fails, Promises};
+ghost use Rattle.mpm_top.specs.Promises.{seen, Writes, SeesLast, Fails, Promises};
 ghost use Rattle.mpm_top.specs.Seeds.{seeded_of, EndsSeeded};
 
 use crate::boot::boot;
+use crate::looking::{Look, Nobody};
 use crate::seeded::run_seeded_words;
 use crate::seeds::Seeded;
 use crate::status::Status;
@@ -69,7 +70,16 @@ pub fn run_words<F: Files, D: Drives, S: Sink>(
     let Some(asked) = read_words(words) else {
         return run_seeded_words(alloc, words, sink);
     };
-    run_command(alloc, name_of(words), asked, files, drives, sink)
+    let mut nobody = Nobody;
+    run_command(
+        alloc,
+        name_of(words),
+        asked,
+        files,
+        drives,
+        sink,
+        &mut nobody,
+    )
 }
 
 /// The name of the file that the second word says.
@@ -80,20 +90,24 @@ fn name_of(words: &[String]) -> &str
     words[1].as_str()
 }
 
-/// Does what a command asks of a file.
-fn run_command<F: Files, D: Drives, S: Sink>(
+/// Does what a command asks of a file. After its last step, before the end of its run, someone looks at its machine.
+pub fn run_command<F: Files, D: Drives, S: Sink, V: Look>(
     alloc: Global,
     name: &str,
     asked: Asked,
     files: &mut F,
     drives: &mut D,
     sink: &mut S,
+    look: &mut V,
 ) -> Status
     requires { asked.steps ≤ GREATEST_STEP }
     ensures usage { result ≢ Status.Usage }
     ensures writes { Writes (sink.new ≡ sink.old) (command_on name.now asked)
         (seen F.contents F.failed_names D.disks D.told D.unsynced D.faults D.failed_names S.written S.faults files.old drives.old sink.old)
         (seen F.contents F.failed_names D.disks D.told D.unsynced D.faults D.failed_names S.written S.faults files.new drives.new sink.new) result }
+    ensures looked { result ≡ Status.Ran → SeesLast (λ system. V.saw look.old system look.new) (command_on name.now asked)
+        (seen F.contents F.failed_names D.disks D.told D.unsynced D.faults D.failed_names S.written S.faults files.old drives.old sink.old)
+        (seen F.contents F.failed_names D.disks D.told D.unsynced D.faults D.failed_names S.written S.faults files.new drives.new sink.new) }
     ensures program { asked.form ≡ Form.Program → drives.new ≡ drives.old }
     ensures fails { Fails (seen F.contents F.failed_names D.disks D.told D.unsynced D.faults D.failed_names S.written S.faults files.old drives.old sink.old)
         (seen F.contents F.failed_names D.disks D.told D.unsynced D.faults D.failed_names S.written S.faults files.new drives.new sink.new) result }
@@ -108,7 +122,14 @@ fn run_command<F: Files, D: Drives, S: Sink>(
 {
     match boot(alloc, name, asked.form, files, drives) {
         Ok(mut machine) => {
-            match run_to_end::<D, S, Brand>(&mut machine, asked, drives, sink, Blank::new(1)) {
+            match run_to_end::<D, S, V, Brand>(
+                &mut machine,
+                asked,
+                drives,
+                sink,
+                look,
+                Blank::new(1),
+            ) {
                 Ok(()) => Status::Ran,
                 Err(error) => stopped(error),
             }
@@ -141,13 +162,14 @@ fn close<S: Sink>(fault: StepFault, render: &mut Render, sink: &mut S)
     }
 }
 
-/// Runs a machine that begins for so many steps, carries the call in service to its end, syncs the drives, and closes the unfinished
-/// lines. Where a drive fails these are closed too.
-fn run_to_end<D: Drives, S: Sink, L: Ledger>(
+/// Runs a machine that begins for so many steps, after which someone looks at it; carries the call in service to its end, syncs the
+/// drives, and closes the unfinished lines. Where a drive fails these are closed too.
+fn run_to_end<D: Drives, S: Sink, V: Look, L: Ledger>(
     machine: &mut Machine,
     asked: Asked,
     drives: &mut D,
     sink: &mut S,
+    look: &mut V,
     blank: Blank,
 ) -> Result<(), RunFault>
     requires whole { IsWhole machine.old.system }
@@ -167,6 +189,8 @@ fn run_to_end<D: Drives, S: Sink, L: Ledger>(
         → StandsForFiles machine.old.system.kernel.disk machine.old.bdos (D.disks drives.old) (Between (untouched (placed on)))
         → IfErr result (λ error. StopsRunBy (StandFor (D.disks drives.new) (D.told drives.new) specs) error.fault asked.trace (begun machine.old.system on) asked.steps
         (printed S.written S.faults sink.old) (printed S.written S.faults sink.new) error.step) }
+    ensures looked { (on : List NumberedDrive) → StandsForFiles machine.old.system.kernel.disk machine.old.bdos (D.disks drives.old) (Between (untouched (placed on)))
+        → OnOk result (V.saw look.old (after asked.steps (begun machine.old.system on)).system look.new) }
     ensures others { (specs : List DriveSpec) → HasDrives (D.disks drives.old) specs machine.old.bdos.mounted
         → KeepsOthers (D.told drives.old) (D.told drives.new) (D.disks drives.old) (D.disks drives.new) specs }
     ensures synced { OnOk result (AreMountedSynced (D.unsynced drives.new) machine.old.bdos.mounted) }
@@ -188,6 +212,7 @@ fn run_to_end<D: Drives, S: Sink, L: Ledger>(
             return Err(error);
         }
     }
+    look.look(machine);
     match machine.settle(drives, &mut render, sink, &mut steps) {
         Ok(()) => Ok(()),
         Err(fault) => {

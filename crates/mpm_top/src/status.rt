@@ -41,7 +41,7 @@ impl Input {
     ghost use Rattle.mpm_top.specs.Beginnings.{room_for};
 
     /// The most bytes that it may have.
-    pub(crate) fn room(self) -> usize
+    pub fn room(self) -> usize
         ensures { result ≡ room_for self }
     {
         match self {

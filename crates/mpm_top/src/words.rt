@@ -5,7 +5,7 @@ use mpm_script::GREATEST_STEP;
 
 /// The forms of commands, by their first word.
 #[derive(Clone, Copy)]
-pub(crate) enum Form {
+pub enum Form {
     /// `program FILE STEPS`: one process runs the bytes of FILE.
     Program,
     /// `run MACHINE STEPS`: boots the machine of the machine file MACHINE.
@@ -14,7 +14,7 @@ pub(crate) enum Form {
 
 /// What a command asks of the file that its second word names.
 #[derive(Clone, Copy)]
-pub(crate) struct Asked {
+pub struct Asked {
     pub form: Form,
     /// How many steps are to be done, at most 4,000,000,000.
     pub steps: u64,
@@ -24,7 +24,7 @@ pub(crate) struct Asked {
 
 /// The number of steps that a word says.
 #[tactic(auto, unfolding(crate::specs::Words::steps_of))]
-pub(crate) fn steps_of(word: &str) -> Option<u64>
+pub fn steps_of(word: &str) -> Option<u64>
     ensures number { result ≡ number_of word.now }
     ensures limit { IfSome result (λ n. n ≤ GREATEST_STEP) }
 {
@@ -46,9 +46,9 @@ fn form_of(word: &str) -> Option<Form>
     }
 }
 
-/// What the first three words ask, with or without a trace.
+/// What three words ask, `program FILE STEPS` or `run MACHINE STEPS`, with or without a trace.
 #[tactic(auto, using(crate::proofs::CommandLaws::no_form, crate::proofs::CommandLaws::no_name, crate::proofs::CommandLaws::no_steps))]
-fn asked_by(word: &str, file: &str, steps: &str, trace: bool) -> Option<Asked>
+pub fn asked_by(word: &str, file: &str, steps: &str, trace: bool) -> Option<Asked>
     ensures { MatchOption result (command_with (form_said word.now) file.now (number_of steps.now) trace ≡ None)
         (λ asked. IsAsked (command_with (form_said word.now) file.now (number_of steps.now) trace) file.now asked) }
 {

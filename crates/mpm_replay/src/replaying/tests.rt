@@ -116,3 +116,25 @@ fn a_replay_reaches_common_memory(rt: HostRuntime) {
     let _ = replay(false, FOUR_PAGES, &mut regs, &mut segment, &mut common, 3);
     assert!(rt; regs.a == 0x5A && segment[256] == 0x5A && common[1] == 0x5A);
 }
+
+#[test]
+fn a_replay_copies_by_ldir_a_byte_at_a_time(rt: HostRuntime) {
+    // LDIR, from 4000h to 4100h; INC A.
+    let mut regs = registers_at(0x4000);
+    (regs.h, regs.d, regs.c) = (0x40, 0x41, 3);
+    let mut segment = [0; 1024];
+    segment[..3].copy_from_slice(&[0xED, 0xB0, 0x3C]);
+    let mut common = [0; 4];
+    let two = replay(false, FOUR_PAGES, &mut regs, &mut segment, &mut common, 2);
+    assert!(rt;
+        two.done == 2
+            && regs.pc == 0x4000
+            && regs.c == 1
+            && segment[257] == 0xB0
+            && segment[258] == 0
+    );
+    let rest = replay(false, FOUR_PAGES, &mut regs, &mut segment, &mut common, 2);
+    assert!(rt;
+        rest.done == 2 && regs.pc == 0x4003 && regs.c == 0 && regs.e == 3 && segment[258] == 0x3C
+    );
+}

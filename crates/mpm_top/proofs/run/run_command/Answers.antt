@@ -5,7 +5,7 @@ use Rattle.mpm_top.specs.Beginnings.{host, failed, begun, command_on, drives_lis
 use Rattle.mpm_top.specs.Runs.{Causes}
 use Rattle.mpm_top.specs.Promises.{seen}
 use Rattle.mpm_top.proofs.RunLaws.{ends_by_fault}
-use Rattle.mpm_top.proofs.StatusLaws.{early_ran, writes_early, fails_early, ended_ran, ended_usage, ended_refusal, writes_stopped, fails_stopped}
+use Rattle.mpm_top.proofs.StatusLaws.{ran_wrote, early_ran, writes_early, fails_early, ended_ran, ended_usage, ended_refusal, writes_stopped, fails_stopped}
 use Rattle.mpm_top.proofs.Naming.{others_then}
 use Rattle.mpm_top.proofs.Syncing.{listed_synced, syncs_attached}
 use Rattle.mpm_top.proofs.run.run_command.Goals as goal
@@ -31,6 +31,13 @@ returns-in-Ok-run_to_end-clause-writes g c =
       others = others_then _ _ _ _ (g.D.Drives.disks c.boot.new.drives) _ c.in-Ok.machine.bdos.mounted specs c.in-Ok.ensures.told starts.listed c.in-Ok.ensures.beside (c.in-Ok-run_to_end.ensures.others specs starts.listed);
     }
 
+pub returns-in-Ok-run_to_end-clause-looked : goal.returns-in-Ok-run_to_end-clause-looked
+unfolding returns-in-Ok-run_to_end-clause-writes
+returns-in-Ok-run_to_end-clause-looked g c is = record {
+  writes = returns-in-Ok-run_to_end-clause-writes g c;
+  saw = c.in-Ok-run_to_end.ensures.looked c.in-Ok.ensures.starts.drives c.in-Ok.ensures.starts.files;
+}
+
 pub returns-in-Ok-run_to_end-clause-fails : goal.returns-in-Ok-run_to_end-clause-fails
 returns-in-Ok-run_to_end-clause-fails g c =
     let faults = ap (λ (k : FailureCounts). k.drives) c.in-Ok-run_to_end.ensures.cause ∙ ap (λ (f : Failures). f.faults) c.in-Ok.ensures.drives in
@@ -39,7 +46,7 @@ returns-in-Ok-run_to_end-clause-fails g c =
       files = c.in-Ok.ensures.names;
       drives = λ i. record { faults = faults i; names = names i };
       output = ap (λ (k : FailureCounts). k.sink) c.in-Ok-run_to_end.ensures.cause;
-      write = λ step is. absurd (cc);
+      write = λ step is. absurd (ran_wrote step is);
     }
 
 pub returns-in-Ok-run_to_end-clause-synced : goal.returns-in-Ok-run_to_end-clause-synced
@@ -112,6 +119,9 @@ returns-in-Ok-clause-usage g c is = ended_usage c.in-Err-run_to_end.error.fault 
 pub returns-in-Ok-clause-synced : goal.returns-in-Ok-clause-synced
 returns-in-Ok-clause-synced g c is = absurd (ended_ran c.in-Err-run_to_end.error.fault c.in-Err-run_to_end.error.step c.stopped.result c.stopped.ensures is)
 
+pub returns-in-Ok-clause-looked : goal.returns-in-Ok-clause-looked
+returns-in-Ok-clause-looked g c is = absurd (ended_ran c.in-Err-run_to_end.error.fault c.in-Err-run_to_end.error.step c.stopped.result c.stopped.ensures is)
+
 pub returns-in-Ok-clause-missing : goal.returns-in-Ok-clause-missing
 returns-in-Ok-clause-missing g c missing = absurd (c.in-Ok.ensures.missing missing)
 
@@ -145,6 +155,9 @@ returns-clause-fails g c =
 
 pub returns-clause-synced : goal.returns-clause-synced
 returns-clause-synced g c is = absurd (early_ran c.in-Err.status c.in-Err.ensures.early is)
+
+pub returns-clause-looked : goal.returns-clause-looked
+returns-clause-looked g c is = absurd (early_ran c.in-Err.status c.in-Err.ensures.early is)
 
 pub returns-clause-reason : goal.returns-clause-reason
 returns-clause-reason g c = c.in-Err.ensures.reason

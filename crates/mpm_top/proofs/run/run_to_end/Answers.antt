@@ -90,6 +90,14 @@ returns-in-Ok-settle-clause-runs g c specs on has stand =
           });
     }
 
+pub returns-in-Ok-settle-clause-looked : goal.returns-in-Ok-settle-clause-looked
+returns-in-Ok-settle-clause-looked g c on stand =
+    let first = g.S.Sink.written c.args.sink.now in
+    let s = begun c.args.machine.now.system on in
+    let stands = stands_first c.args.machine.now s.files c.new-render.result first (g.D.Drives.disks c.args.drives.now) (c.new-render.ensures.fresh first) stand in
+    let Saw : System → Type 0 = λ system. g.V.Look.saw c.args.look.now system c.look.new.self in
+    subst Saw (c.in-Ok.ensures.ok s first stands).system.parts c.look.ensures
+
 pub returns-in-Ok-settle-clause-synced : goal.returns-in-Ok-settle-clause-synced
 returns-in-Ok-settle-clause-synced g c =
     synced_before (g.D.Drives.unsynced c.settle.new.drives) c.args.machine.now.bdos.mounted c.settle.new.self.bdos.mounted

@@ -1,8 +1,8 @@
 use Rattle.std.proofs.Common.{◌∙◌, ℕ, List, ap, subst}
 use Rattle.std.specs.Char.{encode_utf8}
 use Rattle.std.specs.Fmt.{HasWritten}
-use Rattle.mpm.proofs.Letters.{letter_byte}
-use Rattle.mpm.proofs.ending.LetterDisplay.fmt.Goals as goal
+use Rattle.mpm_top.proofs.Letters.{letter_byte}
+use Rattle.mpm_top.proofs.message.LetterDisplay.fmt.Goals as goal
 
 pub returns-clause-writes : goal.returns-clause-writes
 returns-clause-writes g c plain ok =

@@ -1,0 +1,73 @@
+-- What the parts of the program leave: who looks at the machine of a save, the run of a save, and the parts of running a core on.
+use Rattle.std.specs.Prelude.{◌≡◌, ℕ, Bool, true, false, List, [], ◌++◌, Option, Some, ⊤, is_some}
+use Rattle.mpm_port.specs.Disks.{Disks}
+use Rattle.mpm_port.specs.Texts.{AppendsPart}
+use Rattle.mpm_drives.specs.Images.{Images}
+use Rattle.mpm_system.specs.declared.system.System.{System}
+use Rattle.mpm_core_file.specs.CoreFiles.{CoreContents, IsCore, core_bytes}
+use Rattle.mpm_core.specs.Taking.{core_at}
+use Rattle.mpm_top.specs.declared.status.Status.{Status}
+use Rattle.mpm_top.specs.declared.status.Status.TheVariants as run
+use Rattle.mpm_top.specs.Words.{Command}
+use Rattle.mpm_top.specs.Beginnings.{Contents}
+use Rattle.mpm_top.specs.Endings.{UnlessReadFault}
+use Rattle.mpm_top.specs.Promises.{Seen, seen, Promises, SeesLast}
+use Rattle.mpm_snapshot.specs.declared.status.SnapStatus.{SnapStatus}
+use Rattle.mpm_snapshot.specs.declared.status.SnapStatus.TheVariants.{Done, Usage, MachineFault, ScriptFault, ImageFault, TooLong, ReadFault, DiskFault, WriteFault, OutOfMemory, NoProcess, CoreFault}
+use Rattle.mpm_snapshot.specs.declared.saving.Taker.{Taker}
+use Rattle.mpm_snapshot.specs.Endings.{Runs, HasFault, unheard, run_of}
+
+-- Who looked at a machine for the core of a process: it has it, exactly where there is one.
+pub record Took (old : Taker) (system : System) (new : Taker) : Type 0 where
+  pub process : new.process ≡ old.process
+  pub answer : new.taken ≡ is_some (core_at old.process system)
+  pub core : new.taken ≡ true → core_at old.process system ≡ Some new.core
+  pub is : new.taken ≡ true → IsCore new.core
+
+-- the core that was taken, if one was, was written so
+abbrev pub WritesTaken : Taker → List ℕ → List ℕ → SnapStatus → Type 0
+WritesTaken taker first written Done = (taker.taken ≡ true) × (written ≡ first ++ core_bytes taker.core)
+WritesTaken taker first written WriteFault = (taker.taken ≡ true) × AppendsPart first (core_bytes taker.core) written
+WritesTaken taker first written NoProcess = taker.taken ≡ false
+WritesTaken taker first written status = ⊥
+
+-- what is seen of files and drives, before there is an output
+abbrev pub silent : {F D : Type 0} → (F → Contents) → (F → List (List ℕ)) → (D → Disks) → (D → Images) → (D → ℕ → Bool) → (D → ℕ) → (D → List (List ℕ)) → F → D → Seen
+silent contents unfetched disks told unsynced faults unattached files drives =
+    seen contents unfetched disks told unsynced faults unattached (λ text. text) (λ text. 0) files drives []
+
+-- the run of a save: it keeps all promises of `run_words`, its output is heard by nobody, and that was seen after its last step
+pub record RunsUnheard (missing : List ℕ → Type 0) (command : Command) (Saw : System → Type 0) (old new : Seen) (status : Status) : Type 0 where
+  pub text : List ℕ
+  pub promises : Promises (text ≡ []) missing command (unheard old []) (unheard new text) status
+  pub saw : status ≡ run.Ran → SeesLast Saw command (unheard old []) (unheard new text)
+
+-- how a save ends whose run ended so, and after which nothing more comes
+abbrev pub status_of : Status → SnapStatus
+status_of run.Ran = Done
+status_of run.Usage = Usage
+status_of run.MachineFault = MachineFault
+status_of (run.ScriptFault line) = ScriptFault line
+status_of (run.ImageFault drive cause place) = ImageFault drive cause place
+status_of (run.TooLong what) = TooLong what
+status_of run.ReadFault = ReadFault
+status_of (run.DiskFault step) = DiskFault step
+status_of (run.WriteFault step) = WriteFault
+status_of run.OutOfMemory = OutOfMemory
+
+-- A core was run on, and a line about it was written so
+abbrev pub EndsRun : ℕ → CoreContents → List ℕ → List ℕ → SnapStatus → Type 0
+EndsRun most core first written Done = Runs most core (λ text. written ≡ first ++ text)
+EndsRun most core first written WriteFault = Runs most core (λ text. AppendsPart first text written)
+EndsRun most core first written status = ⊥
+
+-- no core was read of a file
+abbrev pub Refuses : Type 0 → Option (List ℕ) → Type 0 → SnapStatus → Type 0
+Refuses missing contents unread ReadFault = unread
+Refuses missing contents unread OutOfMemory = ⊤
+Refuses missing contents unread (CoreFault place) = HasFault missing contents place
+Refuses missing contents unread status = ⊥
+
+-- a file's name joins the failed ones only where that ended the program
+abbrev pub KeepsNames : List (List ℕ) → List (List ℕ) → SnapStatus → Type 0
+KeepsNames old new status = UnlessReadFault (run_of status) (new ≡ old)

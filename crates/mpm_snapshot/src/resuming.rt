@@ -1,0 +1,91 @@
+ghost use Rattle.std.specs.Prelude.{◌≡◌, ◌≢◌, None, ℕ, List, [], ◌∷◌, ◌++◌, OnOk, IfOk, IfErr, MatchResult};
+ghost use Rattle.mpm_core_file.specs.CoreFiles.{IsCore, core_bytes, fault_of};
+ghost use Rattle.mpm_snapshot.specs.Parts.{Refuses, KeepsNames, EndsRun};
+ghost use Rattle.mpm_snapshot.specs.Endings.{Came, Resumes, FailsOutput, WritesNothing};
+
+use crate::lines::line;
+use crate::status::SnapStatus;
+use mpm_core::Core;
+use mpm_core_file::LARGEST_SIZE;
+use mpm_port::{Failed, FetchError, Files, Sink};
+use std::alloc::Global;
+
+/// The first bytes of a file, as many as the largest core has, and one more.
+#[tactic(auto, using(crate::proofs::ResumeLaws::came))]
+fn fetch_core<F: Files>(alloc: Global, name: &str, files: &mut F) -> Result<Vec<u8>, SnapStatus>
+    ensures came { IfOk result (λ text. Came (F.missing files.old name.now) (F.contents files.old name.now) text.items) }
+    ensures refuses { IfErr result (Refuses (F.missing files.old name.now) (F.contents files.old name.now) (F.failed_names files.new ≡ F.failed_names files.old ++ (name.now ∷ []))) }
+    ensures names { MatchResult result (λ _. F.failed_names files.new ≡ F.failed_names files.old) (KeepsNames (F.failed_names files.old) (F.failed_names files.new)) }
+    ensures files { (other : List ℕ) → F.contents files.new other ≡ F.contents files.old other }
+{
+    let mut text = Vec::new(alloc);
+    match files.fetch(name, LARGEST_SIZE + 1, &mut text) {
+        Ok(_) => Ok(text),
+        Err(FetchError::Failed) => Err(SnapStatus::ReadFault),
+        Err(FetchError::OutOfMemory) => Err(SnapStatus::OutOfMemory),
+    }
+}
+
+/// Reads the core that a file has.
+fn read_core<F: Files>(
+    alloc: Global,
+    name: &str,
+    files: &mut F,
+    core: &mut Core,
+) -> Result<(), SnapStatus>
+    ensures is { OnOk result (IsCore core.new) }
+    ensures sound { OnOk result (fault_of (core_bytes core.new) ≡ None) }
+    ensures came { OnOk result (Came (F.missing files.old name.now) (F.contents files.old name.now) (core_bytes core.new)) }
+    ensures refuses { IfErr result (Refuses (F.missing files.old name.now) (F.contents files.old name.now) (F.failed_names files.new ≡ F.failed_names files.old ++ (name.now ∷ []))) }
+    ensures names { MatchResult result (λ _. F.failed_names files.new ≡ F.failed_names files.old) (KeepsNames (F.failed_names files.old) (F.failed_names files.new)) }
+    ensures files { (other : List ℕ) → F.contents files.new other ≡ F.contents files.old other }
+{
+    let text = match fetch_core(alloc, name, files) {
+        Ok(text) => text,
+        Err(status) => return Err(status),
+    };
+    match core.read(text.as_slice()) {
+        Ok(()) => Ok(()),
+        Err(fault) => Err(SnapStatus::CoreFault { place: fault.place }),
+    }
+}
+
+/// Runs the core on that a file has, by at most so many instructions, and writes a line about it.
+pub(crate) fn resume<F: Files, S: Sink>(
+    alloc: Global,
+    name: &str,
+    most: u64,
+    files: &mut F,
+    sink: &mut S,
+) -> SnapStatus
+    ensures usage { result ≢ SnapStatus.Usage }
+    ensures resumes { Resumes (F.missing files.old name.now) (F.contents files.old name.now) (F.failed_names files.new ≡ F.failed_names files.old ++ (name.now ∷ []))
+        most (S.written sink.old) (S.written sink.new) result }
+    ensures names { KeepsNames (F.failed_names files.old) (F.failed_names files.new) result }
+    ensures output { FailsOutput (S.faults sink.old) (S.faults sink.new) result }
+    ensures nothing { WritesNothing result → sink.new ≡ sink.old }
+    ensures files { (other : List ℕ) → F.contents files.new other ≡ F.contents files.old other }
+{
+    let mut core = match Core::new(alloc) {
+        Ok(core) => core,
+        Err(_) => return SnapStatus::OutOfMemory,
+    };
+    match read_core(alloc, name, files, &mut core) {
+        Ok(()) => run_on(&mut core, most, sink),
+        Err(status) => status,
+    }
+}
+
+/// Runs a core on by at most so many instructions, and writes a line about it.
+fn run_on<S: Sink>(core: &mut Core, most: u64, sink: &mut S) -> SnapStatus
+    requires { IsCore core.old }
+    ensures ends { EndsRun most core.old (S.written sink.old) (S.written sink.new) result }
+    ensures output { FailsOutput (S.faults sink.old) (S.faults sink.new) result }
+    ensures nothing { WritesNothing result → sink.new ≡ sink.old }
+{
+    let replayed = core.replay(most);
+    match sink.put(line(core.head(), replayed).as_slice()) {
+        Ok(()) => SnapStatus::Done,
+        Err(Failed) => SnapStatus::WriteFault,
+    }
+}
