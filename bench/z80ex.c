@@ -1,6 +1,6 @@
 /* z80ex FILE STEPS: runs the bytes of FILE at 0100h of a Z80 of libz80ex with a flat memory of 64 KiB, for so many
-   instructions, and writes the address at which it then stands, in four hexadecimal digits. The jump at 0005h leads to
-   a gate, where a RET stands, and fetching it is a call of a kernel that answers 0130h to every function. */
+   instructions, and writes the address at which it then is, in four hexadecimal digits. The jump at 0005h leads to
+   a gate, where a RET is, and fetching it is a call of a kernel that answers 0130h to every function. */
 #include <stdio.h>
 #include <stdlib.h>
 #include <z80ex/z80ex.h>

@@ -6,6 +6,7 @@
 #include "console.h"
 #include "directory.h"
 #include "files.h"
+#include "listing.h"
 #include "words.h"
 
 #define COLUMNS 4
@@ -13,7 +14,7 @@
 static char shows_system;
 static struct file pattern;
 
-/* What an option is: brackets and commas stand between them, or blanks. */
+/* What an option is: brackets and commas are between them, or blanks. */
 static const char *take_option(const char *text)
 {
     unsigned int user;
@@ -36,14 +37,7 @@ static const char *take_option(const char *text)
 static char read_words(const char *text)
 {
     text = skip_blanks(text);
-    if (*text == '[' || after_word(text, "SYS") || *text == 0)
-        name_nothing(&pattern);
-    else if (!(text = read_name(text, &pattern)))
-        return 0;
-    take_all_names(&pattern);
-    while (text && !is_end(text))
-        text = take_option(text);
-    return text != 0;
+    return read_listing(text, *text == '[' || after_word(text, "SYS"), &pattern, take_option);
 }
 
 static void show_user(void)

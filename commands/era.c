@@ -18,16 +18,15 @@ static char is_all(void)
     return 1;
 }
 
+static void erase(const char *name)
+{
+    erase_or_report(&pattern, name);
+}
+
 static void erase_all(void)
 {
-    unsigned int answer, place, count;
-    if (is_all() && !ask("Confirm delete all user files"))
-        return;
-    count = find_names(&pattern, &answer);
-    if (!count)
-        report_error(&pattern, answer);
-    for (place = 0; place < count; place++)
-        erase_or_report(&pattern, found_names[place]);
+    if (!is_all() || ask("Confirm delete all user files"))
+        each_name(&pattern, erase);
 }
 
 int main(void)

@@ -16,22 +16,12 @@ static void erase_if_wanted(const char *name)
         erase_or_report(&pattern, name);
 }
 
-static void ask_all(void)
-{
-    unsigned int answer, place;
-    unsigned int count = find_names(&pattern, &answer);
-    if (!count)
-        report_error(&pattern, answer);
-    for (place = 0; place < count; place++)
-        erase_if_wanted(found_names[place]);
-}
-
 int main(void)
 {
     const char *rest = read_name(take_tail(), &pattern);
     begin();
     if (rest && has_name(&pattern) && is_end(rest))
-        ask_all();
+        each_name(&pattern, erase_if_wanted);
     else
         report_usage("ERAQ d:name.typ");
     return 0;

@@ -7,6 +7,7 @@
 #include "dates.h"
 #include "directory.h"
 #include "files.h"
+#include "listing.h"
 #include "words.h"
 
 /* The upper bits of an XFCB's mode (Programmer's Guide, "Function 102: Read File XFCB"). */
@@ -148,14 +149,7 @@ static const char *take_option(const char *text)
 static char read_words(const char *text)
 {
     text = skip_blanks(text);
-    if (*text == '[' || *text == 0)
-        name_nothing(&pattern);
-    else if (!(text = read_name(text, &pattern)))
-        return 0;
-    take_all_names(&pattern);
-    while (text && !is_end(text))
-        text = take_option(text);
-    return text != 0;
+    return read_listing(text, *text == '[', &pattern, take_option);
 }
 
 int main(void)

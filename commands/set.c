@@ -50,7 +50,7 @@ static const struct {
     { "READ", PROTECTS_READING }, { "WRITE", PROTECTS_WRITING }, { "DELETE", PROTECTS_DELETING }, { "NONE", 0 }
 };
 
-/* Attributes that a word alone sets or clears, and those after which ON or OFF stands. */
+/* Attributes that a word alone sets or clears, and those after which ON or OFF comes. */
 static const struct {
     const char *word;
     unsigned char letter;
@@ -61,7 +61,7 @@ static const struct {
     { "ARCHIVE", ARCHIVED, 0 }, { "F1", 0, 0 }, { "F2", 1, 0 }, { "F3", 2, 0 }, { "F4", 3, 0 }
 };
 
-/* What stands after a word and `=`. */
+/* What comes after a word and `=`. */
 static const char *after_equals(const char *text, const char *word)
 {
     text = after_word(text, word);
@@ -297,16 +297,6 @@ static void set_file(const char *name)
     }
 }
 
-static void set_files(void)
-{
-    unsigned int answer, place;
-    unsigned int count = find_names(&pattern, &answer);
-    if (!count)
-        report_error(&pattern, answer);
-    for (place = 0; place < count; place++)
-        set_file(found_names[place]);
-}
-
 int main(void)
 {
     const char *text = skip_blanks(take_tail());
@@ -317,7 +307,7 @@ int main(void)
     if (!text || !read_options(text))
         report_usage("SET d:[option] or SET d:name.typ[option]");
     else if (has_name(&pattern))
-        set_files();
+        each_name(&pattern, set_file);
     else
         set_drive();
     return 0;

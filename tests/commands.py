@@ -5,7 +5,7 @@ there (machines.py). A scene that differs, or that runs out of time, has a line;
 where one does, 2 where one ran out of time and no other differs.
 
 What the scenes expect comes from docs/COMMANDS.md and from the files alone. What a file has, how large it is and what is free is counted
-here; only texts that never change stand as they are."""
+here; only texts that never change are written out."""
 
 import concurrent.futures
 import gzip

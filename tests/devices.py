@@ -243,12 +243,12 @@ def check_disk_fault(folder, status, said, wrote):
 
 
 def check_write_fault(folder, status, said, wrote):
-    """An output that failed: the step, whose text doesn't all stand there."""
+    """An output that failed: the step, whose text isn't all there."""
     need(status == 8, f"status {status} and {said!r}")
     step = step_of(said, "output")
-    before, behind = (finished(text_of(folder, steps)) for steps in (step - 1, step))
-    need(step == STEPS or len(before) < len(behind), f"step {step} writes nothing")
-    whole = behind if step < STEPS else text_of(folder, STEPS)
+    before, afterwards = (finished(text_of(folder, steps)) for steps in (step - 1, step))
+    need(step == STEPS or len(before) < len(afterwards), f"step {step} writes nothing")
+    whole = afterwards if step < STEPS else text_of(folder, STEPS)
     need(whole.startswith(wrote), "what came is no first part of the text")
     check_image(folder)
     return step, len(before)
@@ -258,7 +258,7 @@ def check_write_fault(folder, status, said, wrote):
 
 
 def with_limit(size, is_ignored):
-    """What a process does before the program: files are limited, and the signal that tells so is ignored, or ends the program."""
+    """What a process does before the program: files are limited, and the signal that says so is ignored, or ends the program."""
 
     def prepare():
         resource.setrlimit(resource.RLIMIT_FSIZE, (size, size))

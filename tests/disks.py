@@ -8,10 +8,10 @@ changed     files of whole records, of which a guest writes one anew, or one aft
 shared      two consoles count in the records of one file for a million steps, each under its lock (guests/tally.c): no count is lost, and
             the file has as many as the kernel says were written; without locks some are lost
 filled      a guest takes all blocks and entries that are left (tests/guests/fill.asm): the other files stay, and the answers are those of a full disk
-faults      one byte or a few of a directory become others: the program tells the fault and its place
+faults      one byte or a few of a directory become others: the program reports the fault and its place
 texts       each text of the kernel and of the command line interpreter at a console
 
-What is expected comes of the files, and of the rules in force (docs/PROFILE.md). Each part has a line for each kind, which tells what
+What is expected comes of the files, and of the rules in force (docs/PROFILE.md). Each part has a line for each kind, which says what
 isn't as it should be. Status: 0 where all is; 1 where something isn't; 127 where cpmtools aren't there."""
 
 import os
@@ -294,7 +294,7 @@ def faults(program, kind_name, disk_turn):
             ("S2 above 63", [(2, 14, b"\x40")], (6, 2)),
             ("a second label", [(9, 0, images.slot_bytes(kind, sound, 0))], (7, 9)),
             ("a second XFCB", [(10, 0, xfcb), (kind.drm, 0, xfcb)], (8, kind.drm)),
-            ("several, of which the first slot's least is told", [(3, 15, b"\x81"), (3, 12, b"\x20"), (2, 14, b"\x40")], (6, 2)),
+            ("several, of which the first slot's least is reported", [(3, 15, b"\x81"), (3, 12, b"\x20"), (2, 14, b"\x40")], (6, 2)),
             ("several in one slot", [(3, 15, b"\x81"), (3, 12, b"\x20")], (2, 3)),
             ("a byte too few", None, (1, 0)),
         ):
@@ -329,7 +329,7 @@ TEXTS = {
     (0, "many.com"): MANY,
     (0, "queue.com"): QUEUE,
     (0, "wait.com"): call(1, 0) + END,
-    # A file of no drive, with the error mode that ends the program, and one with that which only tells.
+    # A file of no drive, with the error mode that ends the program, and one with that which only reports.
     (0, "lost.com"): call(14, 1) + call(9, 0x0100) + END,
     (0, "told.com"): call(45, 0xFE) + call(14, 16) + call(14, 15) + END,
     (0, "short.prl"): b"\0\x50".ljust(128, b"\0"),

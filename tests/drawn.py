@@ -164,7 +164,7 @@ class Drawing:
         sums = [(process.dma, length)] + ([(block, 36)] if block is not None else [])
         play.call(f"{sum(map(len, play.tables)):04X} {play.who}", function, self.parameter(function, block), sums)
         if function == 13:
-            # A DMA address of its own in place of 0080h, after which the guest stands.
+            # A DMA address of its own in place of 0080h, after which the guest is.
             play.call("", 26, self.own_dma())
 
     def prepare(self, function, block):

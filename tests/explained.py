@@ -66,7 +66,7 @@ def with_line(number, text):
 # The line that is another one, what it is then, and where that is wrong: the line, and words that tell the cause.
 LINES = [
     (1, "version = 3", (1, "version = 3: it may be 1 or 2")),
-    (1, "version = '2'", (1, "it must be a number, 1 or 2: a number stands without quotes")),
+    (1, "version = '2'", (1, "it must be a number, 1 or 2: a number has no quotes")),
     (1, "Version = 2", (1, "`Version` is no key of a machine file; is `version` meant?"), (None, "`version` is missing")),
     (1, None, (None, "`version` is missing")),
     (2, "consoles = 9", (2, "consoles = 9: it may be 1 to 8")),
@@ -78,7 +78,7 @@ LINES = [
     (2, "consoles =", (2, "a value comes after the =")),
     (2, "consoles 2", (2, "this isn't TOML")),
     (2, "consoles: 2", (2, "parted by =")),
-    (2, "consoles = 2\nconsoles = 2", (3, "`consoles` stands a second time")),
+    (2, "consoles = 2\nconsoles = 2", (3, "`consoles` comes a second time")),
     (2, "consoles = 2\nprinters = 5", (3, "it may be 0 to 4")),
     (3, "tick_every = 99", (3, "it may be 100 to 1,000,000, or 0 for no ticks")),
     (3, "tick_every = 1_000_001", (3, "it may be 100 to 1,000,000")),
@@ -88,11 +88,11 @@ LINES = [
     (3, "date = 65536", (3, "it may be 0 to 65,535")),
     (3, "hour = 24", (3, "it may be 0 to 23")),
     (3, "minute = 60\nsecond = -1", (3, "minute = 60: it may be 0 to 59"), (4, "second = -1: it may be 0 to 59")),
-    (3, "letter = 'A'", (3, "`letter` is a key of a [[drive]], and stands outside one")),
+    (3, "letter = 'A'", (3, "`letter` is a key of a [[drive]], and is outside one")),
     (3, "residents = ['printer']", (3, '"printer" is no resident')),
-    (3, "residents = ['spool', 'sched', 'spool']", (3, '"spool" stands twice')),
+    (3, "residents = ['spool', 'sched', 'spool']", (3, '"spool" comes twice')),
     (3, "residents = 'spool'", (3, 'residents must be an array of texts, each "spool" or "sched"')),
-    (4, "script = keys", (4, "a text stands in quotes")),
+    (4, "script = keys", (4, "a text needs quotes")),
     (4, 'script = ""', (4, "it is empty")),
     (4, 'script = "keys', (4, "this isn't TOML")),
     (4, "script = 1", (4, "it must be a text")),
@@ -104,7 +104,7 @@ LINES = [
     (6, None, (5, "`base` is missing in this [[segment]]")),
     (7, "pages = 3", (7, "pages = 3: it may be 4 to 192")),
     (7, "pages = 192\nbank = 1", (8, "`bank` is no key of a [[segment]]")),
-    (7, "pages = 192\nconsoles = 1", (8, "`consoles` stands within a [[segment]]")),
+    (7, "pages = 192\nconsoles = 1", (8, "`consoles` is within a [[segment]]")),
     (7, "pages = 192" + "\n[[segment]]\nbase = 0\npages = 4" * 16, (53, "there are 17 tables [[segment]]: there may be 16")),
     (9, 'letter = "a"', (9, 'it may be "A" to "P"; is `A` meant?')),
     (9, 'letter = "Q"', (9, 'it may be "A" to "P"')),
@@ -155,7 +155,7 @@ EVENTS = [
     ("7 tick ", "nothing follows `tick`"),
     ("7 keys 0 x", "is `key` meant?"),
     ("7", "here nothing"),
-    ("7 key 8 x", "the console is 0 to 7, and here stands 8"),
+    ("7 key 8 x", "the console is 0 to 7, and this is 8"),
     ("7 key x", "the console is 0 to 7"),
     ("7 key 0", "types at least one"),
     ("7 key 0 a\\q", "after a \\ comes r, n, t, \\ or x"),
@@ -165,7 +165,7 @@ EVENTS = [
     ("7 key 0 " + "x" * 129, "it types 129 keys: a line types at most 128"),
     ("7 ready 16 00", "the device is 0 to 15"),
     ("7 ready 1 0", "two hexadecimal digits"),
-    ("7 int 3", "the flag is 4 to 31, and here stands 3"),
+    ("7 int 3", "the flag is 4 to 31, and this is 3"),
 ]  # fmt: skip
 
 
@@ -198,7 +198,7 @@ def faults():
     yield [entry(blocks=[1])], 3, 0, "file 0:A.TXT", "it has block 1; blocks of files are 2 to 242"
     yield [entry(), entry(user=3, name=b"B       DAT", blocks=[4, 243])], 3, 1, "file 3:B.DAT", "it has block 243"
     yield [None, entry(blocks=[7, 9]), entry(name=b"B       DAT", blocks=[9])], 4, 2, "file 0:B.DAT", "slot 1 (file 0:A.TXT"
-    yield [entry(blocks=[7, 7])], 4, 0, "file 0:A.TXT", "block 7 stands in it twice"
+    yield [entry(blocks=[7, 7])], 4, 0, "file 0:A.TXT", "block 7 is in it twice"
     yield [entry(), entry(blocks=[3])], 5, 1, "slot 0 (file 0:A.TXT", "the same part"
     yield [entry(s2=64)], 6, 0, "file 0:A.TXT", "S2 is 64 and EX 0"
     yield [entry(ex=32)], 6, 0, "file 0:A.TXT", "S2 is 0 and EX 32"
@@ -241,7 +241,7 @@ def drives():
 
 
 class Made:
-    """What stands in place of a file: a folder, a link to a file that isn't there, or an image that another run holds."""
+    """What is in place of a file: a folder, a link to a file that isn't there, or an image that another run holds."""
 
     def __init__(self, make):
         self.make = make

@@ -3,7 +3,7 @@ rules in force (docs/PROFILE.md, "Open files and record locks" to "File calls", 
 program's code, so that what the program does can be compared with it.
 
 A call is refused by the first cause of its row (ROWS) that applies: CAUSES and RECORD_CAUSES have what each means. What a call does that isn't
-refused stands in DOES, or is done record by record."""
+refused is in DOES, or is done record by record."""
 
 from typing import NamedTuple, Optional
 
@@ -14,7 +14,7 @@ LAST_RECORD = 262_143
 NOT_FOUND = 0x00FF
 
 # The refusals of each function in their order. E are extended errors, C codes of a record, NF is not found, and NF' not found as the directory is
-# full. Behind a bar stand the codes of each record; there C1' and C5 are the full directory.
+# full. After a bar come the codes of each record; there C1' and C5 are the full directory.
 ROWS = {
     13: "NF",
     14: "E4",

@@ -1,6 +1,6 @@
 """python3 -m tests.fsck [PROGRAM [COUNT]]: runs a built mpm_fsck, crates/mpm_fsck/out/mpm_fsck where none is named, on images of each
 kind, COUNT (20) of them with some changes of the directory, and compares what it lists with the rules of docs/IMAGES.md and
-docs/PROFILE.md as they stand here and in tools/images.py. Each list is applied: byte 0 of the slots that it names has to be E5h then, and
+docs/PROFILE.md as they are written here and in tools/images.py. Each list is applied: byte 0 of the slots that it names has to be E5h then, and
 all else as it was. The other endings of the program have a case each.
 
 A case that comes out otherwise, or that runs out of time, has a line; the last line counts the cases. Status: 0 where each came out as it

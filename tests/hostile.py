@@ -1,5 +1,5 @@
 """Hostile guests, each at console 0 beside a witness at console 1, whose lines are to be byte for byte those that it writes alone. The
-sources stand in guests/, with what pasmo makes of them (guests/make). All that is expected here comes of the rules in force
+sources are in guests/, with what pasmo makes of them (commands/make). All that is expected here comes of the rules in force
 (docs/PROFILE.md) and of the sources: of what a guest asks, which answers it gets, and what its files have in the end."""
 
 import itertools

@@ -77,7 +77,7 @@ def is_quoted(lines):
 
 
 def pieces(lines):
-    """The stretches of lines between those that say that something is left out; an empty one stands where that is first or last."""
+    """The stretches of lines between those that say that something is left out; an empty one is where that is first or last."""
     parts = [[]]
     for line in lines:
         if line == LEFT_OUT:
@@ -88,7 +88,7 @@ def pieces(lines):
 
 
 def place(piece, lines, first):
-    """Where a stretch of lines stands from a place on; None where it doesn't."""
+    """Where a stretch of lines is, from a place on; None where it isn't there."""
     return next((at for at in range(first, len(lines) - len(piece) + 1) if lines[at : at + len(piece)] == piece), None)
 
 

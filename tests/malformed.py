@@ -105,7 +105,7 @@ def check_files(ending, files):
         if not is_kept and ending.files[name] != contents:
             kind = next(kind for kind in images.KINDS.values() if kind.size == len(contents))
             fault = images.first_fault(kind, ending.files[name])
-            need(fault is None, f"{name}: {fault} behind the run")
+            need(fault is None, f"{name}: {fault} after the run")
 
 
 # The sorts: each gives words and files, and what the status is to be, where that is known.

@@ -114,7 +114,7 @@ static void put_right(int page, int opcode, const Registers *before, Registers *
     if (page != MAIN || (opcode != 0xf1 && opcode != 0x08)) set_flags(after, FIVE | THREE, flags_of(before));
 }
 
-/* Whether an opcode stands in a list of numbers and of runs of numbers. */
+/* Whether an opcode is in a list of numbers and of runs of numbers. */
 static int is_among(const char *list, int opcode) {
     unsigned first, last;
     for (int length; sscanf(list, " %2x%n", &first, &length) == 1; list += length) {

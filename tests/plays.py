@@ -1,5 +1,5 @@
 """Plays: tables of calls for the guest of guests/calls.asm, with the lines that it should write and what the disks should have in the
-end, which the model of filing.py tells as the tables are made; and their runs by the program."""
+end, which the model of filing.py works out as the tables are made; and their runs by the program."""
 
 import itertools
 import os
@@ -235,7 +235,7 @@ class Crowd(Play):
         return self.system.call(self.who, function, parameter)
 
     def finish(self):
-        """Nobody ends before all calls are completed; then a guest's first process tells the memory of the last call's sums."""
+        """Nobody ends before all calls are completed; then a guest's first process writes the memory of the last call's sums."""
         self.meet(LAST_FLAG)
         for self.who in range(len(self.tables)):
             if self.who % PROCESSES:

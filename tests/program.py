@@ -93,7 +93,7 @@ def programs():
         yield ["program", "file", steps, "--trace"], {"file": program}, writes(text)
 
 
-# Machine files. What stands before and after other keys in one of one console and one segment of all pages:
+# Machine files. What comes before and after other keys in one of one console and one segment of all pages:
 
 BEFORE = "version = 1\nconsoles = 1\n"
 BEHIND = "\n[[segment]]\nbase = 0\npages = 192\n"
@@ -225,7 +225,7 @@ def machines():
     ):
         yield words, {"file": text}, writes(PROMPT)
     for text in (
-        # Keys that stand twice, a bare CR, bytes that aren't UTF-8, and what is no document are not.
+        # Keys that come twice, a bare CR, bytes that aren't UTF-8, and what is no document are not.
         "",
         "version = 1\n" + MACHINE,
         MACHINE.replace("\n", "\r", 1),
@@ -348,7 +348,7 @@ def relocatable(code, places, extra=0):
 
 
 def hard_disk(**files):
-    """An `hd4` with files of user 0, each of one entry, by names in which `_` stands before the type."""
+    """An `hd4` with files of user 0, each of one entry, by names in which `_` comes before the type."""
     image = bytearray(b"\xE5" * SIZES["hd4"])
     block = 8
     for slot, (name, contents) in enumerate(files.items()):

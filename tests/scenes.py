@@ -123,7 +123,7 @@ def names(kind):
             scene.do(28, 0)
         for function in (15, 16, 17, 19, 22, 23, 30, 35, 102, 103, 100):
             for name, new in pairs("N? R, N R, R A, A R?, A A, R N"):
-                # Where nothing stands against it a call is done by other scenes.
+                # Where nothing refuses it a call is done by other scenes.
                 if is_protected or (function, name) in ((15, "N.DAT"), (22, "A.DAT")) or function in (16, 17, 23, 35, 102) or "?" in name:
                     scene.name(name, new=new)
                     scene.do(function, what="protected" if is_protected else "")

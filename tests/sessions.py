@@ -79,7 +79,7 @@ ANSWERS = {
 
 
 class Document(Session):
-    """The examples of a document, one after the other, each of which begins with a prompt. Blanks at the ends of lines don't stand there."""
+    """The examples of a document, one after the other, each of which begins with a prompt. Blanks at the ends of lines aren't there."""
 
     def __init__(self, path, disks, **machine):
         super().__init__(disks, **machine)

@@ -108,7 +108,7 @@ def starve(program, library, name, words, files, more):
         if found not in (whole, without):
             wrong += 1
             print(f"{name}, allocation {number}{' and on' if more else ''}: {told(found)}", flush=True)
-    kind = "one and all behind it" if more else "one"
+    kind = "one and all after it" if more else "one"
     print(f"{name}: {told(whole)}; {number - 1} allocations; without {kind} the same for {spared}; {wrong} wrong", flush=True)
     return wrong
 

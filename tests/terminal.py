@@ -268,7 +268,7 @@ def kept(folder, sits):
 
 
 def changed(folder, sits):
-    """An image that another program changes meanwhile isn't replaced: what the sitting left stands beside it."""
+    """An image that another program changes meanwhile isn't replaced: what the sitting left is beside it."""
     takers(folder)
     sitter = sits("--keep", "machine.toml")
     sitter.sees("0A>")

@@ -1,8 +1,8 @@
 """python3 -m tools.core CORE: shows the core of a process as a reader wants it: its registers, the words on its stack, and memory around PC with the
-instructions that stand there.
+instructions that are there.
 
 z80dasm takes the instructions apart, where it is installed (Debian has a package of that name); else their bytes alone are shown. Where the
-process has no memory `--` stands.
+process has no memory there is `--`.
 
 Status: 0; 1 where the file can't be read or is none of a core, 2 where the words are wrong."""
 

@@ -133,7 +133,7 @@ def block_said(kind, image, slot, entry):
     blocks = images.held(entry)
     for place, block in enumerate(blocks):
         if block in blocks[:place]:
-            return f"block {block} stands in it twice"
+            return f"block {block} is in it twice"
         has = lambda other: isinstance(other, images.File) and block in images.held(other)
         if any(other is not None and has(other) for other in images.directory(kind, image)[:slot]):
             return f"{earlier(kind, image, slot, has)} has block {block} already"
@@ -250,7 +250,7 @@ def resident_findings(machine, path):
     if "spool" in residents and machine.printers == 0:
         yield Finding(path, "no printer", "the spooler prints nothing, since `printers` is 0")
     if "sched" in residents and not has_ticks(machine):
-        yield Finding(path, "no ticks", "the clock stands, since `tick_every` is 0: the scheduler sends no command of a later time")
+        yield Finding(path, "no ticks", "the clock doesn't go on, since `tick_every` is 0: the scheduler sends no command of a later time")
 
 
 # The whole.

@@ -1,5 +1,5 @@
 """Random and malformed inputs: words, machine files, scripts, images and programs, each of a generator of a seed; and the reader of
-words that tells which of them are refused, beside those of machine files and scripts in tools/. They stand on docs/PROFILE.md alone,
+words that says which of them are refused, beside those of machine files and scripts in tools/. They rest on docs/PROFILE.md alone,
 and share no code with the program. tests/malformed.py runs the program on them."""
 
 from tools import image_maker, images, machine_files
@@ -58,7 +58,7 @@ def random_words(rng, files):
 
 
 def mangled(rng, text, pieces):
-    """A text with some changes: bytes that come, go or are others, pieces that come, go or stand twice."""
+    """A text with some changes: bytes that come, go or are others, pieces that come, go or come twice."""
     text = bytearray(text)
     while rng.random() < 0.6:
         place, length = rng.randrange(len(text) + 1), rng.choice([1, 1, 1, 2, 8, 40])

@@ -43,7 +43,7 @@ class Number:
     def fault(self, value):
         """The cause and the words of a value that may not be; None of one that may."""
         if type(value) is not int:
-            quoted = ": a number stands without quotes" if isinstance(value, str) and value.strip().isdecimal() else ""
+            quoted = ": a number has no quotes" if isinstance(value, str) and value.strip().isdecimal() else ""
             return "type", f"it must be a number, {self.words()}{quoted}"
         return None if self.has(value) else ("range", f"it may be {self.words()}")
 
@@ -112,11 +112,11 @@ def meant(word, choices):
     return f"; is `{lowered[near[0]]}` meant?" if near else ""
 
 
-# Where keys stand.
+# Where keys are.
 
 
 class Places:
-    """The lines in which keys and tables stand, as far as each has a line of its own."""
+    """The lines in which keys and tables are, as far as each has a line of its own."""
 
     HEAD = re.compile(r"""\s*\[\[?\s*["']?([\w-]+)["']?\s*\]""")
     KEY = re.compile(r"""\s*["']?([\w-]+)["']?\s*[=.]""")
@@ -143,13 +143,13 @@ class Places:
 # What isn't TOML.
 
 HINTS = (
-    (r"=\s*[A-Za-z./~][^\"'#]*$", "a text stands in quotes"),
+    (r"=\s*[A-Za-z./~][^\"'#]*$", "a text needs quotes"),
     (r"=\s*0[0-9]", "a number has no leading zero"),
     (r"=\s*\d{1,3}(,\d{3})+", "a number has no commas: 1_000"),
     (r"=\s*(#.*)?$", "a value comes after the ="),
     (r"^\s*[\w-]+\s*(#.*)?$", "a line is KEY = VALUE"),
     (r"^\s*[\w-]+\s*:", "a key and its value are parted by =, and not by :"),
-    (r"^\s*\[\[[^\]]*\]?\s*(#.*)?$", "the name of a table stands between [[ and ]]"),
+    (r"^\s*\[\[[^\]]*\]?\s*(#.*)?$", "the name of a table is between [[ and ]]"),
     (r"=\s*\"[^\"]*$|=\s*'[^']*$", "a quote isn't closed"),
 )
 
@@ -164,9 +164,9 @@ def syntax_fault(text, error):
     shown = lines[line - 1] if line <= len(lines) else ""
     key = Places.KEY.match(shown)
     if said.startswith("Cannot overwrite") and key:
-        return Fault(line, "twice", f"`{key[1]}` stands a second time in its table")
+        return Fault(line, "twice", f"`{key[1]}` comes a second time in its table")
     if said.startswith("Cannot declare"):
-        return Fault(line, "twice", "this table stands a second time: each segment and each drive begins with double brackets, [[segment]]")
+        return Fault(line, "twice", "this table comes a second time: each segment and each drive begins with double brackets, [[segment]]")
     hint = next((hint for form, hint in HINTS if re.search(form, shown)), None)
     return Fault(line, "syntax", f"this isn't TOML: {said}" + (f" ({hint})" if hint else ""))
 
@@ -224,7 +224,7 @@ class Reading:
     def unknown_key(self, line, key):
         for table, rule in KEYS.items():
             if isinstance(rule, Rows) and key in rule.keys:
-                self.add(line, "unknown key", f"`{key}` is a key of a [[{table}]], and stands outside one")
+                self.add(line, "unknown key", f"`{key}` is a key of a [[{table}]], and is outside one")
                 return
         self.add(line, "unknown key", f"`{key}` is no key of a machine file{meant(key, KEYS)}")
 
@@ -263,7 +263,7 @@ class Reading:
             if key in rule.keys:
                 self.read_value(line, key, rule.keys[key], value)
             elif key in KEYS:
-                self.add(line, "unknown key", f"`{key}` stands within a [[{table}]]: it must stand before the first table")
+                self.add(line, "unknown key", f"`{key}` is within a [[{table}]]: it must be before the first table")
             else:
                 self.add(line, "unknown key", f"`{key}` is no key of a [[{table}]]{meant(key, rule.keys)}")
         for key in rule.keys:
@@ -298,7 +298,7 @@ class Reading:
             if name not in Residents.NAMES:
                 self.add(line, "choice", f'{shown(name)} is no resident: they are "spool" and "sched"{meant(name, Residents.NAMES)}')
             elif name in value[:number]:
-                self.add(line, "twice", f"{shown(name)} stands twice")
+                self.add(line, "twice", f"{shown(name)} comes twice")
 
 
 def faults(text):

@@ -1,6 +1,6 @@
 """A long trace drawn as an overview: bands of equally many steps from the top to the bottom, in each of which time goes evenly from the left
 to the right. A process's lane has a column for each stretch of steps, as high as the calls that it completed there, by their kinds. Under the lanes
-stands where each console wrote. The numbered steps are what `timeline --from` and `--to` take to draw a part call by call."""
+is where each console wrote. The numbered steps are what `timeline --from` and `--to` take to draw a part call by call."""
 
 from collections import Counter
 

@@ -46,7 +46,7 @@ def text(x, y, words, **fields):
 
 
 class Band:
-    """A stretch of steps that has room beside the names: where each of its steps stands."""
+    """A stretch of steps that has room beside the names: where each of its steps is."""
 
     def __init__(self):
         self.places = {}

@@ -2,10 +2,9 @@
 # `built`, where it isn't there yet or a source is newer; it ends with 126 where it can't be built, and 127 where that needs `rt`,
 # which isn't there.
 
+. "$root/tools/saying.bash"
 built=$root/crates/$name/out/$name
 log=$built.log
-
-say() { printf '%s: %s\n' "${0##*/}" "$*" >&2; }
 
 is_fresh() {
     [[ -x $built ]] &&
@@ -20,7 +19,7 @@ build() {
         say "rt, the command of the Rattle toolchain, isn't on the PATH: without it the program can't be built"
         exit 127
     fi
-    say "proves and builds the program now: it may take a quarter of an hour or more from nothing, less after a change (see $log)"
+    say "proves and builds the program now: it may take half an hour or more from nothing, less after a change (see $log)"
     if ! { mkdir -p -- "${built%/*}" && : >"$log"; } 2>/dev/null; then
         say "the folder ${built%/*} can't be written: copy the repository to where it can"
         exit 126

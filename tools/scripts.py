@@ -53,15 +53,15 @@ def number(word, least, most, cause, name):
         return int(word)
     shown = text_of(word[:20]) or "nothing"
     zeros = ", without leading zeros" if re.fullmatch(rb"0[0-9]+", word) else ""
-    raise Bad(cause, f"the {name} is {least} to {most:,}{zeros}, and here stands {shown}")
+    raise Bad(cause, f"the {name} is {least} to {most:,}{zeros}, and this is {shown}")
 
 
 def spaced(line):
-    """Of a line whose parts aren't parted by one space: what stands there in place of it."""
+    """Of a line whose parts aren't separated by one space: what is there in place of it."""
     words = line.split()
     is_form = len(words) > 1 and words[0].isdigit() and words[1] in SORTS
     if is_form and b" ".join(line.split(b" ", 2)[:2]) != b" ".join(words[:2]):
-        raise Bad("spaces", "one space, and nothing else, stands between the parts of a line, and none before them")
+        raise Bad("spaces", "one space, and nothing else, is between the parts of a line, and none before them")
 
 
 def keys_of(text):
@@ -102,7 +102,7 @@ def event_of(line):
     if sort == b"ready":
         if not re.fullmatch(rb"[0-9A-Fa-f]{2}", last):
             number(first, 0, 15, "device", "device")
-            raise Bad("hex", f"the byte of a device is two hexadecimal digits, and here stands {text_of(last) or 'nothing'}")
+            raise Bad("hex", f"the byte of a device is two hexadecimal digits, and this is {text_of(last) or 'nothing'}")
         return Event(step, sort, number(first, 0, 15, "device", "device"), bytes.fromhex(last.decode()))
     if sort == b"int":
         return Event(step, sort, number(rest, 4, 31, "flag", "flag"))

@@ -154,7 +154,7 @@ class Keys:
         return [console for console, keyboard in enumerate(self.keyboards) if keyboard.is_full()]
 
     def script(self, *more, up_to=STEPS_LIMIT):
-        """The whole script, with some more lines by their steps: those of the same step stand in the order in which they were typed, after
+        """The whole script, with some more lines by their steps: those of the same step come in the order in which they were typed, after
         those of the machine file."""
         lines, place = [], 0
         for step, line in sorted([*self.typed, *more], key=lambda typed: typed[0]):

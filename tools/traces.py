@@ -37,7 +37,7 @@ class Line:
 
 
 def call_of(fields, before, turn):
-    """The call of a record. One process at most does a call by itself in a step, and its record stands first."""
+    """The call of a record. One process at most does a call by itself in a step, and its record comes first."""
     step, process, function = map(int, fields[:3])
     is_second = before is not None and before.step == step
     is_delay = function == DELAY and fields[5] != "0000"

@@ -23,6 +23,9 @@ unsigned int find_next(struct found *found);
 extern char found_names[MOST_NAMES][NAME];
 unsigned int find_names(struct file *pattern, unsigned int *answer);
 
+/* Does something with each name that fits; where none does, what the call answered is reported. */
+void each_name(struct file *pattern, void (*act)(const char *name));
+
 /* The parameters of a drive: bytes of its disk parameter block (System Guide, "Disk Parameter Block"). */
 struct parameters {
     unsigned int sectors;

@@ -13,7 +13,7 @@ unsigned int call(unsigned char function, unsigned int parameter);
 #define ADDRESS(object) ((unsigned int) (object))
 #define COUNT(table) (sizeof (table) / sizeof *(table))
 
-/* The base page of the segment, at any address: the tail of the command stands at 80h. */
+/* The base page of the segment, at any address: the tail of the command is at 80h. */
 extern unsigned char base_page[256];
 #define TAIL_LENGTH 0x80
 #define TAIL 0x81

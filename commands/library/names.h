@@ -21,7 +21,7 @@ struct file {
 /* The letters whose bit 7 are attributes. */
 enum { UNLOCKED = 4, READ_ONLY_MODE = 5, READ_ONLY = 8, SYSTEM = 9, ARCHIVED = 10 };
 
-/* Reads a name, such as `B:LETTER.TXT;SECRET`, or a drive alone, such as `B:`, whose name is all spaces. What stands after it; 0 where
+/* Reads a name, such as `B:LETTER.TXT;SECRET`, or a drive alone, such as `B:`, whose name is all spaces. What comes after it; 0 where
    the text is neither. */
 const char *read_name(const char *text, struct file *file);
 

@@ -5,7 +5,7 @@
 
 #define PROCESS_NAME 8
 
-/* Reads the name of a process, filled with spaces. What stands after it; 0 where there is none, or it is too long. */
+/* Reads the name of a process, filled with spaces. What comes after it; 0 where there is none, or it is too long. */
 const char *read_process_name(const char *text, char *name);
 
 #endif

@@ -14,10 +14,10 @@ const char *skip_blanks(const char *text);
 /* Whether nothing but blanks is left. */
 char is_end(const char *text);
 
-/* What stands after a word, where the text begins with it and it ends there; else 0. */
+/* What comes after a word, where the text begins with it and it ends there; else 0. */
 const char *after_word(const char *text, const char *word);
 
-/* What stands after a number, up to 65,535, which is put to its place; 0 where none is there. */
+/* What comes after a number, up to 65,535, which is put to its place; 0 where none is there. */
 const char *read_number(const char *text, unsigned int *number);
 
 char is_letter_or_digit(char character);

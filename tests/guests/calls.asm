@@ -1,4 +1,4 @@
-; Makes the calls that tables say, and writes what they answer. The tables stand after the program, where tests/plays.py puts them, one for each of five
+; Makes the calls that tables say, and writes what they answer. The tables come after the program, where tests/plays.py puts them, one for each of five
 ; processes of one segment. A process goes on in its own until it waits for its turn, which another one gives it: so each call has its place among all,
 ; or, where nobody waits, they call as they come. IX points at what is a process's own. Lines are kept at 8000h, by whose turn it is, until the first process
 ; writes them, as it has the console. Calls go to the gate of page BFh itself: page 0 may have anything.

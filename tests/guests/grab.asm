@@ -89,7 +89,7 @@ turn:
 take:
         ld      (number),hl
         ld      e,0FFh
-        ld      c,45            ; set BDOS error mode: answers, and tells nothing
+        ld      c,45            ; set BDOS error mode: answers, and reports nothing
         call    bdos
         ld      a,'A' + 80h     ; F5': unlocked mode
 file:

@@ -6,7 +6,7 @@ bdos    equ     0005h
         org     0100h
 
         ld      e,0FFh
-        ld      c,45            ; set BDOS error mode: answers, and tells nothing
+        ld      c,45            ; set BDOS error mode: answers, and reports nothing
         call    bdos
         ld      c,26            ; set DMA address
         ld      de,password

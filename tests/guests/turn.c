@@ -1,5 +1,5 @@
 /* TURN OLD.TYP NEW.TYP writes a file's records into a new file in the other order, the last one first, so that each is read and written at random, and
-   the new file grows from its end. It tells how many records there were. */
+   the new file grows from its end. It writes how many records there were. */
 
 #include "kernel.h"
 #include "console.h"

@@ -1,0 +1,5 @@
+; One relative jump to itself.
+
+        org     0100h
+
+start:  jr      start
