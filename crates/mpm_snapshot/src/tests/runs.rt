@@ -1,20 +1,10 @@
-//! Processes of a machine that have no core, and devices that fail.
-ghost use Rattle.std.specs.Prelude.{ℕ, List};
-ghost use Rattle.mpm_port.specs.MemoryDisks.{IsFree};
+//! Devices that fail.
 
 use crate::status::SnapStatus;
 use crate::tests::{HI, core_file, ending};
 use mpm_port::{MemoryDrives, MemoryFiles, MemorySink};
 use std::alloc::Global;
 use std::test::Fail;
-
-/// A machine with a floppy disk, whose terminal message processor and interpreter prompt as it begins. Its first process is the former,
-/// a resident.
-const MACHINE: &[u8] =
-    b"version = 1\nconsoles = 1\n[[segment]]\nbase = 0\npages = 192\n[[drive]]\nletter = 'A'\nkind = 'ibm3740'\nimage = 'a.img'\n";
-
-/// How many bytes that disk has.
-const SIZE: usize = 256_256;
 
 /// How a run ended, and how many bytes it wrote.
 type Left = (SnapStatus, usize);
@@ -29,55 +19,6 @@ fn left_by(
 ) -> Result<Left, Fail> {
     let status = ending(alloc, words, files, drives, sink)?;
     Ok((status, sink.written().len()))
-}
-
-/// How a save of a process after fifty steps of the machine ends, where a call of the drive fails, or none if its number is 0.
-fn save_over(
-    alloc: Global,
-    process: &str,
-    call: u64,
-    files: &mut MemoryFiles,
-    drives: &mut MemoryDrives,
-    sink: &mut MemorySink,
-) -> Result<Left, Fail>
-    requires { (name : List ℕ) → IsFree drives.old name }
-{
-    let image = vec![in alloc; 0xE5; SIZE]?;
-    drives.add("a.img", &image)?;
-    files.add("m.toml", MACHINE)?;
-    if call != 0 {
-        drives.fail_at(call)?;
-    }
-    let words = ["save", "run", "m.toml", "50", process];
-    left_by(alloc, &words, files, drives, sink)
-}
-
-/// So over new devices.
-fn save(alloc: Global, process: &str, call: u64) -> Result<Left, Fail> {
-    let mut sink = MemorySink::new(alloc, 70_000)?;
-    let mut files = MemoryFiles::new(alloc);
-    let mut drives = MemoryDrives::new(alloc);
-    save_over(alloc, process, call, &mut files, &mut drives, &mut sink)
-}
-
-#[test]
-fn a_resident_and_nobody_have_no_core(rt: HostRuntime) -> Result<(), Fail> {
-    assert!(rt; save(rt.alloc(), "0", 0)? == (SnapStatus::NoProcess, 0));
-    assert!(rt; save(rt.alloc(), "31", 0)? == (SnapStatus::NoProcess, 0));
-    Ok(())
-}
-
-/// An attach, the size, and the sixteen sectors of the directory; at the end of the run, the sync.
-#[test]
-fn nothing_is_written_where_a_drive_fails(rt: HostRuntime) -> Result<(), Fail> {
-    let alloc = rt.alloc();
-    let mounting = (SnapStatus::DiskFault { step: 0 }, 0);
-    assert!(rt; save(alloc, "0", 1)? == mounting);
-    assert!(rt; save(alloc, "0", 2)? == mounting);
-    assert!(rt; save(alloc, "0", 18)? == mounting);
-    assert!(rt; save(alloc, "0", 19)? == (SnapStatus::DiskFault { step: 50 }, 0));
-    assert!(rt; save(alloc, "0", 20)? == (SnapStatus::NoProcess, 0));
-    Ok(())
 }
 
 /// How a run over a program and a core ends, where a call of the output or of the files fails, or none if its number is 0.
