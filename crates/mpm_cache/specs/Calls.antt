@@ -1,6 +1,7 @@
 -- What a call on a drive through the cache leaves of the cache and of the drives.
-use Rattle.std.specs.Prelude.{◌≡◌, ◌≢◌, ℕ, Bool, true, List, IfNone, IsOk, IfSome, Result, OnOk, OnErr}
-use Rattle.mpm_port.specs.Disks.{Disks, ToldImage, KeepsTold}
+use Rattle.std.specs.Prelude.{◌≡◌, ◌≢◌, ℕ, true, List, IfNone, IsOk, IfSome, Result, OnOk, OnErr}
+use Rattle.mpm_port.specs.declared.drives.Drives.{Ghosts}
+use Rattle.mpm_port.specs.Disks.{KeepsTold}
 use Rattle.mpm_cache.specs.declared.cache.SectorPlace.{SectorPlace}
 use Rattle.mpm_cache.specs.Cached.{cached_at, used, taken_out, IsPut, SameCached, CachesSector, Forgets}
 
@@ -25,16 +26,9 @@ pub record CachesWritten {A E : Type 0} (drive sector : ℕ) (bytes : List ℕ) 
   pub out : OnErr result (new ≡ taken_out drive sector old)
   pub forgotten : OnErr result (Forgets drive sector old new)
 
--- of the drives nothing changes but their count of faults
-pub record OnlyCountsFaults {D : Type 0} (disks : D → Disks) (told : D → List ℕ → ToldImage) (failed : D → List (List ℕ)) (unsynced : D → ℕ → Bool) (old new : D) : Type 0 where
-  pub disks_are : disks new ≡ disks old
-  pub told_are : told new ≡ told old
-  pub names : failed new ≡ failed old
-  pub unsynced_are : unsynced new ≡ unsynced old
-
 -- one drive was asked to write: it is owed a sync, and of no other drive anything changes that is known by its name or owed
-pub record IsAskedToWrite {D : Type 0} (disks : D → Disks) (told : D → List ℕ → ToldImage) (failed : D → List (List ℕ)) (unsynced : D → ℕ → Bool) (drive : ℕ) (old new : D) : Type 0 where
-  pub told_are : KeepsTold ((disks old).name_of drive) (told old) (told new)
-  pub names : failed new ≡ failed old
-  pub owed : unsynced new drive ≡ true
-  pub beside : (other : ℕ) → other ≢ drive → unsynced new other ≡ unsynced old other
+pub record IsAskedToWrite {D : Type 0} (of : Ghosts D) (drive : ℕ) (old new : D) : Type 0 where
+  pub told_are : KeepsTold ((of.disks old).name_of drive) (of.told old) (of.told new)
+  pub names : of.failed_names new ≡ of.failed_names old
+  pub owed : of.unsynced new drive ≡ true
+  pub beside : (other : ℕ) → other ≢ drive → of.unsynced new other ≡ of.unsynced old other

@@ -43,7 +43,8 @@ impl Model for Cache {
 impl Cache {
     ghost use Rattle.mpm_cache.specs.Cached.{cached_at, used, IsPut, taken_out, SameCached, CachesSector, Forgets};
     ghost use Rattle.mpm_cache.specs.Coherent.{IsCoherent, HasNoAlias, StayApart};
-    ghost use Rattle.mpm_cache.specs.Calls.{IsHit, CachesRead, CachesWritten, OnlyCountsFaults, IsAskedToWrite};
+    ghost use Rattle.mpm_port.specs.Frames.{OnlyCountsFaults};
+    ghost use Rattle.mpm_cache.specs.Calls.{IsHit, CachesRead, CachesWritten, IsAskedToWrite};
 
     /// No sector is cached. Room for 256 is taken here but for their bytes.
     #[tactic(auto, using(crate::proofs::CoherentLaws::coherent_none, crate::proofs::AliasLaws::no_alias_none))]
@@ -114,7 +115,7 @@ impl Cache {
         ensures calls { steps.new ≡ (if is_some (cached_at self.old drive sector) then steps.old else steps.old + 1) }
         ensures hit { IsSome (cached_at self.old drive sector) → IsHit drive sector out.new self.old self.new drives.old drives.new result }
         ensures cached { CachesRead drive sector out.new self.old self.new result }
-        ensures same { OnlyCountsFaults D.disks D.told D.failed_names D.unsynced drives.old drives.new }
+        ensures same { OnlyCountsFaults D.Drives drives.old drives.new }
         ensures cause { HasCause (D.faults drives.old) (D.faults drives.new) result }
     {
         if let Some(bytes) = self.find(drive, sector) {
@@ -140,7 +141,7 @@ impl Cache {
         ensures apart { StayApart drive self.old self.new (D.disks drives.old) (D.disks drives.new) }
         ensures calls { steps.new ≡ steps.old + 1 }
         ensures cached { CachesRead drive sector out.new self.old self.new result }
-        ensures same { OnlyCountsFaults D.disks D.told D.failed_names D.unsynced drives.old drives.new }
+        ensures same { OnlyCountsFaults D.Drives drives.old drives.new }
         ensures cause { HasCause (D.faults drives.old) (D.faults drives.new) result }
     {
         steps.tick();
@@ -174,7 +175,7 @@ impl Cache {
         ensures apart { StayApart drive self.old self.new (D.disks drives.old) (D.disks drives.new) }
         ensures calls { steps.new ≡ steps.old + 1 }
         ensures cached { CachesWritten drive sector bytes.now self.old self.new result }
-        ensures asked { IsAskedToWrite D.disks D.told D.failed_names D.unsynced drive drives.old drives.new }
+        ensures asked { IsAskedToWrite D.Drives drive drives.old drives.new }
         ensures cause { HasCause (D.faults drives.old) (D.faults drives.new) result }
     {
         steps.tick();

@@ -10,7 +10,7 @@ use mpm_blocks::geometry;
 use mpm_cache::Cache;
 use mpm_dirent::{Entry, XfcbEntry};
 use mpm_port::{Drives, MemoryDrives};
-use mpm_sectors::Disk;
+use mpm_sectors::{Disk, FreshBlock, SlotEntry};
 use std::alloc::Global;
 use std::marker::Brand;
 use std::sync::ledger::{Blank, Ledger};
@@ -79,15 +79,11 @@ fn put_block<L: Ledger>(
         drive: 0,
         kind: fresh.kind,
     };
-    disk.put_block(
-        cache,
-        drives,
-        block,
-        fresh.clear,
-        fresh.index,
-        &[7; 128],
-        steps,
-    ) == Ok(())
+    let taken = FreshBlock {
+        number: block,
+        clear: fresh.clear,
+    };
+    disk.put_block(cache, drives, taken, fresh.index, &[7; 128], steps) == Ok(())
 }
 
 /// Whether a sector has a byte throughout.
@@ -407,7 +403,12 @@ fn acts<L: Ledger>(
         Line::Free(slot) if slot < 4 => disk.put_slot(cache, drives, slot, &Entry::Free, steps)
             == Ok(()),
         Line::PutBoth(slot, other) if slot < 4 && other < 4 => {
-            disk.put_slots(cache, drives, slot, &xfcb, other, &Entry::Free, steps) == Ok(())
+            let first = SlotEntry { slot, entry: xfcb };
+            let second = SlotEntry {
+                slot: other,
+                entry: Entry::Free,
+            };
+            disk.put_slots(cache, drives, &first, &second, steps) == Ok(())
         }
         Line::Has(slots) => has(cache, drives, steps, sector(&slots)),
         _ => false,

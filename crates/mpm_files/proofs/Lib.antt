@@ -6,7 +6,9 @@ pub mod Keeping
 pub mod Seen
 pub mod Within
 pub mod Contained
+pub mod KeptEntries
 pub mod Causing
+pub mod WorkingLaws
 pub mod Sums
 pub mod Recorded
 pub mod Writes

@@ -58,6 +58,19 @@ names_by drive job other Nothing = is_same_file other (file_of_job job)
 unfoldable pub names : Drive → Job → FileName → Bool
 names drive job other = names_by drive job other job.kind
 
+-- reading, a stamp, an XFCB and the label change no directory entry of a file
+abbrev pub changes_entries : JobKind → Bool
+changes_entries Read = false
+changes_entries Write = true
+changes_entries TestWrite = true
+changes_entries Make = true
+changes_entries Delete = true
+changes_entries Rename = true
+changes_entries Attributes = true
+changes_entries Label = false
+changes_entries Xfcb = false
+changes_entries Nothing = false
+
 abbrev pub is_label_job : JobKind → Bool
 is_label_job Label = true
 is_label_job Read = false
@@ -74,6 +87,11 @@ is_label_job Nothing = false
 pub record SameFile (file : FileName) (old new : Drive) : Type 0 where
   pub extents : (number : ℕ) → get new.extents (record { user = file.user; name = file.name; number = number }) ≡ get old.extents (record { user = file.user; name = file.name; number = number })
   pub xfcb : get new.xfcbs file ≡ get old.xfcbs file
+
+-- the directory entries of a file are as they were
+pub record KeepsEntries (file : FileName) (old new : Drive) : Type 0 where
+  pub kind : new.kind ≡ old.kind
+  pub entries : (number : ℕ) → get new.extents (record { user = file.user; name = file.name; number = number }) ≡ get old.extents (record { user = file.user; name = file.name; number = number })
 
 -- two drives differ in nothing but files that pass a test, and perhaps the label
 pub record KeepsOtherFiles (named : FileName → Bool) (has_label : Bool) (old new : Drive) : Type 0 where

@@ -1,15 +1,15 @@
-ghost use Rattle.std.specs.Prelude.{◌≡◌, ◌≢◌, ◌+◌, ◌/◌, ◌%◌, ◌<◌, ◌≤◌, ℕ, List, Some, None, map, nat_le, replicate};
+ghost use Rattle.std.specs.Prelude.{◌≡◌, ◌≢◌, ◌/◌, ◌%◌, ◌<◌, ◌≤◌, ℕ, List, Some, None, map, nat_le, replicate};
 ghost use Rattle.std.specs.FinMap.{get};
-ghost use Rattle.mpm_port.specs.Causes.{HasCause};
 ghost use Rattle.mpm_dirent.specs.Names.{plain};
 ghost use Rattle.mpm_dirent.specs.declared.limits.TheConstants.{LAST_EXTENT};
 ghost use Rattle.mpm_mount.specs.Drives.{Drive, entry_name, extents_of, free_entries};
 ghost use Rattle.mpm_mount.specs.Directories.{Stands};
 ghost use Rattle.mpm_mount.specs.Attributes.{attributes_of};
-ghost use Rattle.mpm_sectors.specs.Disks.{IsReadyDisk, LeavesDisks};
-ghost use Rattle.mpm_files.specs.Standing.{DoesUnit, SameDisk};
+ghost use Rattle.mpm_sectors.specs.Disks.{IsReadyDisk};
+ghost use Rattle.mpm_files.specs.Standing.{DoesUnit};
 ghost use Rattle.mpm_files.specs.Units.{AddsEntry};
 ghost use Rattle.mpm_files.specs.Plans.{file_of_job};
+ghost use Rattle.mpm_files.specs.Working.{WorksOnDisk};
 
 use crate::entries::put_entry;
 use crate::marking::marked;
@@ -27,7 +27,7 @@ fn attributes(mounted: &Mounted, job: &Job) -> [u8; 11]
     ensures { (image : List ℕ) (files : Drive) → Stands image mounted.now files
         → map (nat_le 128) result ≡ attributes_of (extents_of files (file_of_job job.now)) }
 {
-    let _kind = mounted.kind();
+    mounted.tell_directory();
     match lowest_entry(mounted, job.user, &job.name) {
         Some(found) => match file_at(mounted, found.slot) {
             Some(file) => file.name,
@@ -61,6 +61,7 @@ fn new_entry(mounted: &Mounted, job: &Job, extent: u16) -> FileEntry
 }
 
 /// Adds a directory entry for an extent of a job's file, with the attributes of the file.
+#[tactic(auto, using(crate::proofs::WorkingLaws::works_not))]
 pub(crate) fn add_entry<D: Drives, L: Ledger>(
     mounted: &mut Mounted,
     cache: &mut Cache,
@@ -73,12 +74,9 @@ pub(crate) fn add_entry<D: Drives, L: Ledger>(
     ensures does { (image : List ℕ) (files : Drive) → (D.disks drives.old).image mounted.old.drive ≡ Some image → Stands image mounted.old files
         → job.now.user < 16 → extent ≤ LAST_EXTENT → get files.extents (entry_name files.kind (file_of_job job.now) extent) ≡ None
         → free_entries files ≢ 0 → DoesUnit (D.disks drives.new) mounted.old.drive mounted.new files (AddsEntry (file_of_job job.now) extent) result }
-    ensures disk { SameDisk mounted.old mounted.new }
-    ensures calls { steps.new ≤ steps.old + 2 }
-    ensures leaves { LeavesDisks D.disks D.told D.failed_names D.unsynced mounted.old.drive cache.old cache.new drives.old drives.new }
-    ensures cause { HasCause (D.faults drives.old) (D.faults drives.new) result }
+    ensures works { WorksOnDisk D.Drives 2 mounted.old mounted.new cache.old cache.new drives.old drives.new steps.old steps.new result }
 {
-    let _kind = mounted.kind();
+    mounted.tell_directory();
     if job.user > 15 || extent > LAST_EXTENT {
         return Ok(());
     }

@@ -1,10 +1,9 @@
-ghost use Rattle.std.specs.Prelude.{◌≡◌, ◌+◌, ◌≤◌, Some, None};
-ghost use Rattle.mpm_port.specs.Causes.{HasCause};
-ghost use Rattle.mpm_sectors.specs.Disks.{IsReadyDisk, LeavesDisks};
-ghost use Rattle.mpm_files.specs.Standing.{SameDisk};
+ghost use Rattle.std.specs.Prelude.{◌≡◌, Some, None};
+ghost use Rattle.mpm_sectors.specs.Disks.{IsReadyDisk};
 ghost use Rattle.mpm_jobs.specs.declared.jobs.JobKind.TheVariants as kinds;
 ghost use Rattle.mpm_files.specs.Turning.{DoesNext};
 ghost use Rattle.mpm_files.specs.Turning as turning;
+ghost use Rattle.mpm_files.specs.Working.{WorksOnDisk, KeepsCounts};
 
 use crate::adding::add_entry;
 use crate::entries::put_entry;
@@ -38,6 +37,7 @@ fn xfcb_due(mounted: &Mounted, work: &Work) -> Option<u16>
 }
 
 /// Removes the next entry of a deletion: the XFCB of the file whose last entry went, or the first entry that fits.
+#[tactic(auto, using(crate::proofs::WorkingLaws::works_not))]
 pub(crate) fn delete_next<D: Drives, L: Ledger>(
     mounted: &mut Mounted,
     cache: &mut Cache,
@@ -47,14 +47,10 @@ pub(crate) fn delete_next<D: Drives, L: Ledger>(
 ) -> Result<(), Failed>
     requires ready { IsReadyDisk (D.disks drives.old) mounted.old.drive mounted.old.kind cache.old }
     ensures delete { work.old.job.kind ≡ kinds.Delete → DoesNext (D.disks drives.old) (D.disks drives.new) mounted.old mounted.new work.old work.new result }
-    ensures ended { work.new.ended ≡ work.old.ended }
-    ensures units { work.new.units ≡ work.old.units }
-    ensures disk { SameDisk mounted.old mounted.new }
-    ensures calls { steps.new ≤ steps.old + 2 }
-    ensures leaves { LeavesDisks D.disks D.told D.failed_names D.unsynced mounted.old.drive cache.old cache.new drives.old drives.new }
-    ensures cause { HasCause (D.faults drives.old) (D.faults drives.new) result }
+    ensures counts { KeepsCounts work.old work.new }
+    ensures works { WorksOnDisk D.Drives 2 mounted.old mounted.new cache.old cache.new drives.old drives.new steps.old steps.new result }
 {
-    let _kind = mounted.kind();
+    mounted.tell_directory();
     let due = xfcb_due(mounted, work);
     work.cleared = None;
     match due {
@@ -79,14 +75,10 @@ pub(crate) fn rename_next<D: Drives, L: Ledger>(
 ) -> Result<(), Failed>
     requires ready { IsReadyDisk (D.disks drives.old) mounted.old.drive mounted.old.kind cache.old }
     ensures rename { work.old.job.kind ≡ kinds.Rename → DoesNext (D.disks drives.old) (D.disks drives.new) mounted.old mounted.new work.old work.new result }
-    ensures ended { work.new.ended ≡ work.old.ended }
-    ensures units { work.new.units ≡ work.old.units }
-    ensures disk { SameDisk mounted.old mounted.new }
-    ensures calls { steps.new ≤ steps.old + 2 }
-    ensures leaves { LeavesDisks D.disks D.told D.failed_names D.unsynced mounted.old.drive cache.old cache.new drives.old drives.new }
-    ensures cause { HasCause (D.faults drives.old) (D.faults drives.new) result }
+    ensures counts { KeepsCounts work.old work.new }
+    ensures works { WorksOnDisk D.Drives 2 mounted.old mounted.new cache.old cache.new drives.old drives.new steps.old steps.new result }
 {
-    let _kind = mounted.kind();
+    mounted.tell_directory();
     work.cleared = None;
     match mounted.xfcb(work.job.user, &work.job.new_name) {
         Some(slot) => put_entry(mounted, cache, drives, slot, &Entry::Free, steps),
@@ -107,12 +99,8 @@ pub(crate) fn make_next<D: Drives, L: Ledger>(
 ) -> Result<(), Failed>
     requires ready { IsReadyDisk (D.disks drives.old) mounted.old.drive mounted.old.kind cache.old }
     ensures make { work.old.job.kind ≡ kinds.Make → DoesNext (D.disks drives.old) (D.disks drives.new) mounted.old mounted.new work.old work.new result }
-    ensures ended { work.new.ended ≡ work.old.ended }
-    ensures units { work.new.units ≡ work.old.units }
-    ensures disk { SameDisk mounted.old mounted.new }
-    ensures calls { steps.new ≤ steps.old + 2 }
-    ensures leaves { LeavesDisks D.disks D.told D.failed_names D.unsynced mounted.old.drive cache.old cache.new drives.old drives.new }
-    ensures cause { HasCause (D.faults drives.old) (D.faults drives.new) result }
+    ensures counts { KeepsCounts work.old work.new }
+    ensures works { WorksOnDisk D.Drives 2 mounted.old mounted.new cache.old cache.new drives.old drives.new steps.old steps.new result }
 {
     work.cleared = None;
     if work.ended == 0 {
@@ -134,12 +122,8 @@ pub(crate) fn put_next<D: Drives, L: Ledger>(
     ensures label { work.old.job.kind ≡ kinds.Label → DoesNext (D.disks drives.old) (D.disks drives.new) mounted.old mounted.new work.old work.new result }
     ensures xfcb { work.old.job.kind ≡ kinds.Xfcb → DoesNext (D.disks drives.old) (D.disks drives.new) mounted.old mounted.new work.old work.new result }
     ensures nothing { work.old.job.kind ≡ kinds.Nothing → DoesNext (D.disks drives.old) (D.disks drives.new) mounted.old mounted.new work.old work.new result }
-    ensures ended { work.new.ended ≡ work.old.ended }
-    ensures units { work.new.units ≡ work.old.units }
-    ensures disk { SameDisk mounted.old mounted.new }
-    ensures calls { steps.new ≤ steps.old + 2 }
-    ensures leaves { LeavesDisks D.disks D.told D.failed_names D.unsynced mounted.old.drive cache.old cache.new drives.old drives.new }
-    ensures cause { HasCause (D.faults drives.old) (D.faults drives.new) result }
+    ensures counts { KeepsCounts work.old work.new }
+    ensures works { WorksOnDisk D.Drives 2 mounted.old mounted.new cache.old cache.new drives.old drives.new steps.old steps.new result }
 {
     work.cleared = None;
     match work.job.kind {

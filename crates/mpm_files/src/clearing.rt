@@ -1,12 +1,12 @@
-ghost use Rattle.std.specs.Prelude.{◌≡◌, ◌+◌, ◌≤◌, ℕ, List, Some, None, IfOk, if◌then◌else◌, true};
-ghost use Rattle.mpm_port.specs.Causes.{HasCause};
+ghost use Rattle.std.specs.Prelude.{◌≡◌, ℕ, List, Some, None, IfOk, if◌then◌else◌, true};
 ghost use Rattle.mpm_mount.specs.Drives.{FileName, Drive};
 ghost use Rattle.mpm_mount.specs.Directories.{Stands, free_block};
-ghost use Rattle.mpm_sectors.specs.Disks.{IsReadyDisk, LeavesDisks};
+ghost use Rattle.mpm_sectors.specs.Disks.{IsReadyDisk};
 ghost use Rattle.mpm_sectors.specs.Writes.{Puts, zeros_from, block_sector};
 ghost use Rattle.mpm_files.specs.Units.{ClearsBlock};
 ghost use Rattle.mpm_files.specs.Plans as plans;
 ghost use Rattle.mpm_files.specs.Standing.{DoesUnit, StandsCleared};
+ghost use Rattle.mpm_files.specs.Working.{WorksOnDisk};
 
 use crate::entries::disk_of;
 use mpm_base::{Kind, Steps};
@@ -39,9 +39,7 @@ pub(crate) fn clear_block<D: Drives, L: Ledger>(
         → Stands image mounted.now files → DoesUnit (D.disks drives.new) mounted.now.drive mounted.now files (ClearsBlock file n) result }
     ensures cleared { (image : List ℕ) (files : Drive) → (D.disks drives.old).image mounted.now.drive ≡ Some image → Stands image mounted.now files
         → IfOk result (λ block. StandsCleared (D.disks drives.new) mounted.now files block) }
-    ensures calls { steps.new ≤ steps.old + 18 }
-    ensures leaves { LeavesDisks D.disks D.told D.failed_names D.unsynced mounted.now.drive cache.old cache.new drives.old drives.new }
-    ensures cause { HasCause (D.faults drives.old) (D.faults drives.new) result }
+    ensures works { WorksOnDisk D.Drives 18 mounted.now mounted.now cache.old cache.new drives.old drives.new steps.old steps.new result }
 {
     if !clears_blocks(mounted.kind()) {
         return Ok(None);
@@ -68,9 +66,7 @@ fn clear_first<D: Drives, L: Ledger>(
     requires clears { plans.clears_blocks mounted.now.kind ≡ true }
     requires free { free_block mounted.now ≡ Some block }
     ensures puts { Puts mounted.now.drive mounted.now.kind (zeros_from (block_sector mounted.now.kind block) 18) (D.disks drives.old) (D.disks drives.new) result }
-    ensures calls { steps.new ≤ steps.old + 18 }
-    ensures leaves { LeavesDisks D.disks D.told D.failed_names D.unsynced mounted.now.drive cache.old cache.new drives.old drives.new }
-    ensures cause { HasCause (D.faults drives.old) (D.faults drives.new) result }
+    ensures works { WorksOnDisk D.Drives 18 mounted.now mounted.now cache.old cache.new drives.old drives.new steps.old steps.new result }
 {
     let first = u32::from(block) * block_records(mounted.kind());
     disk_of(mounted).clear(cache, drives, first, u32::from(CLEARED), steps)

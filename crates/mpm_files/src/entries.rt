@@ -1,5 +1,4 @@
-ghost use Rattle.std.specs.Prelude.{◌≡◌, ◌+◌, ◌/◌, ◌≤◌, ℕ, List, [], ◌∷◌, Some, None, OnOk, OnErr};
-ghost use Rattle.mpm_port.specs.Causes.{HasCause};
+ghost use Rattle.std.specs.Prelude.{◌≡◌, ◌/◌, ◌≤◌, ℕ, List, [], ◌∷◌, Some, None, OnOk, OnErr};
 ghost use Rattle.mpm_blocks.specs.Geometries.{geometry_of};
 ghost use Rattle.mpm_blocks.specs.Sectors.{Sectors, sectors_of};
 ghost use Rattle.mpm_dirent.specs.Proper.{IsProper};
@@ -7,16 +6,17 @@ ghost use Rattle.mpm_mount.specs.Drives.{Drive};
 ghost use Rattle.mpm_mount.specs.Faults.{cause_of};
 ghost use Rattle.mpm_mount.specs.Changes.{exchanged};
 ghost use Rattle.mpm_mount.specs.Directories.{Stands, others, entry_in, with_entry};
-ghost use Rattle.mpm_sectors.specs.Disks.{IsReadyDisk, LeavesDisks};
+ghost use Rattle.mpm_sectors.specs.Disks.{IsReadyDisk};
 ghost use Rattle.mpm_files.specs.Lookups.{IsSoundDirectory};
-ghost use Rattle.mpm_files.specs.Standing.{GoesThrough, SameDisk};
+ghost use Rattle.mpm_files.specs.Standing.{GoesThrough};
+ghost use Rattle.mpm_files.specs.Working.{WorksOnDisk};
 
 use mpm_base::Steps;
 use mpm_cache::Cache;
 use mpm_dirent::Entry;
 use mpm_mount::Mounted;
 use mpm_port::{Drives, Failed};
-use mpm_sectors::Disk;
+use mpm_sectors::{Disk, SlotEntry};
 use std::sync::ledger::Ledger;
 
 /// The disk of a mounted drive.
@@ -49,10 +49,7 @@ pub(crate) fn put_entry<D: Drives, L: Ledger>(
         (exchanged (sectors_of image mounted.old.kind) files (entry_in mounted.old slot) entry.now ∷ []) result }
     ensures placed { OnOk result (mounted.new ≡ with_entry mounted.old slot entry.now) }
     ensures kept { OnErr result (mounted.new ≡ mounted.old) }
-    ensures disk { SameDisk mounted.old mounted.new }
-    ensures calls { steps.new ≤ steps.old + 2 }
-    ensures leaves { LeavesDisks D.disks D.told D.failed_names D.unsynced mounted.old.drive cache.old cache.new drives.old drives.new }
-    ensures cause { HasCause (D.faults drives.old) (D.faults drives.new) result }
+    ensures works { WorksOnDisk D.Drives 2 mounted.old mounted.new cache.old cache.new drives.old drives.new steps.old steps.new result }
 {
     let disk = disk_of(mounted);
     match disk.put_slot(cache, drives, slot, entry, steps) {
@@ -70,34 +67,29 @@ pub(crate) fn put_entries<D: Drives, L: Ledger>(
     mounted: &mut Mounted,
     cache: &mut Cache,
     drives: &mut D,
-    slot: u16,
-    entry: &Entry,
-    other_slot: u16,
-    other: &Entry,
+    first: &SlotEntry,
+    second: &SlotEntry,
     steps: &mut Steps<L>,
 ) -> Result<(), Failed>
     requires ready { IsReadyDisk (D.disks drives.old) mounted.old.drive mounted.old.kind cache.old }
-    requires slot { slot ≤ (geometry_of mounted.old.kind).drm }
-    requires same { other_slot / 4 ≡ slot / 4 }
-    requires proper { IsProper (geometry_of mounted.old.kind).wide entry.now }
-    requires other_proper { IsProper (geometry_of mounted.old.kind).wide other.now }
-    requires faultless { cause_of mounted.old.kind (others mounted.old.entries slot) entry.now ≡ None }
-    requires other_faultless { cause_of mounted.old.kind (others (with_entry mounted.old slot entry.now).entries other_slot) other.now ≡ None }
+    requires slot { first.now.slot ≤ (geometry_of mounted.old.kind).drm }
+    requires same { second.now.slot / 4 ≡ first.now.slot / 4 }
+    requires proper { IsProper (geometry_of mounted.old.kind).wide first.now.entry }
+    requires second_proper { IsProper (geometry_of mounted.old.kind).wide second.now.entry }
+    requires faultless { cause_of mounted.old.kind (others mounted.old.entries first.now.slot) first.now.entry ≡ None }
+    requires second_faultless { cause_of mounted.old.kind (others (with_entry mounted.old first.now.slot first.now.entry).entries second.now.slot) second.now.entry ≡ None }
     ensures puts { (image : List ℕ) (files last : Drive) → (D.disks drives.old).image mounted.old.drive ≡ Some image → Stands image mounted.old files
-        → ((sectors : Sectors) → exchanged sectors (exchanged (sectors_of image mounted.old.kind) files (entry_in mounted.old slot) entry.now)
-        (entry_in (with_entry mounted.old slot entry.now) other_slot) other.now ≡ last)
+        → ((sectors : Sectors) → exchanged sectors (exchanged (sectors_of image mounted.old.kind) files (entry_in mounted.old first.now.slot) first.now.entry)
+        (entry_in (with_entry mounted.old first.now.slot first.now.entry) second.now.slot) second.now.entry ≡ last)
         → GoesThrough (D.disks drives.new) mounted.old.drive mounted.new files
-        (exchanged (sectors_of image mounted.old.kind) files (entry_in mounted.old slot) entry.now ∷ last ∷ []) result }
-    ensures disk { SameDisk mounted.old mounted.new }
-    ensures calls { steps.new ≤ steps.old + 2 }
-    ensures leaves { LeavesDisks D.disks D.told D.failed_names D.unsynced mounted.old.drive cache.old cache.new drives.old drives.new }
-    ensures cause { HasCause (D.faults drives.old) (D.faults drives.new) result }
+        (exchanged (sectors_of image mounted.old.kind) files (entry_in mounted.old first.now.slot) first.now.entry ∷ last ∷ []) result }
+    ensures works { WorksOnDisk D.Drives 2 mounted.old mounted.new cache.old cache.new drives.old drives.new steps.old steps.new result }
 {
     let disk = disk_of(mounted);
-    match disk.put_slots(cache, drives, slot, entry, other_slot, other, steps) {
+    match disk.put_slots(cache, drives, first, second, steps) {
         Ok(()) => {
-            mounted.put(slot, *entry);
-            mounted.put(other_slot, *other);
+            mounted.put(first.slot, first.entry);
+            mounted.put(second.slot, second.entry);
             Ok(())
         }
         Err(failed) => Err(failed),

@@ -12,7 +12,7 @@ use mpm_dirent::{Entry, FileEntry, XfcbEntry};
 use mpm_jobs::Job;
 use mpm_mount::{Mounted, block_place, block_records};
 
-/// The directory entry of a record, and its slot.
+/// A directory entry of a file, as that of a record, and its slot.
 #[derive(Clone, Copy)]
 pub(crate) struct FoundEntry {
     pub(crate) slot: u16,
@@ -32,7 +32,7 @@ pub(crate) fn find_entry(mounted: &Mounted, job: &Job, n: u32) -> Option<FoundEn
     ensures found { IfSome result (λ found. HasEntry mounted.now (file_of_job job.now) n found.slot found.file) }
     ensures missing { IfNone result (extent_slot mounted.now (file_of_job job.now) (n / 128) ≡ None) }
 {
-    let _kind = mounted.kind();
+    mounted.tell_directory();
     let slot = match slot_of(mounted, job, n) {
         Some(slot) => slot,
         None => return None,
@@ -51,7 +51,7 @@ pub(crate) fn find_xfcb(mounted: &Mounted, job: &Job) -> Option<FoundXfcb>
     ensures found { IfSome result (λ found. HasXfcb mounted.now (file_of_job job.now) found.slot found.xfcb) }
     ensures missing { IfNone result (xfcb_slot mounted.now (file_of_job job.now) ≡ None) }
 {
-    let _kind = mounted.kind();
+    mounted.tell_directory();
     let slot = match mounted.xfcb(job.user, &job.name) {
         Some(slot) => slot,
         None => return None,

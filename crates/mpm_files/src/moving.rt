@@ -2,14 +2,13 @@ ghost use Rattle.mpm_files.specs.declared.moving.Step.TheVariants as steps_of;
 ghost use Rattle.mpm_files.specs.Stepping as stepping;
 ghost use Rattle.std.specs.Prelude.{length, ◌≡◌, ◌+◌, ◌*◌, ◌<◌, ◌≤◌, None};
 ghost use Rattle.mpm_dirent.specs.declared.limits.TheConstants.{LAST_NAMED};
-ghost use Rattle.mpm_port.specs.Causes.{HasCause};
-ghost use Rattle.mpm_sectors.specs.Disks.{IsReadyDisk, LeavesDisks};
-ghost use Rattle.mpm_files.specs.Standing.{SameDisk};
+ghost use Rattle.mpm_sectors.specs.Disks.{IsReadyDisk};
 ghost use Rattle.mpm_jobs.specs.declared.jobs.JobKind.TheVariants as kinds;
 ghost use Rattle.mpm_files.specs.Turning.{DoesNext};
 ghost use Rattle.mpm_files.specs.Plans.{record_at};
 ghost use Rattle.mpm_files.specs.Serving.{stamp_left};
 ghost use Rattle.mpm_files.specs.Turning as turning;
+ghost use Rattle.mpm_files.specs.Working.{WorksOnDisk, KeepsCounts};
 
 use crate::adding::add_entry;
 use crate::clearing::{clear_block, clears_blocks};
@@ -55,6 +54,7 @@ fn keep(work: &mut Work, bytes: &[u8; 128])
 }
 
 /// Reads the next record of a job.
+#[tactic(auto, using(crate::proofs::WorkingLaws::works_not))]
 pub(crate) fn read_next<D: Drives, L: Ledger>(
     mounted: &mut Mounted,
     cache: &mut Cache,
@@ -64,12 +64,9 @@ pub(crate) fn read_next<D: Drives, L: Ledger>(
 ) -> Result<(), Failed>
     requires ready { IsReadyDisk (D.disks drives.old) mounted.old.drive mounted.old.kind cache.old }
     ensures read { work.old.job.kind ≡ kinds.Read → DoesNext (D.disks drives.old) (D.disks drives.new) mounted.old mounted.new work.old work.new result }
-    ensures ended { work.new.ended ≡ work.old.ended }
-    ensures units { work.new.units ≡ work.old.units }
-    ensures disk { SameDisk mounted.old mounted.new }
+    ensures counts { KeepsCounts work.old work.new }
     ensures reads { turning.OnlyReads cache.old mounted.old work.old steps.old steps.new (D.unsynced drives.old) (D.unsynced drives.new) }
-    ensures leaves { LeavesDisks D.disks D.told D.failed_names D.unsynced mounted.old.drive cache.old cache.new drives.old drives.new }
-    ensures cause { HasCause (D.faults drives.old) (D.faults drives.new) result }
+    ensures works { WorksOnDisk D.Drives 1 mounted.old mounted.new cache.old cache.new drives.old drives.new steps.old steps.new result }
 {
     work.cleared = None;
     let n = work.job.first.saturating_add(work.ended);
@@ -128,12 +125,8 @@ fn write_record<D: Drives, L: Ledger>(
     requires ready { IsReadyDisk (D.disks drives.old) mounted.old.drive mounted.old.kind cache.old }
     ensures write { work.old.job.kind ≡ kinds.Write → stepping.step_of mounted.old work.old (stepping.record_next work.old) ≡ steps_of.Record
         → DoesNext (D.disks drives.old) (D.disks drives.new) mounted.old mounted.new work.old work.new result }
-    ensures ended { work.new.ended ≡ work.old.ended }
-    ensures units { work.new.units ≡ work.old.units }
-    ensures disk { SameDisk mounted.old mounted.new }
-    ensures calls { steps.new ≤ steps.old + 20 }
-    ensures leaves { LeavesDisks D.disks D.told D.failed_names D.unsynced mounted.old.drive cache.old cache.new drives.old drives.new }
-    ensures cause { HasCause (D.faults drives.old) (D.faults drives.new) result }
+    ensures counts { KeepsCounts work.old work.new }
+    ensures works { WorksOnDisk D.Drives 20 mounted.old mounted.new cache.old cache.new drives.old drives.new steps.old steps.new result }
 {
     let n = work.job.first.saturating_add(u32::from(work.moved));
     if n > LAST_NAMED {
@@ -158,6 +151,7 @@ fn write_record<D: Drives, L: Ledger>(
 }
 
 /// Does the next unit of a job that writes: the directory entry of a record, the clearing of its block, or the record.
+#[tactic(auto, using(crate::proofs::WorkingLaws::works_not))]
 pub(crate) fn write_next<D: Drives, L: Ledger>(
     mounted: &mut Mounted,
     cache: &mut Cache,
@@ -167,12 +161,8 @@ pub(crate) fn write_next<D: Drives, L: Ledger>(
 ) -> Result<(), Failed>
     requires ready { IsReadyDisk (D.disks drives.old) mounted.old.drive mounted.old.kind cache.old }
     ensures write { work.old.job.kind ≡ kinds.Write → DoesNext (D.disks drives.old) (D.disks drives.new) mounted.old mounted.new work.old work.new result }
-    ensures ended { work.new.ended ≡ work.old.ended }
-    ensures units { work.new.units ≡ work.old.units }
-    ensures disk { SameDisk mounted.old mounted.new }
-    ensures calls { steps.new ≤ steps.old + 20 }
-    ensures leaves { LeavesDisks D.disks D.told D.failed_names D.unsynced mounted.old.drive cache.old cache.new drives.old drives.new }
-    ensures cause { HasCause (D.faults drives.old) (D.faults drives.new) result }
+    ensures counts { KeepsCounts work.old work.new }
+    ensures works { WorksOnDisk D.Drives 20 mounted.old mounted.new cache.old cache.new drives.old drives.new steps.old steps.new result }
 {
     let n = work.job.first.saturating_add(u32::from(work.moved));
     if n > LAST_NAMED {
@@ -204,12 +194,8 @@ pub(crate) fn test_next<D: Drives, L: Ledger>(
 ) -> Result<(), Failed>
     requires ready { IsReadyDisk (D.disks drives.old) mounted.old.drive mounted.old.kind cache.old }
     ensures testwrite { work.old.job.kind ≡ kinds.TestWrite → DoesNext (D.disks drives.old) (D.disks drives.new) mounted.old mounted.new work.old work.new result }
-    ensures ended { work.new.ended ≡ work.old.ended }
-    ensures units { work.new.units ≡ work.old.units }
-    ensures disk { SameDisk mounted.old mounted.new }
-    ensures calls { steps.new ≤ steps.old + 6 }
-    ensures leaves { LeavesDisks D.disks D.told D.failed_names D.unsynced mounted.old.drive cache.old cache.new drives.old drives.new }
-    ensures cause { HasCause (D.faults drives.old) (D.faults drives.new) result }
+    ensures counts { KeepsCounts work.old work.new }
+    ensures works { WorksOnDisk D.Drives 6 mounted.old mounted.new cache.old cache.new drives.old drives.new steps.old steps.new result }
 {
     work.cleared = None;
     let n = work.job.first.saturating_add(work.ended);

@@ -1,14 +1,14 @@
 ghost use Rattle.std.specs.Prelude.{◌≡◌, ◌+◌, ◌<◌, ◌≤◌, ℕ, List, Some, None, not, is_some, slice_range};
 ghost use Rattle.std.specs.FinMap.{get};
-ghost use Rattle.mpm_port.specs.Causes.{HasCause};
 ghost use Rattle.mpm_base.specs.Counts.{one_if};
 ghost use Rattle.mpm_mount.specs.Drives.{Drive, free_entries};
 ghost use Rattle.mpm_mount.specs.Directories.{Stands};
-ghost use Rattle.mpm_sectors.specs.Disks.{IsReadyDisk, LeavesDisks};
-ghost use Rattle.mpm_files.specs.Standing.{DoesUnit, SameDisk};
+ghost use Rattle.mpm_sectors.specs.Disks.{IsReadyDisk};
+ghost use Rattle.mpm_files.specs.Standing.{DoesUnit};
 ghost use Rattle.mpm_files.specs.Units.{PutsXfcb, PutsLabel};
 ghost use Rattle.mpm_files.specs.Plans.{file_of_job, protection_in};
 ghost use Rattle.mpm_files.specs.Turning.{xfcb_of_job, label_of_job};
+ghost use Rattle.mpm_files.specs.Working.{WorksOnDisk};
 
 use crate::entries::put_entry;
 use mpm_base::Steps;
@@ -59,6 +59,7 @@ fn label_of(job: &Job) -> LabelEntry
 }
 
 /// Puts the XFCB of a job: in the place of the one that its file has, or into a free slot.
+#[tactic(auto, using(crate::proofs::WorkingLaws::works_not))]
 pub(crate) fn put_xfcb<D: Drives, L: Ledger>(
     mounted: &mut Mounted,
     cache: &mut Cache,
@@ -70,12 +71,9 @@ pub(crate) fn put_xfcb<D: Drives, L: Ledger>(
     ensures does { (image : List ℕ) (files : Drive) → (D.disks drives.old).image mounted.old.drive ≡ Some image → Stands image mounted.old files
         → job.now.user < 16 → one_if (not (is_some (get files.xfcbs (file_of_job job.now)))) ≤ free_entries files
         → DoesUnit (D.disks drives.new) mounted.old.drive mounted.new files (PutsXfcb (file_of_job job.now) (protection_in job.now)) result }
-    ensures disk { SameDisk mounted.old mounted.new }
-    ensures calls { steps.new ≤ steps.old + 2 }
-    ensures leaves { LeavesDisks D.disks D.told D.failed_names D.unsynced mounted.old.drive cache.old cache.new drives.old drives.new }
-    ensures cause { HasCause (D.faults drives.old) (D.faults drives.new) result }
+    ensures works { WorksOnDisk D.Drives 2 mounted.old mounted.new cache.old cache.new drives.old drives.new steps.old steps.new result }
 {
-    let _kind = mounted.kind();
+    mounted.tell_directory();
     if job.user > 15 {
         return Ok(());
     }
@@ -90,6 +88,7 @@ pub(crate) fn put_xfcb<D: Drives, L: Ledger>(
 }
 
 /// Puts the directory label of a job: in the place of the one that there is, or into a free slot.
+#[tactic(auto, using(crate::proofs::WorkingLaws::works_not))]
 pub(crate) fn put_label<D: Drives, L: Ledger>(
     mounted: &mut Mounted,
     cache: &mut Cache,
@@ -101,12 +100,9 @@ pub(crate) fn put_label<D: Drives, L: Ledger>(
     ensures does { (image : List ℕ) (files : Drive) → (D.disks drives.old).image mounted.old.drive ≡ Some image → Stands image mounted.old files
         → one_if (not (is_some files.label)) ≤ free_entries files
         → DoesUnit (D.disks drives.new) mounted.old.drive mounted.new files (PutsLabel (record { name = job.now.new_name; protection = protection_in job.now })) result }
-    ensures disk { SameDisk mounted.old mounted.new }
-    ensures calls { steps.new ≤ steps.old + 2 }
-    ensures leaves { LeavesDisks D.disks D.told D.failed_names D.unsynced mounted.old.drive cache.old cache.new drives.old drives.new }
-    ensures cause { HasCause (D.faults drives.old) (D.faults drives.new) result }
+    ensures works { WorksOnDisk D.Drives 2 mounted.old mounted.new cache.old cache.new drives.old drives.new steps.old steps.new result }
 {
-    let _kind = mounted.kind();
+    mounted.tell_directory();
     let entry = Entry::Label {
         label: label_of(job),
     };

@@ -1,18 +1,17 @@
-ghost use Rattle.std.specs.Prelude.{◌≡◌, ◌+◌, ◌≤◌, ℕ, List, Some, None, OnOk, false};
+ghost use Rattle.std.specs.Prelude.{◌≡◌, ◌≤◌, ℕ, List, Some, None, OnOk, false};
 ghost use Rattle.mpm_dirent.specs.declared.limits.TheConstants.{LAST_NAMED};
-ghost use Rattle.mpm_port.specs.Causes.{HasCause};
 ghost use Rattle.mpm_port.specs.Disks.{size_of};
 ghost use Rattle.mpm_blocks.specs.Geometries.{geometry_of};
 ghost use Rattle.mpm_mount.specs.Drives.{Drive, record_of, visible_of};
 ghost use Rattle.mpm_mount.specs.Directories.{Stands};
 ghost use Rattle.mpm_cache.specs.Coherent.{IsCoherent};
-ghost use Rattle.mpm_sectors.specs.Disks.{LeavesDisks};
 ghost use Rattle.mpm_files.specs.Units.{ReadsRecord};
 ghost use Rattle.mpm_files.specs.Plans.{file_of_job};
 ghost use Rattle.mpm_files.specs.Counting.{lacks_block};
 ghost use Rattle.mpm_mount.specs.Records.{record_error};
 ghost use Rattle.mpm_files.specs.Lookups.{IsRecordCached};
 ghost use Rattle.mpm_files.specs.Standing.{DoesUnit};
+ghost use Rattle.mpm_files.specs.Working.{WorksOnDisk};
 
 use crate::entries::disk_of;
 use crate::lookups::{find_entry, held_sector};
@@ -25,6 +24,7 @@ use std::sync::ledger::Ledger;
 
 /// Reads a record of a job's file, visible or not, where its block is held: by one call of the drives, or by none where its
 /// sector is cached.
+#[tactic(auto, using(crate::proofs::WorkingLaws::works_not))]
 pub(crate) fn read_record<D: Drives, L: Ledger>(
     mounted: &Mounted,
     cache: &mut Cache,
@@ -43,12 +43,10 @@ pub(crate) fn read_record<D: Drives, L: Ledger>(
         → record_error mounted.now (file_of_job job.now) n ≡ None → OnOk result (visible_of files (file_of_job job.now) n ≡ Some out.new) }
     ensures does { (image : List ℕ) (files : Drive) → (D.disks drives.old).image mounted.now.drive ≡ Some image → Stands image mounted.now files
         → DoesUnit (D.disks drives.new) mounted.now.drive mounted.now files (ReadsRecord (file_of_job job.now) n) result }
-    ensures calls { steps.new ≤ steps.old + 1 }
     ensures cached { IsRecordCached cache.old mounted.now (file_of_job job.now) n → steps.new ≡ steps.old }
     ensures disks { D.disks drives.new ≡ D.disks drives.old }
     ensures unsynced { (other : ℕ) → D.unsynced drives.new other ≡ D.unsynced drives.old other }
-    ensures leaves { LeavesDisks D.disks D.told D.failed_names D.unsynced mounted.now.drive cache.old cache.new drives.old drives.new }
-    ensures cause { HasCause (D.faults drives.old) (D.faults drives.new) result }
+    ensures works { WorksOnDisk D.Drives 1 mounted.now mounted.now cache.old cache.new drives.old drives.new steps.old steps.new result }
 {
     let found = match find_entry(mounted, job, n) {
         Some(found) => found,

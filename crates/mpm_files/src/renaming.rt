@@ -1,11 +1,10 @@
-ghost use Rattle.std.specs.Prelude.{◌≡◌, ◌+◌, ◌≤◌, ℕ, List, Some, None, IsSome, IfSome};
+ghost use Rattle.std.specs.Prelude.{◌≡◌, ◌≤◌, ℕ, List, Some, None, IsSome, IfSome};
 ghost use Rattle.std.specs.FinMap.{get};
-ghost use Rattle.mpm_port.specs.Causes.{HasCause};
 ghost use Rattle.mpm_blocks.specs.Geometries.{geometry_of};
 ghost use Rattle.mpm_mount.specs.Drives.{Drive};
 ghost use Rattle.mpm_mount.specs.Directories.{Stands, entry_in};
-ghost use Rattle.mpm_sectors.specs.Disks.{IsReadyDisk, LeavesDisks};
-ghost use Rattle.mpm_files.specs.Standing.{DoesUnit, SameDisk};
+ghost use Rattle.mpm_sectors.specs.Disks.{IsReadyDisk};
+ghost use Rattle.mpm_files.specs.Standing.{DoesUnit};
 ghost use Rattle.mpm_dirent.specs.declared.kinds.Entry.TheVariants.{File};
 ghost use Rattle.mpm_dirent.specs.declared.kinds.FileEntry.{FileEntry};
 ghost use Rattle.mpm_mount.specs.Faults.{name_of};
@@ -14,6 +13,7 @@ ghost use Rattle.mpm_mount.specs.Files.{file_in};
 ghost use Rattle.mpm_files.specs.Units.{SetsAttributes, RenamesEntry, RenamesXfcb};
 ghost use Rattle.mpm_files.specs.Plans.{file_of_job, new_file_of_job};
 ghost use Rattle.mpm_files.specs.Turning.{IsFileAt};
+ghost use Rattle.mpm_files.specs.Working.{WorksOnDisk};
 
 use crate::entries::put_entry;
 use crate::lookups::find_xfcb;
@@ -32,7 +32,7 @@ pub(crate) fn file_at(mounted: &Mounted, slot: u16) -> Option<FileEntry>
     ensures found { IfSome result (λ file. IsFileAt mounted.now slot file) }
     ensures missing { (f : FileEntry) → entry_in mounted.now slot ≡ File f → IsSome result }
 {
-    let _kind = mounted.kind();
+    mounted.tell_directory();
     match mounted.entry(slot) {
         Entry::File { file } => Some(*file),
         _ => None,
@@ -40,6 +40,7 @@ pub(crate) fn file_at(mounted: &Mounted, slot: u16) -> Option<FileEntry>
 }
 
 /// Gives the entry in a slot the attributes of a job.
+#[tactic(auto, using(crate::proofs::WorkingLaws::works_not))]
 pub(crate) fn set_attributes<D: Drives, L: Ledger>(
     mounted: &mut Mounted,
     cache: &mut Cache,
@@ -53,10 +54,7 @@ pub(crate) fn set_attributes<D: Drives, L: Ledger>(
     ensures does { (image : List ℕ) (files : Drive) (f : FileEntry) → (D.disks drives.old).image mounted.old.drive ≡ Some image → Stands image mounted.old files
         → entry_in mounted.old slot ≡ File f
         → DoesUnit (D.disks drives.new) mounted.old.drive mounted.new files (SetsAttributes (file_in f.user f.name) (name_of files.kind f).number (attributes_in job.now.name)) result }
-    ensures disk { SameDisk mounted.old mounted.new }
-    ensures calls { steps.new ≤ steps.old + 2 }
-    ensures leaves { LeavesDisks D.disks D.told D.failed_names D.unsynced mounted.old.drive cache.old cache.new drives.old drives.new }
-    ensures cause { HasCause (D.faults drives.old) (D.faults drives.new) result }
+    ensures works { WorksOnDisk D.Drives 2 mounted.old mounted.new cache.old cache.new drives.old drives.new steps.old steps.new result }
 {
     let Some(file) = file_at(mounted, slot) else {
         return Ok(());
@@ -83,12 +81,9 @@ pub(crate) fn rename_entry<D: Drives, L: Ledger>(
         → entry_in mounted.old slot ≡ File f → f.user ≡ job.now.user
         → get files.extents (record { user = job.now.user; name = (new_file_of_job job.now).name; number = (name_of files.kind f).number }) ≡ None
         → DoesUnit (D.disks drives.new) mounted.old.drive mounted.new files (RenamesEntry (file_in f.user f.name) (name_of files.kind f).number (new_file_of_job job.now)) result }
-    ensures disk { SameDisk mounted.old mounted.new }
-    ensures calls { steps.new ≤ steps.old + 2 }
-    ensures leaves { LeavesDisks D.disks D.told D.failed_names D.unsynced mounted.old.drive cache.old cache.new drives.old drives.new }
-    ensures cause { HasCause (D.faults drives.old) (D.faults drives.new) result }
+    ensures works { WorksOnDisk D.Drives 2 mounted.old mounted.new cache.old cache.new drives.old drives.new steps.old steps.new result }
 {
-    let _kind = mounted.kind();
+    mounted.tell_directory();
     let Some(file) = file_at(mounted, slot) else {
         return Ok(());
     };
@@ -103,6 +98,7 @@ pub(crate) fn rename_entry<D: Drives, L: Ledger>(
 }
 
 /// Gives the XFCB of a job's file the new name, where that has none.
+#[tactic(auto, using(crate::proofs::WorkingLaws::works_not))]
 pub(crate) fn rename_xfcb<D: Drives, L: Ledger>(
     mounted: &mut Mounted,
     cache: &mut Cache,
@@ -114,10 +110,7 @@ pub(crate) fn rename_xfcb<D: Drives, L: Ledger>(
     ensures does { (image : List ℕ) (files : Drive) → (D.disks drives.old).image mounted.old.drive ≡ Some image → Stands image mounted.old files
         → get files.xfcbs (new_file_of_job job.now) ≡ None
         → DoesUnit (D.disks drives.new) mounted.old.drive mounted.new files (RenamesXfcb (file_of_job job.now) (new_file_of_job job.now)) result }
-    ensures disk { SameDisk mounted.old mounted.new }
-    ensures calls { steps.new ≤ steps.old + 2 }
-    ensures leaves { LeavesDisks D.disks D.told D.failed_names D.unsynced mounted.old.drive cache.old cache.new drives.old drives.new }
-    ensures cause { HasCause (D.faults drives.old) (D.faults drives.new) result }
+    ensures works { WorksOnDisk D.Drives 2 mounted.old mounted.new cache.old cache.new drives.old drives.new steps.old steps.new result }
 {
     let Some(found) = find_xfcb(mounted, job) else {
         return Ok(());

@@ -1,10 +1,9 @@
-ghost use Rattle.std.specs.Prelude.{◌≡◌, ◌+◌, ◌≤◌, Some, None};
-ghost use Rattle.mpm_port.specs.Causes.{HasCause};
-ghost use Rattle.mpm_sectors.specs.Disks.{IsReadyDisk, LeavesDisks};
-ghost use Rattle.mpm_files.specs.Standing.{SameDisk};
+ghost use Rattle.std.specs.Prelude.{◌≡◌, Some, None};
+ghost use Rattle.mpm_sectors.specs.Disks.{IsReadyDisk};
 ghost use Rattle.mpm_jobs.specs.declared.jobs.JobKind.TheVariants as kinds;
 ghost use Rattle.mpm_files.specs.Turning.{DoesNext};
 ghost use Rattle.mpm_files.specs.Turning as turning;
+ghost use Rattle.mpm_files.specs.Working.{WorksOnDisk, KeepsCounts};
 
 use crate::renaming::set_attributes;
 use crate::work::Work;
@@ -28,6 +27,7 @@ fn last_of_job(work: &Work) -> Option<Found>
 }
 
 /// Sets the attributes of the first entry of a job's file above the last that has them.
+#[tactic(auto, using(crate::proofs::WorkingLaws::works_not))]
 pub(crate) fn set_next<D: Drives, L: Ledger>(
     mounted: &mut Mounted,
     cache: &mut Cache,
@@ -37,14 +37,10 @@ pub(crate) fn set_next<D: Drives, L: Ledger>(
 ) -> Result<(), Failed>
     requires ready { IsReadyDisk (D.disks drives.old) mounted.old.drive mounted.old.kind cache.old }
     ensures attributes { work.old.job.kind ≡ kinds.Attributes → DoesNext (D.disks drives.old) (D.disks drives.new) mounted.old mounted.new work.old work.new result }
-    ensures ended { work.new.ended ≡ work.old.ended }
-    ensures units { work.new.units ≡ work.old.units }
-    ensures disk { SameDisk mounted.old mounted.new }
-    ensures calls { steps.new ≤ steps.old + 2 }
-    ensures leaves { LeavesDisks D.disks D.told D.failed_names D.unsynced mounted.old.drive cache.old cache.new drives.old drives.new }
-    ensures cause { HasCause (D.faults drives.old) (D.faults drives.new) result }
+    ensures counts { KeepsCounts work.old work.new }
+    ensures works { WorksOnDisk D.Drives 2 mounted.old mounted.new cache.old cache.new drives.old drives.new steps.old steps.new result }
 {
-    let _kind = mounted.kind();
+    mounted.tell_directory();
     let last = last_of_job(work);
     work.cleared = None;
     match mounted.next(work.job.user, &work.job.name, last) {

@@ -1,22 +1,22 @@
 ghost use Rattle.std.specs.Prelude.{◌≡◌, ◌+◌, ◌<◌, ◌≤◌, ℕ, List, [], ◌∷◌, length, slice_set, ◌/◌, ◌%◌, Some, None, true, false};
 ghost use Rattle.mpm_dirent.specs.declared.limits.TheConstants.{LAST_NAMED, LAST_RECORD};
-ghost use Rattle.mpm_port.specs.Causes.{HasCause};
 ghost use Rattle.mpm_blocks.specs.Geometries as geometries;
 ghost use Rattle.mpm_blocks.specs.Sectors.{sectors_of};
 ghost use Rattle.mpm_mount.specs.Drives.{Drive, with_extent};
 ghost use Rattle.mpm_mount.specs.Faults.{name_of};
 ghost use Rattle.mpm_mount.specs.Images.{contents_of, extent_in};
 ghost use Rattle.mpm_mount.specs.Directories.{Stands, free_block};
-ghost use Rattle.mpm_sectors.specs.Disks.{IsReadyDisk, LeavesDisks};
+ghost use Rattle.mpm_sectors.specs.Disks.{IsReadyDisk};
 ghost use Rattle.mpm_sectors.specs.Writes.{Puts, block_writes, block_calls};
 ghost use Rattle.mpm_files.specs.Units.{WritesRecord, with_stamp};
 ghost use Rattle.mpm_files.specs.Plans as plans;
 ghost use Rattle.mpm_files.specs.Plans.{file_of_job};
 ghost use Rattle.mpm_files.specs.Counting.{lacks_entry, lacks_block};
-ghost use Rattle.mpm_files.specs.Lookups.{HasEntry, IsHeldAt};
+ghost use Rattle.mpm_files.specs.Lookups.{HasEntry};
 ghost use Rattle.mpm_files.specs.Lookups as entries;
 ghost use Rattle.mpm_files.specs.Standing as spec;
-ghost use Rattle.mpm_files.specs.Standing.{DoesUnit, GoesThrough, HasFreshBlock, SameDisk};
+ghost use Rattle.mpm_files.specs.Standing.{DoesUnit, GoesThrough, HasFreshBlock};
+ghost use Rattle.mpm_files.specs.Working.{WorksOnDisk};
 
 use crate::clearing::{CLEARED, clears_blocks};
 use crate::entries::disk_of;
@@ -28,6 +28,7 @@ use mpm_dirent::FileEntry;
 use mpm_jobs::Job;
 use mpm_mount::{Mounted, block_place, last_extent};
 use mpm_port::{Drives, Failed};
+use mpm_sectors::FreshBlock;
 use std::sync::ledger::Ledger;
 
 /// A record that is written, and the moment of the stamp that comes with it.
@@ -115,10 +116,7 @@ pub(crate) fn put_held<D: Drives, L: Ledger>(
         → lacks_block mounted.old (file_of_job job.now) written.now.number ≡ false
         → DoesUnit (D.disks drives.new) mounted.old.drive mounted.new files
         (WritesRecord (file_of_job job.now) written.now.number written.now.bytes written.now.moment) result }
-    ensures disk { SameDisk mounted.old mounted.new }
-    ensures calls { steps.new ≤ steps.old + 5 }
-    ensures leaves { LeavesDisks D.disks D.told D.failed_names D.unsynced mounted.old.drive cache.old cache.new drives.old drives.new }
-    ensures cause { HasCause (D.faults drives.old) (D.faults drives.new) result }
+    ensures works { WorksOnDisk D.Drives 5 mounted.old mounted.new cache.old cache.new drives.old drives.new steps.old steps.new result }
 {
     let found = match find_entry(mounted, job, written.number) {
         Some(found) => found,
@@ -128,7 +126,7 @@ pub(crate) fn put_held<D: Drives, L: Ledger>(
         Some(sector) => sector,
         None => return Ok(()),
     };
-    match put_in_block(mounted, cache, drives, job, written, &found, sector, steps) {
+    match put_sector(mounted, cache, drives, sector, &written.bytes, steps) {
         Ok(()) => put_raised(mounted, cache, drives, job, written, &found, steps),
         Err(failed) => Err(failed),
     }
@@ -154,10 +152,7 @@ pub(crate) fn put_fresh<D: Drives, L: Ledger>(
         → HasFreshBlock (plans.clears_blocks mounted.old.kind) (sectors_of image mounted.old.kind) mounted.old cleared
         → DoesUnit (D.disks drives.new) mounted.old.drive mounted.new files
         (WritesRecord (file_of_job job.now) written.now.number written.now.bytes written.now.moment) result }
-    ensures disk { SameDisk mounted.old mounted.new }
-    ensures calls { steps.new ≤ steps.old + 20 }
-    ensures leaves { LeavesDisks D.disks D.told D.failed_names D.unsynced mounted.old.drive cache.old cache.new drives.old drives.new }
-    ensures cause { HasCause (D.faults drives.old) (D.faults drives.new) result }
+    ensures works { WorksOnDisk D.Drives 20 mounted.old mounted.new cache.old cache.new drives.old drives.new steps.old steps.new result }
 {
     let found = match find_entry(mounted, job, written.number) {
         Some(found) => found,
@@ -172,17 +167,13 @@ pub(crate) fn put_fresh<D: Drives, L: Ledger>(
         None => return Ok(()),
     };
     let index = index_in(mounted, written.number);
-    match put_with_block(
-        mounted,
-        cache,
-        drives,
-        block,
+    let fresh = FreshBlock {
+        number: block,
         clear,
-        index,
-        &written.bytes,
-        steps,
-    ) {
-        Ok(()) => put_taken(mounted, cache, drives, job, written, &found, block, steps),
+    };
+    let taking = Taking { found, block };
+    match put_with_block(mounted, cache, drives, fresh, index, &written.bytes, steps) {
+        Ok(()) => put_taken(mounted, cache, drives, job, written, &taking, steps),
         Err(failed) => Err(failed),
     }
 }
@@ -200,36 +191,9 @@ fn put_sector<D: Drives, L: Ledger>(
     requires within { sector < geometries.logical_sectors mounted.now.kind }
     ensures puts { Puts mounted.now.drive mounted.now.kind (record { sector = sector; bytes = bytes.now } ∷ []) (D.disks drives.old) (D.disks drives.new) result }
     ensures long { length bytes.now ≡ 128 }
-    ensures calls { steps.new ≤ steps.old + 1 }
-    ensures leaves { LeavesDisks D.disks D.told D.failed_names D.unsynced mounted.now.drive cache.old cache.new drives.old drives.new }
-    ensures cause { HasCause (D.faults drives.old) (D.faults drives.new) result }
+    ensures works { WorksOnDisk D.Drives 1 mounted.now mounted.now cache.old cache.new drives.old drives.new steps.old steps.new result }
 {
     disk_of(mounted).put(cache, drives, sector, bytes, steps)
-}
-
-/// Writes a record into its block, which its directory entry holds.
-fn put_in_block<D: Drives, L: Ledger>(
-    mounted: &Mounted,
-    cache: &mut Cache,
-    drives: &mut D,
-    job: &Job,
-    written: &Record,
-    found: &FoundEntry,
-    sector: u32,
-    steps: &mut Steps<L>,
-) -> Result<(), Failed>
-    requires ready { IsReadyDisk (D.disks drives.old) mounted.now.drive mounted.now.kind cache.old }
-    requires entry { HasEntry mounted.now (file_of_job job.now) written.now.number found.now.slot found.now.file }
-    requires held { IsHeldAt mounted.now.kind found.now.file written.now.number sector }
-    ensures puts { (image : List ℕ) (files : Drive) → (D.disks drives.old).image mounted.now.drive ≡ Some image → Stands image mounted.now files
-        → GoesThrough (D.disks drives.new) mounted.now.drive mounted.now files
-        (with_extent files (name_of mounted.now.kind found.now.file)
-        (spec.with_record mounted.now.kind written.now.number written.now.bytes (extent_in (sectors_of image mounted.now.kind) mounted.now.kind found.now.file)) ∷ []) result }
-    ensures calls { steps.new ≤ steps.old + 1 }
-    ensures leaves { LeavesDisks D.disks D.told D.failed_names D.unsynced mounted.now.drive cache.old cache.new drives.old drives.new }
-    ensures cause { HasCause (D.faults drives.old) (D.faults drives.new) result }
-{
-    put_sector(mounted, cache, drives, sector, &written.bytes, steps)
 }
 
 /// Puts last extent and record count of the directory entry of a record that is there, where they rise, and the second stamp.
@@ -248,23 +212,14 @@ fn put_raised<D: Drives, L: Ledger>(
         → GoesThrough (D.disks drives.new) mounted.old.drive mounted.new files
         (with_stamp (file_of_job job.now) written.now.moment files
         (spec.raises mounted.old.kind written.now.number found.now.file files (extent_in (sectors_of image mounted.old.kind) mounted.old.kind found.now.file))) result }
-    ensures disk { SameDisk mounted.old mounted.new }
-    ensures calls { steps.new ≤ steps.old + 4 }
-    ensures leaves { LeavesDisks D.disks D.told D.failed_names D.unsynced mounted.old.drive cache.old cache.new drives.old drives.new }
-    ensures cause { HasCause (D.faults drives.old) (D.faults drives.new) result }
+    ensures works { WorksOnDisk D.Drives 4 mounted.old mounted.new cache.old cache.new drives.old drives.new steps.old steps.new result }
 {
     if is_above(&found.file, written.number) {
-        let raised = raised(&found.file, written.number);
-        put_stamped(
-            mounted,
-            cache,
-            drives,
-            found.slot,
-            &raised,
-            job,
-            written.moment,
-            steps,
-        )
+        let raised = FoundEntry {
+            slot: found.slot,
+            file: raised(&found.file, written.number),
+        };
+        put_stamped(mounted, cache, drives, &raised, job, written.moment, steps)
     } else {
         put_stamp(
             mounted,
@@ -283,25 +238,29 @@ fn put_with_block<D: Drives, L: Ledger>(
     mounted: &Mounted,
     cache: &mut Cache,
     drives: &mut D,
-    block: u16,
-    clear: u8,
+    block: FreshBlock,
     index: u8,
     bytes: &[u8; 128],
     steps: &mut Steps<L>,
 ) -> Result<(), Failed>
     requires ready { IsReadyDisk (D.disks drives.old) mounted.now.drive mounted.now.kind cache.old }
-    requires free { free_block mounted.now ≡ Some block }
-    requires clear { clear ≤ geometries.block_records mounted.now.kind }
+    requires free { free_block mounted.now ≡ Some block.number }
+    requires clear { block.clear ≤ geometries.block_records mounted.now.kind }
     requires index { index < geometries.block_records mounted.now.kind }
-    requires few { block_calls mounted.now.kind clear index ≤ 16 }
+    requires few { block_calls mounted.now.kind block.clear index ≤ 16 }
     ensures puts { Puts mounted.now.drive mounted.now.kind
-        (block_writes mounted.now.kind block clear index bytes.now) (D.disks drives.old) (D.disks drives.new) result }
+        (block_writes mounted.now.kind block.number block.clear index bytes.now) (D.disks drives.old) (D.disks drives.new) result }
     ensures long { length bytes.now ≡ 128 }
-    ensures calls { steps.new ≤ steps.old + 16 }
-    ensures leaves { LeavesDisks D.disks D.told D.failed_names D.unsynced mounted.now.drive cache.old cache.new drives.old drives.new }
-    ensures cause { HasCause (D.faults drives.old) (D.faults drives.new) result }
+    ensures works { WorksOnDisk D.Drives 16 mounted.now mounted.now cache.old cache.new drives.old drives.new steps.old steps.new result }
 {
-    disk_of(mounted).put_block(cache, drives, block, clear, index, bytes, steps)
+    disk_of(mounted).put_block(cache, drives, block, index, bytes, steps)
+}
+
+/// The directory entry of a record, and the free block that it takes for it.
+#[derive(Clone, Copy)]
+struct Taking {
+    found: FoundEntry,
+    block: u16,
 }
 
 /// Puts a directory entry with a free block for a record, and the second stamp.
@@ -311,33 +270,24 @@ fn put_taken<D: Drives, L: Ledger>(
     drives: &mut D,
     job: &Job,
     written: &Record,
-    found: &FoundEntry,
-    block: u16,
+    taking: &Taking,
     steps: &mut Steps<L>,
 ) -> Result<(), Failed>
     requires ready { IsReadyDisk (D.disks drives.old) mounted.old.drive mounted.old.kind cache.old }
-    requires entry { HasEntry mounted.old (file_of_job job.now) written.now.number found.now.slot found.now.file }
-    requires free { free_block mounted.old ≡ Some block }
+    requires entry { HasEntry mounted.old (file_of_job job.now) written.now.number taking.now.found.slot taking.now.found.file }
+    requires free { free_block mounted.old ≡ Some taking.now.block }
     ensures puts { (image : List ℕ) (files : Drive) → (D.disks drives.old).image mounted.old.drive ≡ Some image → Stands image mounted.old files
         → GoesThrough (D.disks drives.new) mounted.old.drive mounted.new files
         (with_stamp (file_of_job job.now) written.now.moment files
-        (with_extent files (name_of mounted.old.kind found.now.file)
-        (spec.with_taken mounted.old.kind written.now.number (contents_of (sectors_of image mounted.old.kind) mounted.old.kind block)
-        (extent_in (sectors_of image mounted.old.kind) mounted.old.kind found.now.file)) ∷ [])) result }
-    ensures disk { SameDisk mounted.old mounted.new }
-    ensures calls { steps.new ≤ steps.old + 4 }
-    ensures leaves { LeavesDisks D.disks D.told D.failed_names D.unsynced mounted.old.drive cache.old cache.new drives.old drives.new }
-    ensures cause { HasCause (D.faults drives.old) (D.faults drives.new) result }
+        (with_extent files (name_of mounted.old.kind taking.now.found.file)
+        (spec.with_taken mounted.old.kind written.now.number (contents_of (sectors_of image mounted.old.kind) mounted.old.kind taking.now.block)
+        (extent_in (sectors_of image mounted.old.kind) mounted.old.kind taking.now.found.file)) ∷ [])) result }
+    ensures works { WorksOnDisk D.Drives 4 mounted.old mounted.new cache.old cache.new drives.old drives.new steps.old steps.new result }
 {
-    let taken = taken(mounted, &found.file, written.number, block);
-    put_stamped(
-        mounted,
-        cache,
-        drives,
-        found.slot,
-        &taken,
-        job,
-        written.moment,
-        steps,
-    )
+    let found = &taking.found;
+    let taken = FoundEntry {
+        slot: found.slot,
+        file: taken(mounted, &found.file, written.number, taking.block),
+    };
+    put_stamped(mounted, cache, drives, &taken, job, written.moment, steps)
 }

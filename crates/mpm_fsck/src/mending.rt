@@ -5,7 +5,7 @@ ghost use Rattle.mpm_port.specs.Disks.{size_of};
 ghost use Rattle.mpm_dirent.specs.Proper.{IsProper};
 ghost use Rattle.mpm_mount.specs.Directories.{IsWholeEntry};
 ghost use Rattle.mpm_mount.specs.Faults.{first_fault};
-ghost use Rattle.mpm_mount.specs.Mounting.{SameDrives};
+ghost use Rattle.mpm_port.specs.Frames.{OnlyCountsFaults};
 ghost use Rattle.mpm_fault_lines.specs.Lists.{listed};
 ghost use Rattle.mpm_repair.specs.Freeing.{freed};
 ghost use Rattle.mpm_fsck.specs.Outside.{drives_seen, seen};
@@ -122,7 +122,7 @@ fn count_freed<D: Drives>(
     requires { size_of (D.disks drives.old) 0 ≡ Some (geometry_of kind).bytes }
     ensures left { (image : List ℕ) → (D.disks drives.old).image 0 ≡ Some image → LeavesImage kind (slots_marked kind slots.now) image result }
     ensures count { CountsLeft (D.faults drives.old) (D.faults drives.new) result }
-    ensures same { SameDrives D.disks D.told D.failed_names drives.old drives.new }
+    ensures same { OnlyCountsFaults D.Drives drives.old drives.new }
 {
     match read(alloc, kind, drives) {
         Ok(entries) => count_left(alloc, kind, slots, entries),

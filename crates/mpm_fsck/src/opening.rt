@@ -6,7 +6,7 @@ ghost use Rattle.mpm_port.specs.Disks.{size_of};
 ghost use Rattle.mpm_dirent.specs.Proper.{IsProper};
 ghost use Rattle.mpm_mount.specs.Directories.{IsWholeEntry};
 ghost use Rattle.mpm_mount.specs.Images.{entries_of};
-ghost use Rattle.mpm_mount.specs.Mounting.{SameDrives};
+ghost use Rattle.mpm_port.specs.Frames.{OnlyCountsFaults};
 ghost use Rattle.mpm_fsck.specs.Outside.{drives_seen};
 ghost use Rattle.mpm_fsck.specs.Steps.{Opens, Unread};
 
@@ -48,8 +48,7 @@ pub(crate) fn read<D: Drives>(
     ensures whole { IfOk result (λ entries. All IsWholeEntry entries.items) }
     ensures count { OnOk result (D.faults drives.new ≡ D.faults drives.old) }
     ensures err { IfErr result (λ status. Unread (D.faults drives.old) (D.faults drives.new) status) }
-    ensures same { SameDrives D.disks D.told D.failed_names drives.old drives.new }
-    ensures unsynced { D.unsynced drives.new ≡ D.unsynced drives.old }
+    ensures same { OnlyCountsFaults D.Drives drives.old drives.new }
 {
     match read_directory(alloc, drives, 0, kind) {
         Ok(entries) => Ok(entries),

@@ -7,7 +7,6 @@ pub mod UsedBy
 pub mod Others
 pub mod Sound
 pub mod Replaced
-pub mod Telling
 pub mod Mounts
 pub mod EntriesRead
 pub mod Collected

@@ -1,23 +1,16 @@
--- What mounting leaves of the device, and what each of its answers says.
+-- What each answer of mounting says.
 use Rattle.std.specs.Prelude.{◌≡◌, ℕ, ◌+◌, ◌*◌, ◌<◌, List, Option, Some, Result, Ok, Err, ⊤}
 use Rattle.mpm_base.specs.declared.kind.Kind.{Kind}
 use Rattle.mpm_blocks.specs.Geometries.{geometry_of}
 use Rattle.mpm_blocks.specs.Sectors.{sectors_of}
 use Rattle.mpm_dirent.specs.declared.kinds.Entry.{Entry}
 use Rattle.mpm_port.specs.Causes.{Rose}
-use Rattle.mpm_port.specs.Disks.{Disks, ToldImage}
 use Rattle.mpm_mount.specs.declared.errors.MountError.{MountError}
 use Rattle.mpm_mount.specs.declared.errors.MountError.TheVariants.{Image, DiskFault, OutOfMemory}
 use Rattle.mpm_mount.specs.Drives.{Drive}
 use Rattle.mpm_mount.specs.Faults.{first_fault}
 use Rattle.mpm_mount.specs.Images.{drive_of, files_of}
 use Rattle.mpm_mount.specs.Directories.{Directory, Stands}
-
--- the device is as it was, but for its count
-pub record SameDrives {D : Type 0} (disks : D → Disks) (told : D → List ℕ → ToldImage) (names : D → List (List ℕ)) (old new : D) : Type 0 where
-  pub images : disks new ≡ disks old
-  pub told_are : told new ≡ told old
-  pub failed : names new ≡ names old
 
 -- the count of faults rises where the device failed, and stays else
 abbrev pub CountsFault : {A : Type 0} → ℕ → ℕ → Result A MountError → Type 0

@@ -69,6 +69,13 @@ impl Mounted {
         self.kind
     }
 
+    /// Says what is so of the directory: it has all slots and no fault, and its entries can be written.
+    pub fn tell_directory(&self)
+        ensures { IsDirectory self.now.kind self.now.entries }
+    {
+        let _ = &self.entries;
+    }
+
     /// How many records of 128 bytes there is room for in free blocks.
     #[tactic(auto, using(crate::proofs::Positions::block_small))]
     pub fn free_records(&self) -> u32

@@ -29,8 +29,7 @@ fn label_at(entry: &Entry) -> Option<LabelEntry>
 fn label_in(mounted: &Mounted) -> Option<LabelEntry>
     ensures { result ≡ spec.label_in mounted.now }
 {
-    // The kind tells how many slots there are.
-    let _ = mounted.kind();
+    mounted.tell_directory();
     match mounted.label() {
         Some(slot) => label_at(mounted.entry(slot)),
         None => None,
@@ -71,8 +70,7 @@ fn xfcb_at(entry: &Entry) -> Option<XfcbEntry>
 fn xfcb_in(mounted: &Mounted, user: u8, name: &[u8; 11]) -> Option<XfcbEntry>
     ensures { result ≡ spec.xfcb_in mounted.now (record { user = user; name = plain name.now }) }
 {
-    // The kind tells how many slots there are.
-    let _ = mounted.kind();
+    mounted.tell_directory();
     match mounted.xfcb(user, name) {
         Some(slot) => xfcb_at(mounted.entry(slot)),
         None => None,
@@ -118,8 +116,7 @@ fn count_at(entry: &Entry, extent: u16) -> Option<u8>
 fn count_of(mounted: &Mounted, user: u8, name: &[u8; 11], extent: u16) -> Option<u8>
     ensures { result ≡ spec.count_of mounted.now (record { user = user; name = plain name.now }) extent }
 {
-    // The kind tells how many slots there are.
-    let _ = mounted.kind();
+    mounted.tell_directory();
     match mounted.extent(user, name, extent) {
         Some(slot) => count_at(mounted.entry(slot), extent),
         None => None,
@@ -163,8 +160,7 @@ pub fn attributes(mounted: &Mounted, user: u8, name: &[u8; 11]) -> Option<[bool;
     ensures { (image : List ℕ) (drive : Drive) → Stands image mounted.now drive
         → file_attributes drive (record { user = user; name = plain name.now }) ≡ result }
 {
-    // The kind tells how many slots there are.
-    let _ = mounted.kind();
+    mounted.tell_directory();
     match lowest_entry(mounted, user, name) {
         Some(found) => attributes_at(mounted.entry(found.slot)),
         None => None,

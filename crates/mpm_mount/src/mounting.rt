@@ -2,10 +2,11 @@ ghost use Rattle.std.specs.Prelude.{◌≡◌, ℕ, ◌+◌, None, Some, IsSome,
 ghost use Rattle.std.specs.List.{All};
 ghost use Rattle.mpm_blocks.specs.Geometries.{geometry_of};
 ghost use Rattle.mpm_port.specs.Disks.{size_of};
+ghost use Rattle.mpm_port.specs.Frames.{OnlyCountsFaults};
 ghost use Rattle.mpm_dirent.specs.Proper.{IsProper};
 ghost use Rattle.mpm_mount.specs.Directories.{IsDirectory, IsWholeEntry};
 ghost use Rattle.mpm_mount.specs.Faults as faults;
-ghost use Rattle.mpm_mount.specs.Mounting.{SameDrives, CountsFault, IsFault, IsImageFault, IsOfOtherSize, IsMounted};
+ghost use Rattle.mpm_mount.specs.Mounting.{CountsFault, IsFault, IsImageFault, IsOfOtherSize, IsMounted};
 
 use crate::directory::Mounted;
 use crate::errors::MountError;
@@ -36,8 +37,7 @@ pub fn mount<D: Drives>(
     ensures other_size { (size_of (D.disks drives.old) drive ≡ Some (geometry_of kind).bytes → ⊥) → IfErr result IsOfOtherSize }
     ensures err { IfErr result (λ error. IfSome ((D.disks drives.old).image drive) (λ image. IsImageFault image kind error)) }
     ensures count { CountsFault (D.faults drives.old) (D.faults drives.new) result }
-    ensures same { SameDrives D.disks D.told D.failed_names drives.old drives.new }
-    ensures unsynced { D.unsynced drives.new ≡ D.unsynced drives.old }
+    ensures same { OnlyCountsFaults D.Drives drives.old drives.new }
 {
     match check_size(drives, drive, kind) {
         Ok(()) => {}
@@ -56,8 +56,7 @@ fn check_size<D: Drives>(drives: &mut D, drive: u8, kind: Kind) -> Result<(), Mo
     ensures other_size { IfErr result IsOfOtherSize }
     ensures err { IfErr result (λ error. IfSome ((D.disks drives.old).image drive) (λ image. IsImageFault image kind error)) }
     ensures count { CountsFault (D.faults drives.old) (D.faults drives.new) result }
-    ensures same { SameDrives D.disks D.told D.failed_names drives.old drives.new }
-    ensures unsynced { D.unsynced drives.new ≡ D.unsynced drives.old }
+    ensures same { OnlyCountsFaults D.Drives drives.old drives.new }
 {
     match drives.size(drive) {
         Err(_) => Err(MountError::DiskFault),

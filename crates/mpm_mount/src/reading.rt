@@ -3,11 +3,12 @@ ghost use Rattle.std.specs.List.{All};
 ghost use Rattle.mpm_blocks.specs.Geometries.{geometry_of};
 ghost use Rattle.mpm_blocks.specs.Sectors.{sectors_of};
 ghost use Rattle.mpm_port.specs.Disks.{size_of};
+ghost use Rattle.mpm_port.specs.Frames.{OnlyCountsFaults};
 ghost use Rattle.mpm_dirent.specs.Entries.{part};
 ghost use Rattle.mpm_dirent.specs.Proper.{IsProper};
 ghost use Rattle.mpm_mount.specs.Directories.{IsWholeEntry};
 ghost use Rattle.mpm_mount.specs.Images.{entries_of, entries_in};
-ghost use Rattle.mpm_mount.specs.Mounting.{SameDrives, CountsFault, IsDevice, IsSectorOf};
+ghost use Rattle.mpm_mount.specs.Mounting.{CountsFault, IsDevice, IsSectorOf};
 
 use crate::OutOfMemory;
 use crate::errors::MountError;
@@ -33,8 +34,7 @@ pub fn read_directory<D: Drives>(
     ensures whole { IfOk result (λ entries. All IsWholeEntry entries.items) }
     ensures device { IfErr result IsDevice }
     ensures count { CountsFault (D.faults drives.old) (D.faults drives.new) result }
-    ensures same { SameDrives D.disks D.told D.failed_names drives.old drives.new }
-    ensures unsynced { D.unsynced drives.new ≡ D.unsynced drives.old }
+    ensures same { OnlyCountsFaults D.Drives drives.old drives.new }
 {
     let mut entries = Vec::new(alloc);
     for sector in 0..(u32::from(geometry(kind).drm) + 1) / 4 {
@@ -62,8 +62,7 @@ fn read_sector<D: Drives>(
     ensures whole { All IsWholeEntry entries.old.items → OnOk result (All IsWholeEntry entries.new.items) }
     ensures device { IfErr result IsDevice }
     ensures count { CountsFault (D.faults drives.old) (D.faults drives.new) result }
-    ensures same { SameDrives D.disks D.told D.failed_names drives.old drives.new }
-    ensures unsynced { D.unsynced drives.new ≡ D.unsynced drives.old }
+    ensures same { OnlyCountsFaults D.Drives drives.old drives.new }
 {
     let mut bytes = [0; 128];
     match drives.read(drive, place(kind, sector), &mut bytes) {

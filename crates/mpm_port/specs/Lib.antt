@@ -2,6 +2,7 @@ pub mod Causes
 pub mod Texts
 pub mod Fetches
 pub mod Disks
+pub mod Frames
 pub mod Calls
 pub mod MemoryText
 pub mod Named

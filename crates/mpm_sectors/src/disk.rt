@@ -18,6 +18,24 @@ use mpm_dirent::Entry;
 use mpm_port::{Drives, Failed};
 use std::sync::ledger::Ledger;
 
+/// A directory entry, and the slot that it goes into.
+#[derive(Clone, Copy)]
+pub struct SlotEntry {
+    /// The slot, from 0.
+    pub slot: u16,
+    /// The entry.
+    pub entry: Entry,
+}
+
+/// A fresh allocation block, of which some of the first sectors are zeros already.
+#[derive(Clone, Copy, Debug, PartialEq, Eq)]
+pub struct FreshBlock {
+    /// Its number.
+    pub number: u16,
+    /// How many sectors are zeros.
+    pub clear: u8,
+}
+
 /// A drive with the kind of its disk. Sectors are counted from 0 after the system's tracks, in the order in which they are
 /// used; `steps` counts the calls of the drives.
 ///
@@ -109,32 +127,31 @@ impl Disk {
         Ok(())
     }
 
-    /// Writes a record at its index into a fresh allocation block, of which so many sectors are zeros already. Zeros go into its other
-    /// sectors, and then the record, by a call of the drives each, up to the first that fails.
+    /// Writes a record at its index into a fresh allocation block. Zeros go into the sectors that aren't zeros already, and then
+    /// comes the record, by a call of the drives each, up to the first that fails.
     #[tactic(auto, using(crate::proofs::LeavesLaws::ready_after))]
     pub fn put_block<D: Drives, L: Ledger>(
         &self,
         cache: &mut Cache,
         drives: &mut D,
-        block: u16,
-        clear: u8,
+        block: FreshBlock,
         index: u8,
         bytes: &[u8; 128],
         steps: &mut Steps<L>,
     ) -> Result<(), Failed>
         requires ready { IsReadyDisk (D.disks drives.old) self.now.drive self.now.kind cache.old }
-        requires block { block ≤ last_block self.now.kind }
-        requires clear { clear ≤ block_records self.now.kind }
+        requires block { block.number ≤ last_block self.now.kind }
+        requires clear { block.clear ≤ block_records self.now.kind }
         requires index { index < block_records self.now.kind }
-        ensures puts { Puts self.now.drive self.now.kind (block_writes self.now.kind block clear index bytes.now) (D.disks drives.old) (D.disks drives.new) result }
-        ensures calls { TakesCalls steps.old steps.new (block_calls self.now.kind clear index) result }
+        ensures puts { Puts self.now.drive self.now.kind (block_writes self.now.kind block.number block.clear index bytes.now) (D.disks drives.old) (D.disks drives.new) result }
+        ensures calls { TakesCalls steps.old steps.new (block_calls self.now.kind block.clear index) result }
         ensures leaves { LeavesDisks D.disks D.told D.failed_names D.unsynced self.now.drive cache.old cache.new drives.old drives.new }
         ensures unsynced { D.unsynced drives.new self.now.drive ≡ true }
         ensures cause { HasCause (D.faults drives.old) (D.faults drives.new) result }
     {
         let records = u32::from(geometry(self.kind).block) / 128;
-        let first = u32::from(block) * records;
-        let clear = u32::from(clear);
+        let first = u32::from(block.number) * records;
+        let clear = u32::from(block.clear);
         let index = u32::from(index);
         match self.clear(
             cache,
@@ -193,36 +210,40 @@ impl Disk {
         &self,
         cache: &mut Cache,
         drives: &mut D,
-        slot: u16,
-        entry: &Entry,
-        other_slot: u16,
-        other: &Entry,
+        first: &SlotEntry,
+        second: &SlotEntry,
         steps: &mut Steps<L>,
     ) -> Result<(), Failed>
         requires ready { IsReadyDisk (D.disks drives.old) self.now.drive self.now.kind cache.old }
-        requires within { slot ≤ (geometry_of self.now.kind).drm }
-        requires same { other_slot / 4 ≡ slot / 4 }
-        requires proper { IsProper (geometry_of self.now.kind).wide entry.now }
-        requires other { IsProper (geometry_of self.now.kind).wide other.now }
+        requires within { first.now.slot ≤ (geometry_of self.now.kind).drm }
+        requires same { second.now.slot / 4 ≡ first.now.slot / 4 }
+        requires proper { IsProper (geometry_of self.now.kind).wide first.now.entry }
+        requires second { IsProper (geometry_of self.now.kind).wide second.now.entry }
         ensures puts { (image : List ℕ) → (D.disks drives.old).image self.now.drive ≡ Some image
-            → Puts self.now.drive self.now.kind (slots_write self.now.kind image slot entry.now other_slot other.now ∷ []) (D.disks drives.old) (D.disks drives.new) result }
-        ensures read { IsReadBack (geometry_of self.now.kind).wide entry.now }
-        ensures other_read { IsReadBack (geometry_of self.now.kind).wide other.now }
-        ensures calls { TakesCalls steps.old steps.new (slot_calls cache.old self.now.drive self.now.kind (slot / 4)) result }
+            → Puts self.now.drive self.now.kind (slots_write self.now.kind image first.now.slot first.now.entry second.now.slot second.now.entry ∷ []) (D.disks drives.old) (D.disks drives.new) result }
+        ensures read { IsReadBack (geometry_of self.now.kind).wide first.now.entry }
+        ensures second_read { IsReadBack (geometry_of self.now.kind).wide second.now.entry }
+        ensures calls { TakesCalls steps.old steps.new (slot_calls cache.old self.now.drive self.now.kind (first.now.slot / 4)) result }
         ensures leaves { LeavesDisks D.disks D.told D.failed_names D.unsynced self.now.drive cache.old cache.new drives.old drives.new }
         ensures unsynced { OnOk result (D.unsynced drives.new self.now.drive ≡ true) }
         ensures cause { HasCause (D.faults drives.old) (D.faults drives.new) result }
     {
         let wide = geometry(self.kind).wide;
-        let bytes = entry_bytes(entry, wide);
-        let other_bytes = entry_bytes(other, wide);
+        let bytes = entry_bytes(&first.entry, wide);
+        let second_bytes = entry_bytes(&second.entry, wide);
         let mut sector = [0; 128];
-        match self.read(cache, drives, u32::from(slot / 4), &mut sector, steps) {
+        match self.read(cache, drives, u32::from(first.slot / 4), &mut sector, steps) {
             Ok(()) => {}
             Err(failed) => return Err(failed),
         }
-        put_entry(&mut sector, slot % 4, entry, &bytes, wide);
-        put_entry(&mut sector, other_slot % 4, other, &other_bytes, wide);
-        self.put(cache, drives, u32::from(slot / 4), &sector, steps)
+        put_entry(&mut sector, first.slot % 4, &first.entry, &bytes, wide);
+        put_entry(
+            &mut sector,
+            second.slot % 4,
+            &second.entry,
+            &second_bytes,
+            wide,
+        );
+        self.put(cache, drives, u32::from(first.slot / 4), &sector, steps)
     }
 }

@@ -5,4 +5,4 @@
 mod disk;
 mod slots;
 
-pub use disk::Disk;
+pub use disk::{Disk, FreshBlock, SlotEntry};

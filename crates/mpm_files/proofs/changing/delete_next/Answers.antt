@@ -6,11 +6,11 @@ use Rattle.mpm_files.proofs.DeleteTurns.{entry_deleted, xfcb_deleted, due_within
 use Rattle.mpm_files.proofs.changing.delete_next.Goals as goal
 
 pub put_entry-requires-clause-slot : goal.put_entry-requires-clause-slot
-put_entry-requires-clause-slot g c = due_within c.args.mounted.now c.args.work.now c.in-Some.slot c.kind-kind.ensures.full (sym c.xfcb_due-due.ensures ∙ c.in-Some.is)
+put_entry-requires-clause-slot g c = due_within c.args.mounted.now c.args.work.now c.in-Some.slot c.tell_directory.ensures.full (sym c.xfcb_due-due.ensures ∙ c.in-Some.is)
 
 pub put_entry-requires-in-Some-next-clause-slot : goal.put_entry-requires-in-Some-next-clause-slot
 put_entry-requires-in-Some-next-clause-slot g c =
-    found_within c.args.mounted.now c.args.work.now.job.user c.args.work.now.job.name None c.in-Some-next.found c.next.result c.kind-kind.ensures.full c.in-Some-next.is c.next.ensures
+    found_within c.args.mounted.now c.args.work.now.job.user c.args.work.now.job.name None c.in-Some-next.found c.next.result c.tell_directory.ensures.full c.in-Some-next.is c.next.ensures
 
 pub returns-in-Some-clause-delete : goal.returns-in-Some-clause-delete
 returns-in-Some-clause-delete g c = λ kind.

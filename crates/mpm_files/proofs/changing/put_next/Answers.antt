@@ -21,12 +21,8 @@ returns-in-Label g c = record {
       ));
   xfcb = λ kind. let no : Label ≡ Xfcb = sym c.in-Label.is ∙ kind in absurd (cc);
   nothing = λ kind. let no : Label ≡ Nothing = sym c.in-Label.is ∙ kind in absurd (cc);
-  ended = refl;
-  units = refl;
-  disk = c.put_label.ensures.disk;
-  calls = c.put_label.ensures.calls;
-  leaves = c.put_label.ensures.leaves;
-  cause = c.put_label.ensures.cause;
+  counts = record { units = refl; ended = refl };
+  works = c.put_label.ensures.works;
 }
 
 pub returns-in-Xfcb : goal.returns-in-Xfcb
@@ -43,12 +39,8 @@ returns-in-Xfcb g c = record {
         ),
       ));
   nothing = λ kind. let no : Xfcb ≡ Nothing = sym c.in-Xfcb.is ∙ kind in absurd (cc);
-  ended = refl;
-  units = refl;
-  disk = c.put_xfcb.ensures.disk;
-  calls = c.put_xfcb.ensures.calls;
-  leaves = c.put_xfcb.ensures.leaves;
-  cause = c.put_xfcb.ensures.cause;
+  counts = record { units = refl; ended = refl };
+  works = c.put_xfcb.ensures.works;
 }
 
 pub returns-in_default : goal.returns-in_default
@@ -64,10 +56,6 @@ returns-in_default g c = record {
           c.idle.ensures.does image (units_done before job j) told service.stands,
         ),
       ));
-  ended = refl;
-  units = refl;
-  disk = c.idle.ensures.disk;
-  calls = c.idle.ensures.calls;
-  leaves = c.idle.ensures.leaves;
-  cause = c.idle.ensures.cause;
+  counts = record { units = refl; ended = refl };
+  works = c.idle.ensures.works;
 }

@@ -12,7 +12,7 @@ use Rattle.mpm_files.proofs.changing.rename_next.Goals as goal
 
 pub rename_entry-requires-clause-slot : goal.rename_entry-requires-clause-slot
 rename_entry-requires-clause-slot g c =
-    found_within c.args.mounted.now c.args.work.now.job.user c.args.work.now.job.name None c.in-Some-next.found c.next.result c.kind-kind.ensures.full c.in-Some-next.is c.next.ensures
+    found_within c.args.mounted.now c.args.work.now.job.user c.args.work.now.job.name None c.in-Some-next.found c.next.result c.tell_directory.ensures.full c.in-Some-next.is c.next.ensures
 
 pub returns-in-Some : goal.returns-in-Some
 returns-in-Some g c = record {
@@ -20,12 +20,8 @@ returns-in-Some g c = record {
       put_does (g.D.Drives.disks c.args.drives.now) (g.D.Drives.disks c.put_entry.new.drives) c.args.mounted.now c.put_entry.new.mounted c.args.work.now _ c.in-Some.slot Free c.put_entry.result
       refl c.put_entry.ensures.puts (λ image before job j suits stands serving h.
       over_renamed image c.args.mounted.now before job j c.args.work.now c.in-Some.slot stands serving kind (may_rename before job j c.args.work.now serving kind suits) h (sym c.xfcb.ensures ∙ c.in-Some.is));
-  ended = refl;
-  units = refl;
-  disk = c.put_entry.ensures.disk;
-  calls = c.put_entry.ensures.calls;
-  leaves = c.put_entry.ensures.leaves;
-  cause = c.put_entry.ensures.cause;
+  counts = record { units = refl; ended = refl };
+  works = c.put_entry.ensures.works;
 }
 
 pub returns-in-Some-next : goal.returns-in-Some-next
@@ -42,12 +38,8 @@ returns-in-Some-next g c = record {
           c.rename_entry.ensures.does image (units_done before job j) next.file told service.stands next.entry next.user next.free,
         ),
       ));
-  ended = refl;
-  units = refl;
-  disk = c.rename_entry.ensures.disk;
-  calls = c.rename_entry.ensures.calls;
-  leaves = c.rename_entry.ensures.leaves;
-  cause = c.rename_entry.ensures.cause;
+  counts = record { units = refl; ended = refl };
+  works = c.rename_entry.ensures.works;
 }
 
 pub returns-in-None-next : goal.returns-in-None-next
@@ -62,10 +54,6 @@ returns-in-None-next g c = record {
           c.rename_xfcb.ensures.does image (units_done before job j) told service.stands (new_xfcb image c.args.mounted.now (units_done before job j) c.args.work.now service.stands (sym c.xfcb.ensures ∙ c.in-None.is)),
         ),
       ));
-  ended = refl;
-  units = refl;
-  disk = c.rename_xfcb.ensures.disk;
-  calls = c.rename_xfcb.ensures.calls;
-  leaves = c.rename_xfcb.ensures.leaves;
-  cause = c.rename_xfcb.ensures.cause;
+  counts = record { units = refl; ended = refl };
+  works = c.rename_xfcb.ensures.works;
 }

@@ -1,7 +1,6 @@
-use Rattle.std.proofs.Common.{sym, ◌∙◌, arith}
+use Rattle.std.proofs.Common.{sym, ◌∙◌}
 use Rattle.mpm_files.proofs.RecordUnits.{clears_none, clears_first, clears_stopped, block_cleared, is_clearing, cleared_if, clears_if}
-use Rattle.mpm_sectors.proofs.LeavesLaws.{leaves_itself}
-use Rattle.mpm_files.proofs.Causing.{cause_none, cause_done, cause_failed}
+use Rattle.mpm_files.proofs.WorkingLaws.{works_not, works_done, works_failed}
 use Rattle.mpm_files.proofs.clearing.clear_block.Goals as goal
 
 pub returns-then-not-clears_blocks : goal.returns-then-not-clears_blocks
@@ -9,9 +8,7 @@ returns-then-not-clears_blocks g c = record {
   block = clears_if c.args.mounted.now.kind _ (is_clearing c.args.mounted.now.kind c.kind.result c.clears_blocks.result c.clears_blocks.ensures c.kind.ensures.kind c.if-not-clears_blocks.true);
   does = λ image files file n told stands. clears_none (g.D.Drives.disks c.args.drives.now) c.args.mounted.now image files file n _ told stands;
   cleared = λ image files told stands. record { image = image; told = told; stands = stands; cleared_is = tt };
-  calls = omega arith;
-  leaves = leaves_itself g.D.Drives.disks g.D.Drives.told g.D.Drives.failed_names g.D.Drives.unsynced c.args.mounted.now.drive c.args.cache.now c.args.drives.now c.requires.ready.coherent;
-  cause = cause_none _ _;
+  works = works_not g.D.Drives _ _ _ _ _ _ c.requires.ready.coherent;
 }
 
 pub returns-in-None : goal.returns-in-None
@@ -19,9 +16,7 @@ returns-in-None g c = record {
   block = cleared_if c.args.mounted.now.kind _ _ (is_clearing c.args.mounted.now.kind c.kind.result c.clears_blocks.result c.clears_blocks.ensures c.kind.ensures.kind c.if-not-clears_blocks.false) (sym c.free_block.ensures ∙ c.in-None.is);
   does = λ image files file n told stands. clears_none (g.D.Drives.disks c.args.drives.now) c.args.mounted.now image files file n _ told stands;
   cleared = λ image files told stands. record { image = image; told = told; stands = stands; cleared_is = tt };
-  calls = omega arith;
-  leaves = leaves_itself g.D.Drives.disks g.D.Drives.told g.D.Drives.failed_names g.D.Drives.unsynced c.args.mounted.now.drive c.args.cache.now c.args.drives.now c.requires.ready.coherent;
-  cause = cause_none _ _;
+  works = works_not g.D.Drives _ _ _ _ _ _ c.requires.ready.coherent;
 }
 
 pub clear_first-requires-clause-clears : goal.clear_first-requires-clause-clears
@@ -41,9 +36,7 @@ returns-in-Ok g c = record {
       block_cleared (g.D.Drives.disks c.args.drives.now) (g.D.Drives.disks c.clear_first.new.drives) c.args.mounted.now image files c.in-Some.block _ told stands
       (is_clearing c.args.mounted.now.kind c.kind.result c.clears_blocks.result c.clears_blocks.ensures c.kind.ensures.kind c.if-not-clears_blocks.false) (sym c.free_block.ensures ∙ c.in-Some.is)
       c.in-Ok.ensures.puts;
-  calls = c.clear_first.ensures.calls;
-  leaves = c.clear_first.ensures.leaves;
-  cause = cause_done _ _ _ _ c.in-Ok.ensures.cause;
+  works = works_done g.D.Drives _ _ _ _ _ _ _ _ _ _ _ c.in-Ok.ensures.works;
 }
 
 pub returns-in-Err : goal.returns-in-Err
@@ -54,7 +47,5 @@ returns-in-Err g c = record {
       (is_clearing c.args.mounted.now.kind c.kind.result c.clears_blocks.result c.clears_blocks.ensures c.kind.ensures.kind c.if-not-clears_blocks.false) (sym c.free_block.ensures ∙ c.in-Some.is)
       c.in-Err.ensures.puts;
   cleared = λ image files told stands. tt;
-  calls = c.clear_first.ensures.calls;
-  leaves = c.clear_first.ensures.leaves;
-  cause = cause_failed _ _ _ c.in-Err.ensures.cause;
+  works = works_failed g.D.Drives _ _ _ _ _ _ _ _ _ _ c.in-Err.ensures.works;
 }

@@ -9,7 +9,7 @@ use Rattle.mpm_files.proofs.lookups.find_entry.Goals as goal
 pub returns-in-File-clause-found : goal.returns-in-File-clause-found
 returns-in-File-clause-found c =
     let is = sym c.entry.ensures.entry ∙ c.in-File.is in
-    entry_found c.args.mounted.now (file_of_job c.args.job.now) c.args.n c.in-Some.slot c.in-File.file c.kind-kind.ensures.full c.kind-kind.ensures.faultless
+    entry_found c.args.mounted.now (file_of_job c.args.job.now) c.args.n c.in-Some.slot c.in-File.file c.tell_directory.ensures.full c.tell_directory.ensures.faultless
     (sym c.slot_of.ensures ∙ c.in-Some.is) is (subst (IsProper (geometry_of c.args.mounted.now.kind).wide) c.in-File.is c.entry.ensures.proper)
 
 pub returns-in-Free-clause-missing : goal.returns-in-Free-clause-missing

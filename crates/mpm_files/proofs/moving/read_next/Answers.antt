@@ -46,7 +46,7 @@ returns-in-Err-clause-read g c = λ kind.
 
 pub returns-in-Ok-clause-reads : goal.returns-in-Ok-clause-reads
 returns-in-Ok-clause-reads g c = record {
-  calls = c.read_record.ensures.calls;
+  calls = c.read_record.ensures.works.calls;
   uncalled = λ cached. c.read_record.ensures.cached
       (subst (IsRecordCached c.args.cache.now c.args.mounted.now (file_of_job c.args.work.now.job)) (omega (arith, c.if-n-gt-LAST_NAMED.false, c.saturating_add-n.ensures)) cached);
   unsynced = c.read_record.ensures.unsynced;
@@ -54,7 +54,7 @@ returns-in-Ok-clause-reads g c = record {
 
 pub returns-in-Err-clause-reads : goal.returns-in-Err-clause-reads
 returns-in-Err-clause-reads g c = record {
-  calls = c.read_record.ensures.calls;
+  calls = c.read_record.ensures.works.calls;
   uncalled = λ cached. c.read_record.ensures.cached
       (subst (IsRecordCached c.args.cache.now c.args.mounted.now (file_of_job c.args.work.now.job)) (omega (arith, c.if-n-gt-LAST_NAMED.false, c.saturating_add-n.ensures)) cached);
   unsynced = c.read_record.ensures.unsynced;

@@ -10,8 +10,7 @@ use Rattle.mpm_files.specs.Standing.{DoesUnit}
 use Rattle.mpm_files.proofs.NextDone.{IsDone, does_next, never_next}
 use Rattle.mpm_files.proofs.TestTurns.{test_now, stamp_now, writes_now, tests_few, still_passed, first_passed, test_passed, record_held, has_there, passes}
 use Rattle.mpm_files.proofs.ReadTurns.{read_now, read_stands, reading_failed}
-use Rattle.mpm_sectors.proofs.LeavesLaws.{leaves_itself, leaves_over}
-use Rattle.mpm_files.proofs.Causing.{cause_none, cause_behind}
+use Rattle.mpm_files.proofs.WorkingLaws.{works_not, works_within, works_then, ready_behind}
 use Rattle.mpm_files.proofs.moving.test_next.Goals as goal
 use Rattle.mpm_files.proofs.moving.test_next.Goals.{then-work-via-then-work, then-work-via-else-work+then-n-gt-LAST_NAMED, then-work-via-else-work+else-n-gt-LAST_NAMED+then-count-gt16, then-work-via-else-work+else-n-gt-LAST_NAMED+else-count-gt16+then-work-count}
 
@@ -38,24 +37,16 @@ returns-then-work g c = record {
         never_next (g.D.Drives.disks c.args.drives.now) (g.D.Drives.disks c.args.drives.now) c.args.mounted.now c.args.mounted.now c.args.work.now _ _ (λ image before job j suits service h.
         omega (arith, (tests_few before job j c.args.work.now service.serving kind suits h).more, w.if-work-count.true, c.from-count.ensures))
   ];
-  ended = refl;
-  units = refl;
-  disk = record { drive = refl; kind = refl };
-  calls = omega arith;
-  leaves = leaves_itself g.D.Drives.disks g.D.Drives.told g.D.Drives.failed_names g.D.Drives.unsynced c.args.mounted.now.drive c.args.cache.now c.args.drives.now c.requires.ready.coherent;
-  cause = cause_none _ _;
+  counts = record { units = refl; ended = refl };
+  works = works_not g.D.Drives _ _ _ _ _ _ c.requires.ready.coherent;
 }
 
 pub returns-in-Err : goal.returns-in-Err
 returns-in-Err g c = record {
   testwrite = λ kind.
       reading_failed (g.D.Drives.disks c.args.drives.now) (g.D.Drives.disks c.read_record.new.drives) c.args.mounted.now c.args.work.now _ c.in-Err.failed c.read_record.ensures.disks;
-  ended = refl;
-  units = refl;
-  disk = record { drive = refl; kind = refl };
-  calls = omega (arith, c.read_record.ensures.calls);
-  leaves = c.read_record.ensures.leaves;
-  cause = c.in-Err.ensures.cause;
+  counts = record { units = refl; ended = refl };
+  works = works_within g.D.Drives 1 6 _ _ _ _ _ _ _ _ _ (omega arith) c.in-Err.ensures.works;
 }
 
 pub returns-then-ne : goal.returns-then-ne
@@ -78,21 +69,15 @@ returns-then-ne g c = record {
               (read_stands image c.args.mounted.now (units_done before job j) (g.D.Drives.disks c.args.drives.now) (g.D.Drives.disks c.read_record.new.drives) told service.stands c.read_record.ensures.disks),
         ),
       ));
-  ended = refl;
-  units = refl;
-  disk = record { drive = refl; kind = refl };
-  calls = omega (arith, c.read_record.ensures.calls);
-  leaves = c.read_record.ensures.leaves;
-  cause = c.in-Ok.ensures.cause;
+  counts = record { units = refl; ended = refl };
+  works = works_within g.D.Drives 1 6 _ _ _ _ _ _ _ _ _ (omega arith) c.in-Ok.ensures.works;
 }
 
 pub put_held-requires : goal.put_held-requires
-put_held-requires g c =
-    let left = c.read_record.ensures.leaves in
-    record {
-      number = omega (arith, c.if-n-gt-LAST_NAMED.false);
-      ready = record { size = left.others.sizes c.args.mounted.now.drive ∙ c.requires.ready.size; coherent = left.coherent; apart = left.alone c.requires.ready.apart };
-    }
+put_held-requires g c = record {
+  number = omega (arith, c.if-n-gt-LAST_NAMED.false);
+  ready = ready_behind g.D.Drives _ _ _ _ _ _ _ _ _ _ c.requires.ready c.read_record.ensures.works;
+}
 
 pub returns : goal.returns
 returns g c = record {
@@ -125,10 +110,6 @@ returns g c = record {
               (ap (lacks_block c.args.mounted.now (file_of_job c.args.work.now.job)) (sym n) ∙ held)))),
         ),
       ));
-  ended = refl;
-  units = refl;
-  disk = c.put_held.ensures.disk;
-  calls = omega (arith, c.read_record.ensures.calls, c.put_held.ensures.calls);
-  leaves = leaves_over g.D.Drives.disks g.D.Drives.told g.D.Drives.failed_names g.D.Drives.unsynced c.args.mounted.now.drive c.args.cache.now c.read_record.new.cache c.put_held.new.cache c.args.drives.now c.read_record.new.drives c.put_held.new.drives c.read_record.ensures.leaves c.put_held.ensures.leaves;
-  cause = cause_behind _ _ _ c.put_held.result c.in-Ok.ensures.cause.stays c.put_held.ensures.cause;
+  counts = record { units = refl; ended = refl };
+  works = works_then g.D.Drives 1 5 6 _ _ _ _ _ _ _ _ _ _ _ _ _ _ (omega arith) c.in-Ok.ensures.works c.put_held.ensures.works;
 }

@@ -10,6 +10,7 @@ use Rattle.std.specs.FinMap.{get}
 use Rattle.mpm_dirent.specs.declared.limits.TheConstants.{LAST_EXTENT}
 use Rattle.mpm_mount.specs.Drives.{entry_name}
 use Rattle.mpm_files.specs.Standing.{DoesUnit}
+use Rattle.mpm_files.proofs.WorkingLaws.{works_within, works_done, works_failed}
 use Rattle.mpm_files.proofs.moving.write_next.Goals as goal
 
 pub returns-then-n-gt-LAST_NAMED-clause-write : goal.returns-then-n-gt-LAST_NAMED-clause-write
@@ -64,3 +65,14 @@ returns-in-Err-clause-write g c = λ kind.
         (c.in-Err.ensures.does image (units_done before job j) (file_of_job c.args.work.now.job) (stepping.record_next c.args.work.now) told service.stands).err,
       ),
     ))
+
+pub returns-in-Entry-clause-works : goal.returns-in-Entry-clause-works
+returns-in-Entry-clause-works g c = works_within g.D.Drives 2 20 _ _ _ _ _ _ _ _ _ (omega arith) c.add_entry.ensures.works
+
+pub returns-in-Ok-clause-works : goal.returns-in-Ok-clause-works
+returns-in-Ok-clause-works g c =
+    works_done g.D.Drives _ _ _ _ _ _ _ _ _ _ _ (works_within g.D.Drives 18 20 _ _ _ _ _ _ _ _ _ (omega arith) c.in-Ok.ensures.works)
+
+pub returns-in-Err-clause-works : goal.returns-in-Err-clause-works
+returns-in-Err-clause-works g c =
+    works_failed g.D.Drives _ _ _ _ _ _ _ _ _ _ (works_within g.D.Drives 18 20 _ _ _ _ _ _ _ _ _ (omega arith) c.in-Err.ensures.works)

@@ -7,8 +7,7 @@ use Rattle.mpm_files.specs.Standing.{DoesUnit}
 use Rattle.mpm_files.proofs.NextDone.{does_next, never_next}
 use Rattle.mpm_files.specs.Stepping.{record_next}
 use Rattle.mpm_files.proofs.WriteTurns.{bytes_now, stamp_now, record_ready, number_small, few_moved, fresh_ready, entry_there}
-use Rattle.mpm_sectors.proofs.LeavesLaws.{leaves_itself}
-use Rattle.mpm_files.proofs.Causing.{cause_none}
+use Rattle.mpm_files.proofs.WorkingLaws.{works_not, works_within}
 use Rattle.mpm_files.proofs.moving.write_record.Goals as goal
 
 pub returns-else-lacks_block : goal.returns-else-lacks_block
@@ -31,12 +30,8 @@ returns-else-lacks_block g c = record {
               (c.put_held.ensures.does image (units_done before job j) told service.stands (sym c.lacks_block.ensures ∙ c.if-lacks_block.false)))),
         ),
       ));
-  ended = refl;
-  units = refl;
-  disk = c.put_held.ensures.disk;
-  calls = omega (arith, c.put_held.ensures.calls);
-  leaves = c.put_held.ensures.leaves;
-  cause = c.put_held.ensures.cause;
+  counts = record { units = refl; ended = refl };
+  works = works_within g.D.Drives 5 20 _ _ _ _ _ _ _ _ _ (omega arith) c.put_held.ensures.works;
 }
 
 pub returns-then-lacks_block : goal.returns-then-lacks_block
@@ -62,12 +57,8 @@ returns-then-lacks_block g c = record {
               (ap (lacks_block c.args.mounted.now (file_of_job c.args.work.now.job)) (sym n) ∙ sym c.lacks_block.ensures ∙ c.if-lacks_block.true))))),
         ),
       ));
-  ended = refl;
-  units = refl;
-  disk = c.put_fresh.ensures.disk;
-  calls = omega (arith, c.put_fresh.ensures.calls);
-  leaves = c.put_fresh.ensures.leaves;
-  cause = c.put_fresh.ensures.cause;
+  counts = record { units = refl; ended = refl };
+  works = c.put_fresh.ensures.works;
 }
 
 pub returns-then-n-gt-LAST_NAMED : goal.returns-then-n-gt-LAST_NAMED
@@ -75,12 +66,8 @@ returns-then-n-gt-LAST_NAMED g c = record {
   write = λ kind step.
       never_next (g.D.Drives.disks c.args.drives.now) (g.D.Drives.disks c.args.drives.now) c.args.mounted.now c.args.mounted.now c.args.work.now _ _ (λ image before job j suits service h.
       omega (arith, number_small before job j c.args.work.now service.serving kind h suits, c.if-n-gt-LAST_NAMED.true, c.saturating_add-n.ensures, c.from.ensures));
-  ended = refl;
-  units = refl;
-  disk = record { drive = refl; kind = refl };
-  calls = omega arith;
-  leaves = leaves_itself g.D.Drives.disks g.D.Drives.told g.D.Drives.failed_names g.D.Drives.unsynced c.args.mounted.now.drive c.args.cache.now c.args.drives.now c.requires.ready.coherent;
-  cause = cause_none _ _;
+  counts = record { units = refl; ended = refl };
+  works = works_not g.D.Drives _ _ _ _ _ _ c.requires.ready.coherent;
 }
 
 pub returns-then-work-gt31 : goal.returns-then-work-gt31
@@ -88,10 +75,6 @@ returns-then-work-gt31 g c = record {
   write = λ kind step.
       never_next (g.D.Drives.disks c.args.drives.now) (g.D.Drives.disks c.args.drives.now) c.args.mounted.now c.args.mounted.now c.args.work.now _ _ (λ image before job j suits service h.
       omega (arith, few_moved before job j c.args.work.now service.serving kind h suits, c.if-work-gt31.true));
-  ended = refl;
-  units = refl;
-  disk = record { drive = refl; kind = refl };
-  calls = omega arith;
-  leaves = leaves_itself g.D.Drives.disks g.D.Drives.told g.D.Drives.failed_names g.D.Drives.unsynced c.args.mounted.now.drive c.args.cache.now c.args.drives.now c.requires.ready.coherent;
-  cause = cause_none _ _;
+  counts = record { units = refl; ended = refl };
+  works = works_not g.D.Drives _ _ _ _ _ _ c.requires.ready.coherent;
 }

@@ -13,7 +13,7 @@ use Rattle.mpm_files.proofs.protecting.put_xfcb.Goals as goal
 
 pub put_entry-requires-clause-faultless : goal.put_entry-requires-clause-faultless
 put_entry-requires-clause-faultless g c = subst (λ (x : XfcbEntry). cause_of c.args.mounted.now.kind (others c.args.mounted.now.entries c.in-Some.slot) (Xfcb x) ≡ None) (sym c.xfcb_of.ensures)
-    (clean_over c.args.mounted.now c.args.job.now c.in-Some.slot c.kind-kind.ensures.faultless (sym c.xfcb.ensures ∙ c.in-Some.is))
+    (clean_over c.args.mounted.now c.args.job.now c.in-Some.slot c.tell_directory.ensures.faultless (sym c.xfcb.ensures ∙ c.in-Some.is))
 
 pub put_entry-requires-in-Some-free_slot-clause-faultless : goal.put_entry-requires-in-Some-free_slot-clause-faultless
 put_entry-requires-in-Some-free_slot-clause-faultless g c =

@@ -1,4 +1,5 @@
 use Rattle.std.proofs.Common.{refl}
+use Rattle.mpm_files.proofs.WorkingLaws.{works_as, one_call}
 use Rattle.mpm_files.specs.Plans.{file_of_job}
 use Rattle.mpm_files.proofs.RecordReads.{reads, read_inside, reads_visible, reads_only}
 use Rattle.mpm_files.proofs.reading.read_record.Goals as goal
@@ -29,3 +30,7 @@ returns-clause-visible g c = λ image files told stands none.
 pub returns-clause-does : goal.returns-clause-does
 returns-clause-does g c = λ image files told stands.
     reads_only image c.args.mounted.now files (file_of_job c.args.job.now) c.args.n (g.D.Drives.disks c.args.drives.now) (g.D.Drives.disks c.read.new.drives) c.read.result told stands c.read.ensures.disks
+
+pub returns-clause-works : goal.returns-clause-works
+returns-clause-works g c = works_as g.D.Drives 1 c.args.mounted.now c.args.mounted.now c.disk_of.result _ _ _ _ _ _ _ c.disk_of.ensures.disk (record { drive = refl; kind = refl })
+    (one_call _ _ _ c.read.ensures.calls) c.read.ensures.leaves c.read.ensures.cause

@@ -1,4 +1,4 @@
-use Rattle.std.proofs.Common.{sym, ap, ◌∙◌, arith, refl}
+use Rattle.std.proofs.Common.{sym, ap, ◌∙◌, arith}
 use Rattle.mpm_dirent.specs.Names.{plain}
 use Rattle.mpm_files.specs.Units.{RenamesEntry}
 use Rattle.mpm_files.specs.Plans.{new_file_of_job}
@@ -7,15 +7,11 @@ use Rattle.mpm_mount.specs.Directories.{extent_slot}
 use Rattle.mpm_mount.specs.Files.{file_in}
 use Rattle.mpm_files.proofs.NextDone.{goes_as}
 use Rattle.mpm_files.proofs.Placing.{renamed_clean, renamed_stage, renamed_free}
-use Rattle.mpm_sectors.proofs.LeavesLaws.{leaves_itself}
-use Rattle.mpm_files.proofs.Causing.{cause_none}
+use Rattle.mpm_files.proofs.WorkingLaws.{works_not}
 use Rattle.mpm_files.proofs.renaming.rename_entry.Goals as goal
 
-pub returns-in_default-clause-leaves : goal.returns-in_default-clause-leaves
-returns-in_default-clause-leaves g c = leaves_itself g.D.Drives.disks g.D.Drives.told g.D.Drives.failed_names g.D.Drives.unsynced c.args.mounted.now.drive c.args.cache.now c.args.drives.now c.requires.ready.coherent
-
-pub returns-in_default-clause-cause : goal.returns-in_default-clause-cause
-returns-in_default-clause-cause g c = cause_none _ _
+pub returns-in_default-clause-works : goal.returns-in_default-clause-works
+returns-in_default-clause-works g c = works_not g.D.Drives _ _ _ _ _ _ c.requires.ready.coherent
 
 pub put_entry-requires-clause-faultless : goal.put_entry-requires-clause-faultless
 put_entry-requires-clause-faultless g c = renamed_clean c.args.mounted.now c.args.slot c.in-Some.file c.marked.result c.in-Some.ensures.found (omega (arith, c.requires.slot, c.in-Some.ensures.found.sound.full))
@@ -26,10 +22,7 @@ returns-in-Some-extent g c = record {
   does = λ image files file told stands is user free.
       absurd (renamed_free image c.args.mounted.now files c.args.job.now c.args.slot c.in-Some-extent.field-0 c.in-Some.file file c.marked.result stands c.in-Some.ensures.found.entry is user c.marked.ensures.name
       (ap (extent_slot c.args.mounted.now (record { user = c.in-Some.file.user; name = plain c.marked.result })) (sym c.last_extent.ensures) ∙ sym c.extent.ensures ∙ c.in-Some-extent.is) free);
-  disk = record { drive = refl; kind = refl };
-  calls = omega arith;
-  leaves = leaves_itself g.D.Drives.disks g.D.Drives.told g.D.Drives.failed_names g.D.Drives.unsynced c.args.mounted.now.drive c.args.cache.now c.args.drives.now c.requires.ready.coherent;
-  cause = cause_none _ _;
+  works = works_not g.D.Drives _ _ _ _ _ _ c.requires.ready.coherent;
 }
 
 pub returns-in-None : goal.returns-in-None
@@ -39,8 +32,5 @@ returns-in-None g c = record {
       (RenamesEntry (file_in file.user file.name) (name_of files.kind file).number (new_file_of_job c.args.job.now)) c.put_entry.result (c.put_entry.ensures.puts image files told stands)
       (renamed_stage image c.args.mounted.now files c.args.job.now c.args.slot c.in-Some.file file c.marked.result stands c.in-Some.ensures.found
       (omega (arith, c.requires.slot, c.in-Some.ensures.found.sound.full)) is user c.marked.ensures.name c.marked.ensures.marks);
-  disk = c.put_entry.ensures.disk;
-  calls = c.put_entry.ensures.calls;
-  leaves = c.put_entry.ensures.leaves;
-  cause = c.put_entry.ensures.cause;
+  works = c.put_entry.ensures.works;
 }

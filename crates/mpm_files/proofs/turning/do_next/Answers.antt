@@ -1,5 +1,6 @@
 use Rattle.std.proofs.Common.{◌≡◌, ◌⊎◌, ◌∙◌, sym, inl, inr, arith}
 use Rattle.mpm_jobs.specs.declared.jobs.JobKind.TheVariants.{Read, Write, TestWrite, Make, Delete, Rename, Attributes, Label, Xfcb, Nothing}
+use Rattle.mpm_files.proofs.WorkingLaws.{works_within}
 use Rattle.mpm_files.proofs.turning.do_next.Goals as goal
 
 -- one of three
@@ -14,13 +15,9 @@ returns-in-Read g c =
     let next = c.read_next.ensures in
     record {
       does = next.read c.in-Read.is;
-      ended = next.ended;
-      units = next.units;
-      disk = next.disk;
-      calls = omega (arith, next.reads.calls);
+      counts = next.counts;
       reads = λ is. next.reads;
-      leaves = next.leaves;
-      cause = next.cause;
+      works = works_within g.D.Drives 1 20 _ _ _ _ _ _ _ _ _ (omega arith) next.works;
     }
 
 -- the others read nothing
@@ -31,13 +28,9 @@ returns-in-Write g c =
     let never : c.args.work.now.job.kind ≡ Read → ⊥ = λ is. let no : Read ≡ Write = sym is ∙ c.in-Write.is in absurd (cc) in
     record {
       does = next.write c.in-Write.is;
-      ended = next.ended;
-      units = next.units;
-      disk = next.disk;
-      calls = omega (arith, next.calls);
+      counts = next.counts;
       reads = λ is. absurd (never is);
-      leaves = next.leaves;
-      cause = next.cause;
+      works = next.works;
     }
 
 pub returns-in-TestWrite : goal.returns-in-TestWrite
@@ -46,13 +39,9 @@ returns-in-TestWrite g c =
     let never : c.args.work.now.job.kind ≡ Read → ⊥ = λ is. let no : Read ≡ TestWrite = sym is ∙ c.in-TestWrite.is in absurd (cc) in
     record {
       does = next.testwrite c.in-TestWrite.is;
-      ended = next.ended;
-      units = next.units;
-      disk = next.disk;
-      calls = omega (arith, next.calls);
+      counts = next.counts;
       reads = λ is. absurd (never is);
-      leaves = next.leaves;
-      cause = next.cause;
+      works = works_within g.D.Drives 6 20 _ _ _ _ _ _ _ _ _ (omega arith) next.works;
     }
 
 pub returns-in-Make : goal.returns-in-Make
@@ -61,13 +50,9 @@ returns-in-Make g c =
     let never : c.args.work.now.job.kind ≡ Read → ⊥ = λ is. let no : Read ≡ Make = sym is ∙ c.in-Make.is in absurd (cc) in
     record {
       does = next.make c.in-Make.is;
-      ended = next.ended;
-      units = next.units;
-      disk = next.disk;
-      calls = omega (arith, next.calls);
+      counts = next.counts;
       reads = λ is. absurd (never is);
-      leaves = next.leaves;
-      cause = next.cause;
+      works = works_within g.D.Drives 2 20 _ _ _ _ _ _ _ _ _ (omega arith) next.works;
     }
 
 pub returns-in-Delete : goal.returns-in-Delete
@@ -76,13 +61,9 @@ returns-in-Delete g c =
     let never : c.args.work.now.job.kind ≡ Read → ⊥ = λ is. let no : Read ≡ Delete = sym is ∙ c.in-Delete.is in absurd (cc) in
     record {
       does = next.delete c.in-Delete.is;
-      ended = next.ended;
-      units = next.units;
-      disk = next.disk;
-      calls = omega (arith, next.calls);
+      counts = next.counts;
       reads = λ is. absurd (never is);
-      leaves = next.leaves;
-      cause = next.cause;
+      works = works_within g.D.Drives 2 20 _ _ _ _ _ _ _ _ _ (omega arith) next.works;
     }
 
 pub returns-in-Rename : goal.returns-in-Rename
@@ -91,13 +72,9 @@ returns-in-Rename g c =
     let never : c.args.work.now.job.kind ≡ Read → ⊥ = λ is. let no : Read ≡ Rename = sym is ∙ c.in-Rename.is in absurd (cc) in
     record {
       does = next.rename c.in-Rename.is;
-      ended = next.ended;
-      units = next.units;
-      disk = next.disk;
-      calls = omega (arith, next.calls);
+      counts = next.counts;
       reads = λ is. absurd (never is);
-      leaves = next.leaves;
-      cause = next.cause;
+      works = works_within g.D.Drives 2 20 _ _ _ _ _ _ _ _ _ (omega arith) next.works;
     }
 
 pub returns-in-Attributes : goal.returns-in-Attributes
@@ -106,13 +83,9 @@ returns-in-Attributes g c =
     let never : c.args.work.now.job.kind ≡ Read → ⊥ = λ is. let no : Read ≡ Attributes = sym is ∙ c.in-Attributes.is in absurd (cc) in
     record {
       does = next.attributes c.in-Attributes.is;
-      ended = next.ended;
-      units = next.units;
-      disk = next.disk;
-      calls = omega (arith, next.calls);
+      counts = next.counts;
       reads = λ is. absurd (never is);
-      leaves = next.leaves;
-      cause = next.cause;
+      works = works_within g.D.Drives 2 20 _ _ _ _ _ _ _ _ _ (omega arith) next.works;
     }
 
 pub returns-in-Label : goal.returns-in-Label
@@ -125,11 +98,7 @@ returns-in-Label g c =
     (λ nothing. let no : Read ≡ Nothing = sym is ∙ nothing in absurd (cc)) in
     record {
       does = one_of c.in-Label.is next.label next.xfcb next.nothing;
-      ended = next.ended;
-      units = next.units;
-      disk = next.disk;
-      calls = omega (arith, next.calls);
+      counts = next.counts;
       reads = λ is. absurd (never is);
-      leaves = next.leaves;
-      cause = next.cause;
+      works = works_within g.D.Drives 2 20 _ _ _ _ _ _ _ _ _ (omega arith) next.works;
     }

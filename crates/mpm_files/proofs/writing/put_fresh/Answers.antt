@@ -1,8 +1,7 @@
-use Rattle.std.proofs.Common.{sym, ◌∙◌, refl, arith}
+use Rattle.std.proofs.Common.{sym, ◌∙◌, arith}
 use Rattle.mpm_files.specs.Plans.{file_of_job}
 use Rattle.mpm_files.proofs.RecordUnits.{is_lacking, clear_within, calls_few, entry_there, block_free, may_take, fresh_done, fresh_failed}
-use Rattle.mpm_sectors.proofs.LeavesLaws.{leaves_itself, leaves_over}
-use Rattle.mpm_files.proofs.Causing.{cause_none, cause_behind}
+use Rattle.mpm_files.proofs.WorkingLaws.{works_not, works_within, works_then, ready_behind}
 use Rattle.mpm_files.proofs.writing.put_fresh.Goals as goal
 
 -- nothing was done
@@ -10,28 +9,19 @@ use Rattle.mpm_files.proofs.writing.put_fresh.Goals as goal
 pub returns-in-None : goal.returns-in-None
 returns-in-None g c = record {
   does = λ image files told stands entry lacks fresh. absurd (entry_there c.args.mounted.now (file_of_job c.args.job.now) c.args.written.now.number c.in-None.ensures.missing entry);
-  disk = record { drive = refl; kind = refl };
-  calls = omega arith;
-  leaves = leaves_itself g.D.Drives.disks g.D.Drives.told g.D.Drives.failed_names g.D.Drives.unsynced c.args.mounted.now.drive c.args.cache.now c.args.drives.now c.requires.ready.coherent;
-  cause = cause_none _ _;
+  works = works_not g.D.Drives _ _ _ _ _ _ c.requires.ready.coherent;
 }
 
 pub returns-in-None-free_block : goal.returns-in-None-free_block
 returns-in-None-free_block g c = record {
   does = λ image files told stands entry lacks fresh. absurd (block_free _ _ c.args.mounted.now c.args.cleared fresh (sym c.free_block.ensures ∙ c.in-None-free_block.is));
-  disk = record { drive = refl; kind = refl };
-  calls = omega arith;
-  leaves = leaves_itself g.D.Drives.disks g.D.Drives.told g.D.Drives.failed_names g.D.Drives.unsynced c.args.mounted.now.drive c.args.cache.now c.args.drives.now c.requires.ready.coherent;
-  cause = cause_none _ _;
+  works = works_not g.D.Drives _ _ _ _ _ _ c.requires.ready.coherent;
 }
 
 pub returns-in-None-cleared_of : goal.returns-in-None-cleared_of
 returns-in-None-cleared_of g c = record {
   does = λ image files told stands entry lacks fresh. absurd (may_take _ _ c.args.mounted.now c.args.cleared c.in-Some-free_block.block fresh (sym c.free_block.ensures ∙ c.in-Some-free_block.is) (sym c.cleared_of.ensures ∙ c.in-None-cleared_of.is));
-  disk = record { drive = refl; kind = refl };
-  calls = omega arith;
-  leaves = leaves_itself g.D.Drives.disks g.D.Drives.told g.D.Drives.failed_names g.D.Drives.unsynced c.args.mounted.now.drive c.args.cache.now c.args.drives.now c.requires.ready.coherent;
-  cause = cause_none _ _;
+  works = works_not g.D.Drives _ _ _ _ _ _ c.requires.ready.coherent;
 }
 
 -- the block, and then its entry
@@ -50,13 +40,11 @@ put_with_block-requires-clause-few g c = calls_few c.args.mounted.now.kind c.arg
     c.index_in-index.ensures.within
 
 pub put_taken-requires : goal.put_taken-requires
-put_taken-requires g c =
-    let left = c.put_with_block.ensures.leaves in
-    record {
-      ready = record { size = left.others.sizes c.args.mounted.now.drive ∙ c.requires.ready.size; coherent = left.coherent; apart = left.alone c.requires.ready.apart };
-      entry = c.in-Some.ensures.found;
-      free = sym c.free_block.ensures ∙ c.in-Some-free_block.is;
-    }
+put_taken-requires g c = record {
+  ready = ready_behind g.D.Drives _ _ _ _ _ _ _ _ _ _ c.requires.ready c.put_with_block.ensures.works;
+  entry = c.in-Some.ensures.found;
+  free = sym c.free_block.ensures ∙ c.in-Some-free_block.is;
+}
 
 pub returns-in-Ok : goal.returns-in-Ok
 returns-in-Ok g c = record {
@@ -67,10 +55,7 @@ returns-in-Ok g c = record {
       (is_lacking c.args.mounted.now (file_of_job c.args.job.now) c.args.written.now.number c.in-Some.found.slot c.in-Some.found.file c.in-Some.ensures.found lacks)
       (sym c.free_block.ensures ∙ c.in-Some-free_block.is) (sym c.cleared_of.ensures ∙ c.in-Some-cleared_of.is) fresh c.put_with_block.ensures.long c.index_in-index.ensures.index
       c.in-Ok.ensures.puts c.put_taken.ensures.puts;
-  disk = c.put_taken.ensures.disk;
-  calls = omega (arith, c.put_with_block.ensures.calls, c.put_taken.ensures.calls);
-  leaves = leaves_over g.D.Drives.disks g.D.Drives.told g.D.Drives.failed_names g.D.Drives.unsynced c.args.mounted.now.drive c.args.cache.now c.put_with_block.new.cache c.put_taken.new.cache c.args.drives.now c.put_with_block.new.drives c.put_taken.new.drives c.put_with_block.ensures.leaves c.put_taken.ensures.leaves;
-  cause = cause_behind _ _ _ c.put_taken.result c.in-Ok.ensures.cause.stays c.put_taken.ensures.cause;
+  works = works_then g.D.Drives 16 4 20 _ _ _ _ _ _ _ _ _ _ _ _ _ _ (omega arith) c.in-Ok.ensures.works c.put_taken.ensures.works;
 }
 
 pub returns-in-Err : goal.returns-in-Err
@@ -79,8 +64,5 @@ returns-in-Err g c = record {
       fresh_failed image c.args.mounted.now c.args.mounted.now files (file_of_job c.args.job.now) c.args.written.now.number c.in-Some-free_block.block c.in-Some-cleared_of.clear c.index_in-index.result
       c.args.written.now.bytes c.args.cleared c.args.written.now.moment (g.D.Drives.disks c.args.drives.now) (g.D.Drives.disks c.put_with_block.new.drives) _ told stands
       (sym c.free_block.ensures ∙ c.in-Some-free_block.is) (sym c.cleared_of.ensures ∙ c.in-Some-cleared_of.is) c.put_with_block.ensures.long c.index_in-index.ensures.within c.in-Err.ensures.puts;
-  disk = record { drive = refl; kind = refl };
-  calls = omega (arith, c.put_with_block.ensures.calls);
-  leaves = c.put_with_block.ensures.leaves;
-  cause = c.in-Err.ensures.cause;
+  works = works_within g.D.Drives 16 20 _ _ _ _ _ _ _ _ _ (omega arith) c.in-Err.ensures.works;
 }

@@ -6,7 +6,7 @@ use Rattle.mpm_blocks.specs.Sectors.{sectors_of}
 use Rattle.mpm_dirent.specs.Proper.{IsProper}
 use Rattle.mpm_mount.specs.Directories.{IsWholeEntry}
 use Rattle.mpm_mount.specs.Images.{entries_to}
-use Rattle.mpm_mount.specs.Mounting.{SameDrives}
+use Rattle.mpm_port.specs.Frames.{OnlyCountsFaults}
 use Rattle.mpm_mount.proofs.reading.read_directory.Given as goal
 
 abbrev pub invariant-loop-sector : goal.invariant-loop-sector
@@ -16,6 +16,5 @@ invariant-loop-sector g l = record {
   proper : All (IsProper (geometry_of l.kind).wide) l.entries.items;
   whole : All IsWholeEntry l.entries.items;
   count : g.D.Drives.faults l.drives ≡ g.D.Drives.faults l.initial.drives;
-  same : SameDrives g.D.Drives.disks g.D.Drives.told g.D.Drives.failed_names l.initial.drives l.drives;
-  unsynced : g.D.Drives.unsynced l.drives ≡ g.D.Drives.unsynced l.initial.drives;
+  same : OnlyCountsFaults g.D.Drives l.initial.drives l.drives;
 }

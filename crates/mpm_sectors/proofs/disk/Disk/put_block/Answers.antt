@@ -9,7 +9,7 @@ returns-in-Err-clause-puts g c =
     let d = c.from-clear.ensures in
     let e = c.from-index.ensures in
     let s = c.saturating_sub.ensures in
-    block_stopped c.args.self.now.drive c.args.self.now.kind c.args.block c.args.clear c.args.index c.args.bytes.now _ _ (g.D.Drives.disks c.args.drives.now) (g.D.Drives.disks c.clear.new.drives)
+    block_stopped c.args.self.now.drive c.args.self.now.kind c.args.block.number c.args.block.clear c.args.index c.args.bytes.now _ _ (g.D.Drives.disks c.args.drives.now) (g.D.Drives.disks c.clear.new.drives)
     c.in-Err.failed (cc) (cc) c.in-Err.ensures.puts.err
 
 pub returns-in-Err-clear-clause-puts : goal.returns-in-Err-clear-clause-puts
@@ -21,7 +21,7 @@ returns-in-Err-clear-clause-puts g c =
     let e = c.from-index.ensures in
     let s = c.saturating_sub.ensures in
     let m = c.max-behind.ensures in
-    block_stopped_behind c.args.self.now.drive c.args.self.now.kind c.args.block c.args.clear c.args.index c.args.bytes.now _ _ _ _ (g.D.Drives.disks c.args.drives.now)
+    block_stopped_behind c.args.self.now.drive c.args.self.now.kind c.args.block.number c.args.block.clear c.args.index c.args.bytes.now _ _ _ _ (g.D.Drives.disks c.args.drives.now)
     (g.D.Drives.disks c.clear.new.drives) (g.D.Drives.disks c.clear-2.new.drives) c.in-Err-clear.failed (cc) (cc) (cc) (cc) c.in-Ok.ensures.puts.ok c.in-Err-clear.ensures.puts.err
 
 pub returns-clause-puts : goal.returns-clause-puts
@@ -33,6 +33,6 @@ returns-clause-puts g c =
     let e = c.from-index.ensures in
     let s = c.saturating_sub.ensures in
     let m = c.max-behind.ensures in
-    block_put c.args.self.now.drive c.args.self.now.kind c.args.block c.args.clear c.args.index c.args.bytes.now _ _ _ _ _ (g.D.Drives.disks c.args.drives.now)
+    block_put c.args.self.now.drive c.args.self.now.kind c.args.block.number c.args.block.clear c.args.index c.args.bytes.now _ _ _ _ _ (g.D.Drives.disks c.args.drives.now)
     (g.D.Drives.disks c.clear.new.drives) (g.D.Drives.disks c.clear-2.new.drives) (g.D.Drives.disks c.put.new.drives) c.put.result (cc) (cc) (cc) (cc) (cc)
     c.in-Ok.ensures.puts.ok c.in-Ok-clear.ensures.puts.ok c.put.ensures.puts
