@@ -73,7 +73,7 @@ named_by s (Some n) is there = by_key (key_named s n) refl there
     by_key None found there = absurd (false≢true there)
     by_key (Some key) found there = record { n = n; key = key; number_is = is; key_is = found }
 
-item_named : (s : Situation) → is_some (open_key s) ≡ true → IsNamed s
+pub item_named : (s : Situation) → is_some (open_key s) ≡ true → IsNamed s
 unfolding open_key
 item_named s there = named_by s (item_number s) refl there
 
@@ -95,11 +95,11 @@ item_is : (s : Situation) (i : IsNamed s) → open_item s ≡ Some (item_as s.fi
 item_is s i =
     ap (option_and_then (λ n. option_map (item_as s.filing.opens n) (key_named s n))) i.number_is ∙ ap (option_map (item_as s.filing.opens i.n)) i.key_is
 
-key_is_named : (s : Situation) (i : IsNamed s) → open_key s ≡ Some i.key
+pub key_is_named : (s : Situation) (i : IsNamed s) → open_key s ≡ Some i.key
 unfolding open_key
 key_is_named s i = ap (option_and_then (key_named s)) i.number_is ∙ i.key_is
 
-mode_is : (s : Situation) (i : IsNamed s) → open_mode s ≡ (item_of s.filing.opens i.n).mode
+pub mode_is : (s : Situation) (i : IsNamed s) → open_mode s ≡ (item_of s.filing.opens i.n).mode
 mode_is s i = ap (λ number. (item_of s.filing.opens (unwrap_or number 0)).mode) i.number_is
 
 pub subject_where : (s : Situation) (i : IsNamed s) → subject s ≡ open_file (own_file s) (open_key s) → i.key ≡ subject_key s

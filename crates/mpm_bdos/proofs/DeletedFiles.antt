@@ -92,7 +92,7 @@ deleted_step file entry rest there false false fitting is same so = so
 deleted_fits : (file : FileName) (user : ℕ) (pattern : List ℕ) (entry : FileName × ℕ) → is_same_file file entry.0 ≡ true → fits user pattern entry ≡ is_fitting user pattern file
 deleted_fits file user pattern entry is = ap (is_fitting user pattern) (sym (one_file file entry.0 is))
 
-deleted_among : (file : FileName) (user : ℕ) (pattern : List ℕ) (es : List (FileName × ℕ))
+pub deleted_among : (file : FileName) (user : ℕ) (pattern : List ℕ) (es : List (FileName × ℕ))
     → list_any (is_same_file file) (map (λ (e : FileName × ℕ). e.0) (filter (fits user pattern) es)) ≡ (is_fitting user pattern file && list_any (is_entry_of file) es)
 deleted_among file user pattern [] = sym (and-false (is_fitting user pattern file))
 deleted_among file user pattern (entry ∷ es) =

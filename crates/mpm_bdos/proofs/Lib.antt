@@ -33,5 +33,10 @@ pub mod LastLaws
 pub mod UserLaws
 pub mod FinishLaws
 pub mod SoundLaws
+pub mod OthersItems
+pub mod OtherFiles
+pub mod ThereLaws
+pub mod KeptFile
+pub mod OpenedFile
 pub mod AtOnceLaws
 pub mod SyncLaws

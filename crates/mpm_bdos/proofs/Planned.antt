@@ -1,15 +1,15 @@
 -- Jobs as they are made of what was looked up are those of the call.
 use Rattle.std.proofs.Common.{◌≡◌, ◌≢◌, ◌∙◌, ℕ, ◌*◌, ◌&&◌, not, Bool, true, cond, List, Option, Some, None, take, sym, refl, ap}
-use Rattle.std.specs.Prelude.{unwrap_or, if◌then◌else◌}
+use Rattle.std.specs.Prelude.{unwrap_or}
 use Rattle.std.specs.FinMap.{get}
-use Rattle.mpm_base.specs.Calls.{byte_in, eight_at}
+use Rattle.mpm_base.specs.Calls.{eight_at}
 use Rattle.mpm_dirent.specs.Names.{plain}
 use Rattle.mpm_mount.specs.Drives.{FileName, Protection, Drive}
 use Rattle.mpm_mount.specs.Directories.{Directory}
 use Rattle.mpm_guard.specs.Passwords.{has_bit}
 use Rattle.mpm_opens.specs.declared.kinds.FileKey.{FileKey}
 use Rattle.mpm_fcb.specs.declared.block.ControlBlock.{ControlBlock}
-use Rattle.mpm_fcb.specs.Names.{new_name_of, has_f6}
+use Rattle.mpm_fcb.specs.Names.{new_name_of}
 use Rattle.mpm_jobs.specs.declared.jobs.JobKind.TheVariants as kinds
 use Rattle.mpm_jobs.specs.declared.jobs.Job.{Job}
 use Rattle.mpm_file_functions.specs.declared.functions.FileFunction.{FileFunction}
@@ -18,13 +18,12 @@ use Rattle.mpm_bdos.specs.declared.planning.About.{About}
 use Rattle.mpm_refusals.specs.Filing.{Situation, block}
 use Rattle.mpm_mount.specs.Looking.{data_byte}
 use Rattle.mpm_refusals.specs.Subjects.{drive_at, subject, subject_key, first_record, has_written}
-use Rattle.mpm_refusals.specs.Refusals.{makes_xfcb}
 use Rattle.mpm_locks.specs.Locks.{is_locked_off, count_until}
 use Rattle.mpm_jobs.specs.Jobs.{job_for, stamp_where, with_records, with_stamp, with_bytes, with_one, with_new_name, testing_bytes, where_some}
-use Rattle.mpm_file_entries.specs.Protections.{with_protection, no_protection, kept_by_label, given_xfcb, with_first_stamp, label_put, xfcb_put}
+use Rattle.mpm_file_entries.specs.Protections.{with_protection, no_protection, kept_by_label, label_put, xfcb_put}
 use Rattle.mpm_bdos.specs.Jobs.{is_tested_off, is_cut_at, free_count, reading_job, writing_job, testing_job, labelling_job, guarding_job, job_by}
 use Rattle.mpm_file_entries.specs.Granting.{is_moving}
-use Rattle.mpm_bdos.specs.Planning.{IsAbout, stamp_on, written, tested}
+use Rattle.mpm_bdos.specs.Planning.{IsAbout, stamp_on, written, tested, made}
 use Rattle.mpm_bdos.proofs.NamedFiles.{subject_name}
 
 pub making_so : (makes asks : Bool) (xfcb wanted : Protection) (job : Job) → makes ≡ asks → xfcb ≡ wanted
@@ -42,13 +41,6 @@ pub tested_so : (drive : Drive) (count counted records : ℕ) (stamp : Option (L
     ≡ tested drive counted records name bytes moment about
 tested_so drive count counted records stamp name bytes moment about e f =
     λ i. where_some (e i) (with_bytes (testing_bytes bytes records (e i)) (with_stamp (f i) (with_records about.first (e i) (job_for kinds.TestWrite about.file.user name))))
-
--- the job of a making, as it is made of a user and a block
-abbrev pub made : Situation → ℕ → ControlBlock → Job
-made s user b =
-    let job : Job = job_for kinds.Make user b.name in
-    if makes_xfcb (data_byte (drive_at s)) b
-    then with_one (with_protection (with_first_stamp (has_bit 0x10 (data_byte (drive_at s))) s.moment (given_xfcb (has_f6 b) (byte_in s.call 8) (eight_at s.call 0))) job) else job
 
 -- what was looked up of a call
 pub record IsFound (s : Situation) (about : About) (b : ControlBlock) : Type 0 where
@@ -148,13 +140,13 @@ pub guarding_is : (s : Situation) (about : About) (b : ControlBlock) → IsFound
 unfolding job_by
 guarding_is s about b found = ap Some (guarding_of s about b found)
 
-making_of : (s : Situation) (about : About) (b : ControlBlock) → IsFound s about b → made s about.file.user b ≡ made s (subject s).user (block s)
+making_of : (s : Situation) (about : About) (b : ControlBlock) → IsFound s about b → made (drive_at s) about.file.user b s.call s.moment ≡ made (drive_at s) (subject s).user (block s) s.call s.moment
 making_of s about b found =
     let user = user_is s about b found in
     let same = found.block in
-    λ i. made s (user i) (same i)
+    λ i. made (drive_at s) (user i) (same i) s.call s.moment
 
-pub making_is : (s : Situation) (about : About) (b : ControlBlock) → IsFound s about b → Some (made s about.file.user b) ≡ job_by s MakeFile
+pub making_is : (s : Situation) (about : About) (b : ControlBlock) → IsFound s about b → Some (made (drive_at s) about.file.user b s.call s.moment) ≡ job_by s MakeFile
 unfolding job_by
 making_is s about b found = ap Some (making_of s about b found)
 

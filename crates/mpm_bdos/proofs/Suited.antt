@@ -196,7 +196,7 @@ guarding_suits s call is full =
     (subst (λ (f : FileName). one_if (not (is_some (get drive.xfcbs f))) ≤ free_entries drive) (sym (file_is s)) (has_room s WriteXfcb is full))
 
 -- by the function
-some_job : (job given : Job) (b : Bool) → cond b None (Some given) ≡ Some job → given ≡ job
+pub some_job : (job given : Job) (b : Bool) → cond b None (Some given) ≡ Some job → given ≡ job
 some_job job given true e = absurd (cc)
 some_job job given false e = same_Some given job e
 

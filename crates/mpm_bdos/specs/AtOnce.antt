@@ -1,6 +1,7 @@
 -- A file call that is done at once, its turns one after another.
 use Rattle.std.specs.Prelude.{◌≡◌, ◌≢◌, ℕ, ◌+◌, ◌*◌, ◌<◌, ◌≤◌, Bool, true, false, List, Option, Some, None, option_map, Result, IsOk, IfOk, OnErr}
 use Rattle.mpm_base.specs.Calls.{Answer}
+use Rattle.mpm_port.specs.declared.drives.Drives.{Ghosts}
 use Rattle.mpm_port.specs.Disks.{Disks, ToldImage}
 use Rattle.mpm_mount.specs.Directories.{Directory}
 use Rattle.mpm_file_functions.specs.declared.functions.FileFunction.{FileFunction}
@@ -78,9 +79,9 @@ pub record DoneAtOnce {D E : Type 0} (disks : D → Disks) (s : Situation) (new 
 
 -- a call keeps to its drive: of those that are mounted it changes the directory and the image of that one alone, and asks no other one
 -- to write
-pub record KeepsToDrive {D : Type 0} (disks : D → Disks) (unsynced : D → ℕ → Bool) (drive : ℕ) (old new : List (Option Directory)) (drives now : D) : Type 0 where
-  pub alone : ChangesAlone drive old new (disks drives) (disks now)
-  pub kept_unsynced : KeepsUnsynced (Some drive) (unsynced drives) (unsynced now)
+pub record KeepsToDrive {D : Type 0} (of : Ghosts D) (drive : ℕ) (old new : List (Option Directory)) (drives now : D) : Type 0 where
+  pub alone : ChangesAlone drive old new (of.disks drives) (of.disks now)
+  pub kept_unsynced : KeepsUnsynced (Some drive) (of.unsynced drives) (of.unsynced now)
 
 -- where a device failed the call isn't answered, and nothing is kept otherwise but directories and cached sectors
 pub record IsBrokenOff {R : Type 0} (old new : Kept) (reply reply' : R) : Type 0 where
@@ -88,9 +89,9 @@ pub record IsBrokenOff {R : Type 0} (old new : Kept) (reply reply' : R) : Type 0
   pub answer : reply' ≡ reply
 
 -- what a call leaves of the drives that are mounted, and of all others
-pub record AtOnceLeaves {D : Type 0} (disks : D → Disks) (told : D → List ℕ → ToldImage) (failed : D → List (List ℕ)) (old new : Kept) (drives now : D) : Type 0 where
+pub record AtOnceLeaves {D : Type 0} (of : Ghosts D) (old new : Kept) (drives now : D) : Type 0 where
   pub labels : (number : ℕ) → option_map labelled (directory_at new.mounted number) ≡ option_map labelled (directory_at old.mounted number)
-  pub fits : FitsDrives disks new.mounted new.cached now
-  pub beside : StaysBeside old.mounted (disks drives) (disks now)
-  pub told_are : KeepsToldOf old.mounted (disks drives) (told drives) (told now)
-  pub names : failed now ≡ failed drives
+  pub fits : FitsDrives of.disks new.mounted new.cached now
+  pub beside : StaysBeside old.mounted (of.disks drives) (of.disks now)
+  pub told_are : KeepsToldOf old.mounted (of.disks drives) (of.told drives) (of.told now)
+  pub names : of.failed_names now ≡ of.failed_names drives

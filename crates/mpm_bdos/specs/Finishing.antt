@@ -4,6 +4,8 @@ use Rattle.mpm_base.specs.Calls.{Answer}
 use Rattle.mpm_mount.specs.Directories.{Directory}
 use Rattle.mpm_opens.specs.Opens.{OpenFiles}
 use Rattle.mpm_file_functions.specs.declared.refusals.Extended.{Extended}
+use Rattle.mpm_file_functions.specs.declared.refusals.Refusal.{Refusal}
+use Rattle.mpm_bdos.specs.declared.replying.Served.{Served}
 use Rattle.mpm_refusals.specs.Filing.{LastSearch, Situation}
 use Rattle.mpm_refusals.specs.Subjects.{found}
 use Rattle.mpm_bdos.specs.Jobs.{call_turns, turned}
@@ -12,7 +14,7 @@ use Rattle.mpm_refusals.specs.Searches.{searches_by}
 use Rattle.mpm_marks.specs.Driving.{marks_by}
 use Rattle.mpm_bdos.specs.Replies.{answer_after}
 use Rattle.mpm_bdos.specs.Outcomes.{file_call}
-use Rattle.mpm_bdos.specs.Serving.{InService, Kept, StandEach, filing_of}
+use Rattle.mpm_bdos.specs.Serving.{InService, Kept, StandEach, Serves, filing_of}
 
 -- all that is kept but for what is cached, with a call in service
 abbrev pub serving : List (Option Directory) → List Bool → OpenFiles → List ℕ → List (Option LastSearch) → InService → Kept
@@ -40,3 +42,21 @@ pub record ComesTo (images : ℕ → List ℕ) (s : Situation) (kept : Kept) (an
   pub extended_is : extended ≡ (file_call s).extended
   pub filing_is : filing_of kept (file_call s).filing.drives ≡ (file_call s).filing
   pub stand : StandEach images kept.mounted (file_call s).filing.drives
+
+-- the call in service comes to that after its turns
+abbrev pub ComesOut : Kept → Kept → Answer → Option Extended → Type 0
+ComesOut old new answer extended =
+    (images : ℕ → List ℕ) (s : Situation) → Serves images old s (call_turns s) → ComesTo images s new answer extended
+
+-- a call in service, of what its reply is made of, its moment and its refusal
+abbrev pub service_of : Served → List ℕ → Option Refusal → InService
+service_of served moment refusal = record {
+  caller = served.file_call.caller;
+  function = served.file_call.function;
+  drive = served.drive;
+  call = served.file_call.call.now;
+  moment = moment;
+  refusal = refusal;
+  work = served.work.now;
+  deleted = served.deleted.now;
+}

@@ -9,7 +9,9 @@ use Rattle.mpm_opens.specs.Opens.{OpenFiles, added, given_back, closed, written}
 use Rattle.mpm_opens.specs.Items.{add_answer}
 use Rattle.mpm_file_functions.specs.declared.functions.FileFunction.{FileFunction}
 use Rattle.mpm_file_functions.specs.declared.functions.FileFunction.TheVariants.{OpenFile, CloseFile, MakeFile, LockRecord, DeleteFile, WriteSequential, RenameFile, WriteRandom, TestAndWrite, UnlockRecord}
-use Rattle.mpm_mount.specs.Drives.{Drive}
+use Rattle.mpm_base.specs.Calls.{Answer, Taken}
+use Rattle.mpm_mount.specs.Drives.{FileName, Drive}
+use Rattle.mpm_mount.specs.Directories.{Directory, Stands}
 use Rattle.mpm_fcb.specs.Names.{has_f5}
 use Rattle.mpm_fcb.specs.Positions.{random_record}
 use Rattle.mpm_files.specs.declared.work.Work.{Work}
@@ -24,7 +26,7 @@ use Rattle.mpm_bdos.specs.Records.{Locking, locking}
 use Rattle.mpm_locks.specs.Locks.{unlocking}
 use Rattle.mpm_file_functions.specs.Ends.{done_by}
 use Rattle.mpm_bdos.specs.Changes.{is_among}
-use Rattle.mpm_bdos.specs.Replies.{opened_as}
+use Rattle.mpm_bdos.specs.Replies.{opened_as, answer_by}
 use Rattle.mpm_file_entries.specs.Granting.{value_by, is_moving, FewDone, IsPlaced}
 use Rattle.mpm_bdos.specs.Ending.{moved_by, ended, is_reading, HasRead}
 
@@ -102,8 +104,11 @@ granted_by drive opens a work = record {
 abbrev pub left_first : OpenFiles → Asked → Option Work → List (Option FileKey) → OpenFiles
 left_first opens a work deleted = left_by opens a (key_asked a) (moved_by work) deleted a.function
 
+abbrev pub opened_then : Drive → OpenFiles → Asked → OpenFiles
+opened_then drive opens a = opened_by drive (locked_for drive opens a a.function) a a.function
+
 abbrev pub opens_left : Drive → OpenFiles → Asked → Option Work → List (Option FileKey) → OpenFiles
-opens_left drive opens a work deleted = opened_by drive (locked_for drive (left_first opens a work deleted) a a.function) a a.function
+opens_left drive opens a work deleted = opened_then drive (left_first opens a work deleted) a
 
 -- a call after its turns may be answered: few records are done where something ended them, its position is one that a block can have,
 -- and the records that it read stand at the front of its job's bytes
@@ -113,3 +118,10 @@ pub record IsGranted (drive : Drive) (opens : OpenFiles) (a : Asked) (work : Opt
   pub placed : is_moving a.function ≡ true → IsPlaced (granted_by drive (left_first opens a work deleted) a work)
   pub read : is_reading a.function ≡ true
       → HasRead (done_by a.caller.multi (value_by drive (granted_by drive (left_first opens a work deleted) a work) a.function)) work records
+
+-- it is answered so, with the entry that it found
+abbrev pub IsGrantedReply : Directory → OpenFiles → Asked → Option Work → List (Option FileKey) → Option (FileName × ℕ) → Taken → Answer → Type 0
+IsGrantedReply directory opens a work deleted found call answer =
+    (image : List ℕ) (drive : Drive) (records : List (List ℕ)) (entry : Option (FileName × ℕ)) → Stands image directory drive
+    → IsGranted drive opens a work deleted records → found ≡ entry
+    → answer ≡ answer_by drive (granted_by drive (left_first opens a work deleted) a work) records entry call.fcb call.dma

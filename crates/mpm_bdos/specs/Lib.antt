@@ -3,8 +3,10 @@ pub mod Jobs
 pub mod Changes
 pub mod Replies
 pub mod Outcomes
+pub mod OpenToRead
 pub mod Direct
 pub mod Serving
+pub mod Standing
 pub mod Turns
 pub mod Ending
 pub mod Planning

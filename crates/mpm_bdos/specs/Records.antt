@@ -1,12 +1,14 @@
 -- When something that ends the records of a call comes to a record, upon what those before it have left. (MP/M II Programmer's
 -- Guide, functions 20, 21, 33, 34, 40, 41 and 42.)
-use Rattle.std.specs.Prelude.{ℕ, zero, suc, ◌+◌, ◌/◌, ◌==◌, ◌&&◌, not, Bool, true, false, List, [], ◌∷◌, Option, Some, None, is_some, find}
+use Rattle.std.specs.Prelude.{◌≡◌, ◌≤◌, ℕ, zero, suc, ◌+◌, ◌/◌, ◌==◌, ◌&&◌, not, Bool, true, false, List, [], ◌∷◌, Option, Some, None, is_some, find}
+use Rattle.mpm_dirent.specs.Names.{plain}
+use Rattle.mpm_dirent.specs.declared.limits.TheConstants.{LAST_RECORD}
 use Rattle.mpm_mount.specs.Drives.{Drive, extent_at, visible_of, free_entries, free_records}
 use Rattle.mpm_opens.specs.declared.kinds.FileKey.{FileKey}
 use Rattle.mpm_opens.specs.declared.kinds.LockDone.{LockDone}
 use Rattle.mpm_opens.specs.declared.kinds.LockDone.TheVariants as lock
 use Rattle.mpm_opens.specs.Locks.{lock_answer}
-use Rattle.mpm_opens.specs.Opens.{OpenFiles, locked}
+use Rattle.mpm_opens.specs.Opens.{OpenFiles, IsLive, locked, file_of as file_of_item}
 use Rattle.mpm_file_functions.specs.declared.errors.RecordError.{RecordError}
 use Rattle.mpm_file_functions.specs.declared.errors.RecordError.TheVariants.{UnwrittenExtent, UnwrittenData, Mismatch, NoDirectorySpace, NoDataBlock}
 use Rattle.mpm_files.specs.Units.{WritesRecord, applied, all_applied}
@@ -86,6 +88,18 @@ reading_ended function opens p file drive n zero = record { moved = 0; end = Non
 reading_ended function opens p file drive n (suc count) =
     ended_by (end_of function (record { drive = drive; opens = opens; process = p; file = file; expected = [] }) n)
     (reading_ended function opens p file drive (n + 1) count)
+
+-- records are such as a file may have, 16 at most; and they may be locked by way of an open file, whose name has no attributes
+pub record AreOfFile (first count : ℕ) : Type 0 where
+  pub in_file : first ≤ LAST_RECORD
+  pub few : count ≤ 16
+
+pub record MayLock (opens : OpenFiles) (item : ℕ) (file : FileKey) (first count : ℕ) : Type 0 where
+  pub live : IsLive opens item
+  pub file_is : file_of_item opens item ≡ file
+  pub plain_is : plain file.name ≡ file.name
+  pub in_file : first ≤ LAST_RECORD
+  pub few : count ≤ 16
 
 -- records that are locked in order, each upon the locks that those before it left
 pub record Locking : Type 0 where

@@ -1,5 +1,5 @@
 -- What a call that isn't refused answers: its value, its file control block and its bytes, by what its turns have come to.
-use Rattle.std.specs.Prelude.{ℕ, Bool, false, List, [], Option, Some, None, Result, Ok, Err, nat_lt}
+use Rattle.std.specs.Prelude.{◌≡◌, ℕ, Bool, true, false, List, [], Option, Some, None, Result, Ok, Err, nat_lt}
 use Rattle.std.specs.List.{flat_map}
 use Rattle.mpm_base.specs.Calls.{Answer}
 use Rattle.mpm_opens.specs.declared.kinds.Mode.{Mode}
@@ -8,6 +8,8 @@ use Rattle.mpm_opens.specs.Items.{add_answer}
 use Rattle.mpm_file_functions.specs.declared.functions.FileFunction.{FileFunction}
 use Rattle.mpm_file_functions.specs.declared.functions.FileFunction.TheVariants.{OpenFile, SearchFirst, SearchNext, ReadSequential, WriteSequential, MakeFile, ReadRandom, WriteRandom, TestAndWrite, LockRecord, FreeSpace}
 use Rattle.mpm_mount.specs.Drives.{FileName, Drive, free_records}
+use Rattle.mpm_mount.specs.Directories.{Directory, Stands}
+use Rattle.mpm_mount.specs.Files.{where_there}
 use Rattle.mpm_fcb.specs.Blocks.{bytes_of}
 use Rattle.mpm_fcb.specs.Positions.{three_bytes}
 use Rattle.mpm_refusals.specs.Filing.{Situation, block}
@@ -17,10 +19,12 @@ use Rattle.mpm_file_functions.specs.declared.ends.RecordEnd.{RecordEnd}
 use Rattle.mpm_file_functions.specs.declared.ends.Ended.{Ended}
 use Rattle.mpm_file_entries.specs.declared.granting.OpenedAs.{OpenedAs}
 use Rattle.mpm_file_entries.specs.declared.granting.Granted.{Granted}
-use Rattle.mpm_file_functions.specs.Ends.{end_by}
+use Rattle.mpm_files.specs.declared.work.Work.{Work}
+use Rattle.mpm_file_functions.specs.Ends.{end_by, done_by}
 use Rattle.mpm_bdos.specs.Jobs.{Turned, free_count}
 use Rattle.mpm_bdos.specs.Changes.{locking_of}
-use Rattle.mpm_file_entries.specs.Granting.{value_by, block_by}
+use Rattle.mpm_bdos.specs.Ending.{is_reading, HasRead}
+use Rattle.mpm_file_entries.specs.Granting.{value_by, block_by, FewDone}
 use Rattle.mpm_directories.specs.Direct.{where_changed}
 
 -- whether a call's job was cut before a record that another process has locked
@@ -80,6 +84,18 @@ answer_by drive g records found fcb dma = record {
   at = dma;
   bytes = bytes_by drive records found g.function;
 }
+
+-- a value with bytes, and without a file control block
+abbrev pub answering_at : ℕ → ℕ → List ℕ → Answer
+answering_at value at bytes = record { hl = value; fcb = None; at = at; bytes = bytes }
+
+-- it is answered so on its drive, where few records are done if something ended them, those that it read stand at the front of its
+-- job's bytes, and of the entry that it found these bytes are told
+abbrev pub IsAnswered : Directory → Granted → ℕ → Option Work → Option (List ℕ) → (Drive → List (List ℕ) → Option (FileName × ℕ) → Type 0) → Type 0
+IsAnswered directory g multi work told P =
+    (image : List ℕ) (drive : Drive) (records : List (List ℕ)) (found : Option (FileName × ℕ)) → Stands image directory drive → FewDone multi g.ended
+    → (is_reading g.function ≡ true → HasRead (done_by multi (value_by drive g g.function)) work records)
+    → where_there told (λ bytes. bytes) ≡ found_bytes drive found → P drive records found
 
 unfoldable pub answer_after : Situation → Turned → Answer
 answer_after s t = answer_by t.drive (granted_of s t) t.records (found s) s.call.fcb s.call.dma

@@ -2,6 +2,7 @@
 use Rattle.std.specs.Prelude.{◌≡◌, ℕ, ◌≤◌, Bool, true, false, List, Option, Some, None, IfSome, length}
 use Rattle.mpm_dirent.specs.declared.limits.TheConstants.{LAST_POSITION}
 use Rattle.mpm_base.specs.Calls.{Answer}
+use Rattle.mpm_mount.specs.Drives.{Drive}
 use Rattle.mpm_mount.specs.Directories.{Directory, Stands}
 use Rattle.mpm_opens.specs.declared.kinds.FileKey.{FileKey}
 use Rattle.mpm_opens.specs.Opens.{OpenFiles}
@@ -54,3 +55,14 @@ pub record IsReplied (s : Situation) (answer : Answer) (opens : OpenFiles) (sear
   pub answer_is : answer ≡ answer_after s (turned s (call_turns s))
   pub opens_are : opens ≡ opens_by s (turned s (call_turns s)) s.function
   pub searches_are : searches ≡ searches_by s.filing.searches s.caller.process (search_of_call s) (found s)
+
+-- each call upon drives, marks and at a moment, which is to be answered, comes to that
+abbrev pub IsRepliedOn : Directory → (List (Option Drive) → List ℕ → List ℕ → Situation) → Option Work → List (Option FileKey) → Answer → OpenFiles → List (Option LastSearch) → Type 0
+IsRepliedOn directory call work deleted answer opens searches =
+    (image : List ℕ) (drives : List (Option Drive)) (marks moment : List ℕ)
+    → IsAnswering (call drives marks moment) image directory work deleted → IsReplied (call drives marks moment) answer opens searches
+
+abbrev pub IsRepliedWhere : Option Directory → (List (Option Drive) → List ℕ → List ℕ → Situation) → Option Work → List (Option FileKey) → Answer → OpenFiles → List (Option LastSearch) → Type 0
+IsRepliedWhere place call work deleted answer opens searches =
+    (image : List ℕ) (directory : Directory) (drives : List (Option Drive)) (marks moment : List ℕ) → place ≡ Some directory
+    → IsAnswering (call drives marks moment) image directory work deleted → IsReplied (call drives marks moment) answer opens searches

@@ -4,7 +4,12 @@ use Rattle.mpm_base.specs.Calls.{Taken}
 use Rattle.mpm_dirent.specs.Names.{plain}
 use Rattle.mpm_procs.specs.declared.process.Process.{Process}
 use Rattle.mpm_mount.specs.Drives.{Drive}
-use Rattle.mpm_mount.specs.Directories.{Directory}
+use Rattle.mpm_mount.specs.Directories.{Directory, Stands}
+use Rattle.mpm_clock.specs.declared.moment.Moment.{Moment}
+use Rattle.mpm_clock.specs.PackedDecimal.{stamp}
+use Rattle.mpm_jobs.specs.declared.jobs.Job.{Job}
+use Rattle.mpm_opens.specs.declared.kinds.FileKey.{FileKey}
+use Rattle.mpm_file_functions.specs.declared.refusals.Refusal.{Refusal}
 use Rattle.mpm_opens.specs.Items.{file_named}
 use Rattle.mpm_opens.specs.Opens.{OpenFiles, item_of}
 use Rattle.mpm_fcb.specs.declared.block.ControlBlock.{ControlBlock}
@@ -15,11 +20,14 @@ use Rattle.mpm_refusals.specs.declared.caller.Caller.{Caller}
 use Rattle.mpm_file_functions.specs.declared.functions.FileFunction.{FileFunction}
 use Rattle.mpm_bdos.specs.declared.planning.About.{About}
 use Rattle.mpm_dirent.specs.declared.limits.TheConstants.{LAST_POSITION}
-use Rattle.mpm_refusals.specs.Filing.{Situation}
+use Rattle.mpm_refusals.specs.Filing.{Situation, block}
+use Rattle.mpm_refusals.specs.Refusals.{refusal_of}
 use Rattle.mpm_refusals.specs.Subjects.{drive_number, drive_at, first_by}
 use Rattle.mpm_bdos.specs.Jobs.{job_of}
-use Rattle.mpm_refusals.specs.Asking.{called}
-use Rattle.mpm_bdos.specs.Serving.{InService, Kept, WorksOn, IsCallOf}
+use Rattle.mpm_refusals.specs.Asking.{called, StandsForDirectory}
+use Rattle.mpm_bdos.specs.declared.releasing.Deletion.{Deletion}
+use Rattle.mpm_bdos.specs.Changes.{deletion, deleted_by}
+use Rattle.mpm_bdos.specs.Serving.{InService, Kept, StandEach, WorksOn, IsCallOf}
 use Rattle.mpm_directories.specs.Places.{directory_at}
 
 -- a process as it calls
@@ -30,6 +38,10 @@ caller_of p process =
 -- its call, upon what is kept and the drives for which the images stand
 abbrev pub entering : Kept → List (Option Drive) → Caller → FileFunction → Taken → List ℕ → Situation
 entering kept drives caller function call moment = called drives kept.protected kept.opens kept.marks kept.searches caller function call moment
+
+-- likewise of a process at a moment
+abbrev pub entering_at : Kept → ℕ → Process → Taken → Moment → List (Option Drive) → FileFunction → Situation
+entering_at kept p process call now drives function = entering kept drives (caller_of p process) function call (stamp now)
 
 -- what is looked up of a call, by its block, its drive, the user of its file and the number of its open file
 abbrev pub about_in : OpenFiles → ℕ → ControlBlock → FileFunction → ℕ → ℕ → Option ℕ → About
@@ -44,6 +56,33 @@ pub record BeginsJob (image : List ℕ) (directory : Option Directory) (s : Situ
   pub suits : IfSome (job_of s) (Suits (drive_at s))
   pub works : WorksOn image directory (drive_at s) (job_of s) 0 work
 
+-- a job that suits the drive of a directory is begun; so is that of each call that isn't refused, upon drives and marks, and of each
+-- that is or isn't refused, where its drive may be mounted
+abbrev pub BeginsOn : Directory → Option Job → Option Work → Type 0
+BeginsOn directory job work =
+    (image : List ℕ) (drive : Drive) → Stands image directory drive → IfSome job (Suits drive) → WorksOn image (Some directory) drive job 0 work
+
+abbrev pub BeginsCall : Directory → (List (Option Drive) → List ℕ → Situation) → Option Work → Type 0
+BeginsCall directory call work =
+    (image : List ℕ) (drives : List (Option Drive)) (marks : List ℕ) → Stands image directory (drive_at (call drives marks))
+    → refusal_of (call drives marks) ≡ None → BeginsJob image (Some directory) (call drives marks) work
+
+abbrev pub BeginsUnless : Option Refusal → Option Directory → (List (Option Drive) → List ℕ → Situation) → Option Work → Type 0
+BeginsUnless refusal directory call work =
+    (image : List ℕ) (drives : List (Option Drive)) (marks : List ℕ) → StandsForDirectory image directory (call drives marks)
+    → refusal ≡ refusal_of (call drives marks) → BeginsJob image directory (call drives marks) work
+
+-- the open files that a call deletes are looked up: of a deletion on a drive that is mounted, and of any call, by its caller, drive and
+-- block
+abbrev pub IsDeletedOn : Directory → OpenFiles → ℕ → Deletion → (Situation → Type 0) → Type 0
+IsDeletedOn directory opens p by P =
+    (image : List ℕ) (s : Situation) → Stands image directory (drive_at s) → opens ≡ s.filing.opens → p ≡ s.caller.process → by ≡ deletion s → P s
+
+abbrev pub IsDeletedBy : Option Directory → OpenFiles → Caller → ℕ → ControlBlock → FileFunction → List (Option FileKey) → Type 0
+IsDeletedBy directory opens caller drive b function deleted =
+    (image : List ℕ) (s : Situation) → StandsForDirectory image directory s → refusal_of s ≡ None → opens ≡ s.filing.opens → caller ≡ s.caller
+    → drive ≡ drive_number s → b ≡ block s → function ≡ s.function → deleted ≡ deleted_by s s.function
+
 -- what is kept of it, as it enters
 pub record Enters (image : List ℕ) (directory : Option Directory) (s : Situation) (service : InService) : Type 0 where
   pub is : IsCallOf service s
@@ -52,6 +91,16 @@ pub record Enters (image : List ℕ) (directory : Option Directory) (s : Situati
 -- likewise over the directories of all drives
 pub record EntersAmong (images : ℕ → List ℕ) (mounted : List (Option Directory)) (s : Situation) (service : InService) : Type 0 where
   pub enters : Enters (images (drive_number s)) (directory_at mounted (drive_number s)) s service
+
+-- so each call enters, upon drives: by the directory of its drive, and by all directories
+abbrev pub EntersBy : Option Directory → ℕ → (List (Option Drive) → Situation) → InService → Type 0
+EntersBy directory number call service =
+    (image : List ℕ) (drives : List (Option Drive)) → StandsForDirectory image directory (call drives) → number ≡ drive_number (call drives)
+    → Enters image directory (call drives) service
+
+abbrev pub EntersAll : List (Option Directory) → (List (Option Drive) → Situation) → InService → Type 0
+EntersAll mounted call service =
+    (images : ℕ → List ℕ) (drives : List (Option Drive)) → StandEach images mounted drives → EntersAmong images mounted (call drives) service
 
 -- how many turns some work takes; one where there is none
 abbrev pub turns_where : Option Work → ℕ

@@ -1,6 +1,9 @@
 -- What was written to the mounted drives is brought to where it stays, on one after another.
-use Rattle.std.specs.Prelude.{◌≡◌, ℕ, ◌+◌, ◌<◌, ◌≤◌, Bool, true, false, List, Option, IsSome, IfSome, is_some, count_by, take}
+use Rattle.std.specs.Prelude.{◌≡◌, ◌≢◌, ℕ, ◌+◌, ◌<◌, ◌≤◌, Bool, true, false, List, Option, None, Result, IsSome, IfSome, OnOk, OnErr, is_some, count_by, take, if◌then◌else◌}
 use Rattle.mpm_port.specs.Disks.{Disks, size_of}
+use Rattle.mpm_port.specs.declared.drives.Drives.{Ghosts}
+use Rattle.mpm_port.specs.Causes.{HasCause}
+use Rattle.mpm_port.specs.Frames.{SameDrives}
 use Rattle.mpm_mount.specs.Directories.{Directory}
 use Rattle.mpm_directories.specs.Places.{directory_at}
 
@@ -24,3 +27,30 @@ pub record StopsAtDrive (mounted : List (Option Directory)) (before now : ℕ �
   pub front : (number : ℕ) → number < drive → IfSome (directory_at mounted number) (λ directory. now number ≡ false)
   pub rest : (number : ℕ) → drive ≤ number → now number ≡ before number
   pub calls : steps' ≡ steps + mounted_count (take (drive + 1) mounted)
+
+-- what was written to the drive of a place is brought to where it stays, where one is mounted: one call, which failed, or the drive is
+-- synced; nothing is known otherwise of any drive
+pub record SyncsPlace {D A E : Type 0} (of : Ghosts D) (place : Option Directory) (old new : D) (steps steps' : ℕ) (result : Result A E) : Type 0 where
+  pub cause : HasCause (of.faults old) (of.faults new) result
+  pub same : SameDrives of old new
+  pub calls : steps' ≡ steps + (if is_some place then 1 else 0)
+  pub some : OnErr result (is_some place ≡ true)
+  pub none : place ≡ None → new ≡ old
+  pub synced : IfSome place (λ directory. OnOk result (of.unsynced new directory.drive ≡ false))
+  pub stay : (number : ℕ) → of.unsynced old number ≡ false → of.unsynced new number ≡ false
+  pub failed : IfSome place (λ directory. OnErr result (of.unsynced new directory.drive ≡ of.unsynced old directory.drive))
+  pub beside : (number : ℕ) → IfSome place (λ directory. number ≢ directory.drive) → of.unsynced new number ≡ of.unsynced old number
+
+-- likewise of all that are mounted, in order, up to the first that failed; so many calls were made as there are, or as there are up to
+-- that one
+pub record SyncsMounted {D A E : Type 0} (of : Ghosts D) (mounted : List (Option Directory)) (old new : D) (steps steps' : ℕ) (result : Result A E) : Type 0 where
+  pub cause : HasCause (of.faults old) (of.faults new) result
+  pub same : SameDrives of old new
+  pub calls : steps' ≤ steps + mounted_count mounted
+  pub all : OnOk result (steps' ≡ steps + mounted_count mounted)
+  pub some : OnErr result (0 < mounted_count mounted)
+  pub none : mounted_count mounted ≡ 0 → new ≡ old
+  pub synced : OnOk result (AreMountedSynced (of.unsynced new) mounted)
+  pub stay : (number : ℕ) → of.unsynced old number ≡ false → of.unsynced new number ≡ false
+  pub stops : OnErr result (StopsAtDrive mounted (of.unsynced old) (of.unsynced new) steps steps')
+  pub beside : (number : ℕ) → directory_at mounted number ≡ None → of.unsynced new number ≡ of.unsynced old number

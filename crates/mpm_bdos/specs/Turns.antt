@@ -1,5 +1,6 @@
 -- A turn of the call in service: what it asks of the drives, what it leaves of them and of what is kept, and how many turns are left.
-use Rattle.std.specs.Prelude.{◌≡◌, ◌≢◌, ◌≤◌, ℕ, ◌+◌, Bool, true, false, List, [], Option, Some, None, IfSome, is_some, option_map, unwrap_or, nat_lt, if◌then◌else◌}
+use Rattle.std.specs.Prelude.{◌≡◌, ◌≢◌, ◌≤◌, ℕ, ◌+◌, Bool, true, false, List, [], Option, Some, None, Result, IfOk, IfSome, is_some, suc, option_map, unwrap_or, nat_lt, if◌then◌else◌}
+use Rattle.mpm_port.specs.declared.drives.Drives.{Ghosts}
 use Rattle.mpm_port.specs.Disks.{Disks, ToldImage, Untold, size_of}
 use Rattle.mpm_base.specs.declared.kind.Kind.{Kind}
 use Rattle.mpm_blocks.specs.Geometries.{geometry_of}
@@ -13,6 +14,7 @@ use Rattle.mpm_jobs.specs.declared.jobs.JobKind.TheVariants as kinds
 use Rattle.mpm_files.specs.declared.turning.Progress.{Progress}
 use Rattle.mpm_files.specs.declared.turning.Progress.TheVariants.{Again, Done}
 use Rattle.mpm_files.specs.declared.work.Work.{Work}
+use Rattle.mpm_files.specs.Plans.{turns_of}
 use Rattle.mpm_files.specs.Turning.{JobInService, Contained, IsNextCached}
 use Rattle.mpm_refusals.specs.Filing.{Situation}
 use Rattle.mpm_refusals.specs.Subjects.{drive_number, drive_at}
@@ -36,6 +38,11 @@ images_of disks number = unwrap_or (disks.image number) []
 -- whether turns are left with so many ended
 abbrev pub progress_after : ℕ → ℕ → Progress
 progress_after ended turns = if nat_lt ended turns then Again else Done
+
+-- a turn of a job in service tells so
+abbrev pub TellsProgress : {E : Type 0} → (Drive → Job → ℕ → Type 0) → Result Progress E → Type 0
+TellsProgress works result =
+    (before : Drive) (job : Job) (j : ℕ) → works before job j → IfOk result (λ told. told ≡ progress_after (suc j) (turns_of before job))
 
 -- a job is in service on the image of a drive that is mounted; and as the work of the call in service
 abbrev pub IsWorking : Disks → Option Directory → Drive → Job → ℕ → Work → Type 0
@@ -143,15 +150,15 @@ KeepsImages drive mounted disks now =
 
 -- what a turn on a drive leaves of all drives: the directory of no other one changes, each is of the drive and the kind that it was
 -- of, all fit the drives still, and of what is known of the drives nothing changes but for that one
-pub record TurnLeaves {D : Type 0} (disks : D → Disks) (told : D → List ℕ → ToldImage) (failed : D → List (List ℕ)) (unsynced : D → ℕ → Bool) (drive : Option ℕ) (mounted new : List (Option Directory)) (cached : List (SectorPlace × List ℕ)) (old now : D) : Type 0 where
+pub record TurnLeaves {D : Type 0} (of : Ghosts D) (drive : Option ℕ) (mounted new : List (Option Directory)) (cached : List (SectorPlace × List ℕ)) (old now : D) : Type 0 where
   pub places : (number : ℕ) → drive ≢ Some number → directory_at new number ≡ directory_at mounted number
   pub labels : (number : ℕ) → option_map labelled (directory_at new number) ≡ option_map labelled (directory_at mounted number)
-  pub fits : FitsDrives disks new cached now
-  pub images : KeepsImages drive mounted (disks old) (disks now)
-  pub beside : StaysBeside mounted (disks old) (disks now)
-  pub told_are : KeepsToldOf mounted (disks old) (told old) (told now)
-  pub names : failed now ≡ failed old
-  pub kept_unsynced : KeepsUnsynced drive (unsynced old) (unsynced now)
+  pub fits : FitsDrives of.disks new cached now
+  pub images : KeepsImages drive mounted (of.disks old) (of.disks now)
+  pub beside : StaysBeside mounted (of.disks old) (of.disks now)
+  pub told_are : KeepsToldOf mounted (of.disks old) (of.told old) (of.told now)
+  pub names : of.failed_names now ≡ of.failed_names old
+  pub kept_unsynced : KeepsUnsynced drive (of.unsynced old) (of.unsynced now)
 
 -- how many calls of the drives a turn takes: 20 at most, one where it reads a record, and none where that one's sector is cached. A
 -- turn that reads leaves no drive unsynced that was synced.

@@ -1,15 +1,14 @@
-ghost use Rattle.std.specs.Prelude.{◌≡◌, ◌≤◌, ◌*◌, ℕ, true, List, None, Option, IfSome};
+ghost use Rattle.std.specs.Prelude.{◌≡◌, ◌≤◌, ℕ, true, List, None, IfSome};
 ghost use Rattle.std.specs.List.{flat_map};
-ghost use Rattle.mpm_mount.specs.Drives.{FileName, Drive, free_records};
-ghost use Rattle.mpm_mount.specs.Directories.{Stands};
+ghost use Rattle.mpm_mount.specs.Drives.{free_records};
 ghost use Rattle.mpm_mount.specs.Files.{where_there};
 ghost use Rattle.mpm_fcb.specs.Blocks.{bytes_of};
 ghost use Rattle.mpm_fcb.specs.Positions.{three_bytes};
-ghost use Rattle.mpm_file_entries.specs.Telling.{found_bytes};
 ghost use Rattle.mpm_bdos.specs.Ending as ending;
 ghost use Rattle.mpm_file_entries.specs.Granting as granting;
 ghost use Rattle.mpm_file_functions.specs.Ends.{done_by};
 ghost use Rattle.mpm_bdos.specs.Replies as spec;
+ghost use Rattle.mpm_bdos.specs.Standing.{OnItsDrive};
 ghost use Rattle.mpm_directories.specs.Direct as directly;
 
 use crate::replies::read_bytes;
@@ -23,8 +22,7 @@ use mpm_mount::Mounted;
 /// Answers a value, and as many records as it says are done of those that a job has read.
 fn answer_read(reply: &mut Reply, value: u16, at: u16, multi: u8, work: &Work)
     requires { multi ≤ 16 }
-    ensures all { (records : List (List ℕ)) → ending.IsRead (done_by multi value) work.now records
-        → reply.new ≡ record { hl = value; fcb = None; at = at; bytes = flat_map (λ bytes. bytes) records } }
+    ensures all { (records : List (List ℕ)) → ending.IsRead (done_by multi value) work.now records → reply.new ≡ spec.answering_at value at (flat_map (λ bytes. bytes) records) }
     ensures none { reply.new.fcb ≡ None }
 {
     reply.answer_with(value, at, read_bytes(work, records_done(multi, value)));
@@ -33,8 +31,7 @@ fn answer_read(reply: &mut Reply, value: u16, at: u16, multi: u8, work: &Work)
 /// Answers a value, and the records that a call has read; without a job no record is there.
 fn answer_records(reply: &mut Reply, value: u16, at: u16, multi: u8, work: &Option<Work>)
     requires { multi ≤ 16 }
-    ensures all { (records : List (List ℕ)) → ending.HasRead (done_by multi value) work.now records
-        → reply.new ≡ record { hl = value; fcb = None; at = at; bytes = flat_map (λ bytes. bytes) records } }
+    ensures all { (records : List (List ℕ)) → ending.HasRead (done_by multi value) work.now records → reply.new ≡ spec.answering_at value at (flat_map (λ bytes. bytes) records) }
     ensures none { reply.new.fcb ≡ None }
 {
     match work {
@@ -45,8 +42,7 @@ fn answer_records(reply: &mut Reply, value: u16, at: u16, multi: u8, work: &Opti
 
 /// Answers a value, and how many records there is room for on a drive.
 fn answer_free(reply: &mut Reply, value: u16, at: u16, mounted: &Mounted)
-    ensures all { (image : List ℕ) (drive : Drive) → Stands image mounted.now drive
-        → reply.new ≡ record { hl = value; fcb = None; at = at; bytes = three_bytes (free_records drive) } }
+    ensures all { OnItsDrive mounted.now (λ drive. reply.new ≡ spec.answering_at value at (three_bytes (free_records drive))) }
     ensures none { reply.new.fcb ≡ None }
 {
     reply.answer_with(value, at, &free_bytes(mounted));
@@ -54,7 +50,7 @@ fn answer_free(reply: &mut Reply, value: u16, at: u16, mounted: &Mounted)
 
 /// Answers a value, and the bytes of the entry that a search found, if it found one.
 fn answer_found(reply: &mut Reply, value: u16, at: u16, told: &Option<[u8; 128]>)
-    ensures { reply.new ≡ record { hl = value; fcb = None; at = at; bytes = where_there told.now (λ bytes. bytes) } }
+    ensures { reply.new ≡ spec.answering_at value at (where_there told.now (λ bytes. bytes)) }
 {
     match told {
         Some(bytes) => reply.answer_with(value, at, bytes),
@@ -76,11 +72,7 @@ fn answer_bytes(
 )
     requires some { 1 ≤ multi }
     requires few { multi ≤ 16 }
-    ensures all { (image : List ℕ) (drive : Drive) (records : List (List ℕ)) (found : Option (FileName × ℕ)) → Stands image mounted.now drive
-        → granting.FewDone multi granted.now.ended
-        → (ending.is_reading granted.now.function ≡ true → ending.HasRead (done_by multi (granting.value_by drive granted.now granted.now.function)) work.now records)
-        → where_there told.now (λ bytes. bytes) ≡ found_bytes drive found
-        → reply.new ≡ record { hl = granting.value_by drive granted.now granted.now.function; fcb = None; at = at; bytes = spec.bytes_by drive records found granted.now.function } }
+    ensures all { spec.IsAnswered mounted.now granted.now multi work.now told.now (λ drive records found. reply.new ≡ spec.answering_at (granting.value_by drive granted.now granted.now.function) at (spec.bytes_by drive records found granted.now.function)) }
     ensures none { reply.new.fcb ≡ None }
 {
     let value = reply_value(granted, multi, mounted);
@@ -135,11 +127,8 @@ pub(crate) fn answer(
     requires number { IfSome granted.now.opened (λ made. made.number ≤ 63) }
     requires some { 1 ≤ multi }
     requires few { multi ≤ 16 }
-    ensures { (image : List ℕ) (drive : Drive) (records : List (List ℕ)) (found : Option (FileName × ℕ)) → Stands image mounted.now drive
-        → granting.FewDone multi granted.now.ended → (granting.is_moving granted.now.function ≡ true → granting.IsPlaced granted.now)
-        → (ending.is_reading granted.now.function ≡ true → ending.HasRead (done_by multi (granting.value_by drive granted.now granted.now.function)) work.now records)
-        → where_there told.now (λ bytes. bytes) ≡ found_bytes drive found
-        → reply.new ≡ spec.answer_by drive granted.now records found call.now.fcb call.now.dma }
+    ensures { (granting.is_moving granted.now.function ≡ true → granting.IsPlaced granted.now)
+        → spec.IsAnswered mounted.now granted.now multi work.now told.now (λ drive records found. reply.new ≡ spec.answer_by drive granted.now records found call.now.fcb call.now.dma) }
 {
     answer_bytes(
         reply,

@@ -1,12 +1,12 @@
-ghost use Rattle.std.specs.Prelude.{◌≡◌, ◌<◌, ℕ, suc, false, List, Option, None, Ok, IfOk, IfSome, OnOk, OnErr};
+ghost use Rattle.std.specs.Prelude.{◌≡◌, ◌<◌, ℕ, suc, false, List, Option, None, Ok, IfOk, OnOk, OnErr};
 ghost use Rattle.mpm_port.specs.Causes.{HasCause};
 ghost use Rattle.mpm_port.specs.Disks.{Disks};
 ghost use Rattle.mpm_cache.specs.Coherent.{IsCoherent, HasNoAlias};
 ghost use Rattle.mpm_files.specs.declared.turning.Progress.TheVariants as progress;
 ghost use Rattle.mpm_mount.specs.Drives.{Drive};
-ghost use Rattle.mpm_bdos.specs.Direct.{direct};
+ghost use Rattle.mpm_bdos.specs.Direct.{IsDirect};
+ghost use Rattle.mpm_bdos.specs.Standing.{OnItsDrives, WhileServing};
 ghost use Rattle.mpm_file_functions.specs.Functions.{direct_of};
-ghost use Rattle.mpm_refusals.specs.Filing.{Situation};
 ghost use Rattle.mpm_bdos.specs.Outcomes.{left_by, without_search};
 ghost use Rattle.mpm_bdos.specs.Jobs.{call_turns};
 ghost use Rattle.mpm_bdos.specs.Turns.{FitsDrives, TakesTurn, StopsWithin, ServesReading, ServesCached, IsDiskIdle, images_of, progress_after, has_work};
@@ -65,7 +65,7 @@ impl Model for Bdos {
 impl Bdos {
     ghost use Rattle.mpm_opens.specs.Opens.{AreOpen};
     ghost use Rattle.mpm_directories.specs.Places.{AreInPlace, directory_at};
-    ghost use Rattle.mpm_bdos.specs.Serving.{StandEach, Serves, filing_of, nothing_kept};
+    ghost use Rattle.mpm_bdos.specs.Serving.{Serves, filing_of, nothing_kept};
     ghost use Rattle.std.specs.Option.{option_copied};
 
     /// Nothing is open, marked, sought or protected, nothing is cached, and no call is in service. Of the sixteen drives those
@@ -104,14 +104,10 @@ impl Bdos {
     /// whatever is on them; nothing where it is another one. While a call is in service it answers as before that. What becomes of
     /// the process's drive is not done here.
     pub fn direct(&self, call: &Call, process: &Process, reply: &mut Reply) -> Option<Extended>
-        ensures answer { (images : ℕ → List ℕ) (drives : List (Option Drive)) → StandEach images self.now.mounted drives
-            → IfSome (direct_of call.now.function) (λ function. reply.new ≡ (direct (filing_of self.now drives) process.now.drive call.now function).answer) }
-        ensures extended { (images : ℕ → List ℕ) (drives : List (Option Drive)) → StandEach images self.now.mounted drives
-            → IfSome (direct_of call.now.function) (λ function. result ≡ (direct (filing_of self.now drives) process.now.drive call.now function).extended) }
-        ensures served { (images : ℕ → List ℕ) (s : Situation) (j : ℕ) → Serves images self.now s j
-            → IfSome (direct_of call.now.function) (λ function. reply.new ≡ (direct s.filing process.now.drive call.now function).answer) }
-        ensures served_extended { (images : ℕ → List ℕ) (s : Situation) (j : ℕ) → Serves images self.now s j
-            → IfSome (direct_of call.now.function) (λ function. result ≡ (direct s.filing process.now.drive call.now function).extended) }
+        ensures answer { OnItsDrives self.now (λ filing. IsDirect filing process.now.drive call.now (λ all. reply.new ≡ all.answer)) }
+        ensures extended { OnItsDrives self.now (λ filing. IsDirect filing process.now.drive call.now (λ all. result ≡ all.extended)) }
+        ensures served { (images : ℕ → List ℕ) → WhileServing images self.now (λ s j. IsDirect s.filing process.now.drive call.now (λ all. reply.new ≡ all.answer)) }
+        ensures served_extended { (images : ℕ → List ℕ) → WhileServing images self.now (λ s j. IsDirect s.filing process.now.drive call.now (λ all. result ≡ all.extended)) }
         ensures other { direct_of call.now.function ≡ None → reply.new ≡ reply.old }
         ensures unanswered { direct_of call.now.function ≡ None → result ≡ None }
     {
@@ -158,12 +154,9 @@ impl Bdos {
         steps: &mut Steps<L>,
     ) -> Result<Progress, Failed>
         requires { FitsDrives D.disks self.old.mounted self.old.cached drives.old }
-        ensures ok { (s : Situation) (j : ℕ) → Serves (images_of (D.disks drives.old)) self.old s j → j < call_turns s
-            → OnOk result (Serves (images_of (D.disks drives.new)) self.new s (suc j)) }
-        ensures err { (s : Situation) (j : ℕ) → Serves (images_of (D.disks drives.old)) self.old s j → j < call_turns s
-            → OnErr result (StopsWithin (D.disks drives.new) s j) }
-        ensures progress { (s : Situation) (j : ℕ) → Serves (images_of (D.disks drives.old)) self.old s j
-            → IfOk result (λ told. told ≡ progress_after (suc j) (call_turns s)) }
+        ensures ok { WhileServing (images_of (D.disks drives.old)) self.old (λ s j. j < call_turns s → OnOk result (Serves (images_of (D.disks drives.new)) self.new s (suc j))) }
+        ensures err { WhileServing (images_of (D.disks drives.old)) self.old (λ s j. j < call_turns s → OnErr result (StopsWithin (D.disks drives.new) s j)) }
+        ensures progress { WhileServing (images_of (D.disks drives.old)) self.old (λ s j. IfOk result (λ told. told ≡ progress_after (suc j) (call_turns s))) }
         ensures idle { has_work self.old.service ≡ false → IsDiskIdle self.old.service self.new.service self.old.mounted self.new.mounted self.old.cached self.new.cached drives.old drives.new steps.old steps.new }
         ensures done { has_work self.old.service ≡ false → result ≡ Ok progress.Done }
         ensures still { has_work self.new.service ≡ has_work self.old.service }

@@ -1,13 +1,10 @@
-ghost use Rattle.std.specs.Prelude.{◌≡◌, ◌≤◌, ◌<◌, ℕ, true, false, List, [], Option, Some, None, length};
+ghost use Rattle.std.specs.Prelude.{◌≡◌, ◌≤◌, ◌<◌, ℕ, true, List, [], Option, None, length};
 ghost use Rattle.std.specs.Option.{option_copied};
 ghost use Rattle.mpm_dirent.specs.declared.limits.TheConstants.{LAST_POSITION};
 ghost use Rattle.mpm_base.specs.Calls.{answering};
-ghost use Rattle.mpm_mount.specs.Directories.{Directory};
-ghost use Rattle.mpm_mount.specs.Drives.{Drive};
 ghost use Rattle.mpm_fcb.specs.Blocks.{block_of};
 ghost use Rattle.mpm_fcb.specs.Positions.{sequential_record};
 ghost use Rattle.mpm_file_functions.specs.declared.refusals.Refusal.{Refusal as Refused};
-ghost use Rattle.mpm_refusals.specs.Asking.{called};
 ghost use Rattle.mpm_marks.specs.Driving.{marks_by, protected_by, freed_by};
 ghost use Rattle.mpm_refusals.specs.Filing.{Situation, HaveUsers};
 ghost use Rattle.mpm_bdos.specs.Finishing as spec;
@@ -16,6 +13,7 @@ ghost use Rattle.mpm_file_functions.specs.Refusals as outcomes;
 ghost use Rattle.mpm_refusals.specs.Refusals as refusals;
 ghost use Rattle.mpm_bdos.specs.Replying as replying;
 ghost use Rattle.mpm_bdos.specs.Serving.{IsCaller, Serves};
+ghost use Rattle.mpm_bdos.specs.Standing.{entered_at};
 
 use crate::answering::dma_of_call;
 use crate::bdos::Bdos;
@@ -102,12 +100,9 @@ fn reply_on(
     searches: &mut Searches,
     served: &Served<'_>,
 )
-    requires some { 1 ≤ served.now.file_call.caller.multi }
-    requires few { served.now.file_call.caller.multi ≤ 16 }
-    ensures users { HaveUsers opens.old → served.now.file_call.caller.user < 16 → HaveUsers opens.new }
-    ensures replied { (image : List ℕ) (d : Directory) (drives : List (Option Drive)) (marks moment : List ℕ) → option_copied mounted.entry ≡ Some d
-        → replying.IsAnswering (called drives protected.now opens.old marks searches.old served.now.file_call.caller served.now.file_call.function served.now.file_call.call.now moment) image d served.now.work.now served.now.deleted.now
-        → replying.IsReplied (called drives protected.now opens.old marks searches.old served.now.file_call.caller served.now.file_call.function served.now.file_call.call.now moment) reply.new opens.new searches.new }
+    requires { IsCaller served.now.file_call.caller }
+    ensures users { HaveUsers opens.old → HaveUsers opens.new }
+    ensures replied { replying.IsRepliedWhere (option_copied mounted.entry) (λ drives marks moment. entered_at served.now.file_call moment protected.now opens.old searches.old drives marks) served.now.work.now served.now.deleted.now reply.new opens.new searches.new }
 {
     match mounted {
         Some(mounted) => reply_mounted(reply, mounted, protected, opens, searches, served),
@@ -130,8 +125,7 @@ fn reply_granted(
     requires users { HaveUsers opens.old }
     ensures users { HaveUsers opens.new }
     ensures finished { (images : ℕ → List ℕ) (s : Situation) (moment : List ℕ) (refusal : Option Refused)
-        → Serves images (spec.serving mounted.now protected.old opens.old marks.old searches.old (record { caller = served.now.file_call.caller; function = served.now.file_call.function; drive = served.now.drive; call = served.now.file_call.call.now; moment = moment; refusal = refusal; work = served.now.work.now; deleted = served.now.deleted.now })) s (call_turns s)
-        → refusals.refusal_of s ≡ None → spec.IsFinished s reply.new protected.new opens.new marks.new searches.new }
+        → Serves images (spec.serving mounted.now protected.old opens.old marks.old searches.old (spec.service_of served.now moment refusal)) s (call_turns s) → refusals.refusal_of s ≡ None → spec.IsFinished s reply.new protected.new opens.new marks.new searches.new }
 {
     // Each block has a position that a file can have.
     let _ = position_of_call(served.file_call.call);
@@ -168,9 +162,7 @@ fn reply_service(
 ) -> Option<Extended>
     requires users { HaveUsers opens.old }
     ensures users { HaveUsers opens.new }
-    ensures comes { (images : ℕ → List ℕ) (s : Situation)
-        → Serves images (spec.serving mounted.now protected.old opens.old marks.old searches.old service.now) s (call_turns s)
-        → spec.ComesTo images s (spec.serving mounted.now protected.new opens.new marks.new searches.new service.now) reply.new result }
+    ensures comes { spec.ComesOut (spec.serving mounted.now protected.old opens.old marks.old searches.old service.now) (spec.serving mounted.now protected.new opens.new marks.new searches.new service.now) reply.new result }
 {
     match service.refusal {
         Some(refusal) => refuse(reply, refusal, service.drive),
@@ -193,16 +185,13 @@ fn reply_service(
 }
 
 impl Bdos {
-    ghost use Rattle.std.specs.Prelude.{◌≡◌, ℕ, List, Some, None};
-    ghost use Rattle.mpm_refusals.specs.Filing.{Situation};
-    ghost use Rattle.mpm_bdos.specs.Finishing.{ComesTo};
-    ghost use Rattle.mpm_bdos.specs.Jobs.{call_turns};
-    ghost use Rattle.mpm_bdos.specs.Serving.{Serves};
+    ghost use Rattle.std.specs.Prelude.{◌≡◌, None};
+    ghost use Rattle.mpm_bdos.specs.Finishing.{ComesOut};
 
     /// Answers the call in service, after its turns, with its extended error, if it has one; then none is in service. Nothing is
     /// answered where none was. (MP/M II Programmer's Guide, "BDOS Function Calls", "BDOS Error Handling".)
     pub fn reply(&mut self, reply: &mut Reply) -> Option<Extended>
-        ensures comes { (images : ℕ → List ℕ) (s : Situation) → Serves images self.old s (call_turns s) → ComesTo images s self.new reply.new result }
+        ensures comes { ComesOut self.old self.new reply.new result }
         ensures kept { self.new ≡ record self.old { protected = self.new.protected; opens = self.new.opens; marks = self.new.marks; searches = self.new.searches; service = None } }
         ensures idle { self.old.service ≡ None → self.new ≡ self.old }
         ensures no_reply { self.old.service ≡ None → reply.new ≡ reply.old }

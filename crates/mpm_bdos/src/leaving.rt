@@ -1,16 +1,15 @@
-ghost use Rattle.std.specs.Prelude.{◌≡◌, ◌≤◌, ◌<◌, ℕ, List, None, Some, IfSome, if◌then◌else◌};
-ghost use Rattle.mpm_dirent.specs.Names.{plain};
+ghost use Rattle.std.specs.Prelude.{◌≡◌, ◌≤◌, ◌<◌, None, IfSome, if◌then◌else◌};
 ghost use Rattle.mpm_dirent.specs.declared.limits.TheConstants.{LAST_RECORD};
-ghost use Rattle.mpm_mount.specs.Drives.{Drive};
-ghost use Rattle.mpm_mount.specs.Directories.{Stands};
 ghost use Rattle.mpm_opens.specs.Items as items;
-ghost use Rattle.mpm_opens.specs.Opens.{added, closed, process_of, file_of, IsLive};
+ghost use Rattle.mpm_opens.specs.Opens.{added, closed, process_of};
 ghost use Rattle.mpm_fcb.specs.Names.{has_f5};
 ghost use Rattle.mpm_fcb.specs.Positions.{random_record};
 ghost use Rattle.mpm_file_functions.specs.declared.functions.FileFunction.TheVariants as functions;
 ghost use Rattle.mpm_bdos.specs.Replies.{opened_as};
 ghost use Rattle.mpm_refusals.specs.Filing.{HaveUsers};
 ghost use Rattle.mpm_bdos.specs.Leaving as spec;
+ghost use Rattle.mpm_bdos.specs.Records.{AreOfFile, MayLock};
+ghost use Rattle.mpm_bdos.specs.Standing.{OnItsDrive};
 ghost use Rattle.mpm_refusals.specs.Asking as asking;
 
 use crate::ending::ended;
@@ -61,15 +60,9 @@ fn nothing_locked() -> Ended
 
 /// Locks so many records from one on by way of an open file, if that is open in unlocked mode.
 fn lock_by(opens: &mut Opens, mounted: &Mounted, item: &OpenItem, first: u32, count: u8) -> Ended
-    requires live { IsLive opens.old item.now.number }
-    requires file { file_of opens.old item.now.number ≡ item.now.file }
-    requires plain { plain item.now.file.name ≡ item.now.file.name }
-    requires first { first ≤ LAST_RECORD }
-    requires count { count ≤ 16 }
-    ensures opens { (image : List ℕ) (drive : Drive) → Stands image mounted.now drive
-        → opens.new ≡ (spec.locked_by drive opens.old (process_of opens.old item.now.number) item.now.file first count item.now.mode).opens }
-    ensures ended { (image : List ℕ) (drive : Drive) → Stands image mounted.now drive
-        → result ≡ spec.ended_of (spec.locked_by drive opens.old (process_of opens.old item.now.number) item.now.file first count item.now.mode) }
+    requires { MayLock opens.old item.now.number item.now.file first count }
+    ensures opens { OnItsDrive mounted.now (λ drive. opens.new ≡ (spec.locked_by drive opens.old (process_of opens.old item.now.number) item.now.file first count item.now.mode).opens) }
+    ensures ended { OnItsDrive mounted.now (λ drive. result ≡ spec.ended_of (spec.locked_by drive opens.old (process_of opens.old item.now.number) item.now.file first count item.now.mode)) }
     ensures items { opens.new.items ≡ opens.old.items }
 {
     match item.mode {
@@ -89,12 +82,9 @@ fn lock(
     count: u8,
 ) -> Ended
     requires item { IfSome item (λ item. asking.IsOwnItem opens.old p item) }
-    requires first { first ≤ LAST_RECORD }
-    requires count { count ≤ 16 }
-    ensures opens { (image : List ℕ) (drive : Drive) → Stands image mounted.now drive
-        → opens.new ≡ (spec.locked_where drive opens.old p first count item).opens }
-    ensures ended { (image : List ℕ) (drive : Drive) → Stands image mounted.now drive
-        → result ≡ spec.ended_of (spec.locked_where drive opens.old p first count item) }
+    requires records { AreOfFile first count }
+    ensures opens { OnItsDrive mounted.now (λ drive. opens.new ≡ (spec.locked_where drive opens.old p first count item).opens) }
+    ensures ended { OnItsDrive mounted.now (λ drive. result ≡ spec.ended_of (spec.locked_where drive opens.old p first count item)) }
     ensures items { opens.new.items ≡ opens.old.items }
 {
     match item {
@@ -147,10 +137,8 @@ pub(crate) fn leave(
 /// What a call on a mounted drive opens or makes, in the mode in which it asks for its file.
 #[tactic(auto, unfolding(crate::specs::Leaving::opened_by, crate::specs::Leaving::opened_for))]
 fn open_asked(opens: &mut Opens, mounted: &Mounted, asked: &Asked) -> Option<OpenedAs>
-    ensures opens { (image : List ℕ) (drive : Drive) → Stands image mounted.now drive
-        → opens.new ≡ spec.opened_by drive opens.old asked.now asked.now.function }
-    ensures opened { (image : List ℕ) (drive : Drive) → Stands image mounted.now drive
-        → result ≡ spec.opened_for drive opens.old asked.now asked.now.function }
+    ensures opens { OnItsDrive mounted.now (λ drive. opens.new ≡ spec.opened_by drive opens.old asked.now asked.now.function) }
+    ensures opened { OnItsDrive mounted.now (λ drive. result ≡ spec.opened_for drive opens.old asked.now asked.now.function) }
     ensures number { IfSome result (λ made. made.number ≤ 63) }
     ensures users { HaveUsers opens.old → asked.now.owner < 16 → HaveUsers opens.new }
 {
@@ -178,10 +166,8 @@ fn first_locked(block: &ControlBlock) -> u32
 fn end_records(opens: &mut Opens, mounted: &Mounted, asked: &Asked, work: &Option<Work>) -> Ended
     requires item { asked.now.function ≡ functions.LockRecord → IfSome asked.now.item (λ item. asking.IsOwnItem opens.old asked.now.caller.process item) }
     requires few { asked.now.caller.multi ≤ 16 }
-    ensures opens { (image : List ℕ) (drive : Drive) → Stands image mounted.now drive → spec.IsInFile asked.now
-        → opens.new ≡ spec.locked_for drive opens.old asked.now asked.now.function }
-    ensures ended { (image : List ℕ) (drive : Drive) → Stands image mounted.now drive → spec.IsInFile asked.now
-        → result ≡ spec.ended_for drive opens.old asked.now work.now asked.now.function }
+    ensures opens { OnItsDrive mounted.now (λ drive. spec.IsInFile asked.now → opens.new ≡ spec.locked_for drive opens.old asked.now asked.now.function) }
+    ensures ended { OnItsDrive mounted.now (λ drive. spec.IsInFile asked.now → result ≡ spec.ended_for drive opens.old asked.now work.now asked.now.function) }
     ensures items { opens.new.items ≡ opens.old.items }
 {
     match asked.function {
@@ -206,10 +192,8 @@ pub(crate) fn grant(
 ) -> Granted
     requires item { asked.now.function ≡ functions.LockRecord → IfSome asked.now.item (λ item. asking.IsOwnItem opens.old asked.now.caller.process item) }
     requires few { asked.now.caller.multi ≤ 16 }
-    ensures opens { (image : List ℕ) (drive : Drive) → Stands image mounted.now drive → spec.IsInFile asked.now
-        → opens.new ≡ spec.opened_by drive (spec.locked_for drive opens.old asked.now asked.now.function) asked.now asked.now.function }
-    ensures granted { (image : List ℕ) (drive : Drive) → Stands image mounted.now drive → spec.IsInFile asked.now
-        → result ≡ spec.granted_by drive opens.old asked.now work.now }
+    ensures opens { OnItsDrive mounted.now (λ drive. spec.IsInFile asked.now → opens.new ≡ spec.opened_then drive opens.old asked.now) }
+    ensures granted { OnItsDrive mounted.now (λ drive. spec.IsInFile asked.now → result ≡ spec.granted_by drive opens.old asked.now work.now) }
     ensures number { IfSome result.opened (λ made. made.number ≤ 63) }
     ensures users { HaveUsers opens.old → asked.now.owner < 16 → HaveUsers opens.new }
 {

@@ -1,23 +1,14 @@
-ghost use Rattle.std.specs.Prelude.{◌≡◌, ◌≤◌, ℕ, Bool, List, Option, if◌then◌else◌};
-ghost use Rattle.mpm_base.specs.Calls.{byte_in, eight_at};
+ghost use Rattle.std.specs.Prelude.{◌≡◌, ◌≤◌, Some};
 ghost use Rattle.mpm_dirent.specs.Names.{plain};
 ghost use Rattle.mpm_dirent.specs.declared.limits.TheConstants.{LAST_POSITION};
-ghost use Rattle.mpm_mount.specs.Drives.{Drive};
-ghost use Rattle.mpm_mount.specs.Directories.{Stands};
-ghost use Rattle.mpm_guard.specs.Passwords.{has_bit};
-ghost use Rattle.mpm_fcb.specs.Names.{has_f6};
-ghost use Rattle.mpm_jobs.specs.declared.jobs.JobKind.TheVariants as kinds;
 ghost use Rattle.mpm_fcb.specs.Blocks.{block_of};
-ghost use Rattle.mpm_mount.specs.Looking.{data_byte};
-ghost use Rattle.mpm_refusals.specs.Asking.{called};
-ghost use Rattle.mpm_refusals.specs.Filing.{LastSearch};
-ghost use Rattle.mpm_bdos.specs.Planning.{IsAbout};
+ghost use Rattle.mpm_fcb.specs.Names.{new_name_of};
+ghost use Rattle.mpm_jobs.specs.declared.jobs.JobKind.TheVariants as kinds;
+ghost use Rattle.mpm_jobs.specs.Jobs as jobs;
+ghost use Rattle.mpm_bdos.specs.Standing.{OnItsDrive, entered_by};
 ghost use Rattle.mpm_bdos.specs.Planning as planning;
-ghost use Rattle.mpm_refusals.specs.Refusals as refusals;
 ghost use Rattle.mpm_bdos.specs.Jobs as spec;
 ghost use Rattle.mpm_locks.specs.Locks as locks;
-ghost use Rattle.mpm_jobs.specs.Jobs as jobs;
-ghost use Rattle.mpm_file_entries.specs.Protections as protections;
 
 use crate::records::count_tested;
 use mpm_base::Call;
@@ -41,17 +32,75 @@ pub(crate) struct About {
     pub(crate) has_written: bool,
 }
 
+// A job takes some 4 KiB. Each function below answers it as its caller does, and is code of its own, so that one place is enough for
+// the jobs of all calls.
+
+/// The job of an opening on a drive.
+#[inline(never)]
+fn opened(mounted: &Mounted, user: u8, name: &[u8; 11], moment: [u8; 4]) -> Option<Job>
+    ensures { OnItsDrive mounted.now (λ drive. result ≡ Some (planning.opened drive user name.now moment)) }
+{
+    Some(opening(mounted, user, name, moment))
+}
+
+/// The job of a call that changes directory entries alone, as a deletion does.
+#[inline(never)]
+fn changed(kind: JobKind, user: u8, name: &[u8; 11]) -> Option<Job>
+    ensures { result ≡ Some (jobs.job_for kind user name.now) }
+{
+    Some(job_on(kind, user, name))
+}
+
+/// The job of a call that reads so many records.
+#[inline(never)]
+fn read(user: u8, name: &[u8; 11], first: u32, count: u8) -> Option<Job>
+    ensures { result ≡ Some (jobs.with_records first count (jobs.job_for kinds.Read user name.now)) }
+{
+    Some(reading_job(user, name, first, count))
+}
+
+/// The job of a renaming.
+#[inline(never)]
+fn renamed(user: u8, block: &ControlBlock) -> Option<Job>
+    ensures { result ≡ Some (jobs.with_new_name (new_name_of block.now) (jobs.job_for kinds.Rename user block.now.name)) }
+{
+    Some(renaming_job(user, &block.name, &block.new_name()))
+}
+
 /// The job of a making on a drive.
-fn making(mounted: &Mounted, user: u8, block: &ControlBlock, call: &Call, moment: [u8; 4]) -> Job
-    ensures { (image : List ℕ) (drive : Drive) → Stands image mounted.now drive
-        → result ≡ (if refusals.makes_xfcb (data_byte drive) block.now then jobs.with_one (protections.with_protection (protections.with_first_stamp (has_bit 0x10 (data_byte drive)) moment (protections.given_xfcb (has_f6 block.now) (byte_in call.now 8) (eight_at call.now 0))) (jobs.job_for kinds.Make user block.now.name)) else (jobs.job_for kinds.Make user block.now.name)) }
+#[inline(never)]
+fn made(
+    mounted: &Mounted,
+    user: u8,
+    block: &ControlBlock,
+    call: &Call,
+    moment: [u8; 4],
+) -> Option<Job>
+    ensures { OnItsDrive mounted.now (λ drive. result ≡ Some (planning.made drive user block.now call.now moment)) }
 {
     let label = label_byte(mounted);
     let xfcb = made_xfcb(label, block, call, moment);
-    making_job(user, &block.name, makes_xfcb(label, block), &xfcb)
+    Some(making_job(user, &block.name, makes_xfcb(label, block), &xfcb))
+}
+
+/// The job of a labelling on a drive.
+#[inline(never)]
+fn labelled(mounted: &Mounted, user: u8, block: &ControlBlock, call: &Call) -> Option<Job>
+    ensures { OnItsDrive mounted.now (λ drive. result ≡ Some (planning.labelled drive user block.now call.now)) }
+{
+    Some(labelling(mounted, user, block, call))
+}
+
+/// The job that makes or changes the XFCB of a file on a drive.
+#[inline(never)]
+fn guarded(mounted: &Mounted, user: u8, block: &ControlBlock, call: &Call) -> Option<Job>
+    ensures { OnItsDrive mounted.now (λ drive. result ≡ Some (planning.guarded drive user block.now call.now)) }
+{
+    Some(guarding(mounted, user, block, call))
 }
 
 /// The job of a call that writes records.
+#[inline(never)]
 fn written(
     mounted: &Mounted,
     opens: &Opens,
@@ -63,8 +112,7 @@ fn written(
 ) -> Option<Job>
     requires few { caller.now.multi ≤ 16 }
     requires first { about.first ≤ LAST_POSITION }
-    ensures { (image : List ℕ) (drive : Drive) → Stands image mounted.now drive
-        → result ≡ planning.written drive (locks.count_until (locks.is_locked_off opens.now caller.now.process about.file) about.first caller.now.multi) name.now bytes.now moment about }
+    ensures { OnItsDrive mounted.now (λ drive. result ≡ planning.written drive (locks.count_until (locks.is_locked_off opens.now caller.now.process about.file) about.first caller.now.multi) name.now bytes.now moment about) }
 {
     let count = count_free(opens, caller.process, about.file, about.first, caller.multi);
     let stamp = writing_stamp(mounted, about.has_written, moment);
@@ -72,6 +120,7 @@ fn written(
 }
 
 /// The job of a call that tests and writes records.
+#[inline(never)]
 fn tested(
     mounted: &Mounted,
     opens: &Opens,
@@ -84,8 +133,7 @@ fn tested(
     requires few { caller.now.multi ≤ 16 }
     requires first { about.first ≤ LAST_POSITION }
     requires plain { plain about.file.name ≡ about.file.name }
-    ensures { (image : List ℕ) (drive : Drive) → Stands image mounted.now drive
-        → result ≡ planning.tested drive (locks.count_until (spec.is_tested_off drive opens.now caller.now.process about.file) about.first caller.now.multi) caller.now.multi name.now bytes.now moment about }
+    ensures { OnItsDrive mounted.now (λ drive. result ≡ planning.tested drive (locks.count_until (spec.is_tested_off drive opens.now caller.now.process about.file) about.first caller.now.multi) caller.now.multi name.now bytes.now moment about) }
 {
     let count = count_tested(
         mounted,
@@ -119,9 +167,7 @@ pub(crate) fn job_by(
     requires first { about.first ≤ LAST_POSITION }
     requires plain { plain about.file.name ≡ about.file.name }
     requires block { block.now ≡ block_of file_call.now.call.now.fcb }
-    ensures { (image : List ℕ) (drives : List (Option Drive)) (protected : List Bool) (marks : List ℕ) (searches : List (Option LastSearch))
-        → IsAbout image mounted.now about (called drives protected opens.now marks searches file_call.now.caller file_call.now.function file_call.now.call.now file_call.now.moment)
-        → result ≡ spec.job_by (called drives protected opens.now marks searches file_call.now.caller file_call.now.function file_call.now.call.now file_call.now.moment) file_call.now.function }
+    ensures { planning.IsJobOf mounted.now about (λ drives protected marks searches. entered_by file_call.now protected opens.now searches drives marks) result }
 {
     let FileCall {
         caller,
@@ -133,24 +179,24 @@ pub(crate) fn job_by(
     let name = &block.name;
     let bytes = call.taken();
     match function {
-        FileFunction::OpenFile => Some(opening(mounted, user, name, moment)),
-        FileFunction::DeleteFile => Some(job_on(JobKind::Delete, user, name)),
-        FileFunction::ReadSequential => Some(reading_job(user, name, about.first, caller.multi)),
+        FileFunction::OpenFile => opened(mounted, user, name, moment),
+        FileFunction::DeleteFile => changed(JobKind::Delete, user, name),
+        FileFunction::ReadSequential => read(user, name, about.first, caller.multi),
         FileFunction::WriteSequential => {
             written(mounted, opens, &caller, name, bytes, moment, about)
         }
-        FileFunction::MakeFile => Some(making(mounted, user, block, call, moment)),
-        FileFunction::RenameFile => Some(renaming_job(user, name, &block.new_name())),
-        FileFunction::SetAttributes => Some(job_on(JobKind::Attributes, user, name)),
-        FileFunction::ReadRandom => Some(reading_job(user, name, about.first, caller.multi)),
+        FileFunction::MakeFile => made(mounted, user, block, call, moment),
+        FileFunction::RenameFile => renamed(user, block),
+        FileFunction::SetAttributes => changed(JobKind::Attributes, user, name),
+        FileFunction::ReadRandom => read(user, name, about.first, caller.multi),
         FileFunction::WriteRandom => {
             written(mounted, opens, &caller, name, bytes, moment, about)
         }
         FileFunction::TestAndWrite => {
             tested(mounted, opens, &caller, name, bytes, moment, about)
         }
-        FileFunction::SetLabel => Some(labelling(mounted, user, block, call)),
-        FileFunction::WriteXfcb => Some(guarding(mounted, user, block, call)),
+        FileFunction::SetLabel => labelled(mounted, user, block, call),
+        FileFunction::WriteXfcb => guarded(mounted, user, block, call),
         _ => None,
     }
 }

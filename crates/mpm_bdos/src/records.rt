@@ -1,12 +1,11 @@
-ghost use Rattle.std.specs.Prelude.{◌≡◌, ◌≤◌, ℕ, List};
+ghost use Rattle.std.specs.Prelude.{◌≡◌, ◌≤◌};
 ghost use Rattle.mpm_dirent.specs.Names.{plain};
-ghost use Rattle.mpm_dirent.specs.declared.limits.TheConstants.{LAST_NAMED, LAST_POSITION, LAST_RECORD};
-ghost use Rattle.mpm_mount.specs.Drives.{Drive};
-ghost use Rattle.mpm_mount.specs.Directories.{Stands};
-ghost use Rattle.mpm_opens.specs.Opens.{IsLive, process_of, file_of};
+ghost use Rattle.mpm_dirent.specs.declared.limits.TheConstants.{LAST_NAMED, LAST_POSITION};
+ghost use Rattle.mpm_opens.specs.Opens.{process_of};
 ghost use Rattle.mpm_locks.specs.Locks as locks;
 ghost use Rattle.mpm_bdos.specs.Jobs as jobs;
 ghost use Rattle.mpm_bdos.specs.Records as spec;
+ghost use Rattle.mpm_bdos.specs.Standing.{OnItsDrive};
 
 use mpm_base::Pid;
 use mpm_file_functions::Ended;
@@ -19,7 +18,7 @@ use mpm_opens::{FileKey, Opens};
 fn is_tested_off(mounted: &Mounted, opens: &Opens, p: Pid, file: FileKey, n: u32) -> bool
     requires record { n ≤ LAST_NAMED }
     requires plain { plain file.name ≡ file.name }
-    ensures { (image : List ℕ) (drive : Drive) → Stands image mounted.now drive → result ≡ jobs.is_tested_off drive opens.now p file n }
+    ensures { OnItsDrive mounted.now (λ drive. result ≡ jobs.is_tested_off drive opens.now p file n) }
 {
     is_locked_off(opens, p, file, n) && read_error(mounted, file.user, &file.name, n).is_none()
 }
@@ -38,8 +37,7 @@ pub(crate) fn count_tested(
     requires plain { plain file.name ≡ file.name }
     requires first { first ≤ LAST_POSITION }
     requires count { count ≤ 16 }
-    ensures value { (image : List ℕ) (drive : Drive) → Stands image mounted.now drive
-        → result ≡ locks.count_until (jobs.is_tested_off drive opens.now p file) first count }
+    ensures value { OnItsDrive mounted.now (λ drive. result ≡ locks.count_until (jobs.is_tested_off drive opens.now p file) first count) }
     ensures few { result ≤ count }
 {
     for k in 0..count {
@@ -61,17 +59,10 @@ pub(crate) fn lock_records(
     first: u32,
     count: u8,
 ) -> Ended
-    requires live { IsLive opens.old item }
-    requires file { file_of opens.old item ≡ file }
-    requires plain { plain file.name ≡ file.name }
-    requires first { first ≤ LAST_RECORD }
-    requires count { count ≤ 16 }
-    ensures opens { (image : List ℕ) (drive : Drive) → Stands image mounted.now drive
-        → opens.new ≡ (spec.locking drive opens.old (process_of opens.old item) file first count).opens }
-    ensures moved { (image : List ℕ) (drive : Drive) → Stands image mounted.now drive
-        → result.moved ≡ (spec.locking drive opens.old (process_of opens.old item) file first count).moved }
-    ensures end { (image : List ℕ) (drive : Drive) → Stands image mounted.now drive
-        → result.end ≡ (spec.locking drive opens.old (process_of opens.old item) file first count).end }
+    requires { spec.MayLock opens.old item file first count }
+    ensures opens { OnItsDrive mounted.now (λ drive. opens.new ≡ (spec.locking drive opens.old (process_of opens.old item) file first count).opens) }
+    ensures moved { OnItsDrive mounted.now (λ drive. result.moved ≡ (spec.locking drive opens.old (process_of opens.old item) file first count).moved) }
+    ensures end { OnItsDrive mounted.now (λ drive. result.end ≡ (spec.locking drive opens.old (process_of opens.old item) file first count).end) }
     ensures items { opens.new.items ≡ opens.old.items }
 {
     for k in 0..count {

@@ -1,11 +1,10 @@
-ghost use Rattle.std.specs.Prelude.{◌≡◌, ◌==◌, ◌&&◌, ℕ, List, length, map};
-ghost use Rattle.mpm_mount.specs.Drives.{Drive};
-ghost use Rattle.mpm_mount.specs.Directories.{Stands};
+ghost use Rattle.std.specs.Prelude.{◌≡◌, ◌==◌, ◌&&◌, length, map};
 ghost use Rattle.mpm_opens.specs.Items.{place_at, file_where, is_given_back};
 ghost use Rattle.mpm_opens.specs.Opens.{given_back};
 ghost use Rattle.mpm_mount.specs.Files.{is_fitting, has_file};
 ghost use Rattle.mpm_refusals.specs.Subjects.{file_of};
 ghost use Rattle.mpm_bdos.specs.Changes as spec;
+ghost use Rattle.mpm_bdos.specs.Standing.{OnItsDrive};
 
 use mpm_base::Pid;
 use mpm_mount::Mounted;
@@ -14,7 +13,7 @@ use mpm_opens::{FileKey, Opens};
 
 /// Whether a user's file of this very name is there.
 fn is_file(mounted: &Mounted, user: u8, name: &[u8; 11]) -> bool
-    ensures { (image : List ℕ) (drive : Drive) → Stands image mounted.now drive → result ≡ has_file drive (record { user = user; name = name.now }) }
+    ensures { OnItsDrive mounted.now (λ drive. result ≡ has_file drive (record { user = user; name = name.now })) }
 {
     let mut last = None;
     while let Some(found) = mounted.next(user, name, last) {
@@ -45,7 +44,7 @@ fn names(deletion: &Deletion, file: &FileKey) -> bool
 
 /// Whether a file is one that is deleted.
 fn is_deleted(mounted: &Mounted, deletion: &Deletion, file: &FileKey) -> bool
-    ensures { (image : List ℕ) (drive : Drive) → Stands image mounted.now drive → result ≡ spec.is_deleted_in drive deletion.now file.now }
+    ensures { OnItsDrive mounted.now (λ drive. result ≡ spec.is_deleted_in drive deletion.now file.now) }
 {
     names(deletion, file) && is_file(mounted, file.user, &file.name)
 }
@@ -58,8 +57,7 @@ fn deleted_at(
     deletion: &Deletion,
     number: u8,
 ) -> Option<FileKey>
-    ensures file { (image : List ℕ) (drive : Drive) → Stands image mounted.now drive
-        → result ≡ file_where (is_given_back p (spec.is_deleted_in drive deletion.now)) (place_at opens.now.items number) }
+    ensures file { OnItsDrive mounted.now (λ drive. result ≡ file_where (is_given_back p (spec.is_deleted_in drive deletion.now)) (place_at opens.now.items number)) }
     ensures places { length opens.now.items ≡ 64 }
 {
     match opens.file(p, number) {
@@ -75,8 +73,7 @@ pub(crate) fn deleted(
     p: Pid,
     deletion: &Deletion,
 ) -> [Option<FileKey>; 64]
-    ensures { (image : List ℕ) (drive : Drive) → Stands image mounted.now drive
-        → result ≡ map (file_where (is_given_back p (spec.is_deleted_in drive deletion.now))) opens.now.items }
+    ensures { OnItsDrive mounted.now (λ drive. result ≡ map (file_where (is_given_back p (spec.is_deleted_in drive deletion.now))) opens.now.items) }
 {
     // The list tells how many places there are.
     let _ = opens.file(p, 0);

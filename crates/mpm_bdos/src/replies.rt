@@ -1,11 +1,10 @@
 ghost use Rattle.std.specs.Prelude.{◌≡◌, ◌≤◌, ◌*◌, ℕ, List, length, option_map};
 ghost use Rattle.std.specs.List.{flat_map};
-ghost use Rattle.mpm_mount.specs.Drives.{Drive};
-ghost use Rattle.mpm_mount.specs.Directories.{Stands};
 ghost use Rattle.mpm_mount.specs.Files.{where_there};
 ghost use Rattle.mpm_file_entries.specs.Telling as telling;
 ghost use Rattle.mpm_refusals.specs.Asking.{found_as};
 ghost use Rattle.mpm_bdos.specs.Ending.{IsRead};
+ghost use Rattle.mpm_bdos.specs.Standing.{OnItsDrive};
 
 use mpm_file_entries::found_bytes;
 use mpm_files::Work;
@@ -14,8 +13,7 @@ use mpm_refusals::FoundEntry;
 
 /// The entry that a search found, as it tells it.
 pub(crate) fn told_found(mounted: &Mounted, found: &Option<FoundEntry>) -> Option<[u8; 128]>
-    ensures { (image : List ℕ) (drive : Drive) → Stands image mounted.now drive
-        → where_there result (λ bytes. bytes) ≡ telling.found_bytes drive (option_map (found_as mounted.now.kind) found.now) }
+    ensures { OnItsDrive mounted.now (λ drive. where_there result (λ bytes. bytes) ≡ telling.found_bytes drive (option_map (found_as mounted.now.kind) found.now)) }
 {
     match found {
         Some(entry) => found_bytes(mounted, entry.user, &entry.found.name, entry.found.extent),

@@ -1,13 +1,12 @@
-ghost use Rattle.std.specs.Prelude.{◌≡◌, ◌≤◌, ◌<◌, ℕ, List, Option, IfSome, option_map};
-ghost use Rattle.mpm_mount.specs.Drives.{Drive, FileName};
-ghost use Rattle.mpm_mount.specs.Directories.{Stands};
+ghost use Rattle.std.specs.Prelude.{◌≡◌, ◌<◌, IfSome, option_map};
 ghost use Rattle.mpm_opens.specs.Opens.{AreOpen};
-ghost use Rattle.mpm_refusals.specs.Asking.{called, found_as};
+ghost use Rattle.mpm_refusals.specs.Asking.{found_as};
 ghost use Rattle.mpm_bdos.specs.Leaving as spec;
 ghost use Rattle.mpm_refusals.specs.Asking as asking;
-ghost use Rattle.mpm_bdos.specs.Replies as replies;
 ghost use Rattle.mpm_refusals.specs.Filing.{HaveUsers};
-ghost use Rattle.mpm_bdos.specs.Replying.{IsAnswering, IsReplied};
+ghost use Rattle.mpm_bdos.specs.Replying.{IsRepliedOn};
+ghost use Rattle.mpm_bdos.specs.Serving.{IsCaller};
+ghost use Rattle.mpm_bdos.specs.Standing.{OnItsDrive, entered_at};
 
 use crate::answering::answer;
 use crate::ending::moved_by;
@@ -43,15 +42,11 @@ pub(crate) fn answer_mounted(
     served: &Served<'_>,
 )
     requires own { IfSome asked.now.item (λ item. asking.IsOwnItem opens.old asked.now.caller.process item) }
-    requires some { 1 ≤ asked.now.caller.multi }
-    requires few { asked.now.caller.multi ≤ 16 }
+    requires caller { IsCaller asked.now.caller }
     ensures sound { AreOpen opens.old }
     ensures users { HaveUsers opens.old → asked.now.owner < 16 → HaveUsers opens.new }
-    ensures opens { (image : List ℕ) (drive : Drive) → Stands image mounted.now drive → spec.IsInFile asked.now
-        → opens.new ≡ spec.opens_left drive opens.old asked.now served.now.work.now served.now.deleted.now }
-    ensures reply { (image : List ℕ) (drive : Drive) (records : List (List ℕ)) (entry : Option (FileName × ℕ)) → Stands image mounted.now drive
-        → (granted : spec.IsGranted drive opens.old asked.now served.now.work.now served.now.deleted.now records) → option_map (found_as mounted.now.kind) found.now ≡ entry
-        → reply.new ≡ replies.answer_by drive (spec.granted_by drive (spec.left_first opens.old asked.now served.now.work.now served.now.deleted.now) asked.now served.now.work.now) records entry served.now.file_call.call.now.fcb served.now.file_call.call.now.dma }
+    ensures opens { OnItsDrive mounted.now (λ drive. spec.IsInFile asked.now → opens.new ≡ spec.opens_left drive opens.old asked.now served.now.work.now served.now.deleted.now) }
+    ensures reply { spec.IsGrantedReply mounted.now opens.old asked.now served.now.work.now served.now.deleted.now (option_map (found_as mounted.now.kind) found.now) served.now.file_call.call.now reply.new }
 {
     // Who has a lock tells that all open files are sound.
     let _ = opens.owner(subject_key(asked), 0);
@@ -86,12 +81,9 @@ pub(crate) fn reply_mounted(
     searches: &mut Searches,
     served: &Served<'_>,
 )
-    requires some { 1 ≤ served.now.file_call.caller.multi }
-    requires few { served.now.file_call.caller.multi ≤ 16 }
-    ensures users { HaveUsers opens.old → served.now.file_call.caller.user < 16 → HaveUsers opens.new }
-    ensures replied { (image : List ℕ) (drives : List (Option Drive)) (marks moment : List ℕ)
-        → IsAnswering (called drives protected.now opens.old marks searches.old served.now.file_call.caller served.now.file_call.function served.now.file_call.call.now moment) image mounted.now served.now.work.now served.now.deleted.now
-        → IsReplied (called drives protected.now opens.old marks searches.old served.now.file_call.caller served.now.file_call.function served.now.file_call.call.now moment) reply.new opens.new searches.new }
+    requires { IsCaller served.now.file_call.caller }
+    ensures users { HaveUsers opens.old → HaveUsers opens.new }
+    ensures replied { IsRepliedOn mounted.now (λ drives marks moment. entered_at served.now.file_call moment protected.now opens.old searches.old drives marks) served.now.work.now served.now.deleted.now reply.new opens.new searches.new }
 {
     let asked = ask(mounted, protected, opens, searches, &served.file_call);
     let caller = asked.caller;

@@ -1,20 +1,17 @@
-ghost use Rattle.std.specs.Prelude.{◌≡◌, ◌≤◌, ◌&&◌, ℕ, List, Option, Some, None, IfSome, is_some, min, length, option_and_then, unwrap_or};
+ghost use Rattle.std.specs.Prelude.{◌≡◌, ◌≤◌, ◌&&◌, List, Option, Some, is_some, min, option_and_then, unwrap_or};
 ghost use Rattle.std.specs.Option.{option_copied};
 ghost use Rattle.mpm_dirent.specs.Names.{plain};
 ghost use Rattle.mpm_dirent.specs.declared.limits.TheConstants.{LAST_POSITION};
 ghost use Rattle.mpm_mount.specs.Drives.{Drive};
-ghost use Rattle.mpm_mount.specs.Directories.{Stands};
 ghost use Rattle.mpm_opens.specs.Items.{file_named};
 ghost use Rattle.mpm_opens.specs.Opens.{item_of};
 ghost use Rattle.mpm_fcb.specs.Positions.{sequential_record};
-ghost use Rattle.mpm_files.specs.Turning.{Suits};
-ghost use Rattle.mpm_refusals.specs.Filing.{Situation, block as block_in, HaveUsers};
+ghost use Rattle.mpm_refusals.specs.Filing.{HaveUsers};
 ghost use Rattle.mpm_refusals.specs.Subjects as subjects;
-ghost use Rattle.mpm_refusals.specs.Refusals as refusals;
-ghost use Rattle.mpm_refusals.specs.Asking.{called, StandsForDirectory};
 ghost use Rattle.mpm_bdos.specs.Changes as changes;
 ghost use Rattle.mpm_file_functions.specs.Functions.{function_of};
-ghost use Rattle.mpm_bdos.specs.Serving.{IsCaller, StandEach, WorksOn};
+ghost use Rattle.mpm_bdos.specs.Serving.{IsCaller};
+ghost use Rattle.mpm_bdos.specs.Standing.{entered_by};
 ghost use Rattle.mpm_bdos.specs.Starting as spec;
 
 use crate::bdos::Bdos;
@@ -104,41 +101,40 @@ fn about_of(
     }
 }
 
-/// Begins a job that suits its drive.
-fn begun_job(mounted: &Mounted, job: &Job) -> Option<Work>
-    ensures { (image : List ℕ) (drive : Drive) → Stands image mounted.now drive → Suits drive job.now → WorksOn image (Some mounted.now) drive (Some job.now) 0 result }
+/// Begins a job that suits its drive. Its work stays where it is, as it takes some 4 KiB.
+fn begin_job(work: &mut Option<Work>, mounted: &Mounted, job: &Job)
+    ensures { spec.BeginsOn mounted.now (Some job.now) work.new }
 {
     // No job that suits its drive has more.
     if job.first > LAST_POSITION || job.count > RECORDS {
-        return None;
+        *work = None;
+        return;
     }
-    Some(plan(mounted, job))
+    *work = Some(plan(mounted, job));
 }
 
 /// Begins a job that suits its drive, if there is one.
-fn begun(mounted: &Mounted, job: Option<Job>) -> Option<Work>
-    ensures { (image : List ℕ) (drive : Drive) → Stands image mounted.now drive → IfSome job (Suits drive) → WorksOn image (Some mounted.now) drive job 0 result }
+fn begin(work: &mut Option<Work>, mounted: &Mounted, job: &Option<Job>)
+    ensures { spec.BeginsOn mounted.now job.now work.new }
 {
-    match &job {
-        Some(job) => begun_job(mounted, job),
-        None => None,
+    match job {
+        Some(job) => begin_job(work, mounted, job),
+        None => *work = None,
     }
 }
 
 /// Begins the job of a call that isn't refused, on a drive that is mounted.
-fn begun_call(
+fn begin_call(
+    work: &mut Option<Work>,
     mounted: &Mounted,
     protected: &Protected,
     opens: &Opens,
     searches: &Searches,
     file_call: &FileCall<'_>,
-) -> Option<Work>
+)
     requires caller { IsCaller file_call.now.caller }
     requires users { HaveUsers opens.now }
-    ensures { (image : List ℕ) (drives : List (Option Drive)) (marks : List ℕ)
-        → Stands image mounted.now (subjects.drive_at (called drives protected.now opens.now marks searches.now file_call.now.caller file_call.now.function file_call.now.call.now file_call.now.moment))
-        → refusals.refusal_of (called drives protected.now opens.now marks searches.now file_call.now.caller file_call.now.function file_call.now.call.now file_call.now.moment) ≡ None
-        → spec.BeginsJob image (Some mounted.now) (called drives protected.now opens.now marks searches.now file_call.now.caller file_call.now.function file_call.now.call.now file_call.now.moment) result }
+    ensures { spec.BeginsCall mounted.now (entered_by file_call.now protected.now opens.now searches.now) work.new }
 {
     let FileCall {
         caller,
@@ -159,31 +155,30 @@ fn begun_call(
         number,
     );
     let job = job_by(mounted, opens, file_call, &block, about);
-    begun(mounted, job)
+    begin(work, mounted, &job);
 }
 
 /// Begins the job of a call, if it has one: of one that isn't refused, on a drive that is mounted.
-fn begun_unless(
+fn begin_unless(
+    work: &mut Option<Work>,
     refusal: Option<Refusal>,
     mounted: Option<&Mounted>,
     protected: &Protected,
     opens: &Opens,
     searches: &Searches,
     file_call: &FileCall<'_>,
-) -> Option<Work>
+)
     requires caller { IsCaller file_call.now.caller }
     requires users { HaveUsers opens.now }
-    ensures { (image : List ℕ) (drives : List (Option Drive)) (marks : List ℕ)
-        → StandsForDirectory image (option_copied mounted.entry) (called drives protected.now opens.now marks searches.now file_call.now.caller file_call.now.function file_call.now.call.now file_call.now.moment)
-        → refusal ≡ refusals.refusal_of (called drives protected.now opens.now marks searches.now file_call.now.caller file_call.now.function file_call.now.call.now file_call.now.moment)
-        → spec.BeginsJob image (option_copied mounted.entry) (called drives protected.now opens.now marks searches.now file_call.now.caller file_call.now.function file_call.now.call.now file_call.now.moment) result }
+    ensures { spec.BeginsUnless refusal (option_copied mounted.entry) (entered_by file_call.now protected.now opens.now searches.now) work.new }
 {
     if refusal.is_some() {
-        return None;
+        *work = None;
+        return;
     }
     match mounted {
-        Some(mounted) => begun_call(mounted, protected, opens, searches, file_call),
-        None => None,
+        Some(mounted) => begin_call(work, mounted, protected, opens, searches, file_call),
+        None => *work = None,
     }
 }
 
@@ -220,8 +215,7 @@ fn deleted_on(
     deletion: &Deletion,
     function: FileFunction,
 ) -> [Option<FileKey>; 64]
-    ensures { (image : List ℕ) (s : Situation) → Stands image mounted.now (subjects.drive_at s) → opens.now ≡ s.filing.opens → p ≡ s.caller.process → deletion.now ≡ changes.deletion s
-        → result ≡ changes.deleted_by s function }
+    ensures { spec.IsDeletedOn mounted.now opens.now p deletion.now (λ s. result ≡ changes.deleted_by s function) }
 {
     match function {
         FileFunction::DeleteFile => deleted(mounted, opens, p, deletion),
@@ -238,8 +232,7 @@ fn deleted_of(
     block: &ControlBlock,
     function: FileFunction,
 ) -> [Option<FileKey>; 64]
-    ensures { (image : List ℕ) (s : Situation) → StandsForDirectory image (option_copied mounted.entry) s → refusals.refusal_of s ≡ None → opens.now ≡ s.filing.opens → caller.now ≡ s.caller
-        → drive ≡ subjects.drive_number s → block.now ≡ block_in s → function ≡ s.function → result ≡ changes.deleted_by s s.function }
+    ensures { spec.IsDeletedBy (option_copied mounted.entry) opens.now caller.now drive block.now function result }
 {
     let deletion = Deletion {
         user: caller.user,
@@ -266,10 +259,7 @@ fn entered(
     requires users { HaveUsers opens.now }
     ensures entered { spec.IsEntered file_call.now.caller file_call.now.function file_call.now.call.now result }
     ensures drive { result.drive ≡ drive }
-    ensures all { (image : List ℕ) (drives : List (Option Drive))
-        → StandsForDirectory image (option_copied mounted.entry) (called drives protected.now opens.now marks.now searches.now file_call.now.caller file_call.now.function file_call.now.call.now file_call.now.moment)
-        → drive ≡ subjects.drive_number (called drives protected.now opens.now marks.now searches.now file_call.now.caller file_call.now.function file_call.now.call.now file_call.now.moment)
-        → spec.Enters image (option_copied mounted.entry) (called drives protected.now opens.now marks.now searches.now file_call.now.caller file_call.now.function file_call.now.call.now file_call.now.moment) result }
+    ensures all { spec.EntersBy (option_copied mounted.entry) drive (λ drives. entered_by file_call.now protected.now opens.now searches.now drives marks.now) result }
 {
     let FileCall {
         caller,
@@ -278,7 +268,10 @@ fn entered(
         moment,
     } = *file_call;
     let refusal = refusal_of(mounted, protected, opens, marks, searches, file_call);
-    let work = begun_unless(refusal, mounted, protected, opens, searches, file_call);
+    let mut work = None;
+    begin_unless(
+        &mut work, refusal, mounted, protected, opens, searches, file_call,
+    );
     let block = block_of_call(call);
     let deleted = deleted_of(mounted, opens, &caller, drive, &block, function);
     Service {
@@ -305,10 +298,8 @@ fn entered_among(
     requires caller { IsCaller file_call.now.caller }
     requires users { HaveUsers opens.now }
     ensures entered { spec.IsEntered file_call.now.caller file_call.now.function file_call.now.call.now result }
-    ensures drive { (drives : List (Option Drive))
-        → result.drive ≡ subjects.drive_number (called drives protected.now opens.now marks.now searches.now file_call.now.caller file_call.now.function file_call.now.call.now file_call.now.moment) }
-    ensures all { (images : ℕ → List ℕ) (drives : List (Option Drive)) → StandEach images mounted.now drives
-        → spec.EntersAmong images mounted.now (called drives protected.now opens.now marks.now searches.now file_call.now.caller file_call.now.function file_call.now.call.now file_call.now.moment) result }
+    ensures drive { (drives : List (Option Drive)) → result.drive ≡ subjects.drive_number (entered_by file_call.now protected.now opens.now searches.now drives marks.now) }
+    ensures all { spec.EntersAll mounted.now (λ drives. entered_by file_call.now protected.now opens.now searches.now drives marks.now) result }
 {
     let FileCall {
         caller,
@@ -352,32 +343,27 @@ fn function_of_call(call: &Call) -> Option<FileFunction>
 }
 
 impl Bdos {
-    ghost use Rattle.std.specs.Prelude.{◌≡◌, ◌<◌, ℕ, true, false, List, Option, Some, None, IfSome, is_some};
+    ghost use Rattle.std.specs.Prelude.{◌≡◌, ◌<◌, ℕ, true, false, List, Option, Some, None, is_some};
     ghost use Rattle.mpm_clock.specs.Times.{IsTime};
-    ghost use Rattle.mpm_clock.specs.PackedDecimal.{stamp as stamp_of};
     ghost use Rattle.mpm_mount.specs.Drives.{Drive};
-    ghost use Rattle.mpm_file_functions.specs.declared.functions.FileFunction as functions;
     ghost use Rattle.mpm_file_functions.specs.Functions.{function_of};
     ghost use Rattle.mpm_bdos.specs.Jobs.{call_turns};
-    ghost use Rattle.mpm_bdos.specs.Serving.{IsCaller, StandEach, Serves};
+    ghost use Rattle.mpm_bdos.specs.Serving.{IsCaller, Serves};
+    ghost use Rattle.mpm_bdos.specs.Standing.{EntersOnAny, OfFunction};
     ghost use Rattle.mpm_directories.specs.Places.{directory_at};
     ghost use Rattle.mpm_refusals.specs.Subjects.{drive_number};
     ghost use Rattle.mpm_bdos.specs.Turns.{drive_served, has_work};
-    ghost use Rattle.mpm_bdos.specs.Starting.{HasBegunService, caller_of, entering, turns_where};
+    ghost use Rattle.mpm_bdos.specs.Starting.{HasBegunService, caller_of, entering_at};
 
     /// A process's call on files and drives enters service: how many turns it takes. A call of another function doesn't, and takes
     /// none. No device is asked. (MP/M II Programmer's Guide, "BDOS Function Calls".)
     pub fn start(&mut self, p: Pid, call: &Call, process: &Process, now: Moment) -> u32
         requires caller { IsCaller (caller_of p process.now) }
         requires time { IsTime now }
-        ensures turns { (images : ℕ → List ℕ) (drives : List (Option Drive)) (function : functions.FileFunction) → function_of call.now.function ≡ Some function
-            → StandEach images self.old.mounted drives → result ≡ call_turns (entering self.old drives (caller_of p process.now) function call.now (stamp_of now)) }
-        ensures serves { (images : ℕ → List ℕ) (drives : List (Option Drive)) (function : functions.FileFunction) → function_of call.now.function ≡ Some function
-            → StandEach images self.old.mounted drives → Serves images self.new (entering self.old drives (caller_of p process.now) function call.now (stamp_of now)) 0 }
-        ensures entered { (function : functions.FileFunction) → function_of call.now.function ≡ Some function
-            → HasBegunService (caller_of p process.now) function call.now self.new.service }
-        ensures drive { (drives : List (Option Drive)) (function : functions.FileFunction) → function_of call.now.function ≡ Some function
-            → drive_served self.new.service ≡ Some (drive_number (entering self.old drives (caller_of p process.now) function call.now (stamp_of now))) }
+        ensures turns { EntersOnAny self.old call.now (λ images drives function. result ≡ call_turns (entering_at self.old p process.now call.now now drives function)) }
+        ensures serves { EntersOnAny self.old call.now (λ images drives function. Serves images self.new (entering_at self.old p process.now call.now now drives function) 0) }
+        ensures entered { OfFunction call.now (λ function. HasBegunService (caller_of p process.now) function call.now self.new.service) }
+        ensures drive { (drives : List (Option Drive)) → OfFunction call.now (λ function. drive_served self.new.service ≡ Some (drive_number (entering_at self.old p process.now call.now now drives function))) }
         ensures some { is_some (function_of call.now.function) ≡ true → 0 < result }
         ensures workless { is_some (function_of call.now.function) ≡ true → ((number : ℕ) → directory_at self.old.mounted number ≡ None) → has_work self.new.service ≡ false }
         ensures kept { self.new ≡ record self.old { service = self.new.service } }

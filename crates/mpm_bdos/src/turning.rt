@@ -1,16 +1,13 @@
-ghost use Rattle.std.specs.Prelude.{◌≡◌, ℕ, suc, ◌<◌, Option, Some, Ok, IfOk, IfSome, OnOk, OnErr, option_map, is_some, false};
+ghost use Rattle.std.specs.Prelude.{◌≡◌, suc, Some, Ok, IfSome, OnOk, OnErr, option_map, is_some, false};
 ghost use Rattle.mpm_port.specs.Causes.{HasCause};
 ghost use Rattle.mpm_port.specs.Disks.{size_of};
 ghost use Rattle.mpm_blocks.specs.Geometries.{geometry_of};
 ghost use Rattle.mpm_cache.specs.Coherent.{IsCoherent, HasNoAlias};
 ghost use Rattle.mpm_mount.specs.Directories.{IsDirectory};
-ghost use Rattle.mpm_mount.specs.Drives.{Drive};
-ghost use Rattle.mpm_jobs.specs.declared.jobs.Job.{Job};
 ghost use Rattle.mpm_files.specs.declared.turning.Progress.TheVariants as progress;
-ghost use Rattle.mpm_files.specs.Plans.{turns_of};
-ghost use Rattle.mpm_files.specs.Turning.{Suits};
 ghost use Rattle.mpm_directories.specs.Places.{directory_at};
-ghost use Rattle.mpm_bdos.specs.Turns.{FitsDrives, TurnLeaves, TakesTurn, progress_after, labelled, HasLeftDisk, IsWorking, IsWorkingOn, IsContainedAt, IsServing, IsServiceContained, IsReadingRecord, IsReadingCached, ServesReading, ServesCached, IsDiskIdle, has_work, drive_served, without_work};
+ghost use Rattle.mpm_bdos.specs.Standing.{WhileWorking};
+ghost use Rattle.mpm_bdos.specs.Turns.{FitsDrives, TurnLeaves, TakesTurn, TellsProgress, labelled, HasLeftDisk, IsWorking, IsWorkingOn, IsContainedAt, IsServing, IsServiceContained, IsReadingRecord, IsReadingCached, ServesReading, ServesCached, IsDiskIdle, has_work, drive_served, without_work};
 
 use crate::directories::Directories;
 use crate::service::{Held, Service};
@@ -33,12 +30,9 @@ pub(crate) fn turn_at<D: Drives, L: Ledger>(
     requires size { IfSome place.old (λ d. size_of (D.disks drives.old) d.drive ≡ Some (geometry_of d.kind).bytes) }
     requires coherent { IsCoherent cache.old (D.disks drives.old) }
     requires apart { IfSome place.old (λ d. HasNoAlias cache.old (D.disks drives.old) d.drive) }
-    ensures ok { (before : Drive) (job : Job) (j : ℕ) → Suits before job → IsWorking (D.disks drives.old) place.old before job j work.old → j < turns_of before job
-        → OnOk result (IsWorking (D.disks drives.new) place.new before job (suc j) work.new) }
-    ensures err { (before : Drive) (job : Job) (j : ℕ) → Suits before job → IsWorking (D.disks drives.old) place.old before job j work.old → j < turns_of before job
-        → OnErr result (IsContainedAt (D.disks drives.new) place.old before job j) }
-    ensures progress { (before : Drive) (job : Job) (j : ℕ) → IsWorking (D.disks drives.old) place.old before job j work.old
-        → IfOk result (λ told. told ≡ progress_after (suc j) (turns_of before job)) }
+    ensures ok { WhileWorking (λ before job j. IsWorking (D.disks drives.old) place.old before job j work.old) (λ before job j. OnOk result (IsWorking (D.disks drives.new) place.new before job (suc j) work.new)) }
+    ensures err { WhileWorking (λ before job j. IsWorking (D.disks drives.old) place.old before job j work.old) (λ before job j. OnErr result (IsContainedAt (D.disks drives.new) place.old before job j)) }
+    ensures progress { TellsProgress (λ before job j. IsWorking (D.disks drives.old) place.old before job j work.old) result }
     ensures same { option_map labelled place.new ≡ option_map labelled place.old }
     ensures takes { TakesTurn (IsReadingRecord (Some work.old)) (IsReadingCached cache.old place.old (Some work.old)) steps.old steps.new (D.unsynced drives.old) (D.unsynced drives.new) }
     ensures directory { IfSome place.new (λ d. IsDirectory d.kind d.entries) }
@@ -68,13 +62,10 @@ impl Directories {
         steps: &mut Steps<L>,
     ) -> Result<Progress, Failed>
         requires { FitsDrives D.disks self.old cache.old drives.old }
-        ensures ok { (before : Drive) (job : Job) (j : ℕ) → Suits before job → IsWorking (D.disks drives.old) (directory_at self.old number) before job j work.old → j < turns_of before job
-            → OnOk result (IsWorking (D.disks drives.new) (directory_at self.new number) before job (suc j) work.new) }
-        ensures err { (before : Drive) (job : Job) (j : ℕ) → Suits before job → IsWorking (D.disks drives.old) (directory_at self.old number) before job j work.old → j < turns_of before job
-            → OnErr result (IsContainedAt (D.disks drives.new) (directory_at self.old number) before job j) }
-        ensures progress { (before : Drive) (job : Job) (j : ℕ) → IsWorking (D.disks drives.old) (directory_at self.old number) before job j work.old
-            → IfOk result (λ told. told ≡ progress_after (suc j) (turns_of before job)) }
-        ensures left { TurnLeaves D.disks D.told D.failed_names D.unsynced (Some number) self.old self.new cache.new drives.old drives.new }
+        ensures ok { WhileWorking (λ before job j. IsWorking (D.disks drives.old) (directory_at self.old number) before job j work.old) (λ before job j. OnOk result (IsWorking (D.disks drives.new) (directory_at self.new number) before job (suc j) work.new)) }
+        ensures err { WhileWorking (λ before job j. IsWorking (D.disks drives.old) (directory_at self.old number) before job j work.old) (λ before job j. OnErr result (IsContainedAt (D.disks drives.new) (directory_at self.old number) before job j)) }
+        ensures progress { TellsProgress (λ before job j. IsWorking (D.disks drives.old) (directory_at self.old number) before job j work.old) result }
+        ensures left { TurnLeaves D.Drives (Some number) self.old self.new cache.new drives.old drives.new }
         ensures takes { TakesTurn (IsReadingRecord (Some work.old)) (IsReadingCached cache.old (directory_at self.old number) (Some work.old)) steps.old steps.new (D.unsynced drives.old) (D.unsynced drives.new) }
         ensures cause { HasCause (D.faults drives.old) (D.faults drives.new) result }
     {
@@ -98,17 +89,14 @@ impl Service {
         steps: &mut Steps<L>,
     ) -> Result<Progress, Failed>
         requires { FitsDrives D.disks mounted.old cache.old drives.old }
-        ensures ok { (before : Drive) (job : Job) (j : ℕ) → Suits before job → IsWorkingOn (D.disks drives.old) (directory_at mounted.old self.old.drive) before job j self.old.work → j < turns_of before job
-            → OnOk result (IsWorkingOn (D.disks drives.new) (directory_at mounted.new self.new.drive) before job (suc j) self.new.work) }
-        ensures err { (before : Drive) (job : Job) (j : ℕ) → Suits before job → IsWorkingOn (D.disks drives.old) (directory_at mounted.old self.old.drive) before job j self.old.work → j < turns_of before job
-            → OnErr result (IsContainedAt (D.disks drives.new) (directory_at mounted.old self.old.drive) before job j) }
-        ensures progress { (before : Drive) (job : Job) (j : ℕ) → IsWorkingOn (D.disks drives.old) (directory_at mounted.old self.old.drive) before job j self.old.work
-            → IfOk result (λ told. told ≡ progress_after (suc j) (turns_of before job)) }
+        ensures ok { WhileWorking (λ before job j. IsWorkingOn (D.disks drives.old) (directory_at mounted.old self.old.drive) before job j self.old.work) (λ before job j. OnOk result (IsWorkingOn (D.disks drives.new) (directory_at mounted.new self.new.drive) before job (suc j) self.new.work)) }
+        ensures err { WhileWorking (λ before job j. IsWorkingOn (D.disks drives.old) (directory_at mounted.old self.old.drive) before job j self.old.work) (λ before job j. OnErr result (IsContainedAt (D.disks drives.new) (directory_at mounted.old self.old.drive) before job j)) }
+        ensures progress { TellsProgress (λ before job j. IsWorkingOn (D.disks drives.old) (directory_at mounted.old self.old.drive) before job j self.old.work) result }
         ensures idle { is_some self.old.work ≡ false → IsDiskIdle self.old self.new mounted.old mounted.new cache.old cache.new drives.old drives.new steps.old steps.new }
         ensures done { is_some self.old.work ≡ false → result ≡ Ok progress.Done }
         ensures still { is_some self.new.work ≡ is_some self.old.work }
         ensures kept { without_work self.new ≡ without_work self.old }
-        ensures left { TurnLeaves D.disks D.told D.failed_names D.unsynced (Some self.old.drive) mounted.old mounted.new cache.new drives.old drives.new }
+        ensures left { TurnLeaves D.Drives (Some self.old.drive) mounted.old mounted.new cache.new drives.old drives.new }
         ensures takes { TakesTurn (IsReadingRecord self.old.work) (IsReadingCached cache.old (directory_at mounted.old self.old.drive) self.old.work) steps.old steps.new (D.unsynced drives.old) (D.unsynced drives.new) }
         ensures cause { HasCause (D.faults drives.old) (D.faults drives.new) result }
     {
@@ -130,17 +118,14 @@ pub(crate) fn turn_service<D: Drives, L: Ledger>(
     steps: &mut Steps<L>,
 ) -> Result<Progress, Failed>
     requires { FitsDrives D.disks mounted.old cache.old drives.old }
-    ensures ok { (before : Drive) (job : Job) (j : ℕ) → Suits before job → IsServing (D.disks drives.old) mounted.old before job j service.old → j < turns_of before job
-        → OnOk result (IsServing (D.disks drives.new) mounted.new before job (suc j) service.new) }
-    ensures err { (before : Drive) (job : Job) (j : ℕ) → Suits before job → IsServing (D.disks drives.old) mounted.old before job j service.old → j < turns_of before job
-        → OnErr result (IsServiceContained (D.disks drives.new) mounted.old before job j service.old) }
-    ensures progress { (before : Drive) (job : Job) (j : ℕ) → IsServing (D.disks drives.old) mounted.old before job j service.old
-        → IfOk result (λ told. told ≡ progress_after (suc j) (turns_of before job)) }
+    ensures ok { WhileWorking (λ before job j. IsServing (D.disks drives.old) mounted.old before job j service.old) (λ before job j. OnOk result (IsServing (D.disks drives.new) mounted.new before job (suc j) service.new)) }
+    ensures err { WhileWorking (λ before job j. IsServing (D.disks drives.old) mounted.old before job j service.old) (λ before job j. OnErr result (IsServiceContained (D.disks drives.new) mounted.old before job j service.old)) }
+    ensures progress { TellsProgress (λ before job j. IsServing (D.disks drives.old) mounted.old before job j service.old) result }
     ensures idle { has_work service.old ≡ false → IsDiskIdle service.old service.new mounted.old mounted.new cache.old cache.new drives.old drives.new steps.old steps.new }
     ensures done { has_work service.old ≡ false → result ≡ Ok progress.Done }
     ensures still { has_work service.new ≡ has_work service.old }
     ensures kept { option_map without_work service.new ≡ option_map without_work service.old }
-    ensures left { TurnLeaves D.disks D.told D.failed_names D.unsynced (drive_served service.old) mounted.old mounted.new cache.new drives.old drives.new }
+    ensures left { TurnLeaves D.Drives (drive_served service.old) mounted.old mounted.new cache.new drives.old drives.new }
     ensures takes { TakesTurn (ServesReading service.old) (ServesCached cache.old mounted.old service.old) steps.old steps.new (D.unsynced drives.old) (D.unsynced drives.new) }
     ensures cause { HasCause (D.faults drives.old) (D.faults drives.new) result }
 {

@@ -1,7 +1,8 @@
 -- Records that are freed, one after the other.
-use Rattle.std.proofs.Common.{◌≡◌, ◌∙◌, refl, sym, ap, ℕ, suc, ◌+◌, arith}
+use Rattle.std.proofs.Common.{◌≡◌, ◌∙◌, refl, sym, ap, ℕ, zero, suc, ◌+◌, arith}
 use Rattle.mpm_opens.specs.declared.kinds.FileKey.{FileKey}
-use Rattle.mpm_opens.specs.Opens.{OpenFiles, IsLive, process_of, file_of, unlocked}
+use Rattle.mpm_opens.specs.Opens.{OpenFiles, IsLive, process_of, file_of, unlocked, LeavesOthers}
+use Rattle.mpm_opens.proofs.OthersLaws.{leaves_same, leaves_after, unlocked_leaves}
 use Rattle.mpm_locks.specs.Locks.{unlocking}
 
 -- so many were freed, and what is left; all items are as they were
@@ -65,3 +66,11 @@ pub all_freed : (initial now : OpenFiles) (item first count k : ℕ) → FreesTo
     → now ≡ unlocking initial (process_of initial item) (file_of initial item) first count
 unfolding unlocking
 all_freed initial now item first count k before ended = sym (before.rest 0 (omega (arith, ended)))
+
+-- no open file changes by it
+pub unlocking_leaves : (count : ℕ) (opens : OpenFiles) (p : ℕ) (file : FileKey) (n : ℕ) → LeavesOthers p opens (unlocking opens p file n count)
+unfolding unlocking
+unlocking_leaves zero opens p file n = leaves_same p opens
+unlocking_leaves (suc count) opens p file n =
+    leaves_after p opens (unlocked opens p file n) (unlocking (unlocked opens p file n) p file (n + 1) count)
+    (unlocked_leaves opens p file n) (unlocking_leaves count (unlocked opens p file n) p file (n + 1))

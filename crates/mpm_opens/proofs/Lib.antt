@@ -9,4 +9,5 @@ pub mod LeavingLaws
 pub mod FindingLaws
 pub mod SoundLaws
 pub mod GivingLaws
+pub mod OthersLaws
 pub mod Examples

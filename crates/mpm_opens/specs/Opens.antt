@@ -119,6 +119,10 @@ unless_owned p (Some owner) = if owner == p then None else (Some owner)
 abbrev pub owner_left : Bool → ℕ → Option ℕ → Option ℕ
 owner_left leaves p owner = if leaves then unless_owned p owner else owner
 
+-- each item of a process but one is as it was
+pub record LeavesOthers (p : ℕ) (old new : OpenFiles) : Type 0 where
+  pub stays : (number : ℕ) (item : Item) → place_at old.items number ≡ Some item → item.process ≢ p → place_at new.items number ≡ Some item
+
 -- a process left the files that pass a test: its items of them are gone, with its locks there, and all others are as they were
 pub record HasLeft (p : ℕ) (among : FileKey → Bool) (old new : OpenFiles) : Type 0 where
   pub items : (number : ℕ) → place_at new.items number ≡ left_in p among (place_at old.items number)

@@ -16,6 +16,15 @@ use mpm_gate::is_gate;
 use z80_ext::{Fetched, Stepped, begin_all, step_load_up, step_other, step_unbegun};
 use z80_regs::{Bus, Regs};
 
+/// Instructions of a process, up to a gate or an unlisted opcode.
+#[derive(Clone, Copy)]
+pub struct Instructions {
+    /// Whether the process is in a resident procedure, so that the gate that ends one is there.
+    pub inside: bool,
+    /// At most so many are done.
+    pub most: u64,
+}
+
 /// The opcode at an address of a segment below its last page, in which the gates are. Most instructions stand there, so that
 /// one comparison tells that the byte is there and that no gate is.
 #[inline(always)]
@@ -226,8 +235,7 @@ fn execute_loads(
 #[inline(never)]
 fn execute_others(
     opcode: u8,
-    inside: bool,
-    most: u64,
+    burst: Instructions,
     spec: SegmentSpec,
     regs: &mut Regs,
     segment: &mut [u8],
@@ -235,13 +243,13 @@ fn execute_others(
     devices: &mut Devices,
 ) -> u64
     requires fits { FitsBelowCommon spec }
-    requires some { 0 < most }
+    requires some { 0 < burst.most }
     requires rare { IsRareAt opcode regs.old (byte_at (alone spec segment.old common.old) 0) }
-    requires gate { gate_of inside (alone spec segment.old common.old) 0 regs.old.pc ≡ None }
-    ensures count { result ≤ most }
-    ensures moved { Moves inside result 0 (view_of spec regs.old segment.old common.old devices.old)
+    requires gate { gate_of burst.inside (alone spec segment.old common.old) 0 regs.old.pc ≡ None }
+    ensures count { result ≤ burst.most }
+    ensures moved { Moves burst.inside result 0 (view_of spec regs.old segment.old common.old devices.old)
         (view_of spec regs.new segment.new common.new devices.new) }
-    ensures stopped { result ≡ 0 → CanMove inside 0 (view_of spec regs.new segment.new common.new devices.new) → ⊥ }
+    ensures stopped { result ≡ 0 → CanMove burst.inside 0 (view_of spec regs.new segment.new common.new devices.new) → ⊥ }
     ensures segment { length segment.new ≡ length segment.old }
     ensures common { length common.new ≡ length common.old }
 {
@@ -254,7 +262,15 @@ fn execute_others(
     if regs.pc != pc {
         return 1;
     }
-    1 + execute_loads(inside, most - 1, spec, regs, segment, common, devices)
+    1 + execute_loads(
+        burst.inside,
+        burst.most - 1,
+        spec,
+        regs,
+        segment,
+        common,
+        devices,
+    )
 }
 
 /// What plain instructions in a row came to.
@@ -357,8 +373,7 @@ fn execute_plain(
 #[inline(never)]
 fn execute_from(
     opcode: u8,
-    inside: bool,
-    most: u64,
+    burst: Instructions,
     spec: SegmentSpec,
     regs: &mut Regs,
     segment: &mut [u8],
@@ -366,21 +381,25 @@ fn execute_from(
     devices: &mut Devices,
 ) -> u64
     requires fits { FitsBelowCommon spec }
-    requires some { 0 < most }
+    requires some { 0 < burst.most }
     requires rare { IsRareAt opcode regs.old (byte_at (alone spec segment.old common.old) 0) }
-    requires gate { gate_of inside (alone spec segment.old common.old) 0 regs.old.pc ≡ None }
-    ensures count { result ≤ most }
-    ensures moved { Moves inside result 0 (view_of spec regs.old segment.old common.old devices.old)
+    requires gate { gate_of burst.inside (alone spec segment.old common.old) 0 regs.old.pc ≡ None }
+    ensures count { result ≤ burst.most }
+    ensures moved { Moves burst.inside result 0 (view_of spec regs.old segment.old common.old devices.old)
         (view_of spec regs.new segment.new common.new devices.new) }
-    ensures stopped { result < most → CanMove inside 0 (view_of spec regs.new segment.new common.new devices.new) → ⊥ }
+    ensures stopped { result < burst.most → CanMove burst.inside 0 (view_of spec regs.new segment.new common.new devices.new) → ⊥ }
     ensures segment { length segment.new ≡ length segment.old }
     ensures common { length common.new ≡ length common.old }
 {
+    let Instructions { inside, most } = burst;
     let mut rare = opcode;
     let mut done = 0;
     loop {
-        let left = most - done;
-        let others = execute_others(rare, inside, left, spec, regs, segment, common, devices);
+        let left = Instructions {
+            inside,
+            most: most - done,
+        };
+        let others = execute_others(rare, left, spec, regs, segment, common, devices);
         done += others;
         if others == 0 || done == most {
             return done;
@@ -393,15 +412,6 @@ fn execute_from(
             Some(opcode) => opcode,
         };
     }
-}
-
-/// Instructions of a process, up to a gate or an unlisted opcode.
-#[derive(Clone, Copy)]
-pub struct Instructions {
-    /// Whether the process is in a resident procedure, so that the gate that ends one is there.
-    pub inside: bool,
-    /// At most so many are done.
-    pub most: u64,
 }
 
 impl Burst for Instructions {
@@ -428,8 +438,11 @@ impl Burst for Instructions {
         match paused.opcode {
             None => done,
             Some(opcode) => {
-                let left = most - done;
-                done + execute_from(opcode, inside, left, spec, regs, segment, common, devices)
+                let left = Instructions {
+                    inside,
+                    most: most - done,
+                };
+                done + execute_from(opcode, left, spec, regs, segment, common, devices)
             }
         }
     }

@@ -8,6 +8,7 @@ use Rattle.std.proofs.lemmas.Option.{same_Some}
 use Rattle.mpm_base.proofs.Options.{still_some}
 use Rattle.mpm_dirent.specs.Names.{plain}
 use Rattle.mpm_mount.specs.Drives.{FileName, Drive}
+use Rattle.mpm_opens.specs.declared.kinds.OpenRefused.TheVariants as opening
 use Rattle.mpm_opens.specs.declared.kinds.FileKey.{FileKey}
 use Rattle.mpm_opens.specs.Items as items
 use Rattle.mpm_opens.specs.Opens.{OpenFiles, item_of}
@@ -19,7 +20,7 @@ use Rattle.mpm_file_functions.specs.declared.refusals.Refusal.TheVariants.{NotMo
 use Rattle.mpm_refusals.specs.Filing.{Situation, block}
 use Rattle.mpm_refusals.specs.Subjects.{drive_named, drive_number, drive_at, own_file, has_attribute, shared_file, is_shared, opened_in, item_number, key_named, open_key, mode_if_open, key_of, open_file, subject_by, subject, given_password, found, mode_by, first_record, deleted_files}
 use Rattle.mpm_file_functions.specs.Refusals.{refusals_of, refusals_of_each}
-use Rattle.mpm_refusals.specs.Refusals.{is_unmounted, is_missing_in, is_open_read_only, lacks_password, opening_refusal, is_at_limit, is_without_room, is_used, is_directory_full, deletion_refusal, RefusalTest, tests_each, tests_of, applies, does_apply, refusal_of}
+use Rattle.mpm_refusals.specs.Refusals.{is_unmounted, is_missing_in, is_open_read_only, lacks_password, opening_refusal, is_refused_for, is_used, is_directory_full, deletion_refusal, RefusalTest, tests_each, tests_of, applies, does_apply, refusal_of}
 use Rattle.mpm_refusals.specs.Asking.{opened_as, key_of_item, mode_of_item, open_item, asked_of, file_asked, mode_needed, asks, where_deleted, each_asked, refused_asked}
 use Rattle.mpm_refusals.proofs.Deleted.{deleter, tests_step, deletion_as_table}
 
@@ -148,9 +149,9 @@ asks_so s there InUse = λ i.
     is_used (items.refusal_of s.filing.opens.items s.caller.process (key_of (drive_number s) (file_is s i)) (mode_needed (drive_at s) (asked_of s)))
     (items.have_others s.filing.opens.items s.caller.process (key_of (drive_number s) (file_is s i))) s.function
 asks_so s there FileLimit = λ i.
-    is_at_limit (items.refusal_of s.filing.opens.items s.caller.process (key_of (drive_number s) (file_is s i)) (mode_needed (drive_at s) (asked_of s)))
+    is_refused_for opening.ProcessLimit (items.refusal_of s.filing.opens.items s.caller.process (key_of (drive_number s) (file_is s i)) (mode_needed (drive_at s) (asked_of s)))
 asks_so s there ListFull = λ i.
-    is_without_room (items.refusal_of s.filing.opens.items s.caller.process (key_of (drive_number s) (file_is s i)) (mode_needed (drive_at s) (asked_of s)))
+    is_refused_for opening.NoRoom (items.refusal_of s.filing.opens.items s.caller.process (key_of (drive_number s) (file_is s i)) (mode_needed (drive_at s) (asked_of s)))
 asks_so s there DirectoryFull = λ i. is_directory_full (drive_at s) (file_is s i) (block s) s.function
 asks_so s there Busy = refl
 

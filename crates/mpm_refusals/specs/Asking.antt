@@ -8,6 +8,7 @@ use Rattle.mpm_dirent.specs.Names.{plain}
 use Rattle.mpm_opens.specs.declared.kinds.FileKey.{FileKey}
 use Rattle.mpm_opens.specs.declared.kinds.Mode.{Mode}
 use Rattle.mpm_opens.specs.declared.kinds.OpenRefused.{OpenRefused}
+use Rattle.mpm_opens.specs.declared.kinds.OpenRefused.TheVariants as opening
 use Rattle.mpm_opens.specs.Items as items
 use Rattle.mpm_opens.specs.Opens.{OpenFiles, item_of, IsItemOf}
 use Rattle.mpm_file_functions.specs.declared.functions.FileFunction.{FileFunction}
@@ -27,7 +28,7 @@ use Rattle.mpm_refusals.specs.declared.subjects.OpenItem.{OpenItem}
 use Rattle.mpm_refusals.specs.Filing.{LastSearch, Situation, block}
 use Rattle.mpm_refusals.specs.Looking.{entry_found}
 use Rattle.mpm_refusals.specs.Subjects.{mounted, drive_number, is_protected, is_there, has_attribute, item_number, key_named, key_of, subject, first_by, given_password, mode_in, found}
-use Rattle.mpm_refusals.specs.Refusals.{has_question, is_missing_in, is_open_read_only, existing_name, lacks_password, is_at_limit, is_without_room, is_used, is_directory_full, deletion_refusal}
+use Rattle.mpm_refusals.specs.Refusals.{has_question, is_missing_in, is_open_read_only, existing_name, lacks_password, is_refused_for, is_used, is_directory_full, deletion_refusal}
 
 -- the image of a drive that is mounted, with its directory, stands for a drive, and the directory is of that drive's number; where
 -- none is mounted there is none
@@ -132,8 +133,8 @@ asks drive opens marks a ReadOnlyFile = is_read_only_asked drive a
 asks drive opens marks a FileExists = is_there drive (record { user = a.caller.user; name = plain (existing_name a.block a.function) })
 asks drive opens marks a WrongPassword = lacks_password drive (file_asked a) a.function a.given a.caller.password
 asks drive opens marks a InUse = is_used_asked drive opens a
-asks drive opens marks a FileLimit = is_at_limit (opening_asked drive opens a)
-asks drive opens marks a ListFull = is_without_room (opening_asked drive opens a)
+asks drive opens marks a FileLimit = is_refused_for opening.ProcessLimit (opening_asked drive opens a)
+asks drive opens marks a ListFull = is_refused_for opening.NoRoom (opening_asked drive opens a)
 asks drive opens marks a DirectoryFull = is_directory_full drive (file_asked a) a.block a.function
 asks drive opens marks a Busy = are_busy opens marks a.caller.process a.function a.caller.drive a.word
 

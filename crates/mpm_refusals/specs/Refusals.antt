@@ -103,26 +103,18 @@ lacks_password drive file function given default =
 unfoldable pub opening_refusal : Situation → FileName → Option OpenRefused
 opening_refusal s file = items.refusal_of s.filing.opens.items s.caller.process (key_of (drive_number s) file) (mode_by s s.function)
 
-abbrev pub is_incompatible : Option OpenRefused → Bool
-is_incompatible (Some opening.Incompatible) = true
-is_incompatible (Some opening.ProcessLimit) = false
-is_incompatible (Some opening.NoRoom) = false
-is_incompatible None = false
+abbrev pub is_same_reason : OpenRefused → OpenRefused → Bool
+is_same_reason opening.Incompatible opening.Incompatible = true
+is_same_reason opening.ProcessLimit opening.ProcessLimit = true
+is_same_reason opening.NoRoom opening.NoRoom = true
+is_same_reason a b = false
 
-abbrev pub is_at_limit : Option OpenRefused → Bool
-is_at_limit (Some opening.ProcessLimit) = true
-is_at_limit (Some opening.Incompatible) = false
-is_at_limit (Some opening.NoRoom) = false
-is_at_limit None = false
-
-abbrev pub is_without_room : Option OpenRefused → Bool
-is_without_room (Some opening.NoRoom) = true
-is_without_room (Some opening.Incompatible) = false
-is_without_room (Some opening.ProcessLimit) = false
-is_without_room None = false
+abbrev pub is_refused_for : OpenRefused → Option OpenRefused → Bool
+is_refused_for reason None = false
+is_refused_for reason (Some refusal) = is_same_reason refusal reason
 
 abbrev pub is_used : Option OpenRefused → Bool → FileFunction → Bool
-is_used refusal have_others OpenFile = is_incompatible refusal
+is_used refusal have_others OpenFile = is_refused_for opening.Incompatible refusal
 is_used refusal have_others function = have_others
 
 abbrev pub is_in_use : Situation → FileName → FileFunction → Bool
@@ -182,8 +174,8 @@ applies s file ReadOnlyFile = has_attribute (drive_at s) file 8 || is_open_read_
 applies s file FileExists = is_there (drive_at s) (existing_file s s.function)
 applies s file WrongPassword = lacks_password (drive_at s) file s.function (given_password s) s.caller.password
 applies s file InUse = is_in_use s file s.function
-applies s file FileLimit = is_at_limit (opening_refusal s file)
-applies s file ListFull = is_without_room (opening_refusal s file)
+applies s file FileLimit = is_refused_for opening.ProcessLimit (opening_refusal s file)
+applies s file ListFull = is_refused_for opening.NoRoom (opening_refusal s file)
 applies s file DirectoryFull = is_directory_full (drive_at s) file (block s) s.function
 applies s file Busy = are_busy s.filing.opens s.filing.marks s.caller.process s.function s.caller.drive s.call.word
 

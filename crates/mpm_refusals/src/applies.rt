@@ -129,55 +129,33 @@ fn opening_refusal(mounted: &Mounted, opens: &Opens, asked: &Asked) -> Option<Op
     opens.refusal(asked.caller.process, subject_key(asked), mode)
 }
 
-/// Whether a file is open in a mode beside which another one can't be.
-fn is_incompatible(refusal: Option<OpenRefused>) -> bool
-    ensures { result ≡ spec.is_incompatible refusal }
+/// Whether two reasons why a file isn't opened are the same.
+fn is_same_reason(a: OpenRefused, b: OpenRefused) -> bool
+    ensures { result ≡ spec.is_same_reason a b }
 {
-    match refusal {
-        Some(OpenRefused::Incompatible) => true,
+    match (a, b) {
+        (OpenRefused::Incompatible, OpenRefused::Incompatible) => true,
+        (OpenRefused::ProcessLimit, OpenRefused::ProcessLimit) => true,
+        (OpenRefused::NoRoom, OpenRefused::NoRoom) => true,
         _ => false,
     }
 }
 
-/// Whether a process has opened as much as it may.
-fn is_at_limit(refusal: Option<OpenRefused>) -> bool
-    ensures { result ≡ spec.is_at_limit refusal }
+/// Whether a file isn't opened, for a reason.
+fn is_refused_for(refusal: Option<OpenRefused>, reason: OpenRefused) -> bool
+    ensures { result ≡ spec.is_refused_for reason refusal }
 {
     match refusal {
-        Some(OpenRefused::ProcessLimit) => true,
-        _ => false,
+        Some(refusal) => is_same_reason(refusal, reason),
+        None => false,
     }
 }
 
-/// Whether as many files are open in all as there is room for.
-fn is_without_room(refusal: Option<OpenRefused>) -> bool
-    ensures { result ≡ spec.is_without_room refusal }
+/// Whether the list of open files refuses an opening or a making for a reason.
+fn does_list_refuse(mounted: &Mounted, opens: &Opens, asked: &Asked, reason: OpenRefused) -> bool
+    ensures { (image : List ℕ) (drive : Drive) → Stands image mounted.now drive → result ≡ spec.is_refused_for reason (asking.opening_asked drive opens.now asked.now) }
 {
-    match refusal {
-        Some(OpenRefused::NoRoom) => true,
-        _ => false,
-    }
-}
-
-/// Whether an opening finds its file open in a mode that excludes it.
-fn excludes(mounted: &Mounted, opens: &Opens, asked: &Asked) -> bool
-    ensures { (image : List ℕ) (drive : Drive) → Stands image mounted.now drive → result ≡ spec.is_incompatible (asking.opening_asked drive opens.now asked.now) }
-{
-    is_incompatible(opening_refusal(mounted, opens, asked))
-}
-
-/// Whether a process has as many files open as it may, or this one as often.
-fn has_reached_limit(mounted: &Mounted, opens: &Opens, asked: &Asked) -> bool
-    ensures { (image : List ℕ) (drive : Drive) → Stands image mounted.now drive → result ≡ spec.is_at_limit (asking.opening_asked drive opens.now asked.now) }
-{
-    is_at_limit(opening_refusal(mounted, opens, asked))
-}
-
-/// Whether the list of open files is full.
-fn has_no_room(mounted: &Mounted, opens: &Opens, asked: &Asked) -> bool
-    ensures { (image : List ℕ) (drive : Drive) → Stands image mounted.now drive → result ≡ spec.is_without_room (asking.opening_asked drive opens.now asked.now) }
-{
-    is_without_room(opening_refusal(mounted, opens, asked))
+    is_refused_for(opening_refusal(mounted, opens, asked), reason)
 }
 
 /// Whether another process has the file open.
@@ -192,7 +170,12 @@ fn is_in_use(mounted: &Mounted, opens: &Opens, asked: &Asked) -> bool
     ensures { (image : List ℕ) (drive : Drive) → Stands image mounted.now drive → result ≡ asking.is_used_asked drive opens.now asked.now }
 {
     match asked.function {
-        FileFunction::OpenFile => excludes(mounted, opens, asked),
+        FileFunction::OpenFile => does_list_refuse(
+            mounted,
+            opens,
+            asked,
+            OpenRefused::Incompatible,
+        ),
         _ => have_others(opens, asked),
     }
 }
@@ -256,8 +239,8 @@ fn applies(mounted: &Mounted, opens: &Opens, marks: &Marks, asked: &Asked, refus
         Refusal::FileExists => does_exist(mounted, asked),
         Refusal::WrongPassword => has_wrong_password(mounted, asked),
         Refusal::InUse => is_in_use(mounted, opens, asked),
-        Refusal::FileLimit => has_reached_limit(mounted, opens, asked),
-        Refusal::ListFull => has_no_room(mounted, opens, asked),
+        Refusal::FileLimit => does_list_refuse(mounted, opens, asked, OpenRefused::ProcessLimit),
+        Refusal::ListFull => does_list_refuse(mounted, opens, asked, OpenRefused::NoRoom),
         Refusal::DirectoryFull => {
             is_directory_full(mounted, asked.owner, &asked.block, asked.function)
         }

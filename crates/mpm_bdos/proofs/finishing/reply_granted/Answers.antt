@@ -11,7 +11,7 @@ returns-then-is_on_drives-clause-users c =
     users_driven c.args.opens.now c.reply_on_drives.new.opens c.args.served.now.file_call.caller.process c.args.served.now.file_call.call.now.word c.args.served.now.file_call.function c.reply_on_drives.ensures.opens c.requires.users
 
 pub returns-else-is_on_drives-clause-users : goal.returns-else-is_on_drives-clause-users
-returns-else-is_on_drives-clause-users c = c.reply_on.ensures.users c.requires.users c.requires.caller.user
+returns-else-is_on_drives-clause-users c = c.reply_on.ensures.users c.requires.users
 
 pub returns-then-is_on_drives-clause-finished : goal.returns-then-is_on_drives-clause-finished
 returns-then-is_on_drives-clause-finished c = λ images s moment refusal serves none.

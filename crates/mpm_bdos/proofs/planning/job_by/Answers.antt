@@ -1,9 +1,7 @@
-use Rattle.std.proofs.Common.{◌∙◌, Some, sym, ap}
-use Rattle.mpm_jobs.specs.declared.jobs.JobKind.TheVariants as kinds
+use Rattle.std.proofs.Common.{◌∙◌, sym, ap}
 use Rattle.mpm_refusals.specs.Filing.{Situation}
 use Rattle.mpm_refusals.specs.Subjects.{drive_at}
 use Rattle.mpm_locks.specs.Locks.{is_locked_off, count_until}
-use Rattle.mpm_jobs.specs.Jobs.{job_for, with_new_name}
 use Rattle.mpm_bdos.specs.Jobs.{is_tested_off, job_by}
 use Rattle.mpm_refusals.specs.Asking.{called}
 use Rattle.mpm_bdos.specs.Planning.{written, tested}
@@ -14,7 +12,7 @@ pub returns-in-OpenFile : goal.returns-in-OpenFile
 returns-in-OpenFile c = λ image drives protected marks searches is.
     let s : Situation = called drives protected c.args.opens.now marks searches c.args.file_call.now.caller c.args.file_call.now.function c.args.file_call.now.call.now c.args.file_call.now.moment in
     let found = is_found image c.args.mounted.now c.args.about s c.args.block.now is c.requires.block in
-    ap Some (c.opening.ensures image (drive_at s) is.stands)
+    c.opened.ensures image (drive_at s) is.stands
     ∙ opening_is s c.args.about c.args.block.now found
     ∙ ap (job_by s) (sym c.in-OpenFile.is)
 
@@ -22,7 +20,7 @@ pub returns-in-DeleteFile : goal.returns-in-DeleteFile
 returns-in-DeleteFile c = λ image drives protected marks searches is.
     let s : Situation = called drives protected c.args.opens.now marks searches c.args.file_call.now.caller c.args.file_call.now.function c.args.file_call.now.call.now c.args.file_call.now.moment in
     let found = is_found image c.args.mounted.now c.args.about s c.args.block.now is c.requires.block in
-    ap Some c.job_on.ensures
+    c.changed.ensures
     ∙ deleting_is s c.args.about c.args.block.now found
     ∙ ap (job_by s) (sym c.in-DeleteFile.is)
 
@@ -30,7 +28,7 @@ pub returns-in-ReadSequential : goal.returns-in-ReadSequential
 returns-in-ReadSequential c = λ image drives protected marks searches is.
     let s : Situation = called drives protected c.args.opens.now marks searches c.args.file_call.now.caller c.args.file_call.now.function c.args.file_call.now.call.now c.args.file_call.now.moment in
     let found = is_found image c.args.mounted.now c.args.about s c.args.block.now is c.requires.block in
-    ap Some c.reading_job.ensures
+    c.read.ensures
     ∙ sequential_reading_is s c.args.about c.args.block.now found c.in-ReadSequential.is
     ∙ ap (job_by s) (sym c.in-ReadSequential.is)
 
@@ -48,7 +46,7 @@ pub returns-in-MakeFile : goal.returns-in-MakeFile
 returns-in-MakeFile c = λ image drives protected marks searches is.
     let s : Situation = called drives protected c.args.opens.now marks searches c.args.file_call.now.caller c.args.file_call.now.function c.args.file_call.now.call.now c.args.file_call.now.moment in
     let found = is_found image c.args.mounted.now c.args.about s c.args.block.now is c.requires.block in
-    ap Some (c.making.ensures image (drive_at s) is.stands)
+    c.made.ensures image (drive_at s) is.stands
     ∙ making_is s c.args.about c.args.block.now found
     ∙ ap (job_by s) (sym c.in-MakeFile.is)
 
@@ -56,8 +54,7 @@ pub returns-in-RenameFile : goal.returns-in-RenameFile
 returns-in-RenameFile c = λ image drives protected marks searches is.
     let s : Situation = called drives protected c.args.opens.now marks searches c.args.file_call.now.caller c.args.file_call.now.function c.args.file_call.now.call.now c.args.file_call.now.moment in
     let found = is_found image c.args.mounted.now c.args.about s c.args.block.now is c.requires.block in
-    ap Some (c.renaming_job.ensures
-    ∙ ap (λ new_name. with_new_name new_name (job_for kinds.Rename c.args.about.file.user c.args.block.now.name)) c.new_name.ensures)
+    c.renamed.ensures
     ∙ renaming_is s c.args.about c.args.block.now found
     ∙ ap (job_by s) (sym c.in-RenameFile.is)
 
@@ -65,7 +62,7 @@ pub returns-in-SetAttributes : goal.returns-in-SetAttributes
 returns-in-SetAttributes c = λ image drives protected marks searches is.
     let s : Situation = called drives protected c.args.opens.now marks searches c.args.file_call.now.caller c.args.file_call.now.function c.args.file_call.now.call.now c.args.file_call.now.moment in
     let found = is_found image c.args.mounted.now c.args.about s c.args.block.now is c.requires.block in
-    ap Some c.job_on-in-SetAttributes.ensures
+    c.changed-in-SetAttributes.ensures
     ∙ setting_is s c.args.about c.args.block.now found
     ∙ ap (job_by s) (sym c.in-SetAttributes.is)
 
@@ -73,7 +70,7 @@ pub returns-in-ReadRandom : goal.returns-in-ReadRandom
 returns-in-ReadRandom c = λ image drives protected marks searches is.
     let s : Situation = called drives protected c.args.opens.now marks searches c.args.file_call.now.caller c.args.file_call.now.function c.args.file_call.now.call.now c.args.file_call.now.moment in
     let found = is_found image c.args.mounted.now c.args.about s c.args.block.now is c.requires.block in
-    ap Some c.reading_job-in-ReadRandom.ensures
+    c.read-in-ReadRandom.ensures
     ∙ random_reading_is s c.args.about c.args.block.now found c.in-ReadRandom.is
     ∙ ap (job_by s) (sym c.in-ReadRandom.is)
 
@@ -101,7 +98,7 @@ pub returns-in-SetLabel : goal.returns-in-SetLabel
 returns-in-SetLabel c = λ image drives protected marks searches is.
     let s : Situation = called drives protected c.args.opens.now marks searches c.args.file_call.now.caller c.args.file_call.now.function c.args.file_call.now.call.now c.args.file_call.now.moment in
     let found = is_found image c.args.mounted.now c.args.about s c.args.block.now is c.requires.block in
-    ap Some (c.labelling.ensures image (drive_at s) is.stands)
+    c.labelled.ensures image (drive_at s) is.stands
     ∙ labelling_is s c.args.about c.args.block.now found
     ∙ ap (job_by s) (sym c.in-SetLabel.is)
 
@@ -109,7 +106,7 @@ pub returns-in-WriteXfcb : goal.returns-in-WriteXfcb
 returns-in-WriteXfcb c = λ image drives protected marks searches is.
     let s : Situation = called drives protected c.args.opens.now marks searches c.args.file_call.now.caller c.args.file_call.now.function c.args.file_call.now.call.now c.args.file_call.now.moment in
     let found = is_found image c.args.mounted.now c.args.about s c.args.block.now is c.requires.block in
-    ap Some (c.guarding.ensures image (drive_at s) is.stands)
+    c.guarded.ensures image (drive_at s) is.stands
     ∙ guarding_is s c.args.about c.args.block.now found
     ∙ ap (job_by s) (sym c.in-WriteXfcb.is)
 

@@ -36,8 +36,8 @@ returns-clause-reply c = λ image drive records entry stands granted is.
     let same : c.grant-granted.result ≡ granted_by drive (left_first opens a work deleted) a work =
     c.grant-granted.ensures.granted image drive stands granted.in_file ∙ ap (λ o. granted_by drive o a work) left
     in
-    c.answer.ensures image drive records entry stands (subst (λ (g : Granted). FewDone a.caller.multi g.ended) (sym same) granted.few)
-    (λ moves. subst IsPlaced (sym same) (granted.placed (sym (ap (λ (g : Granted). is_moving g.function) same) ∙ moves)))
+    c.answer.ensures (λ moves. subst IsPlaced (sym same) (granted.placed (sym (ap (λ (g : Granted). is_moving g.function) same) ∙ moves)))
+    image drive records entry stands (subst (λ (g : Granted). FewDone a.caller.multi g.ended) (sym same) granted.few)
     (λ reads. subst (λ (g : Granted). HasRead (done_by a.caller.multi (value_by drive g g.function)) work records) (sym same)
     (granted.read (sym (ap (λ (g : Granted). is_reading g.function) same) ∙ reads)))
     (c.told_found-told.ensures image drive stands ∙ ap (found_bytes drive) is)

@@ -8,14 +8,18 @@ use Rattle.mpm_bdos.specs.Jobs.{call_turns, turned}
 use Rattle.mpm_refusals.specs.Searches.{search_by, searches_by}
 use Rattle.mpm_bdos.specs.Changes.{search_of_call}
 use Rattle.mpm_bdos.specs.Replies.{answer_by}
+use Rattle.mpm_bdos.specs.Serving.{IsCaller}
 use Rattle.mpm_refusals.specs.Asking.{called, asked_of, found_as}
 use Rattle.mpm_bdos.specs.Leaving.{IsInFile, IsGranted, left_first, granted_by, opens_left}
 use Rattle.mpm_bdos.proofs.StillLaws.{moved_drive, asked_still, still_found}
 use Rattle.mpm_bdos.proofs.LastLaws.{answered_so, opens_so}
 use Rattle.mpm_bdos.proofs.replying.reply_mounted.Goals as goal
 
+pub answer_mounted-requires-clause-caller : goal.answer_mounted-requires-clause-caller
+answer_mounted-requires-clause-caller c = subst IsCaller (sym c.ask-asked.ensures.caller) c.requires
+
 pub returns-clause-users : goal.returns-clause-users
-returns-clause-users c = λ users low. c.answer_mounted.ensures.users users (c.ask-asked.ensures.owner users low)
+returns-clause-users c = λ users. c.answer_mounted.ensures.users users (c.ask-asked.ensures.owner users c.requires.user)
 
 pub returns-clause-replied : goal.returns-clause-replied
 returns-clause-replied c = λ image drives marks moment answering.

@@ -8,7 +8,7 @@ returns-clause-all c = λ image drives stands drive_is.
     let s = called drives c.args.protected.now c.args.opens.now c.args.marks.now c.args.searches.now c.args.file_call.now.caller c.args.file_call.now.function c.args.file_call.now.call.now c.args.file_call.now.moment in
     record {
       is = record { caller = refl; function = refl; drive = drive_is; call = c.copied.ensures; moment = refl; refusal = refused; deleted = λ none. c.deleted_of-deleted.ensures image s stands none refl refl drive_is c.block_of_call-block.ensures.block refl };
-      begins = c.begun_unless-work.ensures image drives c.args.marks.now stands refused;
+      begins = c.begin_unless.ensures image drives c.args.marks.now stands refused;
     }
 
 pub returns-clause-entered : goal.returns-clause-entered

@@ -20,17 +20,17 @@ returns-in-Some g c =
       progress = λ before job j working.
           let service : IsWorking disks (Some c.in-Some.mounted) before job j work = subst (λ place. IsWorking disks place before job j work) c.in-Some.is working in
           told_by_job before job j work result service.service.serving did.progress;
-      same = ap Some (labels_as c.in-Some.mounted c.turn-result.new.mounted did.disk.drive did.disk.kind) ∙ ap (option_map labelled) (sym c.in-Some.is);
+      same = ap Some (labels_as c.in-Some.mounted c.turn-result.new.mounted did.works.disk.drive did.works.disk.kind) ∙ ap (option_map labelled) (sym c.in-Some.is);
       takes = record {
-        calls = did.calls;
+        calls = did.works.calls;
         one_call = λ read. (did.reads read).calls;
         unsynced = λ read. (did.reads read).unsynced;
         no_call = λ next. (did.reads next.0).uncalled (subst (λ place. IfSome place (λ d. IsNextCached c.args.cache.now d work)) c.in-Some.is next.1);
       };
       directory = c.kind.ensures.directory;
       leaves = subst (λ place. HasLeftDisk g.D.Drives.disks g.D.Drives.told g.D.Drives.failed_names g.D.Drives.unsynced place c.args.cache.now c.turn-result.new.cache c.args.drives.now c.turn-result.new.drives)
-          (sym c.in-Some.is) did.leaves;
-      cause = did.cause;
+          (sym c.in-Some.is) did.works.leaves;
+      cause = did.works.cause;
     }
 
 pub returns-in-None : goal.returns-in-None

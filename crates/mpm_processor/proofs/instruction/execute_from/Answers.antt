@@ -5,7 +5,7 @@ use Rattle.mpm_processor.proofs.instruction.execute_from.Goals as goal
 
 pub loop-spec-init : goal.loop-spec-init
 loop-spec-init c = record {
-  moved = moves_none c.args.inside 0 _;
+  moved = moves_none c.args.burst.inside 0 _;
   below = c.requires.some;
   gate = c.requires.gate;
   rare = c.requires.rare;
@@ -15,12 +15,12 @@ loop-spec-init c = record {
 
 pub returns-then-others-eq0-clause-moved : goal.returns-then-others-eq0-clause-moved
 returns-then-others-eq0-clause-moved c =
-    moves_join c.args.inside c.loop-spec.done c.execute_others-others.result 0 _ _ _ c.loop-spec.invariant.moved c.execute_others-others.ensures.moved
+    moves_join c.args.burst.inside c.loop-spec.done c.execute_others-others.result 0 _ _ _ c.loop-spec.invariant.moved c.execute_others-others.ensures.moved
 
 pub returns-in-None-clause-moved : goal.returns-in-None-clause-moved
 returns-in-None-clause-moved c =
-    moves_join c.args.inside (c.loop-spec.done + c.execute_others-others.result) c.execute_plain-paused.result.done 0 _ _ _
-    (moves_join c.args.inside c.loop-spec.done c.execute_others-others.result 0 _ _ _ c.loop-spec.invariant.moved c.execute_others-others.ensures.moved)
+    moves_join c.args.burst.inside (c.loop-spec.done + c.execute_others-others.result) c.execute_plain-paused.result.done 0 _ _ _
+    (moves_join c.args.burst.inside c.loop-spec.done c.execute_others-others.result 0 _ _ _ c.loop-spec.invariant.moved c.execute_others-others.ensures.moved)
     c.execute_plain-paused.ensures.paused.moved
 
 pub loop-spec-preserved : goal.loop-spec-preserved
@@ -28,8 +28,8 @@ loop-spec-preserved c =
     let paused = c.execute_plain-paused.ensures.paused in
     let some : IsSome c.execute_plain-paused.result.opcode = ap is_some c.in-Some.is in
     record {
-      moved = moves_join c.args.inside (c.loop-spec.done + c.execute_others-others.result) c.execute_plain-paused.result.done 0 _ _ _
-          (moves_join c.args.inside c.loop-spec.done c.execute_others-others.result 0 _ _ _ c.loop-spec.invariant.moved c.execute_others-others.ensures.moved)
+      moved = moves_join c.args.burst.inside (c.loop-spec.done + c.execute_others-others.result) c.execute_plain-paused.result.done 0 _ _ _
+          (moves_join c.args.burst.inside c.loop-spec.done c.execute_others-others.result 0 _ _ _ c.loop-spec.invariant.moved c.execute_others-others.ensures.moved)
           paused.moved;
       below = omega (arith, paused.below some);
       gate = paused.gate some;

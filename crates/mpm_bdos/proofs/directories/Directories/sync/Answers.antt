@@ -1,5 +1,5 @@
 use Rattle.std.proofs.Common.{◌≡◌, ◌∙◌, ◌+◌, ◌<◌, get_or, length, ap, subst, arith}
-use Rattle.mpm_mount.proofs.Telling.{same_over}
+use Rattle.mpm_port.proofs.FrameLaws.{same_over}
 use Rattle.mpm_files.proofs.Causing.{cause_behind}
 use Rattle.mpm_directories.specs.Places.{AreInPlace}
 use Rattle.mpm_bdos.specs.Syncing.{StopsAtDrive, mounted_count}
@@ -18,7 +18,7 @@ loop-place-preserved g c =
     let within : k < length mounted = omega (arith, c.loop-place-test.true, ap length list_is) in
     record {
       count = c.in_default.ensures.cause.stays ∙ c.loop-place.invariant.count;
-      same = same_over g.D.Drives.disks g.D.Drives.told g.D.Drives.failed_names c.args.drives.now c.loop-place.drives c.sync_place.new.drives c.loop-place.invariant.same c.sync_place.ensures.same;
+      same = same_over g.D.Drives c.args.drives.now c.loop-place.drives c.sync_place.new.drives c.loop-place.invariant.same c.sync_place.ensures.same;
       none = none_more mounted k place c.args.drives.now c.loop-place.drives c.sync_place.new.drives within is c.loop-place.invariant.none c.sync_place.ensures.none;
       calls = steps_more mounted k place c.args.steps.now c.loop-place.steps c.sync_place.new.steps within is c.loop-place.invariant.calls c.sync_place.ensures.calls;
       synced = item_synced mounted k place (unsynced c.loop-place.drives) (unsynced c.sync_place.new.drives) placed within is c.loop-place.invariant.synced c.sync_place.ensures.stay c.in_default.ensures.synced;
@@ -46,7 +46,7 @@ returns-in-Err g c =
     c.loop-place.invariant.calls c.sync_place.ensures.calls in
     record {
       cause = cause_behind _ _ _ _ c.loop-place.invariant.count c.in-Err.ensures.cause;
-      same = same_over g.D.Drives.disks g.D.Drives.told g.D.Drives.failed_names c.args.drives.now c.loop-place.drives c.sync_place.new.drives c.loop-place.invariant.same c.sync_place.ensures.same;
+      same = same_over g.D.Drives c.args.drives.now c.loop-place.drives c.sync_place.new.drives c.loop-place.invariant.same c.sync_place.ensures.same;
       calls = fewer_mounted mounted (stops.drive + 1) c.args.steps.now c.sync_place.new.steps stops.calls;
       all = tt;
       some = some;

@@ -1,4 +1,4 @@
-use Rattle.std.proofs.Common.{◌∙◌, ap}
+use Rattle.std.proofs.Common.{◌∙◌, Some, ap}
 use Rattle.mpm_base.specs.Calls.{byte_in, eight_at}
 use Rattle.mpm_guard.specs.Passwords.{has_bit}
 use Rattle.mpm_fcb.specs.Names.{has_f6}
@@ -8,14 +8,14 @@ use Rattle.mpm_refusals.specs.Refusals.{makes_xfcb}
 use Rattle.mpm_file_entries.specs.Protections.{given_xfcb, with_first_stamp}
 use Rattle.mpm_jobs.specs.Jobs.{job_for}
 use Rattle.mpm_bdos.proofs.Planned.{making_so}
-use Rattle.mpm_bdos.proofs.planning.making.Goals as goal
+use Rattle.mpm_bdos.proofs.planning.made.Goals as goal
 
 pub returns : goal.returns
 returns c = λ image drive stands.
     let block = c.args.block.now in
     let call = c.args.call.now in
     let label = c.label_byte-label.ensures image drive stands in
-    c.making_job.ensures
+    ap Some (c.making_job.ensures
     ∙ making_so c.makes_xfcb.result (makes_xfcb (data_byte drive) block) c.made_xfcb-xfcb.result _ (job_for kinds.Make c.args.user block.name)
     (c.makes_xfcb.ensures ∙ ap (λ byte. makes_xfcb byte block) label)
-    (c.made_xfcb-xfcb.ensures ∙ ap (λ byte. with_first_stamp (has_bit 0x10 byte) c.args.moment (given_xfcb (has_f6 block) (byte_in call 8) (eight_at call 0))) label)
+    (c.made_xfcb-xfcb.ensures ∙ ap (λ byte. with_first_stamp (has_bit 0x10 byte) c.args.moment (given_xfcb (has_f6 block) (byte_in call 8) (eight_at call 0))) label))

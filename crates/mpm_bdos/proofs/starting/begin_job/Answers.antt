@@ -1,4 +1,4 @@
-use Rattle.mpm_bdos.proofs.starting.begun_job.Goals as goal
+use Rattle.mpm_bdos.proofs.starting.begin_job.Goals as goal
 
 pub returns : goal.returns
 returns c = λ image drive stands suits. c.plan.ensures.service image drive stands

@@ -3,7 +3,7 @@ use Rattle.mpm_refusals.specs.Subjects.{drive_at, number_by}
 use Rattle.mpm_refusals.specs.Asking.{called}
 use Rattle.mpm_bdos.proofs.Suited.{IsCall}
 use Rattle.mpm_bdos.proofs.Started.{is_call, about_so, begins}
-use Rattle.mpm_bdos.proofs.starting.begun_call.Goals as goal
+use Rattle.mpm_bdos.proofs.starting.begin_call.Goals as goal
 
 pub returns : goal.returns
 returns c = λ image drives marks stands none.
@@ -16,4 +16,4 @@ returns c = λ image drives marks stands none.
     c.about_of-about.ensures.value c.block_of_call-block.ensures.block (ap (λ a. a.drive) asked) (ap (λ a. a.owner) asked)
     (c.item_number-number.ensures ∙ (λ i. number_by (c.word.ensures i) (c.block_of_call-block.ensures.block i) c.args.file_call.now.function))
     in
-    begins image d s c.job_by-job.result c.begun.result call none (c.job_by-job.ensures image drives c.args.protected.now marks c.args.searches.now about) (c.begun.ensures image (drive_at s) stands)
+    begins image d s c.job_by-job.result c.begin.new.work call none (c.job_by-job.ensures image drives c.args.protected.now marks c.args.searches.now about) (c.begin.ensures image (drive_at s) stands)
