@@ -8,19 +8,12 @@ use Rattle.mpm_queues.specs.Queues.{Queues}
 use Rattle.mpm_consoles.specs.Consoles.{HasUnit}
 use Rattle.mpm_base.specs.declared.unit.Unit.{Unit}
 use Rattle.mpm_base.specs.declared.unit.Unit.TheVariants.{Console as ConsoleUnit, Printer as PrinterUnit}
-use Rattle.mpm_dispatcher.specs.Dispatch.{IsReady}
-use Rattle.mpm_kernel.specs.Kernel.{Kernel, IsOfTwo, IsFit, IsSoundKernel, with_changed}
+use Rattle.mpm_kernel.specs.Kernel.{Kernel, IsOfTwo, IsFit, MayCall, with_changed}
 use Rattle.mpm_kernel.specs.Consoling.{unit_left, console_changed, printer_changed}
 use Rattle.mpm_kernel.proofs.Soundness.{fit_kept, sound_changed}
 use Rattle.mpm_kernel.proofs.UnitLaws.{has_own_console, has_own_printer}
 use Rattle.mpm_kernel.proofs.UnitCounts.{many_left}
 use Rattle.mpm_kernel.proofs.Passing.{sound_unit_left, ready_unit_left}
-
--- what is so of a process that calls
-pub record MayCall (p : ℕ) (kernel : Kernel) : Type 0 where
-  pub sound : IsSoundKernel kernel
-  pub lives : Lives kernel.dispatcher.procs p
-  pub ready : IsReady kernel.dispatcher p
 
 process_left : (p : ℕ) (unit : Unit) (kernel : Kernel) → (unit_left p unit kernel).dispatcher.procs ≡ kernel.dispatcher.procs
 unfolding unit_left
@@ -76,37 +69,8 @@ unfolding printer_changed
 printers_changed kernel p printer =
     either (λ (k : Kernel). length k.units.printers ≡ length kernel.units.printers) ((process_in kernel.dispatcher.procs p).printer == printer) _ _ (λ _. refl) (λ _. (many_left p _ kernel).printers)
 
--- the same, part by part
-pub sound_console_changed : (kernel : Kernel) (p console : ℕ) → IsSoundKernel kernel → Lives kernel.dispatcher.procs p → IsReady kernel.dispatcher p → console < length kernel.units.consoles
-    → IsSoundKernel (console_changed p console kernel)
-sound_console_changed kernel p console s h is_ready below = (may_console_changed kernel p console (record { sound = s; lives = h; ready = is_ready }) below).sound
+pub has_console_changed : (kernel : Kernel) (p console : ℕ) → console < length kernel.units.consoles → console < length (console_changed p console kernel).units.consoles
+has_console_changed kernel p console below = omega (arith, consoles_changed kernel p console, below)
 
-pub lives_console_changed : (kernel : Kernel) (p console : ℕ) → IsSoundKernel kernel → Lives kernel.dispatcher.procs p → IsReady kernel.dispatcher p → console < length kernel.units.consoles
-    → Lives (console_changed p console kernel).dispatcher.procs p
-lives_console_changed kernel p console s h is_ready below = (may_console_changed kernel p console (record { sound = s; lives = h; ready = is_ready }) below).lives
-
-pub ready_console_changed : (kernel : Kernel) (p console : ℕ) → IsSoundKernel kernel → Lives kernel.dispatcher.procs p → IsReady kernel.dispatcher p → console < length kernel.units.consoles
-    → IsReady (console_changed p console kernel).dispatcher p
-ready_console_changed kernel p console s h is_ready below = (may_console_changed kernel p console (record { sound = s; lives = h; ready = is_ready }) below).ready
-
-pub has_console_changed : (kernel : Kernel) (p console : ℕ) → IsSoundKernel kernel → Lives kernel.dispatcher.procs p → IsReady kernel.dispatcher p → console < length kernel.units.consoles
-    → console < length (console_changed p console kernel).units.consoles
-has_console_changed kernel p console s h is_ready below =
-    omega (arith, consoles_changed kernel p console, below)
-
-pub sound_printer_changed : (kernel : Kernel) (p printer : ℕ) → IsSoundKernel kernel → Lives kernel.dispatcher.procs p → IsReady kernel.dispatcher p → printer < length kernel.units.printers
-    → IsSoundKernel (printer_changed p printer kernel)
-sound_printer_changed kernel p printer s h is_ready below = (may_printer_changed kernel p printer (record { sound = s; lives = h; ready = is_ready }) below).sound
-
-pub lives_printer_changed : (kernel : Kernel) (p printer : ℕ) → IsSoundKernel kernel → Lives kernel.dispatcher.procs p → IsReady kernel.dispatcher p → printer < length kernel.units.printers
-    → Lives (printer_changed p printer kernel).dispatcher.procs p
-lives_printer_changed kernel p printer s h is_ready below = (may_printer_changed kernel p printer (record { sound = s; lives = h; ready = is_ready }) below).lives
-
-pub ready_printer_changed : (kernel : Kernel) (p printer : ℕ) → IsSoundKernel kernel → Lives kernel.dispatcher.procs p → IsReady kernel.dispatcher p → printer < length kernel.units.printers
-    → IsReady (printer_changed p printer kernel).dispatcher p
-ready_printer_changed kernel p printer s h is_ready below = (may_printer_changed kernel p printer (record { sound = s; lives = h; ready = is_ready }) below).ready
-
-pub has_printer_changed : (kernel : Kernel) (p printer : ℕ) → IsSoundKernel kernel → Lives kernel.dispatcher.procs p → IsReady kernel.dispatcher p → printer < length kernel.units.printers
-    → printer < length (printer_changed p printer kernel).units.printers
-has_printer_changed kernel p printer s h is_ready below =
-    omega (arith, printers_changed kernel p printer, below)
+pub has_printer_changed : (kernel : Kernel) (p printer : ℕ) → printer < length kernel.units.printers → printer < length (printer_changed p printer kernel).units.printers
+has_printer_changed kernel p printer below = omega (arith, printers_changed kernel p printer, below)

@@ -5,11 +5,12 @@ use Rattle.std.proofs.lemmas.Bool.{eqb-true}
 use Rattle.std.specs.List.{AllByRecursion, list_all, count_by}
 use Rattle.mpm_base.proofs.Choices.{either}
 use Rattle.mpm_base.specs.Lists.{is_among}
-use Rattle.mpm_base.specs.Calls.{Taken}
+use Rattle.mpm_base.specs.Calls.{Taken, Answer}
+use Rattle.mpm_base.specs.declared.call.Outcome.{Outcome}
 use Rattle.mpm_procs.specs.Table.{call_of, process_in}
 use Rattle.mpm_procs.specs.declared.process.Process.{Process}
 use Rattle.mpm_kernel.specs.Kernel.{Kernel}
-use Rattle.mpm_kernel.specs.Called.{Called, valued, CallRow, functions_of, done_by}
+use Rattle.mpm_kernel.specs.Called.{Called, Yields, valued, CallRow, functions_of, done_by}
 use Rattle.mpm_kernel.specs.Calls.{table, call_done}
 
 -- a property of the call of a row's functions
@@ -47,6 +48,12 @@ numbered p kernel n is =
     let call = call_of kernel.dispatcher.procs p in
     let process = process_in kernel.dispatcher.procs p in
     subst (λ f. done_at f table call p process kernel ≡ done_by table call p process kernel) is (at_its_row call p process kernel table)
+
+-- what the row of a call's number yields, the call does
+pub yields_at : (p : ℕ) (kernel : Kernel) (n : ℕ) (after : Kernel) (result : Outcome) (answer : Answer) → (call_of kernel.dispatcher.procs p).function ≡ n
+    → Yields (done_at n table (call_of kernel.dispatcher.procs p) p (process_in kernel.dispatcher.procs p) kernel) after result answer
+    → Yields (call_done (call_of kernel.dispatcher.procs p) p (process_in kernel.dispatcher.procs p) kernel) after result answer
+yields_at p kernel n after result answer is did = subst (λ (called : Called). Yields called after result answer) (numbered p kernel n is) did
 
 -- what is so of one of two is so where either is
 pub in_both : (a b c : Bool) → (a || b) ≡ true → (a ≡ true → c ≡ true) → (b ≡ true → c ≡ true) → c ≡ true

@@ -18,7 +18,7 @@ use Rattle.mpm_base.specs.declared.unit.Unit.{Unit}
 use Rattle.mpm_base.specs.declared.unit.Unit.TheVariants.{Console as ConsoleUnit, Printer as PrinterUnit}
 use Rattle.mpm_consoles.proofs.SoundLaws.{sound_given, sound_listed, for_free, for_absent}
 use Rattle.mpm_dispatcher.specs.Dispatch.{ready, lists_ready, made_ready, descheduled}
-use Rattle.mpm_kernel.specs.Kernel.{Kernel, in_lists, waits_at_units, waits_of, IsSoundKernel, with_changed, dispatched}
+use Rattle.mpm_kernel.specs.Kernel.{Kernel, in_lists, waits_at_units, waits_of, IsSoundKernel, MayCall, with_changed, dispatched}
 use Rattle.mpm_kernel.specs.Consoling.{unit_left, retried, attached, attached_now, detached, console_changed, printer_changed, console_set, printer_set, is_called, named, owner_made, is_meant, assigned_to, assigned, printer_called, unit_called}
 use Rattle.mpm_kernel.specs.Called.{valued, failure_code, low_parameter}
 use Rattle.mpm_kernel.specs.Consoling.{retried, attached, attached_now, detached, console_changed, printer_changed, console_set, printer_set, is_called, named, owner_made, is_meant, assigned_to, assigned, printer_rows, printer_called, unit_rows, unit_called}
@@ -30,7 +30,7 @@ use Rattle.mpm_kernel.proofs.UnitCounts.{many_assigned}
 use Rattle.mpm_kernel.proofs.UnitLaws.{waits_at_no_unit, has_own_console, has_own_printer}
 use Rattle.mpm_kernel.proofs.Soundness.{AreUnits, fit_kept, sound_changed, sound_units, sound_with_units, sound_unlisted, own_queues, listed_once}
 use Rattle.mpm_kernel.proofs.Passing.{passed_waiter, sound_passed, sound_unit_left}
-use Rattle.mpm_kernel.proofs.ChangeLaws.{MayCall, may_console_changed, may_printer_changed, consoles_changed, printers_changed}
+use Rattle.mpm_kernel.proofs.ChangeLaws.{may_console_changed, may_printer_changed, consoles_changed, printers_changed}
 use Rattle.mpm_kernel.proofs.Staying.{StaysSound, Calls, nobody, called_if, same}
 
 -- a process that waits at a unit from now on, and is ready no more

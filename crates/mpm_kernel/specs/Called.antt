@@ -1,5 +1,5 @@
 -- What a call tells, and what becomes of it.
-use Rattle.std.specs.Prelude.{ℕ, ◌%◌, List, [], ◌∷◌, if◌then◌else◌}
+use Rattle.std.specs.Prelude.{◌≡◌, ℕ, ◌%◌, List, [], ◌∷◌, if◌then◌else◌}
 use Rattle.std.specs.List.{flat_map}
 use Rattle.mpm_base.specs.Lists.{is_among}
 use Rattle.mpm_base.specs.Calls.{Taken, Answer, answering}
@@ -15,6 +15,12 @@ pub record Called : Type 0 where
   pub kernel : Kernel
   pub outcome : Outcome
   pub reply : Answer
+
+-- a call yields the kernel as it is then, the outcome, and the answer
+pub record Yields (called : Called) (after : Kernel) (result : Outcome) (answer : Answer) : Type 0 where
+  pub kernel : after ≡ called.kernel
+  pub outcome : result ≡ called.outcome
+  pub reply : answer ≡ called.reply
 
 -- the call is done and answers a value
 abbrev pub valued : ℕ → Kernel → Called

@@ -12,6 +12,7 @@ use Rattle.mpm_clock.specs.Times.{Clock, new_clock}
 use Rattle.mpm_queues.specs.Queues.{Queues, no_queues, IsMade, width_of, waits, AreSoundQueues}
 use Rattle.mpm_consoles.specs.Consoles.{Consoles, no_owners, HasUnit, owns, waits as waits_for_unit, gate_waits, AreSoundConsoles}
 use Rattle.mpm_base.specs.declared.unit.Unit.{Unit}
+use Rattle.mpm_base.specs.declared.unit.Unit.TheVariants.{Console as ConsoleUnit}
 use Rattle.mpm_procs.specs.Table.{Table, HasSlots, lives, Lives, process_in, with_process}
 use Rattle.mpm_procs.specs.declared.process.Process.{Process}
 use Rattle.mpm_service.specs.Disk.{DiskService, no_service}
@@ -123,6 +124,11 @@ pub record IsFit (units : Consoles) (process : Process) : Type 0 where
 abbrev pub IsConsole : Kernel → ℕ → Type 0
 IsConsole kernel console = console < length kernel.units.consoles
 
+-- a process owns a console, which is there
+pub record OwnsConsole (p console : ℕ) (kernel : Kernel) : Type 0 where
+  pub has : IsConsole kernel console
+  pub owner : owns kernel.units p (ConsoleUnit console) ≡ true
+
 -- a queue of messages of two bytes is there, as a resident procedure has one
 abbrev pub IsOfTwo : Queues → ℕ → Type 0
 IsOfTwo queues q = width_of queues q ≡ Some 2
@@ -142,3 +148,14 @@ pub record IsSoundKernel (kernel : Kernel) : Type 0 where
   pub once : (p : ℕ) → places kernel p ≤ 1
   pub live : (p : ℕ) → 0 < places kernel p → Lives kernel.dispatcher.procs p
   pub runs : (p : ℕ) → kernel.dispatcher.running ≡ Some p → IsReady kernel.dispatcher p
+
+-- a process lives in a sound kernel
+pub record LivesIn (p : ℕ) (kernel : Kernel) : Type 0 where
+  pub sound : IsSoundKernel kernel
+  pub lives : Lives kernel.dispatcher.procs p
+
+-- a ready process of a sound kernel, which may call it
+pub record MayCall (p : ℕ) (kernel : Kernel) : Type 0 where
+  pub sound : IsSoundKernel kernel
+  pub lives : Lives kernel.dispatcher.procs p
+  pub ready : IsReady kernel.dispatcher p

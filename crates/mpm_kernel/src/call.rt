@@ -16,21 +16,17 @@ pub const MPM_VERSION: u16 = 0x0130;
 pub(crate) const NO_FUNCTION: u16 = 0xFFFF;
 
 impl Kernel {
-    ghost use Rattle.mpm_procs.specs.Table.{Lives, call_of, process_in};
-    ghost use Rattle.mpm_dispatcher.specs.Dispatch.{IsReady};
-    ghost use Rattle.mpm_kernel.specs.Kernel.{IsSoundKernel, CompletedLive};
+    ghost use Rattle.mpm_procs.specs.Table.{call_of, process_in};
+    ghost use Rattle.mpm_kernel.specs.Kernel.{IsSoundKernel, MayCall, CompletedLive};
+    ghost use Rattle.mpm_kernel.specs.Called.{Yields};
     ghost use Rattle.mpm_kernel.specs.Calls.{called, call_done};
 
     /// Does the call that a ready process keeps.
     #[inline(always)]
     #[tactic(auto, using(crate::proofs::SoundLaws::sound_begun))]
     pub fn call(&mut self, p: Pid, reply: &mut Reply) -> Outcome
-        requires sound { IsSoundKernel self.old }
-        requires lives { Lives self.old.dispatcher.procs p }
-        requires ready { IsReady self.old.dispatcher p }
-        ensures kernel { self.new ≡ (called p self.old).kernel }
-        ensures outcome { result ≡ (called p self.old).outcome }
-        ensures reply { reply.new ≡ (called p self.old).reply }
+        requires { MayCall p self.old }
+        ensures yields { Yields (called p self.old) self.new result reply.new }
         ensures sound { IsSoundKernel self.new }
         ensures live { CompletedLive self.new }
     {
@@ -46,16 +42,12 @@ impl Kernel {
     #[inline(always)]
     #[tactic(auto, unfolding(crate::specs::Calls::call_done, crate::specs::Dates::date_answered, crate::specs::Dates::time_answered))]
     fn serve_begun(&mut self, p: Pid, function: u8, word: u16, reply: &mut Reply) -> Outcome
-        requires sound { IsSoundKernel self.old }
-        requires lives { Lives self.old.dispatcher.procs p }
-        requires ready { IsReady self.old.dispatcher p }
+        requires caller { MayCall p self.old }
         requires room { length self.old.dispatcher.completed < 64 }
         requires function { function ≡ (call_of self.old.dispatcher.procs p).function }
         requires word { word ≡ (call_of self.old.dispatcher.procs p).word }
         requires reply { reply.old ≡ answering 0 }
-        ensures kernel { self.new ≡ (call_done (call_of self.old.dispatcher.procs p) p (process_in self.old.dispatcher.procs p) self.old).kernel }
-        ensures outcome { result ≡ (call_done (call_of self.old.dispatcher.procs p) p (process_in self.old.dispatcher.procs p) self.old).outcome }
-        ensures reply { reply.new ≡ (call_done (call_of self.old.dispatcher.procs p) p (process_in self.old.dispatcher.procs p) self.old).reply }
+        ensures { Yields (call_done (call_of self.old.dispatcher.procs p) p (process_in self.old.dispatcher.procs p) self.old) self.new result reply.new }
     {
         let byte = (word % 256) as u8;
         match function {

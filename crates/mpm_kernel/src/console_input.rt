@@ -8,11 +8,9 @@ use mpm_line_input::{answer_line, edited, full_line, is_full, key_echo};
 
 impl Kernel {
     ghost use Rattle.mpm_procs.specs.Table.{Lives, call_of, process_in};
-    ghost use Rattle.mpm_consoles.specs.Consoles.{owns};
-    ghost use Rattle.mpm_base.specs.declared.unit.Unit.TheVariants.{Console as ConsoleUnit};
     ghost use Rattle.mpm_line_input.specs.Lines.{ends};
-    ghost use Rattle.mpm_dispatcher.specs.Dispatch.{IsReady};
-    ghost use Rattle.mpm_kernel.specs.Kernel.{IsSoundKernel, IsConsole};
+    ghost use Rattle.mpm_kernel.specs.Kernel.{IsConsole, OwnsConsole, MayCall};
+    ghost use Rattle.mpm_kernel.specs.Called.{Yields};
     ghost use Rattle.mpm_kernel.specs.Consoling.{awaited};
     ghost use Rattle.mpm_kernel.specs.ConsoleInput.{raw_if, key_taken, next_key, shown_key, read_key, polled_key, direct, line_of, greatest, line_done, key_joined, line_with, line_read, console_served, unless_stopped, console_called};
 
@@ -22,12 +20,8 @@ impl Kernel {
     #[inline(never)]
     #[tactic(auto, using(crate::proofs::UnitLaws::has_own_console, crate::proofs::InputLaws::has_then_attached, crate::proofs::InputCalls::stays_console_called), unfolding(crate::specs::ConsoleInput::console_called, crate::specs::Consoling::retried))]
     pub(crate) fn console_call(&mut self, p: Pid, reply: &mut Reply) -> Outcome
-        requires sound { IsSoundKernel self.old }
-        requires lives { Lives self.old.dispatcher.procs p }
-        requires ready { IsReady self.old.dispatcher p }
-        ensures kernel { self.new ≡ (console_called (call_of self.old.dispatcher.procs p) p self.old).kernel }
-        ensures outcome { result ≡ (console_called (call_of self.old.dispatcher.procs p) p self.old).outcome }
-        ensures reply { reply.new ≡ (console_called (call_of self.old.dispatcher.procs p) p self.old).reply }
+        requires { MayCall p self.old }
+        ensures { Yields (console_called (call_of self.old.dispatcher.procs p) p self.old) self.new result reply.new }
     {
         let console = self.dispatcher.procs.get(p).console;
         if !self.attach(p, Unit::Console { n: console }, true) {
@@ -42,11 +36,8 @@ impl Kernel {
     #[tactic(auto, unfolding(crate::specs::ConsoleInput::unless_stopped))]
     fn unless_stopped(&mut self, p: Pid, console: u8, reply: &mut Reply) -> Outcome
         requires lives { Lives self.old.dispatcher.procs p }
-        requires has { IsConsole self.old console }
-        requires owner { owns self.old.units p (ConsoleUnit console) ≡ true }
-        ensures kernel { self.new ≡ (unless_stopped (call_of self.old.dispatcher.procs p) p console self.old).kernel }
-        ensures outcome { result ≡ (unless_stopped (call_of self.old.dispatcher.procs p) p console self.old).outcome }
-        ensures reply { reply.new ≡ (unless_stopped (call_of self.old.dispatcher.procs p) p console self.old).reply }
+        requires console { OwnsConsole p console self.old }
+        ensures { Yields (unless_stopped (call_of self.old.dispatcher.procs p) p console self.old) self.new result reply.new }
     {
         if writes(self.dispatcher.procs.call(p)) && self.units.stopped(console) {
             return self.wait_at_gate(p, console, false, reply);
@@ -61,11 +52,8 @@ impl Kernel {
     #[tactic(auto, unfolding(crate::specs::ConsoleInput::console_served))]
     fn serve_console(&mut self, p: Pid, console: u8, reply: &mut Reply) -> Outcome
         requires lives { Lives self.old.dispatcher.procs p }
-        requires has { IsConsole self.old console }
-        requires owner { owns self.old.units p (ConsoleUnit console) ≡ true }
-        ensures kernel { self.new ≡ (console_served (call_of self.old.dispatcher.procs p) p console self.old).kernel }
-        ensures outcome { result ≡ (console_served (call_of self.old.dispatcher.procs p) p console self.old).outcome }
-        ensures reply { reply.new ≡ (console_served (call_of self.old.dispatcher.procs p) p console self.old).reply }
+        requires console { OwnsConsole p console self.old }
+        ensures { Yields (console_served (call_of self.old.dispatcher.procs p) p console self.old) self.new result reply.new }
     {
         match self.dispatcher.procs.call(p).function {
             functions::CONSOLE_INPUT => self.read_shown(p, console, reply),
@@ -80,11 +68,8 @@ impl Kernel {
     /// Function 1: a key is taken and shown. (MP/M II Programmer's Guide, "Function 1: Console Input".)
     #[tactic(auto, unfolding(crate::specs::ConsoleInput::shown_key))]
     fn read_shown(&mut self, p: Pid, console: u8, reply: &mut Reply) -> Outcome
-        requires has { IsConsole self.old console }
-        requires owner { owns self.old.units p (ConsoleUnit console) ≡ true }
-        ensures kernel { self.new ≡ (shown_key (next_key console self.old) p console self.old).kernel }
-        ensures outcome { result ≡ (shown_key (next_key console self.old) p console self.old).outcome }
-        ensures reply { reply.new ≡ (shown_key (next_key console self.old) p console self.old).reply }
+        requires { OwnsConsole p console self.old }
+        ensures { Yields (shown_key (next_key console self.old) p console self.old) self.new result reply.new }
     {
         match self.take_key(console) {
             Some(key) => {
@@ -99,11 +84,8 @@ impl Kernel {
     /// Function 3, and function 6 with FDh: a key is taken. (MP/M II Programmer's Guide, "Function 3: Raw Console Input".)
     #[tactic(auto, unfolding(crate::specs::ConsoleInput::read_key))]
     fn read_key(&mut self, p: Pid, console: u8, reply: &mut Reply) -> Outcome
-        requires has { IsConsole self.old console }
-        requires owner { owns self.old.units p (ConsoleUnit console) ≡ true }
-        ensures kernel { self.new ≡ (read_key (next_key console self.old) p console self.old).kernel }
-        ensures outcome { result ≡ (read_key (next_key console self.old) p console self.old).outcome }
-        ensures reply { reply.new ≡ (read_key (next_key console self.old) p console self.old).reply }
+        requires { OwnsConsole p console self.old }
+        ensures { Yields (read_key (next_key console self.old) p console self.old) self.new result reply.new }
     {
         match self.take_key(console) {
             Some(key) => done(reply, u16::from(key)),
@@ -116,11 +98,8 @@ impl Kernel {
     #[tactic(auto, unfolding(crate::specs::ConsoleInput::direct))]
     fn direct(&mut self, p: Pid, console: u8, reply: &mut Reply) -> Outcome
         requires lives { Lives self.old.dispatcher.procs p }
-        requires has { IsConsole self.old console }
-        requires owner { owns self.old.units p (ConsoleUnit console) ≡ true }
-        ensures kernel { self.new ≡ (direct (call_of self.old.dispatcher.procs p) p console self.old).kernel }
-        ensures outcome { result ≡ (direct (call_of self.old.dispatcher.procs p) p console self.old).outcome }
-        ensures reply { reply.new ≡ (direct (call_of self.old.dispatcher.procs p) p console self.old).reply }
+        requires console { OwnsConsole p console self.old }
+        ensures { Yields (direct (call_of self.old.dispatcher.procs p) p console self.old) self.new result reply.new }
     {
         match (self.dispatcher.procs.call(p).word % 256) as u8 {
             POLL_KEY => self.poll_key(console, reply),
@@ -134,9 +113,7 @@ impl Kernel {
     #[tactic(auto, unfolding(crate::specs::ConsoleInput::polled_key))]
     fn poll_key(&mut self, console: u8, reply: &mut Reply) -> Outcome
         requires { IsConsole self.old console }
-        ensures kernel { self.new ≡ (polled_key (next_key console self.old) console self.old).kernel }
-        ensures outcome { result ≡ (polled_key (next_key console self.old) console self.old).outcome }
-        ensures reply { reply.new ≡ (polled_key (next_key console self.old) console self.old).reply }
+        ensures { Yields (polled_key (next_key console self.old) console self.old) self.new result reply.new }
     {
         match self.take_key(console) {
             Some(key) => done(reply, u16::from(key)),
@@ -149,11 +126,8 @@ impl Kernel {
     #[tactic(auto, using(crate::proofs::InputLaws::lives_echoed, crate::proofs::InputLaws::procs_echoed), unfolding(crate::specs::ConsoleInput::line_read))]
     fn read_line(&mut self, p: Pid, console: u8, reply: &mut Reply) -> Outcome
         requires lives { Lives self.old.dispatcher.procs p }
-        requires has { IsConsole self.old console }
-        requires owner { owns self.old.units p (ConsoleUnit console) ≡ true }
-        ensures kernel { self.new ≡ (line_read (call_of self.old.dispatcher.procs p) p console self.old).kernel }
-        ensures outcome { result ≡ (line_read (call_of self.old.dispatcher.procs p) p console self.old).outcome }
-        ensures reply { reply.new ≡ (line_read (call_of self.old.dispatcher.procs p) p console self.old).reply }
+        requires console { OwnsConsole p console self.old }
+        ensures { Yields (line_read (call_of self.old.dispatcher.procs p) p console self.old) self.new result reply.new }
     {
         let greatest = self.dispatcher.procs.call(p).byte(0);
         if is_full(self.dispatcher.procs.get(p).line_length, greatest) {
@@ -172,9 +146,7 @@ impl Kernel {
         requires lives { Lives self.old.dispatcher.procs p }
         requires has { IsConsole self.old console }
         requires room { (process_in self.old.dispatcher.procs p).line_length < greatest (call_of self.old.dispatcher.procs p) }
-        ensures kernel { self.new ≡ (line_with key (call_of self.old.dispatcher.procs p) p console self.old).kernel }
-        ensures outcome { result ≡ (line_with key (call_of self.old.dispatcher.procs p) p console self.old).outcome }
-        ensures reply { reply.new ≡ (line_with key (call_of self.old.dispatcher.procs p) p console self.old).reply }
+        ensures { Yields (line_with key (call_of self.old.dispatcher.procs p) p console self.old) self.new result reply.new }
     {
         if self.edit_line(p, console, key) {
             return self.finish_line(p, reply);
@@ -207,9 +179,7 @@ impl Kernel {
     #[tactic(auto, unfolding(crate::specs::ConsoleInput::line_done))]
     fn finish_line(&mut self, p: Pid, reply: &mut Reply) -> Outcome
         requires { Lives self.old.dispatcher.procs p }
-        ensures kernel { self.new ≡ (line_done (call_of self.old.dispatcher.procs p) p self.old).kernel }
-        ensures outcome { result ≡ (line_done (call_of self.old.dispatcher.procs p) p self.old).outcome }
-        ensures reply { reply.new ≡ (line_done (call_of self.old.dispatcher.procs p) p self.old).reply }
+        ensures { Yields (line_done (call_of self.old.dispatcher.procs p) p self.old) self.new result reply.new }
     {
         let address = self.dispatcher.procs.call(p).word;
         let process = self.dispatcher.procs.get_mut(p);
@@ -232,11 +202,9 @@ impl Kernel {
     /// A console is made raw, or not, if it is at all.
     #[tactic(auto, using(crate::proofs::InputLaws::has_made_raw))]
     fn set_raw_if(&mut self, changes: bool, p: Pid, console: u8, raw: bool)
-        requires has { IsConsole self.old console }
-        requires owner { owns self.old.units p (ConsoleUnit console) ≡ true }
+        requires { OwnsConsole p console self.old }
         ensures kernel { self.new ≡ raw_if changes console raw self.old }
-        ensures has { IsConsole self.new console }
-        ensures owner { owns self.new.units p (ConsoleUnit console) ≡ true }
+        ensures console { OwnsConsole p console self.new }
     {
         let _owner = p.0;
         if changes {
@@ -247,11 +215,8 @@ impl Kernel {
     /// The owner of a console waits at its gate, for a key or until output goes on.
     #[tactic(auto, unfolding(crate::specs::Consoling::awaited, crate::specs::Consoling::retried))]
     fn wait_at_gate(&mut self, p: Pid, console: u8, key: bool, reply: &mut Reply) -> Outcome
-        requires has { IsConsole self.old console }
-        requires owner { owns self.old.units p (ConsoleUnit console) ≡ true }
-        ensures kernel { self.new ≡ (awaited p console key self.old).kernel }
-        ensures outcome { result ≡ (awaited p console key self.old).outcome }
-        ensures reply { reply.new ≡ (awaited p console key self.old).reply }
+        requires { OwnsConsole p console self.old }
+        ensures { Yields (awaited p console key self.old) self.new result reply.new }
     {
         self.units.wait(p, console, key);
         self.dispatcher.retry(p, reply)

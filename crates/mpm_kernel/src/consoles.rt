@@ -1,6 +1,5 @@
 ghost use Rattle.std.specs.Prelude.{◌≡◌, ◌<◌, Some, true, ◌==◌, length, IfSome};
-ghost use Rattle.mpm_base.specs.Calls.{answering, byte_in};
-ghost use Rattle.mpm_base.specs.declared.call.Outcome.TheVariants.{Done};
+ghost use Rattle.mpm_base.specs.Calls.{byte_in};
 ghost use Rattle.mpm_consoles.specs.Consoles.{console_at, HasUnit};
 
 use crate::Kernel;
@@ -15,8 +14,8 @@ impl Kernel {
     ghost use Rattle.mpm_consoles.specs.Consoles.{owner_of};
     ghost use Rattle.mpm_consoles.specs.Handling.{may_attach};
     ghost use Rattle.mpm_base.specs.declared.unit.Unit.TheVariants.{Console as ConsoleUnit};
-    ghost use Rattle.mpm_dispatcher.specs.Dispatch.{IsReady};
-    ghost use Rattle.mpm_kernel.specs.Kernel.{IsSoundKernel, IsConsole};
+    ghost use Rattle.mpm_kernel.specs.Kernel.{IsSoundKernel, IsConsole, LivesIn, MayCall};
+    ghost use Rattle.mpm_kernel.specs.Called.{Yields, done};
     ghost use Rattle.mpm_kernel.specs.Columns.{spoke, wrote, spaces_for};
     ghost use Rattle.mpm_kernel.specs.Consoling.{unit_left, attaching, attached, attached_now, console_changed, printer_changed, console_set, printer_set, owner_made, assigned_to, assigned, printer_called, unit_called, given, handed_over, echoed, key_done, KeyNames, is_of_resident, key_came, abort_taken};
 
@@ -107,12 +106,8 @@ impl Kernel {
     #[inline(never)]
     #[tactic(auto, using(crate::proofs::UnitLaws::has_own_console, crate::proofs::UnitCalls::stays_unit_called), unfolding(crate::specs::Consoling::unit_called))]
     pub(crate) fn unit_call(&mut self, p: Pid, reply: &mut Reply) -> Outcome
-        requires sound { IsSoundKernel self.old }
-        requires lives { Lives self.old.dispatcher.procs p }
-        requires ready { IsReady self.old.dispatcher p }
-        ensures kernel { self.new ≡ (unit_called (call_of self.old.dispatcher.procs p) p self.old).kernel }
-        ensures outcome { result ≡ (unit_called (call_of self.old.dispatcher.procs p) p self.old).outcome }
-        ensures reply { reply.new ≡ (unit_called (call_of self.old.dispatcher.procs p) p self.old).reply }
+        requires { MayCall p self.old }
+        ensures { Yields (unit_called (call_of self.old.dispatcher.procs p) p self.old) self.new result reply.new }
     {
         let function = self.dispatcher.procs.call(p).function;
         let process = self.dispatcher.procs.get(p);
@@ -139,12 +134,8 @@ impl Kernel {
     /// The calls on printers, which a machine without printers refuses.
     #[tactic(auto, using(crate::proofs::UnitLaws::has_own_printer), unfolding(crate::specs::Consoling::printer_called))]
     fn printer_call(&mut self, p: Pid, reply: &mut Reply) -> Outcome
-        requires sound { IsSoundKernel self.old }
-        requires lives { Lives self.old.dispatcher.procs p }
-        requires ready { IsReady self.old.dispatcher p }
-        ensures kernel { self.new ≡ (printer_called (call_of self.old.dispatcher.procs p) p self.old).kernel }
-        ensures outcome { result ≡ (printer_called (call_of self.old.dispatcher.procs p) p self.old).outcome }
-        ensures reply { reply.new ≡ (printer_called (call_of self.old.dispatcher.procs p) p self.old).reply }
+        requires { MayCall p self.old }
+        ensures { Yields (printer_called (call_of self.old.dispatcher.procs p) p self.old) self.new result reply.new }
     {
         if self.printers() == 0 {
             return done(reply, FAILURE_CODE);
@@ -164,13 +155,9 @@ impl Kernel {
     /// A process attaches a unit, or waits for it.
     #[tactic(auto, unfolding(crate::specs::Consoling::attached, crate::specs::Consoling::retried))]
     fn attach_unit(&mut self, p: Pid, unit: Unit, reply: &mut Reply) -> Outcome
-        requires sound { IsSoundKernel self.old }
-        requires lives { Lives self.old.dispatcher.procs p }
-        requires ready { IsReady self.old.dispatcher p }
+        requires caller { MayCall p self.old }
         requires unit { HasUnit self.old.units unit }
-        ensures kernel { self.new ≡ (attached p unit self.old).kernel }
-        ensures outcome { result ≡ (attached p unit self.old).outcome }
-        ensures reply { reply.new ≡ (attached p unit self.old).reply }
+        ensures { Yields (attached p unit self.old) self.new result reply.new }
     {
         if self.attach(p, unit, true) {
             done(reply, 0)
@@ -182,13 +169,9 @@ impl Kernel {
     /// A process attaches a unit, unless another owns it.
     #[tactic(auto, using(crate::proofs::UnitLaws::attach_refused), unfolding(crate::specs::Consoling::attached_now))]
     fn attach_now(&mut self, p: Pid, unit: Unit, reply: &mut Reply) -> Outcome
-        requires sound { IsSoundKernel self.old }
-        requires lives { Lives self.old.dispatcher.procs p }
-        requires ready { IsReady self.old.dispatcher p }
+        requires caller { MayCall p self.old }
         requires unit { HasUnit self.old.units unit }
-        ensures kernel { self.new ≡ (attached_now p unit self.old).kernel }
-        ensures outcome { result ≡ (attached_now p unit self.old).outcome }
-        ensures reply { reply.new ≡ (attached_now p unit self.old).reply }
+        ensures { Yields (attached_now p unit self.old) self.new result reply.new }
     {
         if self.attach(p, unit, false) {
             done(reply, 0)
@@ -201,9 +184,7 @@ impl Kernel {
     fn detach_unit(&mut self, p: Pid, unit: Unit, reply: &mut Reply) -> Outcome
         requires sound { IsSoundKernel self.old }
         requires unit { HasUnit self.old.units unit }
-        ensures kernel { self.new ≡ unit_left p unit self.old }
-        ensures outcome { result ≡ Done }
-        ensures reply { reply.new ≡ answering 0 }
+        ensures { Yields (done (unit_left p unit self.old)) self.new result reply.new }
     {
         self.leave_unit(p, unit);
         done(reply, 0)
@@ -212,9 +193,7 @@ impl Kernel {
     /// A process attaches a unit; false where another owns it, and then the process waits for it if `wait` says so.
     #[tactic(auto, using(crate::proofs::UnitLaws::waits_at_none))]
     pub(crate) fn attach(&mut self, p: Pid, unit: Unit, wait: bool) -> bool
-        requires sound { IsSoundKernel self.old }
-        requires lives { Lives self.old.dispatcher.procs p }
-        requires ready { IsReady self.old.dispatcher p }
+        requires caller { MayCall p self.old }
         requires unit { HasUnit self.old.units unit }
         ensures answer { result ≡ may_attach self.old.units p unit }
         ensures kernel { self.new ≡ attaching p unit wait self.old }
@@ -235,14 +214,10 @@ impl Kernel {
     }
 
     /// A process has another console from now on, and attaches it.
-    #[tactic(auto, using(crate::proofs::ChangeLaws::sound_console_changed, crate::proofs::ChangeLaws::lives_console_changed, crate::proofs::ChangeLaws::ready_console_changed, crate::proofs::ChangeLaws::has_console_changed), unfolding(crate::specs::Consoling::console_set))]
+    #[tactic(auto, using(crate::proofs::ChangeLaws::has_console_changed), unfolding(crate::specs::Consoling::console_set))]
     fn set_console(&mut self, p: Pid, reply: &mut Reply) -> Outcome
-        requires sound { IsSoundKernel self.old }
-        requires lives { Lives self.old.dispatcher.procs p }
-        requires ready { IsReady self.old.dispatcher p }
-        ensures kernel { self.new ≡ (console_set (call_of self.old.dispatcher.procs p) p self.old).kernel }
-        ensures outcome { result ≡ (console_set (call_of self.old.dispatcher.procs p) p self.old).outcome }
-        ensures reply { reply.new ≡ (console_set (call_of self.old.dispatcher.procs p) p self.old).reply }
+        requires { MayCall p self.old }
+        ensures { Yields (console_set (call_of self.old.dispatcher.procs p) p self.old) self.new result reply.new }
     {
         let console = (self.dispatcher.procs.call(p).word % 256) as u8;
         if self.consoles() <= console {
@@ -253,14 +228,10 @@ impl Kernel {
     }
 
     /// A process has another printer from now on, and attaches it.
-    #[tactic(auto, using(crate::proofs::ChangeLaws::sound_printer_changed, crate::proofs::ChangeLaws::lives_printer_changed, crate::proofs::ChangeLaws::ready_printer_changed, crate::proofs::ChangeLaws::has_printer_changed), unfolding(crate::specs::Consoling::printer_set))]
+    #[tactic(auto, using(crate::proofs::ChangeLaws::has_printer_changed), unfolding(crate::specs::Consoling::printer_set))]
     fn set_printer(&mut self, p: Pid, reply: &mut Reply) -> Outcome
-        requires sound { IsSoundKernel self.old }
-        requires lives { Lives self.old.dispatcher.procs p }
-        requires ready { IsReady self.old.dispatcher p }
-        ensures kernel { self.new ≡ (printer_set (call_of self.old.dispatcher.procs p) p self.old).kernel }
-        ensures outcome { result ≡ (printer_set (call_of self.old.dispatcher.procs p) p self.old).outcome }
-        ensures reply { reply.new ≡ (printer_set (call_of self.old.dispatcher.procs p) p self.old).reply }
+        requires { MayCall p self.old }
+        ensures { Yields (printer_set (call_of self.old.dispatcher.procs p) p self.old) self.new result reply.new }
     {
         let printer = (self.dispatcher.procs.call(p).word % 256) as u8;
         if self.printers() <= printer {
@@ -273,9 +244,7 @@ impl Kernel {
     /// A process leaves its console for another one, unless it has that one already.
     #[tactic(auto, using(crate::proofs::UnitLaws::has_own_console), unfolding(crate::specs::Consoling::console_changed, crate::specs::Consoling::unit_left))]
     fn change_console(&mut self, p: Pid, console: u8)
-        requires sound { IsSoundKernel self.old }
-        requires lives { Lives self.old.dispatcher.procs p }
-        requires ready { IsReady self.old.dispatcher p }
+        requires caller { MayCall p self.old }
         requires there { console < length self.old.units.consoles }
         ensures { self.new ≡ console_changed p console self.old }
     {
@@ -291,9 +260,7 @@ impl Kernel {
     /// A process leaves its printer for another one, unless it has that one already.
     #[tactic(auto, using(crate::proofs::UnitLaws::has_own_printer), unfolding(crate::specs::Consoling::printer_changed, crate::specs::Consoling::unit_left))]
     fn change_printer(&mut self, p: Pid, printer: u8)
-        requires sound { IsSoundKernel self.old }
-        requires lives { Lives self.old.dispatcher.procs p }
-        requires ready { IsReady self.old.dispatcher p }
+        requires caller { MayCall p self.old }
         requires there { printer < length self.old.units.printers }
         ensures { self.new ≡ printer_changed p printer self.old }
     {
@@ -309,11 +276,8 @@ impl Kernel {
     /// A process assigns a console to a process that it names. (MP/M II Programmer's Guide, "Function 149: Assign Console".)
     #[tactic(auto, unfolding(crate::specs::Consoling::assigned, crate::specs::Consoling::assigned_to))]
     fn assign(&mut self, p: Pid, reply: &mut Reply) -> Outcome
-        requires sound { IsSoundKernel self.old }
-        requires lives { Lives self.old.dispatcher.procs p }
-        ensures kernel { self.new ≡ (assigned (call_of self.old.dispatcher.procs p) p self.old).kernel }
-        ensures outcome { result ≡ (assigned (call_of self.old.dispatcher.procs p) p self.old).outcome }
-        ensures reply { reply.new ≡ (assigned (call_of self.old.dispatcher.procs p) p self.old).reply }
+        requires { LivesIn p self.old }
+        ensures { Yields (assigned (call_of self.old.dispatcher.procs p) p self.old) self.new result reply.new }
     {
         let call = self.dispatcher.procs.call(p);
         let console = call.byte(0);
@@ -338,15 +302,12 @@ impl Kernel {
         own_only: bool,
         reply: &mut Reply,
     ) -> Outcome
-        requires sound { IsSoundKernel self.old }
-        requires lives { Lives self.old.dispatcher.procs to }
+        requires process { LivesIn to self.old }
         requires caller { Lives self.old.dispatcher.procs p }
         requires console { console ≡ byte_in (call_of self.old.dispatcher.procs p) 0 }
         requires there { console < length self.old.units.consoles }
         requires own { own_only ≡ (byte_in (call_of self.old.dispatcher.procs p) 9 == 255) }
-        ensures kernel { self.new ≡ (assigned_to (Some to) (call_of self.old.dispatcher.procs p) self.old).kernel }
-        ensures outcome { result ≡ (assigned_to (Some to) (call_of self.old.dispatcher.procs p) self.old).outcome }
-        ensures reply { reply.new ≡ (assigned_to (Some to) (call_of self.old.dispatcher.procs p) self.old).reply }
+        ensures { Yields (assigned_to (Some to) (call_of self.old.dispatcher.procs p) self.old) self.new result reply.new }
     {
         if own_only && self.dispatcher.procs.get(to).console != console {
             return done(reply, FAILURE_CODE);
@@ -360,8 +321,7 @@ impl Kernel {
     /// A process becomes the owner of a console; where it waited for that one, it becomes ready.
     #[tactic(auto, unfolding(crate::specs::Consoling::owner_made, mpm_dispatcher::specs::Dispatch::lists_ready))]
     fn make_owner(&mut self, console: u8, to: Pid)
-        requires sound { IsSoundKernel self.old }
-        requires lives { Lives self.old.dispatcher.procs to }
+        requires process { LivesIn to self.old }
         requires console { console < length self.old.units.consoles }
         ensures { self.new ≡ owner_made console to self.old }
     {

@@ -1,5 +1,3 @@
-ghost use Rattle.std.specs.Prelude.{◌≡◌};
-
 use crate::Kernel;
 use mpm_base::{FAILURE_CODE, Outcome, Pid, Reply};
 use mpm_clock::moment_in;
@@ -8,6 +6,7 @@ use mpm_dispatcher::done;
 impl Kernel {
     ghost use Rattle.mpm_procs.specs.Table.{Lives, call_of};
     ghost use Rattle.mpm_kernel.specs.Dates.{date_set};
+    ghost use Rattle.mpm_kernel.specs.Called.{Yields};
 
     /// A process sets the date and the time. (MP/M II Programmer's Guide, "Function 104: Set Date and Time".)
     #[cold]
@@ -15,9 +14,7 @@ impl Kernel {
     #[tactic(auto, unfolding(crate::specs::Dates::date_set))]
     pub(crate) fn set_date(&mut self, p: Pid, reply: &mut Reply) -> Outcome
         requires { Lives self.old.dispatcher.procs p }
-        ensures kernel { self.new ≡ (date_set (call_of self.old.dispatcher.procs p) self.old).kernel }
-        ensures outcome { result ≡ (date_set (call_of self.old.dispatcher.procs p) self.old).outcome }
-        ensures reply { reply.new ≡ (date_set (call_of self.old.dispatcher.procs p) self.old).reply }
+        ensures { Yields (date_set (call_of self.old.dispatcher.procs p) self.old) self.new result reply.new }
     {
         match moment_in(self.dispatcher.procs.call(p)) {
             Some(moment) => {

@@ -8,9 +8,8 @@ use mpm_base::Pid;
 use mpm_service::{Service, Turn};
 
 impl Kernel {
-    ghost use Rattle.mpm_procs.specs.Table.{Lives};
     ghost use Rattle.mpm_dispatcher.specs.Dispatch.{IsReady};
-    ghost use Rattle.mpm_kernel.specs.Kernel.{IsSoundKernel};
+    ghost use Rattle.mpm_kernel.specs.Kernel.{IsSoundKernel, MayCall};
     ghost use Rattle.mpm_kernel.specs.Disk.{with_disk, is_served, in_turns, waiting_for_disk, ready_again, IsOver};
 
     /// The disk serves in turns of so many steps, and nobody yet, where `Kernel::new` lets no call wait for it. It is called before
@@ -44,9 +43,7 @@ impl Kernel {
     /// more, and stands in no list of the dispatcher.
     #[tactic(auto, using(crate::proofs::DiskLaws::ready_waits_not, crate::proofs::DiskLaws::ready_served_not), unfolding(crate::specs::Disk::waiting_for_disk))]
     pub fn wait_for_disk(&mut self, p: Pid)
-        requires sound { IsSoundKernel self.old }
-        requires lives { Lives self.old.dispatcher.procs p }
-        requires ready { IsReady self.old.dispatcher p }
+        requires caller { MayCall p self.old }
         requires steps { 0 < self.old.disk.turn_steps }
         ensures kernel { self.new ≡ waiting_for_disk p self.old }
         ensures sound { IsSoundKernel self.new }

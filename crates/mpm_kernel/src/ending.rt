@@ -6,9 +6,8 @@ use mpm_base::Pid;
 use mpm_consoles::Unit;
 
 impl Kernel {
-    ghost use Rattle.mpm_procs.specs.Table.{Lives};
     ghost use Rattle.mpm_queues.specs.Queues.{holds};
-    ghost use Rattle.mpm_kernel.specs.Kernel.{IsSoundKernel, CompletedLive};
+    ghost use Rattle.mpm_kernel.specs.Kernel.{IsSoundKernel, LivesIn, CompletedLive};
     ghost use Rattle.mpm_kernel.specs.Ending.{dropped_out, all_returned, consoles_left, printers_left, discharged, IsLeaving};
 
     /// A process ends: it stands in no list and waits for nothing. The message of its resident procedure goes back, and then those of the
@@ -17,8 +16,7 @@ impl Kernel {
     /// the order in which they were.
     #[tactic(auto, using(crate::proofs::EndingLaws::lives_dropped, crate::proofs::EndingLaws::few_given_back))]
     pub fn discharge(&mut self, p: Pid)
-        requires sound { IsSoundKernel self.old }
-        requires lives { Lives self.old.dispatcher.procs p }
+        requires { LivesIn p self.old }
         ensures kernel { self.new ≡ discharged self.old p }
         ensures sound { IsSoundKernel self.new }
         ensures live { CompletedLive self.new }

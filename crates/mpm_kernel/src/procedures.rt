@@ -12,8 +12,9 @@ const ADDRESS: u16 = 2;
 impl Kernel {
     ghost use Rattle.mpm_procs.specs.Table.{Lives, process_in, call_of};
     ghost use Rattle.mpm_queues.specs.Queues.{IsMade};
-    ghost use Rattle.mpm_dispatcher.specs.Dispatch.{IsReady, first_completed, with_completed};
-    ghost use Rattle.mpm_kernel.specs.Kernel.{IsSoundKernel, CompletedLive, dispatched};
+    ghost use Rattle.mpm_dispatcher.specs.Dispatch.{first_completed, with_completed};
+    ghost use Rattle.mpm_kernel.specs.Kernel.{IsSoundKernel, LivesIn, MayCall, CompletedLive, dispatched};
+    ghost use Rattle.mpm_kernel.specs.Called.{Yields};
     ghost use Rattle.mpm_kernel.specs.Events.{with_procedure};
     ghost use Rattle.mpm_kernel.specs.Procedures.{procedure_called, procedure_queue, still_completed, outside, given_back_to, given_back};
 
@@ -24,13 +25,9 @@ impl Kernel {
     #[inline(never)]
     #[tactic(auto, using(crate::proofs::ProcedureLaws::lives_other, crate::proofs::ProcedureLaws::procedure_made), unfolding(crate::specs::Procedures::procedure_called, crate::specs::Procedures::procedure_at, crate::specs::Procedures::procedure_read, crate::specs::Procedures::inside))]
     pub(crate) fn call_procedure(&mut self, p: Pid, reply: &mut Reply) -> Outcome
-        requires sound { IsSoundKernel self.old }
-        requires lives { Lives self.old.dispatcher.procs p }
-        requires ready { IsReady self.old.dispatcher p }
+        requires caller { MayCall p self.old }
         requires room { length self.old.dispatcher.completed < 64 }
-        ensures kernel { self.new ≡ (procedure_called (call_of self.old.dispatcher.procs p) p self.old).kernel }
-        ensures outcome { result ≡ (procedure_called (call_of self.old.dispatcher.procs p) p self.old).outcome }
-        ensures reply { reply.new ≡ (procedure_called (call_of self.old.dispatcher.procs p) p self.old).reply }
+        ensures { Yields (procedure_called (call_of self.old.dispatcher.procs p) p self.old) self.new result reply.new }
     {
         if self.dispatcher.procs.get(p).procedure.is_some() {
             return done(reply, NO_FUNCTION);
@@ -87,8 +84,7 @@ impl Kernel {
     /// it is full; the process is in no procedure then.
     #[tactic(auto, using(crate::proofs::ProcedureLaws::sound_outside, crate::proofs::ProcedureLaws::lives_outside), unfolding(crate::specs::Procedures::given_back, crate::specs::Procedures::given_back_to))]
     pub fn put_back(&mut self, p: Pid)
-        requires sound { IsSoundKernel self.old }
-        requires lives { Lives self.old.dispatcher.procs p }
+        requires { LivesIn p self.old }
         ensures kernel { self.new ≡ given_back p self.old }
         ensures sound { IsSoundKernel self.new }
         ensures live { CompletedLive self.new }
@@ -137,8 +133,7 @@ impl Kernel {
     /// A process writes the message of its call to a queue that is there, where there is room.
     #[tactic(auto, unfolding(crate::specs::Procedures::given_back_to, mpm_dispatcher::specs::Dispatch::lists_ready, mpm_dispatcher::specs::Dispatch::also_completed))]
     pub(crate) fn write_back(&mut self, p: Pid, q: u8)
-        requires sound { IsSoundKernel self.old }
-        requires lives { Lives self.old.dispatcher.procs p }
+        requires process { LivesIn p self.old }
         requires queue { IsMade self.old.queues q }
         requires room { length self.old.dispatcher.completed < 64 }
         ensures { self.new ≡ given_back_to (Some q) p self.old }

@@ -9,8 +9,8 @@ impl Kernel {
     ghost use Rattle.mpm_procs.specs.Table.{Lives, call_of};
     ghost use Rattle.mpm_queues.specs.Queues.{IsMade, make_error};
     ghost use Rattle.mpm_queues.specs.Handling.{woken_by, may_wait, read_outcome, read_reply, write_outcome};
-    ghost use Rattle.mpm_dispatcher.specs.Dispatch.{IsReady};
-    ghost use Rattle.mpm_kernel.specs.Kernel.{IsSoundKernel};
+    ghost use Rattle.mpm_kernel.specs.Kernel.{IsSoundKernel, LivesIn, MayCall};
+    ghost use Rattle.mpm_kernel.specs.Called.{Yields};
     ghost use Rattle.mpm_kernel.specs.Queueing.{with_system_queue, OnlySystems, IfNotNow, queue_made, queue_opened, queue_deleted, pointed, blocked_or_refused, taken_from, queue_read, given_to, queue_written};
 
     /// Makes a queue of the system, which no process deletes, for `count` messages of `message_length` bytes. It is made at
@@ -34,9 +34,7 @@ impl Kernel {
     #[tactic(auto, unfolding(crate::specs::Queueing::queue_made, crate::specs::Queueing::with_queue))]
     pub(crate) fn make_queue(&mut self, p: Pid, reply: &mut Reply) -> Outcome
         requires { Lives self.old.dispatcher.procs p }
-        ensures kernel { self.new ≡ (queue_made (call_of self.old.dispatcher.procs p) self.old).kernel }
-        ensures outcome { result ≡ (queue_made (call_of self.old.dispatcher.procs p) self.old).outcome }
-        ensures reply { reply.new ≡ (queue_made (call_of self.old.dispatcher.procs p) self.old).reply }
+        ensures { Yields (queue_made (call_of self.old.dispatcher.procs p) self.old) self.new result reply.new }
     {
         let call = self.dispatcher.procs.call(p);
         let name = call.name(2);
@@ -55,9 +53,7 @@ impl Kernel {
     #[tactic(auto, unfolding(crate::specs::Queueing::opened))]
     pub(crate) fn open_queue(&self, p: Pid, reply: &mut Reply) -> Outcome
         requires { Lives self.now.dispatcher.procs p }
-        ensures kernel { (queue_opened (call_of self.now.dispatcher.procs p) self.now).kernel ≡ self.now }
-        ensures outcome { result ≡ (queue_opened (call_of self.now.dispatcher.procs p) self.now).outcome }
-        ensures reply { reply.new ≡ (queue_opened (call_of self.now.dispatcher.procs p) self.now).reply }
+        ensures { Yields (queue_opened (call_of self.now.dispatcher.procs p) self.now) self.now result reply.new }
     {
         let call = self.dispatcher.procs.call(p);
         match self.queues.find(call.name(4)) {
@@ -75,9 +71,7 @@ impl Kernel {
     #[tactic(auto, unfolding(crate::specs::Queueing::deleted, mpm_queues::specs::Queues::without_queue))]
     pub(crate) fn delete_queue(&mut self, p: Pid, reply: &mut Reply) -> Outcome
         requires { Lives self.old.dispatcher.procs p }
-        ensures kernel { self.new ≡ (queue_deleted (call_of self.old.dispatcher.procs p) self.old).kernel }
-        ensures outcome { result ≡ (queue_deleted (call_of self.old.dispatcher.procs p) self.old).outcome }
-        ensures reply { reply.new ≡ (queue_deleted (call_of self.old.dispatcher.procs p) self.old).reply }
+        ensures { Yields (queue_deleted (call_of self.old.dispatcher.procs p) self.old) self.new result reply.new }
     {
         let Some(q) = self.queues.find(self.dispatcher.procs.call(p).name(2)) else {
             return done(reply, FAILURE_CODE);
@@ -98,13 +92,9 @@ impl Kernel {
     #[inline(never)]
     #[tactic(auto, unfolding(crate::specs::Queueing::read_at, crate::specs::Queueing::was_read))]
     pub(crate) fn read_queue(&mut self, p: Pid, waits: bool, reply: &mut Reply) -> Outcome
-        requires sound { IsSoundKernel self.old }
-        requires lives { Lives self.old.dispatcher.procs p }
-        requires ready { IsReady self.old.dispatcher p }
+        requires caller { MayCall p self.old }
         requires room { length self.old.dispatcher.completed < 64 }
-        ensures kernel { self.new ≡ (queue_read waits (call_of self.old.dispatcher.procs p) p self.old).kernel }
-        ensures outcome { result ≡ (queue_read waits (call_of self.old.dispatcher.procs p) p self.old).outcome }
-        ensures reply { reply.new ≡ (queue_read waits (call_of self.old.dispatcher.procs p) p self.old).reply }
+        ensures { Yields (queue_read waits (call_of self.old.dispatcher.procs p) p self.old) self.new result reply.new }
     {
         let call = self.dispatcher.procs.call(p);
         let pointer = call.word(0);
@@ -128,13 +118,9 @@ impl Kernel {
     #[inline(never)]
     #[tactic(auto, unfolding(crate::specs::Queueing::write_at, crate::specs::Queueing::was_written))]
     pub(crate) fn write_queue(&mut self, p: Pid, waits: bool, reply: &mut Reply) -> Outcome
-        requires sound { IsSoundKernel self.old }
-        requires lives { Lives self.old.dispatcher.procs p }
-        requires ready { IsReady self.old.dispatcher p }
+        requires caller { MayCall p self.old }
         requires room { length self.old.dispatcher.completed < 64 }
-        ensures kernel { self.new ≡ (queue_written waits (call_of self.old.dispatcher.procs p) p self.old).kernel }
-        ensures outcome { result ≡ (queue_written waits (call_of self.old.dispatcher.procs p) p self.old).outcome }
-        ensures reply { reply.new ≡ (queue_written waits (call_of self.old.dispatcher.procs p) p self.old).reply }
+        ensures { Yields (queue_written waits (call_of self.old.dispatcher.procs p) p self.old) self.new result reply.new }
     {
         let pointer = self.dispatcher.procs.call(p).word(0);
         let Some(q) = self.queues.pointed(pointer) else {
@@ -166,8 +152,7 @@ impl Kernel {
     /// A process writes the message of its call to a queue.
     #[tactic(auto, using(crate::proofs::QueueingLaws::waiters_live, crate::proofs::QueueingLaws::lives_by_write))]
     pub(crate) fn give_to(&mut self, p: Pid, q: u8) -> QueueOutcome
-        requires sound { IsSoundKernel self.old }
-        requires lives { Lives self.old.dispatcher.procs p }
+        requires process { LivesIn p self.old }
         requires queue { IsMade self.old.queues q }
         ensures kernel { self.new ≡ given_to self.old p q }
         ensures outcome { result ≡ write_outcome self.old.queues q }
@@ -188,14 +173,10 @@ impl Kernel {
         waits: bool,
         reply: &mut Reply,
     ) -> Outcome
-        requires sound { IsSoundKernel self.old }
-        requires lives { Lives self.old.dispatcher.procs p }
-        requires ready { IsReady self.old.dispatcher p }
+        requires caller { MayCall p self.old }
         requires queue { IsMade self.old.queues q }
         requires waits { may_wait self.old.queues q reader ≡ true }
-        ensures kernel { self.new ≡ (blocked_or_refused waits p q reader self.old).kernel }
-        ensures outcome { result ≡ (blocked_or_refused waits p q reader self.old).outcome }
-        ensures reply { reply.new ≡ (blocked_or_refused waits p q reader self.old).reply }
+        ensures { Yields (blocked_or_refused waits p q reader self.old) self.new result reply.new }
     {
         if waits {
             let priority = self.dispatcher.procs.get(p).priority;

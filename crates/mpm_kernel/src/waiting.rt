@@ -19,9 +19,8 @@ pub(crate) const LAST_FLAG: u8 = 31;
 impl Kernel {
     ghost use Rattle.mpm_procs.specs.Table.{Lives, call_of};
     ghost use Rattle.mpm_flags.specs.States.{flag_at, set_answer};
-    ghost use Rattle.mpm_dispatcher.specs.Dispatch.{IsReady};
-    ghost use Rattle.mpm_kernel.specs.Kernel.{IsSoundKernel};
-    ghost use Rattle.mpm_kernel.specs.Called.{low_parameter};
+    ghost use Rattle.mpm_kernel.specs.Kernel.{IsSoundKernel, MayCall};
+    ghost use Rattle.mpm_kernel.specs.Called.{Yields, low_parameter};
     ghost use Rattle.mpm_kernel.specs.Waiting.{polled, flag_waited, flag_set as flag_set_by, process_delayed, signalled};
 
     /// A process waits until a device is ready, unless it is. (MP/M II Programmer's Guide, "Function 131: Poll".)
@@ -31,9 +30,7 @@ impl Kernel {
     pub(crate) fn poll(&mut self, p: Pid, device: u8, reply: &mut Reply) -> Outcome
         requires lives { Lives self.old.dispatcher.procs p }
         requires device { device ≡ low_parameter (call_of self.old.dispatcher.procs p) }
-        ensures kernel { self.new ≡ (polled (call_of self.old.dispatcher.procs p) p self.old).kernel }
-        ensures outcome { result ≡ (polled (call_of self.old.dispatcher.procs p) p self.old).outcome }
-        ensures reply { reply.new ≡ (polled (call_of self.old.dispatcher.procs p) p self.old).reply }
+        ensures { Yields (polled (call_of self.old.dispatcher.procs p) p self.old) self.new result reply.new }
     {
         if DEVICES <= device {
             return done(reply, FAILURE_CODE);
@@ -51,9 +48,7 @@ impl Kernel {
     #[tactic(auto, unfolding(crate::specs::Waiting::flag_waited, crate::specs::Waiting::waited))]
     pub(crate) fn wait_flag(&mut self, p: Pid, flag: u8, reply: &mut Reply) -> Outcome
         requires flag { flag ≡ low_parameter (call_of self.old.dispatcher.procs p) }
-        ensures kernel { self.new ≡ (flag_waited (call_of self.old.dispatcher.procs p) p self.old).kernel }
-        ensures outcome { result ≡ (flag_waited (call_of self.old.dispatcher.procs p) p self.old).outcome }
-        ensures reply { reply.new ≡ (flag_waited (call_of self.old.dispatcher.procs p) p self.old).reply }
+        ensures { Yields (flag_waited (call_of self.old.dispatcher.procs p) p self.old) self.new result reply.new }
     {
         if flag < FIRST_FLAG || LAST_FLAG < flag {
             return done(reply, FAILURE_CODE);
@@ -75,9 +70,7 @@ impl Kernel {
     pub(crate) fn set_flag(&mut self, p: Pid, flag: u8, reply: &mut Reply) -> Outcome
         requires sound { IsSoundKernel self.old }
         requires flag { flag ≡ low_parameter (call_of self.old.dispatcher.procs p) }
-        ensures kernel { self.new ≡ (flag_set_by (call_of self.old.dispatcher.procs p) self.old).kernel }
-        ensures outcome { result ≡ (flag_set_by (call_of self.old.dispatcher.procs p) self.old).outcome }
-        ensures reply { reply.new ≡ (flag_set_by (call_of self.old.dispatcher.procs p) self.old).reply }
+        ensures { Yields (flag_set_by (call_of self.old.dispatcher.procs p) self.old) self.new result reply.new }
     {
         if flag < FIRST_FLAG || LAST_FLAG < flag {
             return done(reply, FAILURE_CODE);
@@ -94,13 +87,9 @@ impl Kernel {
     #[inline(never)]
     #[tactic(auto, using(crate::proofs::SoundLaws::not_delayed), unfolding(crate::specs::Waiting::process_delayed))]
     pub(crate) fn delay(&mut self, p: Pid, ticks: u16, reply: &mut Reply) -> Outcome
-        requires sound { IsSoundKernel self.old }
-        requires lives { Lives self.old.dispatcher.procs p }
-        requires ready { IsReady self.old.dispatcher p }
+        requires caller { MayCall p self.old }
         requires ticks { ticks ≡ (call_of self.old.dispatcher.procs p).word }
-        ensures kernel { self.new ≡ (process_delayed (call_of self.old.dispatcher.procs p) p self.old).kernel }
-        ensures outcome { result ≡ (process_delayed (call_of self.old.dispatcher.procs p) p self.old).outcome }
-        ensures reply { reply.new ≡ (process_delayed (call_of self.old.dispatcher.procs p) p self.old).reply }
+        ensures { Yields (process_delayed (call_of self.old.dispatcher.procs p) p self.old) self.new result reply.new }
     {
         if ticks == 0 {
             self.dispatcher.rotate(p);

@@ -1,5 +1,5 @@
 -- A call that a process keeps, as the kernel does it.
-use Rattle.std.specs.Prelude.{ℕ}
+use Rattle.std.specs.Prelude.{◌≡◌, ℕ}
 use Rattle.mpm_base.specs.Calls.{Taken, Answer}
 use Rattle.mpm_base.specs.declared.call.Outcome.{Outcome}
 use Rattle.mpm_procs.specs.Table.{with_call}
@@ -21,6 +21,12 @@ pub record Served : Type 0 where
   pub system : System
   pub outcome : Outcome
   pub reply : Answer
+
+-- a call gives the system as it is then, the outcome, and the answer
+pub record Gives (served : Served) (after : System) (result : Outcome) (answer : Answer) : Type 0 where
+  pub system : after ≡ served.system
+  pub outcome : result ≡ served.outcome
+  pub reply : answer ≡ served.reply
 
 -- the same of a call that concerns the kernel alone
 abbrev pub served_by : Called → System → Served

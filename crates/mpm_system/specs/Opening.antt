@@ -12,7 +12,7 @@ use Rattle.mpm_banks.specs.declared.segment.Allocation.{Allocation}
 use Rattle.mpm_banks.specs.declared.segment.Allocation.TheVariants.{Free, Reserved, Occupied}
 use Rattle.mpm_procs.specs.Table.{living, process_in, lowest_free}
 use Rattle.mpm_procs.specs.declared.process.NewProcess.{NewProcess}
-use Rattle.mpm_kernel.specs.Kernel.{Kernel, with_changed, new_kernel, dispatched}
+use Rattle.mpm_kernel.specs.Kernel.{Kernel, IsSoundKernel, with_changed, new_kernel, dispatched}
 use Rattle.mpm_dispatcher.specs.Dispatch.{admitted, picked}
 use Rattle.mpm_kernel.specs.Disk.{in_turns}
 use Rattle.mpm_kernel.specs.Queueing.{with_system_queue, OnlySystems}
@@ -70,6 +70,11 @@ booted file events = record {
   records = [];
   owed = nobody_owes;
 }
+
+-- a process may begin in a sound kernel, as its console is there
+pub record MayBegin (new : NewProcess) (kernel : Kernel) : Type 0 where
+  pub sound : IsSoundKernel kernel
+  pub console : new.console < length kernel.units.consoles
 
 -- a process lives in the segment
 abbrev pub is_lived_in : Allocation → Bool
@@ -261,6 +266,13 @@ resident_queues spool true = made (spooling_queues spool) (schedule_number spool
 pub record OnlyHas (queues : Queues) (kernel : Kernel) : Type 0 where
   pub systems : OnlySystems kernel
   pub are : kernel.queues ≡ queues
+
+-- a whole system of so many consoles that has no queues and no residents yet
+pub record AwaitsResidents (count : ℕ) (system : System) : Type 0 where
+  pub whole : IsWhole system
+  pub consoles : count ≡ length system.kernel.units.consoles
+  pub queues : OnlyHas no_queues system.kernel
+  pub nobody : system.residents ≡ []
 
 -- what a machine has as it is run, beside what its file says: these, a terminal message processor for each console in the slots after
 -- the interpreter's, and then the spooler and the scheduler, where they are asked for

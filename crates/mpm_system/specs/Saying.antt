@@ -1,12 +1,12 @@
 -- What a call writes, by its function.
-use Rattle.std.specs.Prelude.{ℕ, length, List, [], ◌∷◌, ◌==◌, ◌&&◌, nat_lt, if◌then◌else◌}
+use Rattle.std.specs.Prelude.{ℕ, ◌<◌, length, List, [], ◌∷◌, ◌==◌, ◌&&◌, nat_lt, if◌then◌else◌}
 use Rattle.mpm_base.specs.Calls.{Taken}
 use Rattle.mpm_base.specs.declared.functions.TheConstants.{CONSOLE_OUTPUT, LIST_OUTPUT, PRINT_STRING}
 use Rattle.mpm_banks.specs.Memory.{Memory, byte_at}
 use Rattle.mpm_gate.specs.Texts.{text_from}
 use Rattle.mpm_gate.specs.declared.take.TextEnd.TheVariants.{Dollar}
 use Rattle.mpm_procs.specs.Table.{process_in}
-use Rattle.mpm_kernel.specs.Kernel.{Kernel}
+use Rattle.mpm_kernel.specs.Kernel.{Kernel, IsConsole}
 use Rattle.mpm_kernel.specs.Calls.{does_echo}
 use Rattle.mpm_kernel.specs.Columns.{column_of, expanded, tab_text}
 use Rattle.mpm_kernel.specs.Called.{low_parameter}
@@ -15,6 +15,11 @@ use Rattle.mpm_base.specs.declared.unit.Unit.TheVariants.{Printer}
 use Rattle.mpm_render.specs.Outputs.{said}
 use Rattle.mpm_system.specs.declared.system.System.{System}
 use Rattle.mpm_system.specs.Whole.{SystemChange, speaking}
+
+-- a console is there, and is one of the eight that there may be
+pub record MayShow (n : ℕ) (kernel : Kernel) : Type 0 where
+  pub console : n < 8
+  pub exists : IsConsole kernel n
 
 -- what a call writes to its process's console: functions 2 and 9 with tabs expanded, the byte in E or a string, and
 -- functions 4 and 6 the byte in E as it is

@@ -6,15 +6,23 @@ use Rattle.mpm_base.specs.Calls.{Taken, Answer, answering, byte_in}
 use Rattle.mpm_base.specs.declared.call.Outcome.{Outcome}
 use Rattle.mpm_base.specs.declared.call.Outcome.TheVariants.{Done, Held, Retry, Ended}
 use Rattle.mpm_base.specs.declared.functions.TheConstants.{WRITE_QUEUE, SEND_CLI_COMMAND, CHAIN_TO_PROGRAM}
-use Rattle.mpm_procs.specs.Table.{lives, process_in, call_of}
+use Rattle.mpm_procs.specs.Table.{lives, Lives, process_in, call_of}
 use Rattle.mpm_procs.specs.declared.process.Process.{Process}
+use Rattle.mpm_dispatcher.specs.Dispatch.{IsReady}
 use Rattle.mpm_kernel.specs.Kernel.{Kernel}
 use Rattle.mpm_kernel.specs.Called.{Called, valued, failure_code}
 use Rattle.mpm_kernel.specs.Calls.{called}
 use Rattle.mpm_kernel.specs.Consoling.{given}
 use Rattle.mpm_residents.specs.Natives.{native_in, interprets_if_there}
 use Rattle.mpm_system.specs.declared.system.System.{System}
+use Rattle.mpm_system.specs.Whole.{IsWhole}
 use Rattle.mpm_system.specs.Calling.{with_kept}
+
+-- a process of a whole system is ready, and may send a command
+pub record IsReadyWithin (p : ℕ) (system : System) : Type 0 where
+  pub whole : IsWhole system
+  pub lives : Lives system.kernel.dispatcher.procs p
+  pub ready : IsReady system.kernel.dispatcher p
 
 -- a message of the command queue has 130 bytes: the user and the drive in one, the console, the text, and zeros; what function 47
 -- sends has the user, the drive and the console of its process

@@ -1,5 +1,5 @@
 -- What a machine keeps from step to step, what a part of a step makes of it, and what is so of it within a step and after it.
-use Rattle.std.specs.Prelude.{◌≡◌, ◌<◌, ◌≤◌, ◌+◌, ℕ, false, List, [], All, Some, None, length}
+use Rattle.std.specs.Prelude.{◌≡◌, ◌<◌, ◌≤◌, ◌+◌, ℕ, false, List, [], All, Some, None, length, Result, OnOk}
 use Rattle.mpm_banks.specs.Memory.{Memory, IsMemory, segment_of}
 use Rattle.mpm_banks.specs.declared.segment.Allocation.TheVariants.{Occupied}
 use Rattle.mpm_procs.specs.Table.{Lives, process_in}
@@ -7,8 +7,10 @@ use Rattle.mpm_gate.specs.Gates.{IsHome}
 use Rattle.mpm_script.specs.Events.{IsTimed}
 use Rattle.mpm_kernel.specs.Kernel.{Kernel, IsSoundKernel, CompletedLive, is_aborted}
 use Rattle.mpm_kernel.specs.Columns.{spoke}
+use Rattle.mpm_port.specs.declared.Failed.{Failed}
 use Rattle.mpm_render.specs.Outputs.{Output}
-use Rattle.mpm_output.specs.Writing.{spoken}
+use Rattle.mpm_render.specs.Shown.{KeptLines}
+use Rattle.mpm_output.specs.Writing.{spoken, WritesAlone}
 use Rattle.mpm_system.specs.declared.system.System.{System}
 use Rattle.mpm_system.specs.Owing.{nobody_owes}
 
@@ -16,6 +18,12 @@ use Rattle.mpm_system.specs.Owing.{nobody_owes}
 pub record SystemChange : Type 0 where
   pub system : System
   pub emitted : List Output
+
+-- a call makes a change: after a success the system is what the change says, and its outputs came out; after an error the sink failed
+-- as they did
+pub record Makes {S A : Type 0} (written : S → List ℕ) (faults : S → ℕ) (change : SystemChange) (after : System) (kept : KeptLines) (sink : S) (kept' : KeptLines) (sink' : S) (result : Result A Failed) : Type 0 where
+  pub system : OnOk result (after ≡ change.system)
+  pub wrote : WritesAlone written faults kept sink kept' sink' change.emitted result
 
 -- nothing is said
 abbrev pub silent : System → SystemChange
@@ -68,3 +76,13 @@ pub record IsWhole (system : System) : Type 0 where
   pub memory : IsMemory system.memory
   pub script : All IsTimed system.interrupts.script
   pub settled : system.abort_deferred ≡ false → NobodyAborted system.kernel
+
+-- a process lives in a whole system
+pub record LivesWithin (p : ℕ) (system : System) : Type 0 where
+  pub whole : IsWhole system
+  pub lives : Lives system.kernel.dispatcher.procs p
+
+-- a process lives, whose call may be recorded
+pub record MayRecord (p : ℕ) (system : System) : Type 0 where
+  pub lives : Lives system.kernel.dispatcher.procs p
+  pub room : HasRoom system

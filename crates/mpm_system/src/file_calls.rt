@@ -1,6 +1,6 @@
 ghost use Rattle.std.specs.Prelude.{◌≡◌, ◌<◌, Some, None, Option};
 ghost use Rattle.mpm_script.specs.declared.line.TheConstants.{GREATEST_STEP};
-ghost use Rattle.mpm_procs.specs.Table.{Lives, call_of, process_in};
+ghost use Rattle.mpm_procs.specs.Table.{call_of, process_in};
 
 use crate::system::System;
 use mpm_base::{Pid, Reply, Seg, functions};
@@ -14,15 +14,14 @@ impl System {
     ghost use Rattle.mpm_gate.specs.Gates.{IsHome};
     ghost use Rattle.mpm_file_functions.specs.declared.refusals.Extended.{Extended};
     ghost use Rattle.mpm_directories.specs.Direct.{Resets};
-    ghost use Rattle.mpm_system.specs.Whole.{IsWhole, HasRoom};
+    ghost use Rattle.mpm_system.specs.Whole.{LivesWithin, MayRecord};
     ghost use Rattle.mpm_system.specs.FileCalling.{call_made, made_by, change_of, with_caller, first_dma, file_replied};
 
     /// A step begins in which a process makes its file call, which it keeps.
     #[tactic(auto, unfolding(crate::specs::FileCalling::call_made))]
     pub fn make_file_call(&mut self, p: Pid)
-        requires whole { IsWhole self.old }
+        requires process { LivesWithin p self.old }
         requires most { self.old.steps < GREATEST_STEP }
-        requires lives { Lives self.old.kernel.dispatcher.procs p }
         ensures { self.new ≡ call_made p self.old }
     {
         self.steps += 1;
@@ -34,8 +33,7 @@ impl System {
 
     /// A step begins in which a process of a segment makes its file call: its return address is taken from its stack.
     fn take_file_call(&mut self, p: Pid, seg: Seg)
-        requires whole { IsWhole self.old }
-        requires lives { Lives self.old.kernel.dispatcher.procs p }
+        requires process { LivesWithin p self.old }
         requires home { IsHome self.old.memory seg }
         ensures { self.new ≡ made_by (Some seg) p self.old }
     {
@@ -47,8 +45,7 @@ impl System {
     /// is refused.
     #[tactic(auto, unfolding(crate::specs::FileCalling::with_caller, crate::specs::FileCalling::change_of))]
     pub fn change_caller(&mut self, p: Pid, granted: bool)
-        requires whole { IsWhole self.old }
-        requires lives { Lives self.old.kernel.dispatcher.procs p }
+        requires { LivesWithin p self.old }
         ensures { (error : Option Extended) → granted ≡ is_none error → self.new ≡ with_caller (change_of (call_of self.old.kernel.dispatcher.procs p) error) p self.old }
     {
         let call = self.kernel.kept_call(p);
@@ -63,8 +60,7 @@ impl System {
     /// A process has the first drive and its first DMA address again.
     #[tactic(auto, unfolding(crate::specs::FileCalling::with_caller))]
     fn reset_caller(&mut self, p: Pid)
-        requires whole { IsWhole self.old }
-        requires lives { Lives self.old.kernel.dispatcher.procs p }
+        requires { LivesWithin p self.old }
         ensures { self.new ≡ with_caller Resets p self.old }
     {
         let dma = self.first_dma(p);
@@ -76,8 +72,7 @@ impl System {
     /// The DMA address with which a process begins.
     #[tactic(auto, using(crate::proofs::WholeLaws::segment_is_there))]
     fn first_dma(&self, p: Pid) -> u16
-        requires whole { IsWhole self.now }
-        requires lives { Lives self.now.kernel.dispatcher.procs p }
+        requires { LivesWithin p self.now }
         ensures { result ≡ first_dma self.now.memory (process_in self.now.kernel.dispatcher.procs p).seg }
     {
         match self.kernel.segment(p) {
@@ -90,8 +85,7 @@ impl System {
     /// answer.
     #[tactic(auto, unfolding(crate::specs::FileCalling::file_replied))]
     pub fn put_file_reply(&mut self, p: Pid, reply: &Reply)
-        requires lives { Lives self.old.kernel.dispatcher.procs p }
-        requires room { HasRoom self.old }
+        requires { MayRecord p self.old }
         ensures { self.new ≡ file_replied reply.now p self.old }
     {
         match self.kernel.segment(p) {

@@ -5,7 +5,7 @@ use crate::system::System;
 use mpm_base::{Pid, Reply, Seg};
 
 impl System {
-    ghost use Rattle.mpm_system.specs.Whole.{IsWhole, HasRoom};
+    ghost use Rattle.mpm_system.specs.Whole.{LivesWithin, MayRecord};
     ghost use Rattle.mpm_system.specs.Taking.{asked, keeping};
     ghost use Rattle.mpm_system.specs.Answering.{answering_call, popped, replied, recorded};
 
@@ -13,8 +13,7 @@ impl System {
     #[inline(always)]
     #[tactic(auto, using(mpm_procs::proofs::MapLaws::lives_changed), unfolding(crate::specs::Taking::keeping, crate::specs::Taking::asked))]
     pub fn take_call(&mut self, p: Pid, seg: Seg)
-        requires whole { IsWhole self.old }
-        requires lives { Lives self.old.kernel.dispatcher.procs p }
+        requires { LivesWithin p self.old }
         ensures { self.new ≡ keeping p (asked p seg self.old) self.old }
     {
         let process = self.kernel.process_mut(p);
@@ -30,8 +29,7 @@ impl System {
     #[inline(always)]
     #[tactic(auto, unfolding(crate::specs::Answering::answering_call))]
     pub fn answer(&mut self, p: Pid, seg: Seg, reply: &Reply)
-        requires lives { Lives self.old.kernel.dispatcher.procs p }
-        requires room { HasRoom self.old }
+        requires { MayRecord p self.old }
         ensures { self.new ≡ answering_call reply.now (call_of self.old.kernel.dispatcher.procs p) p seg self.old }
     {
         self.reply(p, seg, reply);
@@ -64,8 +62,7 @@ impl System {
     #[inline(always)]
     #[tactic(auto, unfolding(crate::specs::Answering::recorded, crate::specs::Answering::completion))]
     fn record(&mut self, p: Pid)
-        requires lives { Lives self.old.kernel.dispatcher.procs p }
-        requires room { HasRoom self.old }
+        requires { MayRecord p self.old }
         ensures { self.new ≡ recorded (call_of self.old.kernel.dispatcher.procs p) p self.old }
     {
         let function = self.kernel.kept_call(p).function;

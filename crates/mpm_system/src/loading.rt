@@ -2,9 +2,9 @@ ghost use Rattle.std.specs.Prelude.{◌≡◌, ◌≤◌, ◌<◌, ◌*◌, leng
 ghost use Rattle.std.specs.Bool.{OnTrue, OnFalse};
 ghost use Rattle.mpm_banks.specs.Ranges.{range_of};
 ghost use Rattle.mpm_procs.specs.Table.{Lives, lowest_free, call_of};
-ghost use Rattle.mpm_kernel.specs.Kernel.{IsSoundKernel};
 ghost use Rattle.mpm_kernel.specs.Called.{failure_code};
 ghost use Rattle.mpm_gate.specs.Gates.{IsHome};
+ghost use Rattle.mpm_system.specs.Opening.{MayBegin};
 ghost use Rattle.mpm_system.specs.Loading.{moved, may_live as may_be_lived_in, is_slot, begun_for};
 
 use crate::system::System;
@@ -17,14 +17,13 @@ use mpm_procs::{NewProcess, NoSlot};
 use mpm_residents::Act;
 
 impl System {
-    ghost use Rattle.mpm_system.specs.Whole.{IsWhole};
+    ghost use Rattle.mpm_system.specs.Whole.{LivesWithin};
     ghost use Rattle.mpm_system.specs.Loading.{placing, moving, giving, beginning, begins, handed_over, handed_value};
 
     /// What the interpreter of a slot hands over is done, with the bytes of the call that its process keeps. Answers 0, or FFh
     /// where no process can begin.
     pub(crate) fn hand_over(&mut self, p: Pid, act: Act) -> u16
-        requires whole { IsWhole self.old }
-        requires lives { Lives self.old.kernel.dispatcher.procs p }
+        requires { LivesWithin p self.old }
         ensures system { self.new ≡ handed_over act (call_of self.old.kernel.dispatcher.procs p).bytes p self.old }
         ensures value { result ≡ handed_value act self.old }
     {
@@ -53,8 +52,7 @@ impl System {
 
     /// The bytes of the call that a process keeps come into a segment, from an address on.
     fn place_bytes(&mut self, p: Pid, seg: Seg, address: u16)
-        requires whole { IsWhole self.old }
-        requires lives { Lives self.old.kernel.dispatcher.procs p }
+        requires { LivesWithin p self.old }
         ensures { self.new ≡ placing seg address (call_of self.old.kernel.dispatcher.procs p).bytes self.old }
     {
         let bytes = self.kernel.kept_call(p).from(0);
@@ -64,8 +62,7 @@ impl System {
     /// So many bytes of code in a segment, from an address on, are moved to a page, as the bytes of the call that a process
     /// keeps mark them.
     fn move_code(&mut self, p: Pid, seg: Seg, address: u16, count: u16, page: u8)
-        requires whole { IsWhole self.old }
-        requires lives { Lives self.old.kernel.dispatcher.procs p }
+        requires { LivesWithin p self.old }
         ensures { self.new ≡ moving seg address count (call_of self.old.kernel.dispatcher.procs p).bytes page self.old }
     {
         let marks = self.kernel.kept_call(p).from(0);
@@ -76,8 +73,7 @@ impl System {
 
     /// A process gives a console to the one that waits for it first, if it owns it.
     fn give_console(&mut self, p: Pid, console: u8)
-        requires whole { IsWhole self.old }
-        requires lives { Lives self.old.kernel.dispatcher.procs p }
+        requires { LivesWithin p self.old }
         ensures { self.new ≡ giving console p self.old }
     {
         if console < self.kernel.consoles() {
@@ -88,8 +84,7 @@ impl System {
     /// The process of a program begins in a segment, and owns its console where the one that hands it over does. Answers
     /// whether a process may live there, its console is there and a slot is free.
     fn begin_program(&mut self, p: Pid, seg: Seg, new: NewProcess) -> bool
-        requires whole { IsWhole self.old }
-        requires lives { Lives self.old.kernel.dispatcher.procs p }
+        requires { LivesWithin p self.old }
         ensures system { self.new ≡ beginning seg new p self.old }
         ensures answer { result ≡ begins seg new self.old }
     {
@@ -146,9 +141,8 @@ fn may_live(banks: &Banks, seg: Seg) -> bool
 
 /// A process begins, if a slot is free, and owns its console where the one that hands it over does. Answers whether it does.
 fn begin_for(kernel: &mut Kernel, p: Pid, new: NewProcess) -> bool
-    requires sound { IsSoundKernel kernel.old }
+    requires begins { MayBegin new kernel.old }
     requires lives { Lives kernel.old.dispatcher.procs p }
-    requires console { new.console < length kernel.old.units.consoles }
     ensures answer { result ≡ is_slot (lowest_free kernel.old.dispatcher.procs) }
     ensures kernel { kernel.new ≡ begun_for p new (lowest_free kernel.old.dispatcher.procs) kernel.old }
     ensures same { OnFalse result (kernel.new ≡ kernel.old) }

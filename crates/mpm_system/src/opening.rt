@@ -1,13 +1,13 @@
 ghost use Rattle.std.specs.Prelude.{◌≡◌, ◌+◌, ◌<◌, IfOk, false, None, ◌-◌, ◌≤◌, length, Some, IsSome, is_some, []};
-ghost use Rattle.mpm_banks.specs.Memory.{HasSegment, segment_of};
 ghost use Rattle.mpm_procs.specs.Table.{lowest_free};
 ghost use Rattle.mpm_kernel.specs.Kernel.{IsSoundKernel, dispatched};
 ghost use Rattle.mpm_dispatcher.specs.Dispatch.{admitted, picked};
 ghost use Rattle.mpm_kernel.specs.Consoling.{given};
 ghost use Rattle.mpm_service.specs.Disk.{no_service};
+ghost use Rattle.mpm_gate.specs.Gates.{IsHome};
 ghost use Rattle.mpm_machine_file.specs.MachineFiles.{IsMachine};
 ghost use Rattle.mpm_queues.specs.Queues.{Queues as QueueTable, no_queues};
-ghost use Rattle.mpm_system.specs.Opening.{terminal_name as name_of_terminal, resident_process as process_of_resident, moment_of as moment_said, program_file as program_said, laid_out, placed_process as process_placed, booted, IsBare, MayPlace, with_placed, OnlyHas, command_queues, spooling_queues, with_residents, begun_residents, begun_by_interpreter, with_interpreting, with_terminals, with_terminal, with_spooler, with_scheduler, with_spool_queues, with_begun, schedule_number as number_of_schedule, Begun};
+ghost use Rattle.mpm_system.specs.Opening.{terminal_name as name_of_terminal, resident_process as process_of_resident, moment_of as moment_said, program_file as program_said, laid_out, placed_process as process_placed, booted, IsBare, MayPlace, MayBegin, AwaitsResidents, with_placed, OnlyHas, command_queues, spooling_queues, with_residents, begun_residents, begun_by_interpreter, with_interpreting, with_terminals, with_terminal, with_spooler, with_scheduler, with_spool_queues, with_begun, schedule_number as number_of_schedule, Begun};
 ghost use Rattle.mpm_system.specs.Whole.{IsWhole, NoCompletions};
 
 use crate::owed::Owed;
@@ -98,11 +98,8 @@ impl System {
     /// terminal message processor for each console. Where they are asked for, it has the spooler and the scheduler, with their queues. The
     /// first of the ready list runs.
     pub fn begin_residents(&mut self, consoles: u8, spool: bool, sched: bool)
-        requires whole { IsWhole self.old }
+        requires awaits { AwaitsResidents consoles self.old }
         requires no_completions { NoCompletions self.old }
-        requires consoles { consoles ≡ length self.old.kernel.units.consoles }
-        requires queues { OnlyHas no_queues self.old.kernel }
-        requires nobody { self.old.residents ≡ [] }
         ensures system { self.new ≡ with_residents consoles spool sched self.old }
         ensures whole { IsWhole self.new }
         ensures no_completions { NoCompletions self.new }
@@ -115,10 +112,7 @@ impl System {
 
     /// The residents begin, each in the lowest free slot.
     fn begin_all(&mut self, consoles: u8, spool: bool, sched: bool)
-        requires whole { IsWhole self.old }
-        requires consoles { consoles ≡ length self.old.kernel.units.consoles }
-        requires queues { OnlyHas no_queues self.old.kernel }
-        requires nobody { self.old.residents ≡ [] }
+        requires { AwaitsResidents consoles self.old }
         ensures { self.new ≡ begun_residents consoles spool sched self.old }
     {
         self.begin_interpreting(consoles);
@@ -239,8 +233,7 @@ fn make_spool_queues(kernel: &mut Kernel)
 
 /// The process of a resident begins, where a slot is free, and takes extended errors as answers.
 fn begin_process(kernel: &mut Kernel, new: NewProcess) -> bool
-    requires sound { IsSoundKernel kernel.old }
-    requires console { new.console < length kernel.old.units.consoles }
+    requires { MayBegin new kernel.old }
     ensures kernel { kernel.new ≡ with_begun (lowest_free kernel.old.dispatcher.procs) new kernel.old }
     ensures begun { result ≡ is_some (lowest_free kernel.old.dispatcher.procs) }
 {
@@ -319,9 +312,7 @@ pub fn program_file(alloc: Global) -> Result<MachineFile, AllocError>
 /// Lays out a program in its segment: the base page, the program after it, and the word on which the stack begins.
 #[tactic(auto, unfolding(crate::specs::Opening::laid_out))]
 fn lay_out(banks: &mut Banks, seg: Seg, program: &[u8])
-    requires exists { HasSegment banks.old seg }
-    requires pages { 2 ≤ (segment_of banks.old seg).pages }
-    requires end { (segment_of banks.old seg).base + (segment_of banks.old seg).pages ≤ 192 }
+    requires home { IsHome banks.old seg }
     requires few { length program.now ≤ 65535 }
     ensures { banks.new ≡ laid_out banks.old seg program.now }
 {
@@ -359,9 +350,8 @@ fn placed_process(spec: SegmentSpec, seg: Seg, name: Name8, priority: u8, consol
 /// A process begins, for which there is a slot: it owns its console where nobody does, and the first of the ready list runs.
 #[tactic(auto, using(mpm_kernel::proofs::SoundLaws::sound_in_slot))]
 fn begin(kernel: &mut Kernel, new: NewProcess) -> Pid
-    requires sound { IsSoundKernel kernel.old }
+    requires begins { MayBegin new kernel.old }
     requires slot { IsSome (lowest_free kernel.old.dispatcher.procs) }
-    requires console { new.console < length kernel.old.units.consoles }
     ensures slot { lowest_free kernel.old.dispatcher.procs ≡ Some result }
     ensures kernel { kernel.new ≡ dispatched (picked false) (given new.console None (Some result) (dispatched (admitted result new) kernel.old)) }
 {

@@ -3,9 +3,9 @@ ghost use Rattle.mpm_gate.specs.Texts.{text_from};
 ghost use Rattle.mpm_gate.specs.declared.take.TextEnd.TheVariants.{Dollar};
 ghost use Rattle.mpm_banks.specs.Memory.{byte_at};
 ghost use Rattle.mpm_procs.specs.Table.{Lives, call_of};
-ghost use Rattle.mpm_kernel.specs.Kernel.{IsConsole};
 ghost use Rattle.mpm_kernel.specs.Columns.{tab_text, expanded, spoke, column_of};
 ghost use Rattle.mpm_output.specs.Writing.{spoken, WritesAlone};
+ghost use Rattle.mpm_system.specs.Saying.{MayShow};
 
 use mpm_banks::Banks;
 use mpm_base::{Pid, Seg};
@@ -23,8 +23,7 @@ pub fn write_bytes<S: Sink>(
     render: &mut Render,
     sink: &mut S,
 ) -> Result<(), Failed>
-    requires console { console < 8 }
-    requires exists { IsConsole kernel.old console }
+    requires { MayShow console kernel.old }
     ensures kernel { kernel.new ≡ spoke kernel.old console bytes.now }
     ensures wrote { WritesAlone S.written S.faults render.old sink.old render.new sink.new (spoken console bytes.now) result }
 {
@@ -34,8 +33,7 @@ pub fn write_bytes<S: Sink>(
 
 /// Moves a console's column after bytes that come to it as they are.
 fn move_column(kernel: &mut Kernel, console: u8, bytes: &[u8])
-    requires console { console < 8 }
-    requires exists { IsConsole kernel.old console }
+    requires { MayShow console kernel.old }
     ensures { kernel.new ≡ spoke kernel.old console bytes.now }
 {
     for &byte in bytes {
@@ -51,8 +49,7 @@ pub(crate) fn write_tabbed<S: Sink>(
     render: &mut Render,
     sink: &mut S,
 ) -> Result<(), Failed>
-    requires console { console < 8 }
-    requires exists { IsConsole kernel.old console }
+    requires { MayShow console kernel.old }
     ensures kernel { kernel.new ≡ spoke kernel.old console (tab_text (column_of kernel.old console) byte) }
     ensures wrote { WritesAlone S.written S.faults render.old sink.old render.new sink.new (spoken console (tab_text (column_of kernel.old console) byte)) result }
 {
@@ -75,8 +72,7 @@ pub(crate) fn write_string<S: Sink>(
     render: &mut Render,
     sink: &mut S,
 ) -> Result<(), Failed>
-    requires console { console < 8 }
-    requires exists { IsConsole kernel.old console }
+    requires { MayShow console kernel.old }
     ensures kernel { OnOk result (kernel.new ≡ spoke kernel.old console
         (expanded (column_of kernel.old console) (text_from Dollar (byte_at banks.now seg) address 65536))) }
     ensures wrote { WritesAlone S.written S.faults render.old sink.old render.new sink.new (spoken console (expanded (column_of kernel.old console) (text_from Dollar (byte_at banks.now seg) address 65536))) result }
@@ -100,8 +96,7 @@ pub(crate) fn write_kept<S: Sink>(
     sink: &mut S,
 ) -> Result<(), Failed>
     requires lives { Lives kernel.old.dispatcher.procs p }
-    requires console { console < 8 }
-    requires exists { IsConsole kernel.old console }
+    requires console { MayShow console kernel.old }
     ensures kernel { OnOk result (kernel.new ≡ spoke kernel.old console (expanded (column_of kernel.old console) (call_of kernel.old.dispatcher.procs p).bytes)) }
     ensures wrote { WritesAlone S.written S.faults render.old sink.old render.new sink.new (spoken console (expanded (column_of kernel.old console) (call_of kernel.old.dispatcher.procs p).bytes)) result }
 {

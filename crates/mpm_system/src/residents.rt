@@ -8,8 +8,8 @@ use mpm_residents::Act;
 
 impl System {
     ghost use Rattle.mpm_residents.specs.Natives.{native_in, native_act};
+    ghost use Rattle.mpm_system.specs.Whole.{LivesWithin};
     ghost use Rattle.mpm_system.specs.Residents.{asked_by, tells as is_told, handing_step, taking};
-    ghost use Rattle.mpm_system.specs.Whole.{IsWhole};
 
     /// The resident of a slot, if one acts there, asks the call that it makes next, and its process keeps it.
     pub(crate) fn ask_next(&mut self, p: Pid)
@@ -51,8 +51,7 @@ impl System {
     /// A resident hands something over, and takes the answer.
     #[tactic(auto, unfolding(crate::specs::Residents::handing_step))]
     pub fn hand(&mut self, p: Pid, act: Act, reply: &mut Reply)
-        requires whole { IsWhole self.old }
-        requires lives { Lives self.old.kernel.dispatcher.procs p }
+        requires { LivesWithin p self.old }
         ensures { self.new ≡ handing_step act (call_of self.old.kernel.dispatcher.procs p) p self.old }
     {
         let value = self.hand_over(p, act);

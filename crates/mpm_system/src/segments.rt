@@ -7,6 +7,7 @@ use mpm_gate::segment_descriptor;
 
 impl System {
     ghost use Rattle.mpm_banks.specs.Allocations.{released, is_reserved};
+    ghost use Rattle.mpm_system.specs.Calling.{Gives};
     ghost use Rattle.mpm_system.specs.Segments.{reserving, base_asked, releasing};
 
     /// Functions 128 and 129: reserves a segment, of the base page that the call gives or of any.
@@ -14,9 +15,7 @@ impl System {
     #[tactic(auto, using(mpm_banks::proofs::SegmentLaws::reserved_is_there, mpm_banks::proofs::SegmentLaws::spec_of_reserved), unfolding(crate::specs::Segments::reserving))]
     pub fn reserve(&mut self, p: Pid, absolute: bool, reply: &mut Reply) -> Outcome
         requires lives { Lives self.old.kernel.dispatcher.procs p }
-        ensures system { self.new ≡ (reserving (base_asked absolute (call_of self.old.kernel.dispatcher.procs p)) (call_of self.old.kernel.dispatcher.procs p) p self.old).system }
-        ensures outcome { result ≡ (reserving (base_asked absolute (call_of self.old.kernel.dispatcher.procs p)) (call_of self.old.kernel.dispatcher.procs p) p self.old).outcome }
-        ensures reply { reply.new ≡ (reserving (base_asked absolute (call_of self.old.kernel.dispatcher.procs p)) (call_of self.old.kernel.dispatcher.procs p) p self.old).reply }
+        ensures { Gives (reserving (base_asked absolute (call_of self.old.kernel.dispatcher.procs p)) (call_of self.old.kernel.dispatcher.procs p) p self.old) self.new result reply.new }
     {
         let call = self.kernel.kept_call(p);
         let word = call.word;
@@ -36,9 +35,7 @@ impl System {
     #[tactic(auto, unfolding(crate::specs::Segments::releasing))]
     pub fn release(&mut self, p: Pid, reply: &mut Reply) -> Outcome
         requires lives { Lives self.old.kernel.dispatcher.procs p }
-        ensures system { self.new ≡ (releasing (call_of self.old.kernel.dispatcher.procs p) p self.old).system }
-        ensures outcome { result ≡ (releasing (call_of self.old.kernel.dispatcher.procs p) p self.old).outcome }
-        ensures reply { reply.new ≡ (releasing (call_of self.old.kernel.dispatcher.procs p) p self.old).reply }
+        ensures { Gives (releasing (call_of self.old.kernel.dispatcher.procs p) p self.old) self.new result reply.new }
     {
         let bank = self.kernel.kept_call(p).byte(3);
         let answer = if self.give_back(p, bank) {

@@ -1,6 +1,5 @@
 ghost use Rattle.std.specs.Prelude.{◌≡◌};
 ghost use Rattle.mpm_procs.specs.Table.{Lives, call_of};
-ghost use Rattle.mpm_dispatcher.specs.Dispatch.{IsReady};
 ghost use Rattle.mpm_system.specs.Sending.{chained as chained_by, framed as framed_with, ended_if_done as end_of, chains as is_chain};
 
 use crate::system::System;
@@ -17,20 +16,16 @@ const COMMAND_QUEUE: [u8; 12] = [1, 0, 0, 0, 0, 0, 0, 0, 0, 0, 0, 0];
 const CONSOLE: usize = 13;
 
 impl System {
-    ghost use Rattle.mpm_system.specs.Whole.{IsWhole};
-    ghost use Rattle.mpm_system.specs.Calling.{asking, served_by};
-    ghost use Rattle.mpm_system.specs.Sending.{framed, renamed, passed, passed_after, sent, has_interpreter, sending, chaining, let_in};
+    ghost use Rattle.mpm_system.specs.Whole.{LivesWithin};
+    ghost use Rattle.mpm_system.specs.Calling.{asking, served_by, Gives};
+    ghost use Rattle.mpm_system.specs.Sending.{IsReadyWithin, framed, renamed, passed, passed_after, sent, has_interpreter, sending, chaining, let_in};
 
     /// Function 150: a process sends a command to the command line interpreter.
     #[inline(never)]
     #[tactic(auto, unfolding(crate::specs::Sending::sending))]
     pub fn send_command(&mut self, p: Pid, reply: &mut Reply) -> Outcome
-        requires whole { IsWhole self.old }
-        requires lives { Lives self.old.kernel.dispatcher.procs p }
-        requires ready { IsReady self.old.kernel.dispatcher p }
-        ensures system { self.new ≡ (served_by (sending (has_interpreter self.old) p self.old.kernel) self.old).system }
-        ensures outcome { result ≡ (sending (has_interpreter self.old) p self.old.kernel).outcome }
-        ensures reply { reply.new ≡ (sending (has_interpreter self.old) p self.old.kernel).reply }
+        requires { IsReadyWithin p self.old }
+        ensures { Gives (served_by (sending (has_interpreter self.old) p self.old.kernel) self.old) self.new result reply.new }
     {
         let call = self.kernel.kept_call(p);
         let console = call.byte(1);
@@ -47,12 +42,8 @@ impl System {
     #[inline(never)]
     #[tactic(auto, unfolding(crate::specs::Sending::chaining))]
     pub fn chain(&mut self, p: Pid, reply: &mut Reply) -> Outcome
-        requires whole { IsWhole self.old }
-        requires lives { Lives self.old.kernel.dispatcher.procs p }
-        requires ready { IsReady self.old.kernel.dispatcher p }
-        ensures system { self.new ≡ (served_by (chaining (has_interpreter self.old) p self.old.kernel) self.old).system }
-        ensures outcome { result ≡ (chaining (has_interpreter self.old) p self.old.kernel).outcome }
-        ensures reply { reply.new ≡ (chaining (has_interpreter self.old) p self.old.kernel).reply }
+        requires { IsReadyWithin p self.old }
+        ensures { Gives (served_by (chaining (has_interpreter self.old) p self.old.kernel) self.old) self.new result reply.new }
     {
         if self.residents.interprets(INTERPRETER) {
             let message = chained(self.kernel.living(p), self.kernel.kept_call(p).taken());
@@ -66,12 +57,8 @@ impl System {
     /// A message goes into the command queue, or waits until it can.
     #[tactic(auto, unfolding(crate::specs::Sending::sent))]
     fn send(&mut self, function: u8, message: &[u8; 130], p: Pid, reply: &mut Reply) -> Outcome
-        requires whole { IsWhole self.old }
-        requires lives { Lives self.old.kernel.dispatcher.procs p }
-        requires ready { IsReady self.old.kernel.dispatcher p }
-        ensures system { self.new ≡ (served_by (sent function message.now p self.old.kernel) self.old).system }
-        ensures outcome { result ≡ (sent function message.now p self.old.kernel).outcome }
-        ensures reply { reply.new ≡ (sent function message.now p self.old.kernel).reply }
+        requires { IsReadyWithin p self.old }
+        ensures { Gives (served_by (sent function message.now p self.old.kernel) self.old) self.new result reply.new }
     {
         self.frame_call(p, message);
         let outcome = self.kernel.call(p, reply);
@@ -82,8 +69,7 @@ impl System {
 
     /// The interpreter becomes the owner of the console of a command in the step in which that goes in.
     fn pass_after(&mut self, outcome: Outcome, reply: &Reply, p: Pid)
-        requires whole { IsWhole self.old }
-        requires lives { Lives self.old.kernel.dispatcher.procs p }
+        requires { LivesWithin p self.old }
         ensures { self.new ≡ record self.old { kernel = passed_after outcome reply.now p self.old.kernel } }
     {
         match outcome {
@@ -114,8 +100,7 @@ impl System {
 
     /// A command went in: where the process that sent it owns the console of the command, the interpreter becomes the owner.
     fn pass_console(&mut self, p: Pid)
-        requires whole { IsWhole self.old }
-        requires lives { Lives self.old.kernel.dispatcher.procs p }
+        requires { LivesWithin p self.old }
         ensures { self.new ≡ record self.old { kernel = passed p self.old.kernel } }
     {
         let console = self.kernel.kept_call(p).byte(CONSOLE);
@@ -126,8 +111,7 @@ impl System {
 
     /// The held call of a process was completed: where it sent a command, that went in.
     pub fn let_in(&mut self, p: Pid)
-        requires whole { IsWhole self.old }
-        requires lives { Lives self.old.kernel.dispatcher.procs p }
+        requires { LivesWithin p self.old }
         ensures { self.new ≡ record self.old { kernel = let_in p self.old.kernel } }
     {
         match self.kernel.kept_call(p).function {

@@ -1,5 +1,5 @@
-ghost use Rattle.std.specs.Prelude.{◌≡◌, ◌<◌, OnOk, ◌≢◌, List, ℕ, ◌%◌};
-ghost use Rattle.mpm_procs.specs.Table.{Lives, call_of, process_in};
+ghost use Rattle.std.specs.Prelude.{◌≡◌, ◌<◌, ◌≢◌, List, ℕ, ◌%◌};
+ghost use Rattle.mpm_procs.specs.Table.{call_of, process_in};
 ghost use Rattle.mpm_output.specs.Writing.{WritesAlone, spoken};
 ghost use Rattle.mpm_base.specs.declared.functions.TheConstants.{PRINT_STRING};
 
@@ -14,7 +14,7 @@ use mpm_render::{Render, Unit};
 
 impl System {
     ghost use Rattle.mpm_file_functions.specs.declared.refusals.Extended.{Extended};
-    ghost use Rattle.mpm_system.specs.Whole.{IsWhole};
+    ghost use Rattle.mpm_system.specs.Whole.{LivesWithin, Makes};
     ghost use Rattle.mpm_system.specs.Saying.{string_of, said_by, echo_of};
     ghost use Rattle.mpm_system.specs.Residents.{telling_step, text_told};
     ghost use Rattle.mpm_system.specs.FileCalling.{error_told};
@@ -29,10 +29,8 @@ impl System {
         render: &mut Render,
         sink: &mut S,
     ) -> Result<(), Failed>
-        requires whole { IsWhole self.old }
-        requires lives { Lives self.old.kernel.dispatcher.procs p }
-        ensures system { OnOk result (self.new ≡ (said_by (call_of self.old.kernel.dispatcher.procs p) (string_of (call_of self.old.kernel.dispatcher.procs p) seg self.old.memory) p self.old).system) }
-        ensures wrote { WritesAlone S.written S.faults render.old sink.old render.new sink.new (said_by (call_of self.old.kernel.dispatcher.procs p) (string_of (call_of self.old.kernel.dispatcher.procs p) seg self.old.memory) p self.old).emitted result }
+        requires { LivesWithin p self.old }
+        ensures { Makes S.written S.faults (said_by (call_of self.old.kernel.dispatcher.procs p) (string_of (call_of self.old.kernel.dispatcher.procs p) seg self.old.memory) p self.old) self.new render.old sink.old render.new sink.new result }
     {
         let call = self.kernel.kept_call(p);
         if functions::READ_CONSOLE_BUFFER < call.function {
@@ -51,10 +49,8 @@ impl System {
         render: &mut Render,
         sink: &mut S,
     ) -> Result<(), Failed>
-        requires whole { IsWhole self.old }
-        requires lives { Lives self.old.kernel.dispatcher.procs p }
-        ensures system { OnOk result (self.new ≡ (said_by (call_of self.old.kernel.dispatcher.procs p) (string_of (call_of self.old.kernel.dispatcher.procs p) seg self.old.memory) p self.old).system) }
-        ensures wrote { WritesAlone S.written S.faults render.old sink.old render.new sink.new (said_by (call_of self.old.kernel.dispatcher.procs p) (string_of (call_of self.old.kernel.dispatcher.procs p) seg self.old.memory) p self.old).emitted result }
+        requires { LivesWithin p self.old }
+        ensures { Makes S.written S.faults (said_by (call_of self.old.kernel.dispatcher.procs p) (string_of (call_of self.old.kernel.dispatcher.procs p) seg self.old.memory) p self.old) self.new render.old sink.old render.new sink.new result }
     {
         let call = self.kernel.kept_call(p);
         if call.function == functions::PRINT_STRING {
@@ -81,11 +77,9 @@ impl System {
         render: &mut Render,
         sink: &mut S,
     ) -> Result<(), Failed>
-        requires whole { IsWhole self.old }
-        requires lives { Lives self.old.kernel.dispatcher.procs p }
+        requires process { LivesWithin p self.old }
         requires byte { (call_of self.old.kernel.dispatcher.procs p).function ≢ PRINT_STRING }
-        ensures system { (string : List ℕ) → OnOk result (self.new ≡ (said_by (call_of self.old.kernel.dispatcher.procs p) string p self.old).system) }
-        ensures wrote { (string : List ℕ) → WritesAlone S.written S.faults render.old sink.old render.new sink.new (said_by (call_of self.old.kernel.dispatcher.procs p) string p self.old).emitted result }
+        ensures { (string : List ℕ) → Makes S.written S.faults (said_by (call_of self.old.kernel.dispatcher.procs p) string p self.old) self.new render.old sink.old render.new sink.new result }
     {
         let call = self.kernel.kept_call(p);
         if functions::DIRECT_CONSOLE_IO < call.function {
@@ -102,11 +96,9 @@ impl System {
         render: &mut Render,
         sink: &mut S,
     ) -> Result<(), Failed>
-        requires whole { IsWhole self.old }
-        requires lives { Lives self.old.kernel.dispatcher.procs p }
+        requires process { LivesWithin p self.old }
         requires byte { (call_of self.old.kernel.dispatcher.procs p).function ≢ PRINT_STRING }
-        ensures system { (string : List ℕ) → OnOk result (self.new ≡ (said_by (call_of self.old.kernel.dispatcher.procs p) string p self.old).system) }
-        ensures wrote { (string : List ℕ) → WritesAlone S.written S.faults render.old sink.old render.new sink.new (said_by (call_of self.old.kernel.dispatcher.procs p) string p self.old).emitted result }
+        ensures { (string : List ℕ) → Makes S.written S.faults (said_by (call_of self.old.kernel.dispatcher.procs p) string p self.old) self.new render.old sink.old render.new sink.new result }
     {
         let process = self.kernel.living(p);
         let console = process.console;
@@ -148,8 +140,7 @@ impl System {
     /// echoes it. Mostly it doesn't.
     #[inline(always)]
     pub fn put_echo<S: Sink>(&self, p: Pid, render: &mut Render, sink: &mut S) -> Result<(), Failed>
-        requires whole { IsWhole self.now }
-        requires lives { Lives self.now.kernel.dispatcher.procs p }
+        requires { LivesWithin p self.now }
         ensures wrote { WritesAlone S.written S.faults render.old sink.old render.new sink.new (spoken (process_in self.now.kernel.dispatcher.procs p).console (echo_of (call_of self.now.kernel.dispatcher.procs p) self.now.kernel)) result }
     {
         let call = self.kernel.kept_call(p);
@@ -168,8 +159,7 @@ impl System {
         render: &mut Render,
         sink: &mut S,
     ) -> Result<(), Failed>
-        requires whole { IsWhole self.now }
-        requires lives { Lives self.now.kernel.dispatcher.procs p }
+        requires { LivesWithin p self.now }
         ensures wrote { WritesAlone S.written S.faults render.old sink.old render.new sink.new (spoken (process_in self.now.kernel.dispatcher.procs p).console (echo_of (call_of self.now.kernel.dispatcher.procs p) self.now.kernel)) result }
     {
         if !echoes(self.kernel.kept_call(p).function) {
@@ -188,10 +178,8 @@ impl System {
         render: &mut Render,
         sink: &mut S,
     ) -> Result<(), Failed>
-        requires whole { IsWhole self.old }
-        requires lives { Lives self.old.kernel.dispatcher.procs p }
-        ensures system { OnOk result (self.new ≡ (telling_step (call_of self.old.kernel.dispatcher.procs p) p self.old).system) }
-        ensures wrote { WritesAlone S.written S.faults render.old sink.old render.new sink.new (telling_step (call_of self.old.kernel.dispatcher.procs p) p self.old).emitted result }
+        requires { LivesWithin p self.old }
+        ensures { Makes S.written S.faults (telling_step (call_of self.old.kernel.dispatcher.procs p) p self.old) self.new render.old sink.old render.new sink.new result }
     {
         self.put_text(p, render, sink)?;
         reply.answer(0);
@@ -201,10 +189,8 @@ impl System {
 
     /// The text of the call that a process keeps comes to the console that its parameter names, where that is there.
     fn put_text<S: Sink>(&mut self, p: Pid, render: &mut Render, sink: &mut S) -> Result<(), Failed>
-        requires whole { IsWhole self.old }
-        requires lives { Lives self.old.kernel.dispatcher.procs p }
-        ensures system { OnOk result (self.new ≡ (text_told (call_of self.old.kernel.dispatcher.procs p) self.old).system) }
-        ensures wrote { WritesAlone S.written S.faults render.old sink.old render.new sink.new (text_told (call_of self.old.kernel.dispatcher.procs p) self.old).emitted result }
+        requires { LivesWithin p self.old }
+        ensures { Makes S.written S.faults (text_told (call_of self.old.kernel.dispatcher.procs p) self.old) self.new render.old sink.old render.new sink.new result }
     {
         let console = self.console_told(p);
         if console < self.kernel.consoles() {
@@ -220,10 +206,8 @@ impl System {
         render: &mut Render,
         sink: &mut S,
     ) -> Result<(), Failed>
-        requires whole { IsWhole self.old }
-        requires lives { Lives self.old.kernel.dispatcher.procs p }
-        ensures system { OnOk result (self.new ≡ (said_by (call_of self.old.kernel.dispatcher.procs p) (call_of self.old.kernel.dispatcher.procs p).bytes p self.old).system) }
-        ensures wrote { WritesAlone S.written S.faults render.old sink.old render.new sink.new (said_by (call_of self.old.kernel.dispatcher.procs p) (call_of self.old.kernel.dispatcher.procs p).bytes p self.old).emitted result }
+        requires { LivesWithin p self.old }
+        ensures { Makes S.written S.faults (said_by (call_of self.old.kernel.dispatcher.procs p) (call_of self.old.kernel.dispatcher.procs p).bytes p self.old) self.new render.old sink.old render.new sink.new result }
     {
         if self.kernel.kept_call(p).function == functions::PRINT_STRING {
             let console = self.kernel.living(p).console;
@@ -241,8 +225,7 @@ impl System {
         render: &mut Render,
         sink: &mut S,
     ) -> Result<(), Failed>
-        requires whole { IsWhole self.old }
-        requires lives { Lives self.old.kernel.dispatcher.procs p }
+        requires { LivesWithin p self.old }
         ensures system { self.new ≡ (error_told error p self.old).system }
         ensures wrote { WritesAlone S.written S.faults render.old sink.old render.new sink.new (error_told error p self.old).emitted result }
     {
@@ -258,8 +241,7 @@ impl System {
         render: &mut Render,
         sink: &mut S,
     ) -> Result<(), Failed>
-        ensures system { OnOk result (self.new ≡ (records_out self.old).system) }
-        ensures wrote { WritesAlone S.written S.faults render.old sink.old render.new sink.new (records_out self.old).emitted result }
+        ensures { Makes S.written S.faults (records_out self.old) self.new render.old sink.old render.new sink.new result }
     {
         self.records.write(render, sink)?;
         self.records.clear();

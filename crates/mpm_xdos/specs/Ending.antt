@@ -1,12 +1,23 @@
 -- What an end of a process gives back of memory: what it reserved, and its own segment where nobody else lives there.
 -- (MP/M II Programmer's Guide, "Function 0: System Reset", "Function 143: Terminate Process".)
-use Rattle.std.specs.Prelude.{ℕ, Bool, false, Option, Some, None, ◌&&◌, ◌==◌, if◌then◌else◌}
+use Rattle.std.specs.Prelude.{◌≡◌, ℕ, Bool, false, Option, Some, None, ◌&&◌, ◌==◌, if◌then◌else◌}
 use Rattle.std.specs.List.{list_any, range_with_len}
-use Rattle.mpm_banks.specs.Memory.{Memory}
+use Rattle.mpm_banks.specs.Memory.{Memory, HasSegment}
 use Rattle.mpm_banks.specs.Allocations.{all_released, vacated}
-use Rattle.mpm_procs.specs.Table.{Table, lives, process_in}
-use Rattle.mpm_kernel.specs.Kernel.{Kernel}
+use Rattle.mpm_procs.specs.Table.{Table, lives, Lives, process_in}
+use Rattle.mpm_kernel.specs.Kernel.{Kernel, IsSoundKernel}
 use Rattle.mpm_kernel.specs.Ending.{discharged}
+
+-- a process lives, and memory has its segment, if it has one
+pub record HasSegmentOf (p : ℕ) (kernel : Kernel) (memory : Memory) : Type 0 where
+  pub lives : Lives kernel.dispatcher.procs p
+  pub segment : (seg : ℕ) → (process_in kernel.dispatcher.procs p).seg ≡ Some seg → HasSegment memory seg
+
+-- the same in a sound kernel
+pub record LivesAt (p : ℕ) (kernel : Kernel) (memory : Memory) : Type 0 where
+  pub sound : IsSoundKernel kernel
+  pub lives : Lives kernel.dispatcher.procs p
+  pub segment : (seg : ℕ) → (process_in kernel.dispatcher.procs p).seg ≡ Some seg → HasSegment memory seg
 
 -- it is that segment
 abbrev pub is_segment : ℕ → Option ℕ → Bool

@@ -1,14 +1,20 @@
 -- Resident procedures: how a process enters one, and how it leaves it. (MP/M II Programmer's Guide, "Function 151: Call
 -- Resident System Procedure".)
-use Rattle.std.specs.Prelude.{ℕ, false, Option, Some, None, [], ◌∷◌}
+use Rattle.std.specs.Prelude.{ℕ, false, Option, Some, None, IsSome, [], ◌∷◌}
 use Rattle.z80_regs.specs.Words.{back}
 use Rattle.mpm_base.specs.Calls.{Taken, Answer, answering, byte_in}
 use Rattle.mpm_banks.specs.Memory.{Memory}
 use Rattle.mpm_banks.specs.Gates.{last_page, return_gate}
-use Rattle.mpm_procs.specs.Table.{process_in, call_of}
+use Rattle.mpm_procs.specs.Table.{Lives, process_in, call_of}
 use Rattle.mpm_procs.specs.declared.process.Process.{Process}
-use Rattle.mpm_kernel.specs.Kernel.{Kernel, with_changed}
+use Rattle.mpm_kernel.specs.Kernel.{Kernel, IsSoundKernel, with_changed}
 use Rattle.mpm_kernel.specs.Procedures.{given_back}
+
+-- a process of a sound kernel is in a resident procedure
+pub record IsInside (p : ℕ) (kernel : Kernel) : Type 0 where
+  pub sound : IsSoundKernel kernel
+  pub lives : Lives kernel.dispatcher.procs p
+  pub inside : IsSome (process_in kernel.dispatcher.procs p).procedure
 
 -- a process goes on at the address that is the message that it got, with the parameter of its call, the second word of what the call read,
 -- in DE. Its stack pointer makes room for the address to which the procedure returns

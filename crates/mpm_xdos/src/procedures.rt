@@ -1,8 +1,9 @@
-ghost use Rattle.std.specs.Prelude.{◌≡◌, ℕ, Some, IsSome};
+ghost use Rattle.std.specs.Prelude.{◌≡◌, ℕ, Some};
 ghost use Rattle.mpm_banks.specs.Memory.{HasSegment};
-ghost use Rattle.mpm_procs.specs.Table.{Lives, process_in};
+ghost use Rattle.mpm_procs.specs.Table.{process_in};
 ghost use Rattle.mpm_kernel.specs.Kernel.{IsSoundKernel};
-ghost use Rattle.mpm_xdos.specs.Procedures.{entered, entry_reply, returned_from_procedure, page_of_home as page_of};
+ghost use Rattle.mpm_xdos.specs.Ending.{HasSegmentOf};
+ghost use Rattle.mpm_xdos.specs.Procedures.{IsInside, entered, entry_reply, returned_from_procedure, page_of_home as page_of};
 
 use mpm_banks::{Banks, RETURN_GATE, last_page};
 use mpm_base::{Pid, Reply, Seg};
@@ -12,8 +13,7 @@ use mpm_kernel::Kernel;
 /// message, with the call's parameter in DE. Its return address is kept; in its place the gate is pushed that ends the
 /// procedure, which the reply places. (MP/M II Programmer's Guide, "Function 151: Call Resident System Procedure".)
 pub fn enter_procedure(kernel: &mut Kernel, banks: &Banks, p: Pid, reply: &mut Reply)
-    requires lives { Lives kernel.old.dispatcher.procs p }
-    requires segment { (seg : ℕ) → (process_in kernel.old.dispatcher.procs p).seg ≡ Some seg → HasSegment banks.now seg }
+    requires { HasSegmentOf p kernel.old banks.now }
     ensures kernel { kernel.new ≡ entered p kernel.old }
     ensures reply { reply.new ≡ entry_reply banks.now (process_in kernel.old.dispatcher.procs p) }
     ensures sound { IsSoundKernel kernel.old → IsSoundKernel kernel.new }
@@ -24,8 +24,7 @@ pub fn enter_procedure(kernel: &mut Kernel, banks: &Banks, p: Pid, reply: &mut R
 /// A process goes on in its procedure.
 #[tactic(auto, unfolding(crate::specs::Procedures::entered, crate::specs::Procedures::entering, crate::specs::Procedures::entry_reply))]
 fn enter(kernel: &mut Kernel, banks: &Banks, p: Pid, reply: &mut Reply)
-    requires lives { Lives kernel.old.dispatcher.procs p }
-    requires segment { (seg : ℕ) → (process_in kernel.old.dispatcher.procs p).seg ≡ Some seg → HasSegment banks.now seg }
+    requires { HasSegmentOf p kernel.old banks.now }
     ensures kernel { kernel.new ≡ entered p kernel.old }
     ensures reply { reply.new ≡ entry_reply banks.now (process_in kernel.old.dispatcher.procs p) }
 {
@@ -57,9 +56,7 @@ fn page_of_home(banks: &Banks, home: Option<Seg>) -> u8
 /// A process leaves the resident procedure that it is in: its message is written back, and the process goes on where it
 /// called the procedure, with HL as it is and the same in A and B.
 pub fn leave_procedure(kernel: &mut Kernel, p: Pid)
-    requires sound { IsSoundKernel kernel.old }
-    requires lives { Lives kernel.old.dispatcher.procs p }
-    requires inside { IsSome (process_in kernel.old.dispatcher.procs p).procedure }
+    requires { IsInside p kernel.old }
     ensures kernel { kernel.new ≡ returned_from_procedure p kernel.old }
     ensures sound { IsSoundKernel kernel.new }
 {
@@ -69,9 +66,7 @@ pub fn leave_procedure(kernel: &mut Kernel, p: Pid)
 /// A process goes on after its procedure.
 #[tactic(auto, using(mpm_kernel::proofs::ProcedureLaws::lives_given_back), unfolding(crate::specs::Procedures::returned_from_procedure, crate::specs::Procedures::leaving))]
 fn leave(kernel: &mut Kernel, p: Pid)
-    requires sound { IsSoundKernel kernel.old }
-    requires lives { Lives kernel.old.dispatcher.procs p }
-    requires inside { IsSome (process_in kernel.old.dispatcher.procs p).procedure }
+    requires { IsInside p kernel.old }
     ensures { kernel.new ≡ returned_from_procedure p kernel.old }
 {
     kernel.put_back(p);

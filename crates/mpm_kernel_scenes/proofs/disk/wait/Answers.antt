@@ -3,14 +3,10 @@ use Rattle.mpm_kernel.proofs.SoundLaws.{runner_lives}
 use Rattle.mpm_kernel_scenes.proofs.ServingLaws.{serves_waiting}
 use Rattle.mpm_kernel_scenes.proofs.disk.wait.Goals as goal
 
-pub wait_for_disk-requires-clause-sound : goal.wait_for_disk-requires-clause-sound
-wait_for_disk-requires-clause-sound c = c.requires.sound
-
-pub wait_for_disk-requires-clause-lives : goal.wait_for_disk-requires-clause-lives
-wait_for_disk-requires-clause-lives c = runner_lives c.args.kernel.now _ c.requires.sound (sym c.running.ensures ∙ c.in-Some.is)
-
-pub wait_for_disk-requires-clause-ready : goal.wait_for_disk-requires-clause-ready
-wait_for_disk-requires-clause-ready c = c.requires.sound.runs _ (sym c.running.ensures ∙ c.in-Some.is)
+pub wait_for_disk-requires-clause-caller : goal.wait_for_disk-requires-clause-caller
+wait_for_disk-requires-clause-caller c =
+    let runs = sym c.running.ensures ∙ c.in-Some.is in
+    record { sound = c.requires.sound; lives = runner_lives c.args.kernel.now _ c.requires.sound runs; ready = c.requires.sound.runs _ runs }
 
 pub wait_for_disk-requires-clause-steps : goal.wait_for_disk-requires-clause-steps
 wait_for_disk-requires-clause-steps c = c.requires.steps

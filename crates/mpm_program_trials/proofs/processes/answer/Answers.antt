@@ -6,18 +6,15 @@ use Rattle.mpm_kernel.proofs.SoundLaws.{sound_call}
 use Rattle.mpm_xdos.proofs.Beginning.{sound_created}
 use Rattle.mpm_program_trials.proofs.processes.answer.Goals as goal
 
-pub create-requires-clause-sound : goal.create-requires-clause-sound
-create-requires-clause-sound c = sound_call c.args.kernel.now 0 c.describe.new.call c.requires.sound
-
-pub create-requires-clause-lives : goal.create-requires-clause-lives
-create-requires-clause-lives c =
-    lives_after c.args.kernel.now.dispatcher.procs 0 0 c.describe.new.call ∙ (sym c.lives.ensures ∙ c.if-lives.true)
-
-pub create-requires-clause-segment : goal.create-requires-clause-segment
-create-requires-clause-segment c = λ seg e.
-    let home : (process_in c.args.kernel.now.dispatcher.procs 0).seg ≡ Some seg =
-    sym (ap (λ process. process.seg) (process_after c.args.kernel.now.dispatcher.procs 0 0 c.describe.new.call)) ∙ e in
-    search rules
+pub create-requires-clause-parent : goal.create-requires-clause-parent
+create-requires-clause-parent c = record {
+  sound = sound_call c.args.kernel.now 0 c.describe.new.call c.requires.sound;
+  lives = lives_after c.args.kernel.now.dispatcher.procs 0 0 c.describe.new.call ∙ (sym c.lives.ensures ∙ c.if-lives.true);
+  segment = λ seg e.
+      let home : (process_in c.args.kernel.now.dispatcher.procs 0).seg ≡ Some seg =
+      sym (ap (λ process. process.seg) (process_after c.args.kernel.now.dispatcher.procs 0 0 c.describe.new.call)) ∙ e in
+      search rules;
+}
 
 pub create-requires-clause-few : goal.create-requires-clause-few
 create-requires-clause-few c =

@@ -8,4 +8,4 @@ give-requires-clause-from c =
 
 pub give-requires-clause-to : goal.give-requires-clause-to
 give-requires-clause-to c =
-    (admitted_here c.args.kernel.now c.admit.new.self c.in-Ok.q c.args.new c.requires.sound c.requires.console c.in-Ok.ensures.slot c.admit.ensures.kernel).lives
+    (admitted_here c.args.kernel.now c.admit.new.self c.in-Ok.q c.args.new c.requires.begins.sound c.requires.begins.console c.in-Ok.ensures.slot c.admit.ensures.kernel).lives

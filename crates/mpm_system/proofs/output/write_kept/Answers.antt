@@ -17,10 +17,13 @@ pub kept_call-requires-in-loop-place : goal.kept_call-requires-in-loop-place
 kept_call-requires-in-loop-place g c =
     lives_after_text c.args.kernel.now c.loop-place.kernel c.args.console c.args.p _ c.requires.lives c.loop-place.invariant.written.kernel_is
 
-pub write_tabbed-requires-clause-exists : goal.write_tabbed-requires-clause-exists
-write_tabbed-requires-clause-exists g c =
+pub write_tabbed-requires : goal.write_tabbed-requires
+write_tabbed-requires g c =
     let P : Kernel → Type 0 = λ kernel. IsConsole kernel c.args.console in
-    subst P (sym c.loop-place.invariant.written.kernel_is) (has_spoke c.args.kernel.now c.args.console _ c.requires.exists)
+    record {
+      console = c.requires.console.console;
+      exists = subst P (sym c.loop-place.invariant.written.kernel_is) (has_spoke c.args.kernel.now c.args.console _ c.requires.console.exists);
+    }
 
 pub returns-in_err-write_tabbed-clause-wrote : goal.returns-in_err-write_tabbed-clause-wrote
 returns-in_err-write_tabbed-clause-wrote g c =
@@ -37,7 +40,7 @@ returns-in_err-write_tabbed-clause-wrote g c =
     ∙ ap (λ b. take k bytes ++ (b ∷ drop (k + 1) bytes)) (sym here) in
     passes_on _ _ _ _ c.from_residual.ensures.0
     (stopped_string c.args.console c.byte-byte.result c.args.kernel.now c.loop-place.kernel _ _ _ (take k bytes) (drop (k + 1) bytes) bytes whole
-    c.requires.exists c.loop-place.invariant.written c.in_err-write_tabbed.ensures.wrote.err)
+    c.requires.console.exists c.loop-place.invariant.written c.in_err-write_tabbed.ensures.wrote.err)
 
 pub loop-place-preserved : goal.loop-place-preserved
 loop-place-preserved g c =
@@ -54,6 +57,6 @@ loop-place-preserved g c =
     (seen g.S.Sink.written g.S.Sink.faults c.write_tabbed.new.render c.write_tabbed.new.sink) text in
     record {
       written = subst W (sym more)
-          (written_more c.args.console c.byte-byte.result c.args.kernel.now c.loop-place.kernel _ _ _ _ (take k bytes) c.requires.exists
+          (written_more c.args.console c.byte-byte.result c.args.kernel.now c.loop-place.kernel _ _ _ _ (take k bytes) c.requires.console.exists
           c.loop-place.invariant.written c.in_ok-write_tabbed.ensures.kernel c.in_ok-write_tabbed.ensures.wrote.ok);
     }

@@ -26,10 +26,13 @@ loop-offset-init g c =
       written = subst W (sym (bytes_none memory c.args.address)) (written_nothing c.args.console _ _);
     }
 
-pub write_tabbed-requires-clause-exists : goal.write_tabbed-requires-clause-exists
-write_tabbed-requires-clause-exists g c =
+pub write_tabbed-requires : goal.write_tabbed-requires
+write_tabbed-requires g c =
     let P : Kernel → Type 0 = λ kernel. IsConsole kernel c.args.console in
-    subst P (sym c.loop-offset.invariant.written.kernel_is) (has_spoke c.args.kernel.now c.args.console _ c.requires.exists)
+    record {
+      console = c.requires.console;
+      exists = subst P (sym c.loop-offset.invariant.written.kernel_is) (has_spoke c.args.kernel.now c.args.console _ c.requires.exists);
+    }
 
 pub loop-offset-preserved : goal.loop-offset-preserved
 loop-offset-preserved g c =

@@ -2,17 +2,20 @@ use Rattle.std.proofs.Common.{◌∙◌, length, sym, ap, subst, arith}
 use Rattle.mpm_queues.specs.Queues.{holds}
 use Rattle.mpm_procs.specs.Table.{Table}
 use Rattle.mpm_kernel.specs.contracts.kernel.Kernel.{the_view}
-use Rattle.mpm_kernel.specs.Kernel.{Kernel, IsSoundKernel, CompletedLive}
+use Rattle.mpm_kernel.specs.Kernel.{Kernel, IsSoundKernel, LivesIn, CompletedLive}
 use Rattle.mpm_kernel.specs.Procedures.{given_back}
 use Rattle.mpm_kernel.specs.Ending.{vacated, IsLeaving}
 use Rattle.mpm_kernel.proofs.LeavingLaws.{sound_consoles_left}
-use Rattle.mpm_kernel.proofs.EndingLaws.{sound_dropped, leaves_given_back, leaves_messages_back, units_by, discharged_by, sound_discharged, live_discharged}
+use Rattle.mpm_kernel.proofs.EndingLaws.{sound_dropped, lives_dropped, leaves_given_back, leaves_messages_back, units_by, discharged_by, sound_discharged, live_discharged}
 use Rattle.mpm_kernel.proofs.HoldingLaws.{nothing_held}
 use Rattle.mpm_kernel.proofs.kernel.Kernel.discharge.Goals as goal
 
-pub put_back-requires-clause-sound : goal.put_back-requires-clause-sound
-put_back-requires-clause-sound c =
-    subst IsSoundKernel (sym c.drop_out.ensures) (sound_dropped c.args.p c.args.self.now c.requires.sound c.requires.lives)
+pub put_back-requires : goal.put_back-requires
+put_back-requires c =
+    subst (LivesIn c.args.p) (sym c.drop_out.ensures) (record {
+      sound = sound_dropped c.args.p c.args.self.now c.requires.sound c.requires.lives;
+      lives = lives_dropped c.args.p c.args.p c.args.self.now c.requires.lives;
+    })
 
 pub return_held-requires-clause-leaves : goal.return_held-requires-clause-leaves
 return_held-requires-clause-leaves c =

@@ -15,8 +15,8 @@ returns g c =
     let new = c.run.new in
     let after : Process = process_in (with_process before.dispatcher.procs p (record lent { regs = new.regs })) p in
     let put : after ≡ record lent { regs = new.regs } =
-    process_put before p (record lent { regs = new.regs }) (subst IsSoundKernel (sym c.self.view_is) c.requires.sound)
-    (subst (λ (k : Kernel). Lives k.dispatcher.procs p) (sym c.self.view_is) c.requires.lives) in
+    process_put before p (record lent { regs = new.regs }) (subst IsSoundKernel (sym c.self.view_is) c.requires.process.sound)
+    (subst (λ (k : Kernel). Lives k.dispatcher.procs p) (sym c.self.view_is) c.requires.process.lives) in
     let left : new.regs ≡ after.regs = ap (λ (x : Process). x.regs) (sym put) in
     let kernel =
     burst_left before p lent new.devices new.regs after.regs c.get_mut-process.ensures.value left
@@ -29,5 +29,5 @@ returns g c =
           (ap (λ (k : Kernel). k.devices) c.self.view_is) left c.run.ensures.ran;
       others = c.run.ensures.others;
       kernel = kernel;
-      sound = subst IsSoundKernel (sym kernel) (sound_burst c.args.self.now new.devices p after.regs c.requires.sound c.requires.lives);
+      sound = subst IsSoundKernel (sym kernel) (sound_burst c.args.self.now new.devices p after.regs c.requires.process.sound c.requires.process.lives);
     }

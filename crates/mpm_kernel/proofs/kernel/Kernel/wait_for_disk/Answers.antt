@@ -15,5 +15,5 @@ returns-clause-sound c =
     let is = waits_for_disk before p c.rest.new.self c.enter.new.self (c.rest.ensures ∙ ap (at_rest p) c.unlist.ensures)
     (c.enter.ensures.service ∙ ap (λ (x : Process). entered before.disk p x.priority) c.get.ensures) in
     subst IsSoundKernel (sym is)
-    (sound_waiting_for_disk before p (subst IsSoundKernel (sym c.self.view_is) c.requires.sound) (subst (λ (k : Kernel). Lives k.dispatcher.procs p) (sym c.self.view_is) c.requires.lives)
-    (subst (λ (k : Kernel). IsReady k.dispatcher p) (sym c.self.view_is) c.requires.ready))
+    (sound_waiting_for_disk before p (subst IsSoundKernel (sym c.self.view_is) c.requires.caller.sound) (subst (λ (k : Kernel). Lives k.dispatcher.procs p) (sym c.self.view_is) c.requires.caller.lives)
+    (subst (λ (k : Kernel). IsReady k.dispatcher p) (sym c.self.view_is) c.requires.caller.ready))

@@ -7,11 +7,11 @@ use Rattle.mpm_system.proofs.system.System.begin_residents.Goals as goal
 
 pub pick-requires : goal.pick-requires
 pick-requires c =
-    (all_here c.args.self.now c.begin_all.new.self c.args.consoles c.args.spool c.args.sched c.requires.whole c.requires.queues c.requires.consoles c.begin_all.ensures).whole.sound
+    (all_here c.args.self.now c.begin_all.new.self c.args.consoles c.args.spool c.args.sched c.requires.awaits.whole c.requires.awaits.queues c.requires.awaits.consoles c.begin_all.ensures).whole.sound
 
 pub returns : goal.returns
 returns c =
-    let begun = all_here c.args.self.now c.begin_all.new.self c.args.consoles c.args.spool c.args.sched c.requires.whole c.requires.queues c.requires.consoles c.begin_all.ensures in
+    let begun = all_here c.args.self.now c.begin_all.new.self c.args.consoles c.args.spool c.args.sched c.requires.awaits.whole c.requires.awaits.queues c.requires.awaits.consoles c.begin_all.ensures in
     record {
       system = residents_here c.args.self.now c.begin_all.new.self c.pick.new.self c.args.consoles c.args.spool c.args.sched c.begin_all.ensures c.pick.ensures.kernel;
       whole = whole_picked c.begin_all.new.self c.pick.new.self begun.whole c.pick.ensures.kernel;

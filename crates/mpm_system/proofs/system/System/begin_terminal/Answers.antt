@@ -6,8 +6,8 @@ use Rattle.mpm_system.specs.Opening.{resident_process, terminal_process}
 use Rattle.mpm_system.proofs.OpeningLaws.{resident_here, resident_refused}
 use Rattle.mpm_system.proofs.system.System.begin_terminal.Goals as goal
 
-pub begin_process-requires-clause-console : goal.begin_process-requires-clause-console
-begin_process-requires-clause-console c = omega (arith, c.resident_process-new.ensures.console, c.requires.console)
+pub begin_process-requires : goal.begin_process-requires
+begin_process-requires c = record { sound = c.requires.whole.sound; console = omega (arith, c.resident_process-new.ensures.console, c.requires.console) }
 
 pub returns-then-begin_process : goal.returns-then-begin_process
 returns-then-begin_process c =

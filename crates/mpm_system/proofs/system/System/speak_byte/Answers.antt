@@ -18,7 +18,7 @@ returns-then-call-gt-DIRECT_CONSOLE_IO g c =
       prints = λ e. absurd (omega (arith, view, c.if-call-gt-DIRECT_CONSOLE_IO.true, e));
       direct = λ e. absurd (omega (arith, view, c.if-call-gt-DIRECT_CONSOLE_IO.true, e));
     }) in
-    record {
-      system = λ string. sym (ap (λ (change : SystemChange). change.system) (nothing string));
-      wrote = λ string. emits_silent by_sink _ _ _ _ (nothing string);
+    λ string. record {
+      system = sym (ap (λ (change : SystemChange). change.system) (nothing string));
+      wrote = emits_silent by_sink _ _ _ _ (nothing string);
     }

@@ -20,9 +20,9 @@ returns-in-2 g c =
     let at : (process_in c.args.self.now.kernel.dispatcher.procs c.args.p).console ≡ c.living-process.result.now.console = sym (ap (λ (x : Process). x.console) c.living-process.ensures) in
     let said = λ (string : List ℕ). tab_said call string c.args.p c.args.self.now _ _ (sym view ∙ c.in-2.is) at what in
     let P : SystemChange → Type 0 = λ change. record c.args.self.now { kernel = c.write_tabbed.new.kernel } ≡ change.system in
-    record {
-      system = λ string. on_ok c.write_tabbed.result (subst P (sym (said string)) (ap (λ (k : Kernel). record c.args.self.now { kernel = k }) c.write_tabbed.ensures.kernel));
-      wrote = λ string. emits_as by_sink _ _ _ _ _ (sym (said string)) c.write_tabbed.ensures.wrote;
+    λ string. record {
+      system = on_ok c.write_tabbed.result (subst P (sym (said string)) (ap (λ (k : Kernel). record c.args.self.now { kernel = k }) c.write_tabbed.ensures.kernel));
+      wrote = emits_as by_sink _ _ _ _ _ (sym (said string)) c.write_tabbed.ensures.wrote;
     }
 
 pub returns-in-4 : goal.returns-in-4
@@ -33,9 +33,9 @@ returns-in-4 g c =
     let at : (process_in c.args.self.now.kernel.dispatcher.procs c.args.p).console ≡ c.living-process.result.now.console = sym (ap (λ (x : Process). x.console) c.living-process.ensures) in
     let said = λ (string : List ℕ). byte_said call string c.args.p c.args.self.now _ _ (sym view ∙ c.in-4.is) at what in
     let P : SystemChange → Type 0 = λ change. record c.args.self.now { kernel = c.write_bytes.new.kernel } ≡ change.system in
-    record {
-      system = λ string. on_ok c.write_bytes.result (subst P (sym (said string)) (ap (λ (k : Kernel). record c.args.self.now { kernel = k }) c.write_bytes.ensures.kernel));
-      wrote = λ string. emits_as by_sink _ _ _ _ _ (sym (said string)) c.write_bytes.ensures.wrote;
+    λ string. record {
+      system = on_ok c.write_bytes.result (subst P (sym (said string)) (ap (λ (k : Kernel). record c.args.self.now { kernel = k }) c.write_bytes.ensures.kernel));
+      wrote = emits_as by_sink _ _ _ _ _ (sym (said string)) c.write_bytes.ensures.wrote;
     }
 
 pub returns-in-6 : goal.returns-in-6
@@ -46,9 +46,9 @@ returns-in-6 g c =
     let at : (process_in c.args.self.now.kernel.dispatcher.procs c.args.p).console ≡ c.living-process.result.now.console = sym (ap (λ (x : Process). x.console) c.living-process.ensures) in
     let said = λ (string : List ℕ). directly_said call string c.args.p c.args.self.now _ _ (sym view ∙ c.in-6.is) (omega (arith, c.if-byte-lt-AWAIT_KEY.true)) at what in
     let P : SystemChange → Type 0 = λ change. record c.args.self.now { kernel = c.write_bytes-in-6.new.kernel } ≡ change.system in
-    record {
-      system = λ string. on_ok c.write_bytes-in-6.result (subst P (sym (said string)) (ap (λ (k : Kernel). record c.args.self.now { kernel = k }) c.write_bytes-in-6.ensures.kernel));
-      wrote = λ string. emits_as by_sink _ _ _ _ _ (sym (said string)) c.write_bytes-in-6.ensures.wrote;
+    λ string. record {
+      system = on_ok c.write_bytes-in-6.result (subst P (sym (said string)) (ap (λ (k : Kernel). record c.args.self.now { kernel = k }) c.write_bytes-in-6.ensures.kernel));
+      wrote = emits_as by_sink _ _ _ _ _ (sym (said string)) c.write_bytes-in-6.ensures.wrote;
     }
 
 pub returns-in_default : goal.returns-in_default
@@ -62,9 +62,9 @@ returns-in_default g c =
       prints = λ e. omega (arith, c.printers.ensures, c.if-printers-gt0.false);
       direct = λ e. absurd (omega (arith, view, c.in-5.is, e));
     }) in
-    record {
-      system = λ string. sym (ap (λ (change : SystemChange). change.system) (nothing string));
-      wrote = λ string. emits_silent by_sink _ _ _ _ (nothing string);
+    λ string. record {
+      system = sym (ap (λ (change : SystemChange). change.system) (nothing string));
+      wrote = emits_silent by_sink _ _ _ _ (nothing string);
     }
 
 pub returns-in_default-2 : goal.returns-in_default-2
@@ -79,9 +79,9 @@ returns-in_default-2 g c =
       prints = λ e. absurd (omega (arith, view, c.in-6.is, e));
       direct = λ e. omega (arith, what, c.if-byte-lt-AWAIT_KEY.false);
     }) in
-    record {
-      system = λ string. sym (ap (λ (change : SystemChange). change.system) (nothing string));
-      wrote = λ string. emits_silent by_sink _ _ _ _ (nothing string);
+    λ string. record {
+      system = sym (ap (λ (change : SystemChange). change.system) (nothing string));
+      wrote = emits_silent by_sink _ _ _ _ (nothing string);
     }
 
 pub returns-in_default-3 : goal.returns-in_default-3
@@ -95,9 +95,9 @@ returns-in_default-3 g c =
       prints = λ e. absurd (grind (arith, nat_tests, view, c.in_default, e));
       direct = λ e. absurd (grind (arith, nat_tests, view, c.in_default, e));
     }) in
-    record {
-      system = λ string. sym (ap (λ (change : SystemChange). change.system) (nothing string));
-      wrote = λ string. emits_silent by_sink _ _ _ _ (nothing string);
+    λ string. record {
+      system = sym (ap (λ (change : SystemChange). change.system) (nothing string));
+      wrote = emits_silent by_sink _ _ _ _ (nothing string);
     }
 
 pub returns-in-5 : goal.returns-in-5
@@ -108,8 +108,8 @@ returns-in-5 g c =
     let at : (process_in c.args.self.now.kernel.dispatcher.procs c.args.p).printer ≡ c.living-process.result.now.printer = sym (ap (λ (x : Process). x.printer) c.living-process.ensures) in
     let said = λ (string : List ℕ). byte_printed call string c.args.p c.args.self.now _ _ (sym view ∙ c.in-5.is) (omega (arith, c.printers.ensures, c.if-printers-gt0.true)) at what in
     let P : SystemChange → Type 0 = λ change. c.args.self.now ≡ change.system in
-    record {
-      system = λ string. on_ok c.put.result (subst P (sym (said string)) refl);
-      wrote = λ string. emits_as by_sink _ _ _ _ _ (sym (said string))
+    λ string. record {
+      system = on_ok c.put.result (subst P (sym (said string)) refl);
+      wrote = emits_as by_sink _ _ _ _ _ (sym (said string))
           (emits_one c.put.result _ _ _ c.put.ensures.cause c.put.ensures.trace c.put.ensures.ok c.put.ensures.err);
     }

@@ -29,4 +29,4 @@ returns-then-call-eq-PRINT_STRING g c =
     }
 
 pub returns : goal.returns
-returns g c = record { system = c.speak_byte.ensures.system _; wrote = c.speak_byte.ensures.wrote _ }
+returns g c = c.speak_byte.ensures _

@@ -10,5 +10,5 @@ pop-requires c =
     let old = c.args.self.now in
     record {
       lives = subst (λ (s : System). Lives s.kernel.dispatcher.procs c.args.p) (sym c.take_call.ensures)
-          (keeps_call c.args.p (asked c.args.p c.args.seg old) old c.requires.whole c.requires.lives).lives;
+          (keeps_call c.args.p (asked c.args.p c.args.seg old) old c.requires.process.whole c.requires.process.lives).lives;
     }
