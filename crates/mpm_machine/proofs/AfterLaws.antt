@@ -24,7 +24,7 @@ pub opening_handed : (program : List ℕ) → length program ≤ 48512 → NoCom
 opening_handed program few = (opening_is_bare program few).no_completions
 
 -- a machine as it is run
-residents_begun : (file : MachineFile) (events : List Timed) → IsMachine file → All IsTimed events
+pub residents_begun : (file : MachineFile) (events : List Timed) → IsMachine file → All IsTimed events
     → Begun (booted file events) (begun_residents file.consoles file.spool file.sched (booted file events))
 residents_begun file events is script =
     let bare = booted_is_bare file events is.some_console is.consoles is.printers (omega (arith, is.segments)) script (memory_new file.segments is.some_segment is.segments is.each_segment) in

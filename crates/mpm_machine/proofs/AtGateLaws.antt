@@ -187,9 +187,9 @@ once_made r told p old new done =
 abbrev pub SinkFailed : {A : Type 0} → Result A StepFault → Outside → Outside → List Output → Type 0
 SinkFailed r o n emitted = IfErr r (λ fault. (fault ≡ WriteFault) × Stopped o n emitted)
 
-stops_so : (fault : StepFault) (told : Directly) (p : ℕ) (o n : Outside) (old : System) → is_done_at_once p old ≡ true → fault ≡ WriteFault
+makes_none : (fault : StepFault) (told : Directly) (p : ℕ) (o n : Outside) (old : System) → is_done_at_once p old ≡ true → fault ≡ WriteFault
     → Stopped o n (concluded told p old).emitted → StopsBy fault o n (file_called told p old).emitted
-stops_so fault told p o n old done is stopped =
+makes_none fault told p o n old done is stopped =
     subst (λ (f : StepFault). StopsBy f o n (file_called told p old).emitted) (sym is)
     (subst (λ (c : SystemChange). Stopped o n c.emitted) (sym (once_is told p old done)) stopped)
 
@@ -204,7 +204,7 @@ once_err (Ok a) p o n old kept kept' disks disks' files reply extended done apar
 once_err (Err fault) p o n old kept kept' disks disks' files reply extended done apart c failed stands =
     let told = told_of (call_of old.kernel.dispatcher.procs p) reply extended in
     subst (λ (t : Directly). StopsBy fault o n (file_called t p old).emitted) (sym (comes p old kept kept' disks disks' files reply extended apart c stands).told)
-    (stops_so fault told p o n old done failed.0 failed.1)
+    (makes_none fault told p o n old done failed.0 failed.1)
 
 on_write : (fault : StepFault) (P : Type 0) → P → OnWriteFault fault P
 on_write WriteFault P p = p

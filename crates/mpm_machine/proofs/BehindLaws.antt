@@ -61,7 +61,7 @@ record StandIn (kept : Kept) (disks : Disks) (served : Option Served) (files : F
 stands_so : (served : Option Served) (kept : Kept) (disks : Disks) (files : FilesInService) → StandsServed served kept disks files → StandIn kept disks served files
 stands_so served kept disks files stands = record { within = within_by served kept disks files stands; stand = stand_in served kept disks files stands }
 
-last_or_not : (turn : Turn) → ((p : ℕ) × (turn ≡ Work p true)) ⊎ IsNotLast turn
+pub last_or_not : (turn : Turn) → ((p : ℕ) × (turn ≡ Work p true)) ⊎ IsNotLast turn
 unfolding IsNotLast
 last_or_not Idle = inr (λ p is. absurd (cc))
 last_or_not Passing = inr (λ p is. absurd (cc))
@@ -97,7 +97,7 @@ none_stands told old kept disks files none stands =
     (subst (λ (c : SystemChange). StandIn kept disks c.system.kernel.disk.served files) (sym (none_served told old none))
     (stands_so old.kernel.disk.served kept disks files (worked_between old.kernel.disk.turn_steps old.kernel.disk.served kept disks files none stands.stands)))
 
-none_or : (served : Option Served) → (served ≡ None) ⊎ (is_some served ≡ true)
+pub none_or : (served : Option Served) → (served ≡ None) ⊎ (is_some served ≡ true)
 none_or None = inl refl
 none_or (Some call) = inr refl
 

@@ -113,7 +113,7 @@ waits_at : (disk : DiskService) (p : ℕ) → in_list p disk.waiting ≡ true �
 unfolding at_disk
 waits_at disk p waits = omega (arith, one_if_true (in_list p disk.waiting) waits)
 
-starts_at : (disk : DiskService) (p : ℕ) → turn_answer disk ≡ Starts p → 0 < at_disk disk p
+pub starts_at : (disk : DiskService) (p : ℕ) → turn_answer disk ≡ Starts p → 0 < at_disk disk p
 unfolding turn_answer
 starts_at disk p starts = waits_at disk p (first_is_in disk.waiting p (starts_first disk.turn_steps disk.served (first_of disk.waiting) p starts))
 

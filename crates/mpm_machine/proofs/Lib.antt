@@ -6,6 +6,7 @@ pub mod DueLaws
 pub mod TallyLaws
 pub mod WholeLaws
 pub mod ActingLaws
+pub mod MakingLaws
 pub mod NobodyDueLaws
 pub mod FileLaws
 pub mod TakenLaws
@@ -53,12 +54,14 @@ pub mod TakeStepLaws
 pub mod OwnCallStepLaws
 pub mod QuietlyLaws
 pub mod MountedLaws
+pub mod BootingLaws
 pub mod FirstFiles
 pub mod DriveLaws
 pub mod PartsLaws
 pub mod FailingLaws
 pub mod AfterLaws
 pub mod LockLaws
+pub mod FileStays
 pub mod FiledValue
 pub mod GoingOn
 pub mod GoingParts
@@ -75,6 +78,7 @@ pub mod ServeLaws
 pub mod EnterLaws
 pub mod EndStepLaws
 pub mod BehindLaws
+pub mod ServedFiles
 pub mod SettlingLaws
 pub mod CarryingLaws
 pub mod PrintedLaws
@@ -89,3 +93,12 @@ pub mod SpoolingSteps
 pub mod SpoolingFiles
 pub mod SpoolingDisk
 pub mod SpoolingAfter
+pub mod RecordRead
+pub mod TextLaws
+pub mod ReadingLaws
+pub mod OpeningLaws
+pub mod NamedLaws
+pub mod PrintingLaws
+pub mod PrintingSteps
+pub mod PrintedItems
+pub mod StartLaws

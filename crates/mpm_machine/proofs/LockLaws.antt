@@ -45,7 +45,7 @@ sound_at_once : (p : ℕ) (system : System) (files : FilesInService) → AreSoun
 sound_at_once p system (Between filing) sound = sound_call filing p system sound
 sound_at_once p system (Within s) sound = sound
 
-sound_called : (p : ℕ) (system : System) (files : FilesInService) → AreSound files → AreSound (files_called p system files)
+pub sound_called : (p : ℕ) (system : System) (files : FilesInService) → AreSound files → AreSound (files_called p system files)
 unfolding files_called
 sound_called p system files sound = either AreSound (is_done_at_once p system) _ _ (λ _. sound_at_once p system files sound) (λ _. sound)
 
@@ -70,7 +70,7 @@ sound_served_by : (served : Option ℕ) (system : System) (files : FilesInServic
 sound_served_by None system files sound = sound
 sound_served_by (Some p) system files sound = sound_over (turn_answer system.kernel.disk) files sound
 
-sound_served : (system : System) (files : FilesInService) → AreSound files → AreSound (files_served system files)
+pub sound_served : (system : System) (files : FilesInService) → AreSound files → AreSound (files_served system files)
 unfolding files_served
 sound_served system files sound = sound_served_by (served_process system.kernel.disk) system files sound
 
@@ -88,7 +88,7 @@ sound_behind : (owed : List Bool) (filing : Filing) → AreOpen filing.opens →
 unfolding all_left
 sound_behind owed filing sound = sound_each (owes owed) (range_with_len 0 32) filing sound
 
-sound_given : (owed : List Bool) (files : FilesInService) → AreSound files → AreSound (given_back owed files)
+pub sound_given : (owed : List Bool) (files : FilesInService) → AreSound files → AreSound (given_back owed files)
 sound_given owed (Between filing) sound = sound_behind owed filing sound
 sound_given owed (Within s) sound = sound
 
@@ -111,7 +111,7 @@ sound_entered_unless : (served : Option ℕ) (system : System) (files : FilesInS
 sound_entered_unless (Some p) system files sound = sound
 sound_entered_unless None system files sound = sound_entered_by (turn_answer system.kernel.disk) system files sound
 
-sound_entered : (system : System) (files : FilesInService) → AreSound files → AreSound (files_entered system files)
+pub sound_entered : (system : System) (files : FilesInService) → AreSound files → AreSound (files_entered system files)
 unfolding files_entered
 sound_entered system files sound = sound_entered_unless (served_process system.kernel.disk) system files sound
 

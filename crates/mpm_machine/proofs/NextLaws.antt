@@ -8,14 +8,13 @@ use Rattle.mpm_machine.specs.State.{State}
 use Rattle.mpm_machine.specs.Faults.{EndsBy}
 use Rattle.mpm_machine.specs.Stepping.{paid_after, before_disk, step_with, telling_of, stepped}
 use Rattle.mpm_machine.specs.After.{next, after, IsStepOf, made_in, EndsInStep}
-use Rattle.mpm_machine.specs.Spooling.{IsSpooling}
 use Rattle.mpm_machine.specs.FileCalls.{file_caller}
 use Rattle.mpm_machine.specs.DiskStep.{process_over}
 use Rattle.mpm_machine.specs.Contained.{IsContainedBy, OnlyInstructed, ServedByValue, ResidedByValue}
 use Rattle.mpm_machine.proofs.FiledLaws.{contained_by}
 use Rattle.mpm_machine.proofs.ValueLaws.{resided_with}
 use Rattle.mpm_machine.proofs.FiledValue.{filed_by_value, over_by_value, enters_by_value}
-use Rattle.mpm_machine.proofs.SpoolingDisk.{goes_in_step}
+use Rattle.mpm_machine.proofs.PrintingSteps.{spooling_next, printing_next}
 use Rattle.mpm_machine.proofs.StepWithLaws.{whole_with, no_completions_with, instructed_with, served_with}
 use Rattle.mpm_machine.proofs.FileStepLaws.{steps_with}
 
@@ -64,11 +63,6 @@ handed_after zero s no_completions = no_completions
 handed_after (suc n) s no_completions =
     subst NoCompletions (sym (next_is (after n s))) (no_completions_with (telling_of (after n s).system (after n s).files) (after n s).system)
 
--- a spooler goes on
-pub spooling_next : (q : ℕ) (s : State) → IsWhole s.system → IsSpooling q s.system s.outputs → IsSpooling q (next s).system (next s).outputs
-unfolding next stepped
-spooling_next q s w i = goes_in_step q (telling_of s.system s.files) s.system s.outputs w i
-
 -- and what is so of each
 
 step_of : (s : State) → IsWhole s.system → NoCompletions s.system → IsStepOf s
@@ -87,6 +81,7 @@ step_of s w handed =
       over = over_by_value (process_over begun) begun;
       enters = enters_by_value (paid_after telling.at_disk begun);
       spools = λ q i. spooling_next q s w i;
+      prints = λ q p. printing_next q s w p;
     }
 
 pub step_by : (s : State) (old : System) → s.system ≡ old → IsWhole old → NoCompletions old → IsStepOf s

@@ -1,5 +1,5 @@
 -- What the parts of a step leave, one after another.
-use Rattle.std.proofs.Common.{◌≡◌, ◌∙◌, ℕ, Bool, List, [], Option, Result, Ok, Err, OnOk, IfErr, refl, sym, subst}
+use Rattle.std.proofs.Common.{◌≡◌, ◌∙◌, ℕ, Bool, List, [], Option, Result, Ok, Err, OnOk, IfErr, refl, sym, subst, arith}
 use Rattle.std.specs.Prelude.{IsOk}
 use Rattle.std.proofs.lemmas.Bool.{false≢true}
 use Rattle.mpm_port.specs.declared.Failed.{Failed}
@@ -11,6 +11,7 @@ use Rattle.mpm_system.specs.Whole.{IsWhole}
 use Rattle.mpm_machine.specs.declared.machine.Machine.{Machine}
 use Rattle.mpm_machine.specs.declared.machine.StepFault.{StepFault}
 use Rattle.mpm_machine.specs.declared.machine.StepFault.TheVariants.{WriteFault}
+use Rattle.mpm_machine.specs.Faults.{EndsBySink}
 use Rattle.mpm_machine.specs.Holding.{AreFiled, OwnsService}
 use Rattle.mpm_bdos.specs.Serving.{Kept}
 use Rattle.mpm_bdos.specs.AtOnce.{TurnsLeave}
@@ -89,3 +90,7 @@ uses_kept disks told failed owes f one two three x y r same uses = subst (λ (m 
 pub keeps_since : (told told' : Images) (x y : Disks) (kept between : Kept) (last : List (Option Directory)) → between ≡ kept → KeepsMounted told told' x y between.mounted last
     → KeepsMounted told told' x y kept.mounted last
 keeps_since told told' x y kept between last same keeps = subst (λ (k : Kept). KeepsMounted told told' x y k.mounted last) same keeps
+
+-- nothing was written
+pub ends_still : {A E : Type 0} (x : A) (trace : Bool) (faults : ℕ) → EndsBySink {A = A} {E = E} trace trace faults faults (Ok x)
+ends_still x trace faults = record { trace = refl; cause = record { later = omega arith; stays = refl; failed = tt } }

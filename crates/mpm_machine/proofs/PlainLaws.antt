@@ -32,7 +32,7 @@ none_leaves gone (p ∷ ps) filing none =
 
 -- where nobody owes anything
 
-nowhere : (n p : ℕ) → slice_index_or (replicate n false) p false ≡ false
+pub nowhere : (n p : ℕ) → slice_index_or (replicate n false) p false ≡ false
 nowhere zero p = refl
 nowhere (suc n) zero = refl
 nowhere (suc n) (suc p) = nowhere n p

@@ -1,5 +1,5 @@
 -- Over any answers the spooler prints a first part of the text that it reads, and all of it before it asks for a deletion.
-use Rattle.std.proofs.Common.{◌≡◌, ◌∙◌, ℕ, suc, ◌+◌, ◌-◌, ◌<◌, ◌≤◌, ◌%◌, ◌^◌, ◌==◌, ◌&&◌, not, Bool, true, false, if◌then◌else◌, List, [], ◌∷◌, ◌++◌, length, take, drop, Option, Some, None, refl, sym, ap, subst, arith}
+use Rattle.std.proofs.Common.{◌≡◌, ◌∙◌, ℕ, suc, ◌+◌, ◌<◌, ◌≤◌, ◌%◌, ◌^◌, ◌==◌, ◌&&◌, not, Bool, true, false, if◌then◌else◌, List, [], ◌∷◌, ◌++◌, length, take, drop, Option, Some, None, refl, sym, ap, subst, arith}
 use Rattle.std.specs.Prelude.{nat_lt, slice_index, slice_get}
 use Rattle.std.specs.List.{position_or_len}
 use Rattle.std.proofs.lemmas.Bool.{false≢true}
@@ -15,15 +15,15 @@ use Rattle.mpm_spool.specs.SpoolLists.{list_of}
 use Rattle.mpm_spool.specs.declared.list.SpoolItem.{SpoolItem}
 use Rattle.mpm_spool.specs.declared.table.Row.{Row}
 use Rattle.mpm_spool.specs.declared.table.Row.TheVariants.{ReadList, Open, Attach, AskStop, Read, Print, Detach, Close, Delete}
-use Rattle.mpm_machine.specs.Printed.{text_of, to_printer, read_by, read_in, printed_by, printed_in, has_file, has_ended, PrintsText}
+use Rattle.mpm_machine.specs.Printed.{text_of, to_printer, read_by, read_in, ended_by, ended_in, printed_by, printed_in, has_file, has_ended, PrintsText}
 
 -- the text of bytes
 
-text_end : (b : ℕ) (bytes : List ℕ) → (b == 26) ≡ true → text_of (b ∷ bytes) ≡ []
+pub text_end : (b : ℕ) (bytes : List ℕ) → (b == 26) ≡ true → text_of (b ∷ bytes) ≡ []
 unfolding text_of
 text_end b bytes is = ap (λ (t : Bool). take (if not t then 1 + position_or_len (λ byte. byte == 26) bytes else 0) (b ∷ bytes)) is
 
-text_more : (b : ℕ) (bytes : List ℕ) → (b == 26) ≡ false → text_of (b ∷ bytes) ≡ b ∷ text_of bytes
+pub text_more : (b : ℕ) (bytes : List ℕ) → (b == 26) ≡ false → text_of (b ∷ bytes) ≡ b ∷ text_of bytes
 unfolding text_of
 text_more b bytes not_it =
     let n = position_or_len (λ byte. byte == 26) bytes in
@@ -74,42 +74,52 @@ record IsWithin (s : Spooler) (read printed : List ℕ) : Type 0 where
   within : s.place < 128
   goes : (slice_index s.bytes s.place == 26) ≡ false
 
+-- a 1Ah stands in it, so that more of the file isn't of its text
+abbrev pub EndsText : List ℕ → Type 0
+EndsText read = (more : List ℕ) → text_of (read ++ more) ≡ text_of read
+
+ends_at : (done left read : List ℕ) → read ≡ done ++ left → text_of done ≡ done → ((more : List ℕ) → text_of (left ++ more) ≡ []) → EndsText read
+ends_at done left read is text none more =
+    ap (λ (xs : List ℕ). text_of (xs ++ more)) is ∙ ap text_of (append_assoc done left more) ∙ text_behind done (left ++ more) text
+    ∙ ap (λ (xs : List ℕ). done ++ xs) (none more ∙ sym (ap text_of (sym (append-nil left)) ∙ none [])) ∙ sym (text_behind done left text) ∙ ap text_of (sym is)
+
 -- as it has come to the end
-record IsOver (s : Spooler) (read printed : List ℕ) : Type 0 where
+record IsOver (s : Spooler) (read printed : List ℕ) (ended : Bool) : Type 0 where
   begins : Begins printed (to_printer (text_of read))
   whole : s.is_unprinted ≡ false → printed ≡ to_printer (text_of read)
+  ends : s.is_unprinted ≡ false → ended ≡ false → EndsText read
 
 -- what is so in each row
-abbrev Goes : Row → Spooler → List ℕ → List ℕ → Type 0
-Goes ReadList s read printed = Unit {0}
-Goes Open s read printed = s.printed ≡ 0
-Goes Attach s read printed = (read ≡ []) × (printed ≡ []) × (s.printed ≡ 0)
-Goes AskStop s read printed = HasPrinted read [] read printed
-Goes Read s read printed = HasPrinted read [] read printed
-Goes Print s read printed = IsWithin s read printed
-Goes Detach s read printed = IsOver s read printed
-Goes Close s read printed = IsOver s read printed
-Goes Delete s read printed = IsOver s read printed × (s.is_unprinted ≡ false)
+abbrev Goes : Row → Spooler → List ℕ → List ℕ → Bool → Type 0
+Goes ReadList s read printed ended = Unit {0}
+Goes Open s read printed ended = s.printed ≡ 0
+Goes Attach s read printed ended = (read ≡ []) × (printed ≡ []) × (s.printed ≡ 0)
+Goes AskStop s read printed ended = HasPrinted read [] read printed
+Goes Read s read printed ended = HasPrinted read [] read printed
+Goes Print s read printed ended = IsWithin s read printed
+Goes Detach s read printed ended = IsOver s read printed ended
+Goes Close s read printed ended = IsOver s read printed ended
+Goes Delete s read printed ended = IsOver s read printed ended × (s.is_unprinted ≡ false)
 
 abbrev Counts : Spooler → List ℕ → Type 0
 Counts s printed = length printed < 2 ^ 64 → s.printed ≡ length printed
 
-record IsPrinting (s : Spooler) (read printed : List ℕ) : Type 0 where
-  goes : Goes s.row s read printed
+record IsPrinting (s : Spooler) (read printed : List ℕ) (ended : Bool) : Type 0 where
+  goes : Goes s.row s read printed ended
   count : has_file s.row ≡ true → Counts s printed
 
 -- a new file, or a new list
-begun_by : (next : Option SpoolItem) (s : Spooler) (read printed : List ℕ) → IsPrinting (begun_with next s) read printed
-begun_by None s read printed = record { goes = tt; count = λ e. absurd (false≢true e) }
-begun_by (Some item) s read printed = record { goes = refl; count = λ e. absurd (false≢true e) }
+begun_by : (next : Option SpoolItem) (s : Spooler) (read printed : List ℕ) (ended : Bool) → IsPrinting (begun_with next s) read printed ended
+begun_by None s read printed ended = record { goes = tt; count = λ e. absurd (false≢true e) }
+begun_by (Some item) s read printed ended = record { goes = refl; count = λ e. absurd (false≢true e) }
 
-begun_any : (s : Spooler) (read printed : List ℕ) → IsPrinting (begun_next s) read printed
+begun_any : (s : Spooler) (read printed : List ℕ) (ended : Bool) → IsPrinting (begun_next s) read printed ended
 unfolding begun_next
-begun_any s read printed = begun_by (slice_get s.left 0) (record s { left = drop 1 s.left }) read printed
+begun_any s read printed ended = begun_by (slice_get s.left 0) (record s { left = drop 1 s.left }) read printed ended
 
-listed_any : (list : Option (List SpoolItem)) (s : Spooler) (read printed : List ℕ) → s.row ≡ ReadList → IsPrinting (with_list list s) read printed
-listed_any None s read printed is = record { goes = subst (λ (row : Row). Goes row s read printed) (sym is) tt; count = λ e. absurd (false≢true (sym (ap has_file is) ∙ e)) }
-listed_any (Some items) s read printed is = begun_any (record s { left = items }) read printed
+listed_any : (list : Option (List SpoolItem)) (s : Spooler) (read printed : List ℕ) (ended : Bool) → s.row ≡ ReadList → IsPrinting (with_list list s) read printed ended
+listed_any None s read printed ended is = record { goes = subst (λ (row : Row). Goes row s read printed ended) (sym is) tt; count = λ e. absurd (false≢true (sym (ap has_file is) ∙ e)) }
+listed_any (Some items) s read printed ended is = begun_any (record s { left = items }) read printed ended
 
 -- nothing is printed yet
 nothing_yet : (read printed : List ℕ) → read ≡ [] → printed ≡ [] → HasPrinted read [] read printed
@@ -121,26 +131,33 @@ nothing_yet read printed none nothing = record {
 }
 
 -- all that was read is
-over_all : (s : Spooler) (read printed : List ℕ) → HasPrinted read [] read printed → IsOver s read printed
+over_all : (s : Spooler) (read printed : List ℕ) (ended : Bool) → HasPrinted read [] read printed → (s.is_unprinted ≡ false → ended ≡ false → ⊥) → IsOver s read printed ended
 unfolding text_of
-over_all s read printed h = record { begins = begins_with read [] read printed h; whole = λ _. all_with read [] read printed h refl }
+over_all s read printed ended h never = record {
+  begins = begins_with read [] read printed h;
+  whole = λ _. all_with read [] read printed h refl;
+  ends = λ printed_all more. absurd (never printed_all more);
+}
 
 -- it comes to a place of a record
-lands_by : (below ends : Bool) (s : Spooler) (done bytes : List ℕ) (place : ℕ) (read printed : List ℕ) → nat_lt place 128 ≡ below → (slice_index bytes place == 26) ≡ ends
+lands_by : (below ends : Bool) (s : Spooler) (done bytes : List ℕ) (place : ℕ) (read printed : List ℕ) (ended : Bool) → nat_lt place 128 ≡ below → (slice_index bytes place == 26) ≡ ends
     → length bytes ≡ 128 → HasPrinted done (drop place bytes) read printed → Counts s printed
-    → IsPrinting (record s { row = if below then (if ends then Detach else Print) else AskStop; bytes = bytes; place = place }) read printed
-lands_by true true s done bytes place read printed below ends long h count =
+    → IsPrinting (record s { row = if below then (if ends then Detach else Print) else AskStop; bytes = bytes; place = place }) read printed ended
+lands_by true true s done bytes place read printed ended below ends long h count =
     let within : place < 128 = grind (arith, nat_tests, below) in
+    let next = drop_more bytes place 0 (omega (arith, within, long)) in
     record {
       goes = record {
         begins = begins_with done (drop place bytes) read printed h;
-        whole = λ _. all_with done (drop place bytes) read printed h (ap text_of (drop_more bytes place 0 (omega (arith, within, long))) ∙ text_end (slice_index bytes place) (drop (place + 1) bytes) ends);
+        whole = λ _. all_with done (drop place bytes) read printed h (ap text_of next ∙ text_end (slice_index bytes place) (drop (place + 1) bytes) ends);
+        ends = λ _ _. ends_at done (drop place bytes) read h.read_is h.text
+            (λ more. ap (λ (xs : List ℕ). text_of (xs ++ more)) next ∙ text_end (slice_index bytes place) (drop (place + 1) bytes ++ more) ends);
       };
       count = λ _. count;
     }
-lands_by true false s done bytes place read printed below ends long h count =
+lands_by true false s done bytes place read printed ended below ends long h count =
     record { goes = record { done = done; has = h; long = long; within = grind (arith, nat_tests, below); goes = ends }; count = λ _. count }
-lands_by false ends s done bytes place read printed below is long h count =
+lands_by false ends s done bytes place read printed ended below is long h count =
     let past : 128 ≤ place = grind (arith, nat_tests, below) in
     let none : drop place bytes ≡ [] = drop_all place bytes (omega (arith, past, long)) in
     let all : read ≡ done = h.read_is ∙ ap (λ (xs : List ℕ). done ++ xs) none ∙ append-nil done in
@@ -149,20 +166,20 @@ lands_by false ends s done bytes place read printed below is long h count =
       count = λ _. count;
     }
 
-lands : (s : Spooler) (done bytes : List ℕ) (place : ℕ) (read printed : List ℕ) → length bytes ≡ 128 → HasPrinted done (drop place bytes) read printed → Counts s printed
-    → IsPrinting (record s { row = row_at bytes place; bytes = bytes; place = place }) read printed
-lands s done bytes place read printed long h count =
-    lands_by (nat_lt place 128) (slice_index bytes place == 26) s done bytes place read printed refl refl long h count
+lands : (s : Spooler) (done bytes : List ℕ) (place : ℕ) (read printed : List ℕ) (ended : Bool) → length bytes ≡ 128 → HasPrinted done (drop place bytes) read printed → Counts s printed
+    → IsPrinting (record s { row = row_at bytes place; bytes = bytes; place = place }) read printed ended
+lands s done bytes place read printed ended long h count =
+    lands_by (nat_lt place 128) (slice_index bytes place == 26) s done bytes place read printed ended refl refl long h count
 
 -- a record came, or an answer that isn't one
 
 read_with : (came ended : Bool) (s : Spooler) (reply : Answer) (read printed : List ℕ) → HasPrinted read [] read printed → Counts s printed
     → IsPrinting (if came then record s { row = row_at (record_in reply) 0; bytes = record_in reply; place = 0 }
-    else (if ended then record s { row = Detach } else record s { row = Detach; is_unprinted = true })) (if came then read ++ record_in reply else read) printed
+    else (if ended then record s { row = Detach } else record s { row = Detach; is_unprinted = true })) (if came then read ++ record_in reply else read) printed ended
 read_with true ended s reply read printed h count =
-    lands s read (record_in reply) 0 (read ++ record_in reply) printed (length_in_width 128 reply.bytes) (record { read_is = refl; printed_is = h.printed_is; text = h.text }) count
-read_with false true s reply read printed h count = record { goes = over_all (record s { row = Detach }) read printed h; count = λ _. count }
-read_with false false s reply read printed h count = record { goes = over_all (record s { row = Detach; is_unprinted = true }) read printed h; count = λ _. count }
+    lands s read (record_in reply) 0 (read ++ record_in reply) printed ended (length_in_width 128 reply.bytes) (record { read_is = refl; printed_is = h.printed_is; text = h.text }) count
+read_with false true s reply read printed h count = record { goes = over_all (record s { row = Detach }) read printed true h (λ _ not_it. false≢true (sym not_it)); count = λ _. count }
+read_with false false s reply read printed h count = record { goes = over_all (record s { row = Detach; is_unprinted = true }) read printed false h (λ left_it _. false≢true (sym left_it)); count = λ _. count }
 
 -- a byte was printed
 
@@ -186,34 +203,34 @@ counts_more s printed byte count few =
 
 -- each row
 
-went : (row : Row) (s : Spooler) (reply : Answer) (read printed : List ℕ) → s.row ≡ row → Goes row s read printed → (has_file row ≡ true → Counts s printed)
-    → IsPrinting (took_at row s reply) (read_by row reply read) (printed_by row (slice_index s.bytes s.place) printed)
-went ReadList s reply read printed is g c = listed_any (list_of (in_width 128 reply.bytes)) s read printed is
-went Open s reply read printed is g c =
-    either (λ (t : Spooler). IsPrinting t [] []) (reply.hl == 0) _ _ (λ _. record { goes = (refl, refl, g); count = λ _ _. g }) (λ _. begun_any s [] [])
-went Attach s reply read printed is g c =
+went : (row : Row) (s : Spooler) (reply : Answer) (read printed : List ℕ) (ended : Bool) → s.row ≡ row → Goes row s read printed ended → (has_file row ≡ true → Counts s printed)
+    → IsPrinting (took_at row s reply) (read_by row reply read) (printed_by row (slice_index s.bytes s.place) printed) (ended_by row reply ended)
+went ReadList s reply read printed ended is g c = listed_any (list_of (in_width 128 reply.bytes)) s read printed ended is
+went Open s reply read printed ended is g c =
+    either (λ (t : Spooler). IsPrinting t [] [] false) (reply.hl == 0) _ _ (λ _. record { goes = (refl, refl, g); count = λ _ _. g }) (λ _. begun_any s [] [] false)
+went Attach s reply read printed ended is g c =
     let h = nothing_yet read printed g.0 g.1 in
-    either (λ (t : Spooler). IsPrinting t read printed) (reply.hl == 0) _ _ (λ _. record { goes = h; count = λ _. c refl })
-    (λ _. record { goes = over_all (record s { row = Close; is_unprinted = true }) read printed h; count = λ _. c refl })
-went AskStop s reply read printed is g c =
-    either (λ (t : Spooler). IsPrinting t read printed) (reply.hl == 0) _ _
-    (λ _. record { goes = over_all (record s { row = Detach; left = []; is_unprinted = true }) read printed g; count = λ _. c refl })
+    either (λ (t : Spooler). IsPrinting t read printed ended) (reply.hl == 0) _ _ (λ _. record { goes = h; count = λ _. c refl })
+    (λ _. record { goes = over_all (record s { row = Close; is_unprinted = true }) read printed ended h (λ left_it _. false≢true (sym left_it)); count = λ _. c refl })
+went AskStop s reply read printed ended is g c =
+    either (λ (t : Spooler). IsPrinting t read printed ended) (reply.hl == 0) _ _
+    (λ _. record { goes = over_all (record s { row = Detach; left = []; is_unprinted = true }) read printed ended g (λ left_it _. false≢true (sym left_it)); count = λ _. c refl })
     (λ _. record { goes = g; count = λ _. c refl })
-went Read s reply read printed is g c = read_with (reply.hl == 0) (reply.hl == 1) (with_block reply s) reply read printed g (c refl)
-went Print s reply read printed is g c =
+went Read s reply read printed ended is g c = read_with (reply.hl == 0) (reply.hl == 1) (with_block reply s) reply read printed g (c refl)
+went Print s reply read printed ended is g c =
     lands (record s { printed = counted s.printed }) (g.done ++ slice_index s.bytes s.place ∷ []) s.bytes (s.place + 1) read
-    (printed ++ slice_index s.bytes s.place % 256 ∷ []) g.long (one_more s read printed g) (counts_more s printed (slice_index s.bytes s.place % 256) (c refl))
-went Detach s reply read printed is g c = record { goes = record { begins = g.begins; whole = g.whole }; count = λ _. c refl }
-went Close s reply read printed is g c =
-    either (λ (t : Spooler). IsPrinting t read printed) (s.item.delete && not s.is_unprinted) _ _
-    (λ both. record { goes = (record { begins = g.begins; whole = g.whole }, kept_printed s.item.delete s.is_unprinted both); count = λ e. absurd (false≢true e) })
-    (λ _. begun_any s read printed)
+    (printed ++ slice_index s.bytes s.place % 256 ∷ []) ended g.long (one_more s read printed g) (counts_more s printed (slice_index s.bytes s.place % 256) (c refl))
+went Detach s reply read printed ended is g c = record { goes = record { begins = g.begins; whole = g.whole; ends = g.ends }; count = λ _. c refl }
+went Close s reply read printed ended is g c =
+    either (λ (t : Spooler). IsPrinting t read printed ended) (s.item.delete && not s.is_unprinted) _ _
+    (λ both. record { goes = (record { begins = g.begins; whole = g.whole; ends = g.ends }, kept_printed s.item.delete s.is_unprinted both); count = λ e. absurd (false≢true e) })
+    (λ _. begun_any s read printed ended)
   where
     kept_printed : (a b : Bool) → (a && not b) ≡ true → b ≡ false
     kept_printed true true both = absurd (false≢true both)
     kept_printed true false both = refl
     kept_printed false b both = absurd (false≢true both)
-went Delete s reply read printed is g c = begun_any s read printed
+went Delete s reply read printed ended is g c = begun_any s read printed ended
 
 -- after any answers
 
@@ -228,50 +245,66 @@ word_at_print Detach s printed = refl
 word_at_print Close s printed = refl
 word_at_print Delete s printed = refl
 
-always : (answers : List Answer) → IsPrinting (after answers) (read_in answers) (printed_in answers)
-unfolding after read_in printed_in opening took next_call
+always : (answers : List Answer) → IsPrinting (after answers) (read_in answers) (printed_in answers) (ended_in answers)
+unfolding after read_in printed_in ended_in opening took next_call
 always [] = record { goes = tt; count = λ e. absurd (false≢true e) }
 always (reply ∷ earlier) =
     let s = after earlier in
     let so = always earlier in
-    subst (IsPrinting (took_at s.row s reply) (read_by s.row reply (read_in earlier))) (word_at_print s.row s (printed_in earlier))
-    (went s.row s reply (read_in earlier) (printed_in earlier) refl so.goes so.count)
+    subst (λ (printed : List ℕ). IsPrinting (took_at s.row s reply) (read_by s.row reply (read_in earlier)) printed (ended_by s.row reply (ended_in earlier)))
+    (word_at_print s.row s (printed_in earlier)) (went s.row s reply (read_in earlier) (printed_in earlier) (ended_in earlier) refl so.goes so.count)
 
-begins_at : (row : Row) (s : Spooler) (read printed : List ℕ) → Goes row s read printed → has_file row ≡ true → Begins printed (to_printer (text_of read))
-begins_at ReadList s read printed g e = absurd (false≢true e)
-begins_at Open s read printed g e = absurd (false≢true e)
-begins_at Attach s read printed g e = begins_with read [] read printed (nothing_yet read printed g.0 g.1)
-begins_at AskStop s read printed g e = begins_with read [] read printed g
-begins_at Read s read printed g e = begins_with read [] read printed g
-begins_at Print s read printed g e = begins_with g.done (drop s.place s.bytes) read printed g.has
-begins_at Detach s read printed g e = g.begins
-begins_at Close s read printed g e = g.begins
-begins_at Delete s read printed g e = absurd (false≢true e)
+begins_at : (row : Row) (s : Spooler) (read printed : List ℕ) (ended : Bool) → Goes row s read printed ended → has_file row ≡ true → Begins printed (to_printer (text_of read))
+begins_at ReadList s read printed ended g e = absurd (false≢true e)
+begins_at Open s read printed ended g e = absurd (false≢true e)
+begins_at Attach s read printed ended g e = begins_with read [] read printed (nothing_yet read printed g.0 g.1)
+begins_at AskStop s read printed ended g e = begins_with read [] read printed g
+begins_at Read s read printed ended g e = begins_with read [] read printed g
+begins_at Print s read printed ended g e = begins_with g.done (drop s.place s.bytes) read printed g.has
+begins_at Detach s read printed ended g e = g.begins
+begins_at Close s read printed ended g e = g.begins
+begins_at Delete s read printed ended g e = absurd (false≢true e)
 
-whole_at : (row : Row) (s : Spooler) (read printed : List ℕ) → Goes row s read printed → has_ended row ≡ true → s.is_unprinted ≡ false → printed ≡ to_printer (text_of read)
-whole_at ReadList s read printed g e = absurd (false≢true e)
-whole_at Open s read printed g e = absurd (false≢true e)
-whole_at Attach s read printed g e = absurd (false≢true e)
-whole_at AskStop s read printed g e = absurd (false≢true e)
-whole_at Read s read printed g e = absurd (false≢true e)
-whole_at Print s read printed g e = absurd (false≢true e)
-whole_at Detach s read printed g e = g.whole
-whole_at Close s read printed g e = g.whole
-whole_at Delete s read printed g e = g.0.whole
+whole_at : (row : Row) (s : Spooler) (read printed : List ℕ) (ended : Bool) → Goes row s read printed ended → has_ended row ≡ true → s.is_unprinted ≡ false → printed ≡ to_printer (text_of read)
+whole_at ReadList s read printed ended g e = absurd (false≢true e)
+whole_at Open s read printed ended g e = absurd (false≢true e)
+whole_at Attach s read printed ended g e = absurd (false≢true e)
+whole_at AskStop s read printed ended g e = absurd (false≢true e)
+whole_at Read s read printed ended g e = absurd (false≢true e)
+whole_at Print s read printed ended g e = absurd (false≢true e)
+whole_at Detach s read printed ended g e = g.whole
+whole_at Close s read printed ended g e = g.whole
+whole_at Delete s read printed ended g e = g.0.whole
 
 pub prints_text : (answers : List Answer) → PrintsText (after answers) (read_in answers) (printed_in answers)
 prints_text answers =
     let s = after answers in
     let so = always answers in
     record {
-      begins = begins_at s.row s (read_in answers) (printed_in answers) so.goes;
+      begins = begins_at s.row s (read_in answers) (printed_in answers) (ended_in answers) so.goes;
       count = so.count;
-      whole = whole_at s.row s (read_in answers) (printed_in answers) so.goes;
-      deletes = λ is. (let at : Goes Delete s (read_in answers) (printed_in answers) = subst (λ (row : Row). Goes row s (read_in answers) (printed_in answers)) is so.goes in at.1);
+      whole = whole_at s.row s (read_in answers) (printed_in answers) (ended_in answers) so.goes;
+      deletes = λ is. (let at : Goes Delete s (read_in answers) (printed_in answers) (ended_in answers) = subst (λ (row : Row). Goes row s (read_in answers) (printed_in answers) (ended_in answers)) is so.goes in at.1);
     }
 
 -- as it attaches the printer nothing is printed
 pub nothing_at_attach : (answers : List Answer) → (after answers).row ≡ Attach → printed_in answers ≡ []
 nothing_at_attach answers is =
-    let at : Goes Attach (after answers) (read_in answers) (printed_in answers) = subst (λ (row : Row). Goes row (after answers) (read_in answers) (printed_in answers)) is (always answers).goes in
+    let at : Goes Attach (after answers) (read_in answers) (printed_in answers) (ended_in answers) = subst (λ (row : Row). Goes row (after answers) (read_in answers) (printed_in answers) (ended_in answers)) is (always answers).goes in
     at.1
+
+-- where it has come to the end and answer 1 didn't come, a 1Ah stands in what it has read
+
+ends_in_row : (row : Row) (s : Spooler) (read printed : List ℕ) (ended : Bool) → Goes row s read printed ended → has_ended row ≡ true → s.is_unprinted ≡ false → ended ≡ false → EndsText read
+ends_in_row ReadList s read printed ended g e = absurd (false≢true e)
+ends_in_row Open s read printed ended g e = absurd (false≢true e)
+ends_in_row Attach s read printed ended g e = absurd (false≢true e)
+ends_in_row AskStop s read printed ended g e = absurd (false≢true e)
+ends_in_row Read s read printed ended g e = absurd (false≢true e)
+ends_in_row Print s read printed ended g e = absurd (false≢true e)
+ends_in_row Detach s read printed ended g e = g.ends
+ends_in_row Close s read printed ended g e = g.ends
+ends_in_row Delete s read printed ended g e = g.0.ends
+
+pub ends_text : (answers : List Answer) → has_ended (after answers).row ≡ true → (after answers).is_unprinted ≡ false → ended_in answers ≡ false → EndsText (read_in answers)
+ends_text answers = ends_in_row (after answers).row (after answers) (read_in answers) (printed_in answers) (ended_in answers) (always answers).goes

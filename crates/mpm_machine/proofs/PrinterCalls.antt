@@ -1,5 +1,7 @@
--- A printer stays whose it is in the calls of others, and so does the number of the printer that a process prints on.
-use Rattle.std.proofs.Common.{◌≡◌, ◌≢◌, ◌∙◌, ℕ, Bool, true, false, not, ◌&&◌, ◌||◌, ◌==◌, List, length, Option, Some, None, if◌then◌else◌, refl, sym, ap}
+-- A printer stays whose it is in the calls of others, and so does what a process has set, and the control block of the call that it keeps.
+use Rattle.std.proofs.Common.{◌≡◌, ◌≢◌, ◌∙◌, ℕ, ◌≤◌, Bool, true, false, not, ◌&&◌, ◌||◌, ◌==◌, List, length, Option, Some, None, if◌then◌else◌, inl, inr, refl, sym, ap}
+use Rattle.std.proofs.lemmas.Bool.{cases_eq, cases_lt}
+use Rattle.std.proofs.lemmas.List.{set_past}
 use Rattle.std.specs.Prelude.{nat_lt, is_some, is_none, slice_index_or}
 use Rattle.std.proofs.lemmas.Option.{none-some}
 use Rattle.mpm_base.proofs.Choices.{either}
@@ -18,7 +20,7 @@ use Rattle.mpm_flags.specs.declared.flags.FlagSet.{FlagSet}
 use Rattle.mpm_flags.specs.declared.flags.FlagSet.TheVariants.{Set as SetOnce, Overrun, Woke}
 use Rattle.mpm_flags.specs.declared.flags.FlagWait.{FlagWait}
 use Rattle.mpm_flags.specs.declared.flags.FlagWait.TheVariants.{Passed, Waits, Underrun}
-use Rattle.mpm_kernel.proofs.Beside.{field_kept}
+use Rattle.mpm_kernel.proofs.Beside.{field_kept, call_beside}
 use Rattle.mpm_kernel.proofs.CallHomes.{procs_with_other}
 use Rattle.mpm_kernel.proofs.RowLaws.{by_rows, by_table}
 use Rattle.mpm_kernel.proofs.SoundLaws.{procs_signalled}
@@ -34,7 +36,7 @@ use Rattle.mpm_kernel.specs.Procedures.{procedure_queue, inside, procedure_read,
 use Rattle.mpm_kernel.specs.Queueing.{with_queue, queue_made, opened, may_delete, deleted, queued, blocked_or_refused, taken_from, was_read, read_at, given_to, was_written, write_at}
 use Rattle.mpm_kernel.specs.Waiting.{polled, is_flag, flag_waited_for, waited, with_woken, signalled, flag_waited, flag_set, process_delayed}
 use Rattle.mpm_line_input.specs.Lines.{is_full, ends, line_end}
-use Rattle.mpm_procs.proofs.MapLaws.{process_kept, process_after}
+use Rattle.mpm_procs.proofs.MapLaws.{process_kept, process_after, call_after, call_changed}
 use Rattle.mpm_procs.specs.Table.{Table, process_in, call_of, with_call}
 use Rattle.mpm_procs.specs.declared.process.Process.{Process}
 use Rattle.mpm_queues.specs.Handling.{first_reader, written_by, delivered_to, read_outcome, write_outcome, procs_after_write}
@@ -42,20 +44,23 @@ use Rattle.mpm_queues.specs.Queue.{with_given, is_full as is_full_queue}
 use Rattle.mpm_queues.specs.Queues.{queue_in, make_error}
 use Rattle.mpm_queues.specs.declared.queues.QueueOutcome.{QueueOutcome}
 use Rattle.mpm_queues.specs.declared.queues.QueueOutcome.TheVariants.{Done as Handled, NotNow}
+use Rattle.mpm_machine.specs.Slots.{settings_of}
 
--- the printer of a process has the same number, and each printer that it owns is its own still
+-- a process has set the same, its call has the same control block, and each printer that it owns is its own still
 pub record KeepsPrinter (q : ℕ) (old new : Kernel) : Type 0 where
-  pub number : (process_in new.dispatcher.procs q).printer ≡ (process_in old.dispatcher.procs q).printer
+  pub set : settings_of (process_in new.dispatcher.procs q) ≡ settings_of (process_in old.dispatcher.procs q)
+  pub block : (call_of new.dispatcher.procs q).fcb ≡ (call_of old.dispatcher.procs q).fcb
   pub owner : (n : ℕ) → owner_of old.units (Printer n) ≡ Some q → owner_of new.units (Printer n) ≡ Some q
 
 pub prints_same : (q : ℕ) (old new : Kernel) → new.dispatcher.procs ≡ old.dispatcher.procs → new.units.printers ≡ old.units.printers → KeepsPrinter q old new
 prints_same q old new procs printers = record {
-  number = ap (λ (t : Table). (process_in t q).printer) procs;
+  set = ap (λ (t : Table). settings_of (process_in t q)) procs;
+  block = ap (λ (t : Table). (call_of t q).fcb) procs;
   owner = λ n is. ap (λ (l : List (Option ℕ)). slice_index_or l n None) printers ∙ is;
 }
 
 pub prints_both : (q : ℕ) (old middle new : Kernel) → KeepsPrinter q old middle → KeepsPrinter q middle new → KeepsPrinter q old new
-prints_both q old middle new a b = record { number = b.number ∙ a.number; owner = λ n is. b.owner n (a.owner n is) }
+prints_both q old middle new a b = record { set = b.set ∙ a.set; block = b.block ∙ a.block; owner = λ n is. b.owner n (a.owner n is) }
 
 abbrev PrintsOn : ℕ → Kernel → Called → Type 0
 PrintsOn q old called = KeepsPrinter q old called.kernel
@@ -63,17 +68,44 @@ PrintsOn q old called = KeepsPrinter q old called.kernel
 prints_if : (q : ℕ) (old : Kernel) (b : Bool) (x y : Called) → PrintsOn q old x → PrintsOn q old y → PrintsOn q old (if b then x else y)
 prints_if q old b x y s t = either (PrintsOn q old) b x y (λ _. s) (λ _. t)
 
--- a process is another one, whose printer has the same number
-pub prints_changed : (q p : ℕ) (kernel : Kernel) (process : Process) → process.printer ≡ (process_in kernel.dispatcher.procs p).printer → KeepsPrinter q kernel (with_changed kernel p process)
-prints_changed q p kernel process same = record { number = field_kept (λ (x : Process). x.printer) kernel.dispatcher.procs p q process same; owner = λ n is. is }
+-- a process is another one, which has set the same
+pub prints_changed : (q p : ℕ) (kernel : Kernel) (process : Process) → settings_of process ≡ settings_of (process_in kernel.dispatcher.procs p) → KeepsPrinter q kernel (with_changed kernel p process)
+prints_changed q p kernel process same = record { set = field_kept settings_of kernel.dispatcher.procs p q process same; block = ap (λ (x : Taken). x.fcb) (call_after kernel.dispatcher.procs p q process); owner = λ n is. is }
 
 -- or it is another's
-prints_other : (q p : ℕ) (kernel : Kernel) (process : Process) → q ≢ p → KeepsPrinter q kernel (with_changed kernel p process)
-prints_other q p kernel process other = record { number = ap (λ (x : Process). x.printer) (process_kept kernel.dispatcher.procs p q process other); owner = λ n is. is }
+pub prints_other : (q p : ℕ) (kernel : Kernel) (process : Process) → q ≢ p → KeepsPrinter q kernel (with_changed kernel p process)
+prints_other q p kernel process other = record { set = ap settings_of (process_kept kernel.dispatcher.procs p q process other); block = ap (λ (x : Taken). x.fcb) (call_after kernel.dispatcher.procs p q process); owner = λ n is. is }
 
--- a process keeps a call
-pub prints_keeping : (q p : ℕ) (kernel : Kernel) (call : Taken) → KeepsPrinter q kernel (dispatched (with_procs (with_call kernel.dispatcher.procs p call)) kernel)
-prints_keeping q p kernel call = record { number = ap (λ (x : Process). x.printer) (process_after kernel.dispatcher.procs p q call); owner = λ n is. is }
+-- another process keeps a call, or one of the same control block
+pub prints_keeping : (q p : ℕ) (kernel : Kernel) (call : Taken) → q ≢ p → KeepsPrinter q kernel (dispatched (with_procs (with_call kernel.dispatcher.procs p call)) kernel)
+prints_keeping q p kernel call other = record {
+  set = ap settings_of (process_after kernel.dispatcher.procs p q call);
+  block = ap (λ (x : Taken). x.fcb) (call_beside kernel.dispatcher.procs p q call other);
+  owner = λ n is. is;
+}
+
+none_changed : (procs : Table) (p : ℕ) (call : Taken) → length procs.calls ≤ p → with_call procs p call ≡ procs
+unfolding with_call
+none_changed procs p call past = ap (λ (calls : List Taken). record procs { calls = calls }) (set_past procs.calls p call past)
+
+block_kept : (procs : Table) (p q : ℕ) (call : Taken) → call.fcb ≡ (call_of procs p).fcb → (call_of (with_call procs p call) q).fcb ≡ (call_of procs q).fcb
+block_kept procs p q call same = elim (cases_eq q p) [
+  | inl equal ↦ elim (cases_lt p (length procs.calls)) [
+    | inl below ↦
+        ap (λ n. (call_of (with_call procs p call) n).fcb) equal ∙ ap (λ (x : Taken). x.fcb) (call_changed procs p call below)
+        ∙ same ∙ ap (λ n. (call_of procs n).fcb) (sym equal)
+    | inr past ↦ ap (λ (table : Table). (call_of table q).fcb) (none_changed procs p call past)
+  ]
+  | inr other ↦ ap (λ (x : Taken). x.fcb) (call_beside procs p q call other)
+]
+
+prints_again : (q p : ℕ) (kernel : Kernel) (call : Taken) → call.fcb ≡ (call_of kernel.dispatcher.procs p).fcb
+    → KeepsPrinter q kernel (dispatched (with_procs (with_call kernel.dispatcher.procs p call)) kernel)
+prints_again q p kernel call same = record {
+  set = ap settings_of (process_after kernel.dispatcher.procs p q call);
+  block = block_kept kernel.dispatcher.procs p q call same;
+  owner = λ n is. is;
+}
 
 -- units are attached where nobody owns them
 
@@ -114,7 +146,7 @@ owner_detached t p unit q n other is =
 
 pub prints_left : (q p : ℕ) (unit : Unit) (kernel : Kernel) → q ≢ p → KeepsPrinter q kernel (unit_left p unit kernel)
 unfolding unit_left
-prints_left q p unit kernel other = record { number = refl; owner = λ n is. owner_detached kernel.units p unit q n other is }
+prints_left q p unit kernel other = record { set = refl; block = refl; owner = λ n is. owner_detached kernel.units p unit q n other is }
 
 -- a console passes to another one, whoever had it
 pub owner_console_passed : (t : Consoles) (console q n : ℕ) → owner_of t (Printer n) ≡ Some q → owner_of (passed t (Console console)) (Printer n) ≡ Some q
@@ -134,17 +166,17 @@ owner_assigned t console to q n is =
 
 pub prints_owner_made : (q console to : ℕ) (kernel : Kernel) → KeepsPrinter q kernel (owner_made console to kernel)
 unfolding owner_made
-prints_owner_made q console to kernel = record { number = refl; owner = λ n is. owner_assigned kernel.units console to q n is }
+prints_owner_made q console to kernel = record { set = refl; block = refl; owner = λ n is. owner_assigned kernel.units console to q n is }
 
 -- the calls on consoles and printers
 
 prints_attaching : (q p : ℕ) (unit : Unit) (wait : Bool) (kernel : Kernel) → KeepsPrinter q kernel (attaching p unit wait kernel)
 prints_attaching q p unit wait kernel =
-    record { number = refl; owner = λ n is. owner_attached kernel.units p (process_in kernel.dispatcher.procs p).priority unit wait q n is }
+    record { set = refl; block = refl; owner = λ n is. owner_attached kernel.units p (process_in kernel.dispatcher.procs p).priority unit wait q n is }
 
 prints_retried : (q p : ℕ) (old kernel : Kernel) → KeepsPrinter q old kernel → PrintsOn q old (retried p kernel)
 unfolding retried
-prints_retried q p old kernel k = record { number = k.number; owner = k.owner }
+prints_retried q p old kernel k = record { set = k.set; block = k.block; owner = k.owner }
 
 prints_attached : (q p : ℕ) (unit : Unit) (kernel : Kernel) → PrintsOn q kernel (attached p unit kernel)
 unfolding attached
@@ -189,7 +221,7 @@ prints_printer_set q call p kernel other =
     (prints_both q kernel (printer_changed p printer kernel) _ (prints_printer_changed q p printer kernel other) (prints_attached q p (Printer printer) (printer_changed p printer kernel)))
     (prints_same q kernel kernel refl refl)
 
-made_same : (console to : ℕ) (kernel : Kernel) → (process_in kernel.dispatcher.procs to).printer ≡ (process_in (owner_made console to kernel).dispatcher.procs to).printer
+made_same : (console to : ℕ) (kernel : Kernel) → settings_of (process_in kernel.dispatcher.procs to) ≡ settings_of (process_in (owner_made console to kernel).dispatcher.procs to)
 unfolding owner_made
 made_same console to kernel = refl
 
@@ -419,6 +451,10 @@ unfolding read_at
 prints_read_at q None may_wait call p kernel = prints_same q kernel _ refl refl
 prints_read_at q (Some n) may_wait call p kernel = prints_was_read q (read_outcome kernel.queues n) may_wait call p n kernel
 
+given_block : (message : List ℕ) (call : Taken) → (with_given message call).fcb ≡ call.fcb
+unfolding with_given
+given_block message call = refl
+
 prints_delivered : (q : ℕ) (b : Bool) (o : Option ℕ) (message : List ℕ) (old new : Kernel)
     → new.dispatcher.procs ≡ (if b then old.dispatcher.procs else (delivered_to o message old.dispatcher.procs)) → new.units.printers ≡ old.units.printers → KeepsPrinter q old new
 prints_delivered q true o message old new e same = prints_same q old new e same
@@ -426,7 +462,7 @@ prints_delivered q false None message old new e same = prints_same q old new e s
 prints_delivered q false (Some r) message old new e same =
     let call = with_given message (call_of old.dispatcher.procs r) in
     let kept = dispatched (with_procs (with_call old.dispatcher.procs r call)) old in
-    prints_both q old kept new (prints_keeping q r old call) (prints_same q kept new e same)
+    prints_both q old kept new (prints_again q r old call (given_block message (call_of old.dispatcher.procs r))) (prints_same q kept new e same)
 
 pub prints_given : (q p n : ℕ) (kernel : Kernel) → KeepsPrinter q kernel (given_to kernel p n)
 unfolding procs_after_write
@@ -495,19 +531,19 @@ prints_call_done q call p kernel other =
             (
               λ _. same,
               (
-                λ _. prints_changed q p kernel _ refl,
+                λ _. prints_other q p kernel _ other,
                 (
-                  λ _. prints_changed q p kernel _ refl,
+                  λ _. prints_other q p kernel _ other,
                   (
-                    λ _. prints_changed q p kernel _ refl,
+                    λ _. prints_other q p kernel _ other,
                     (
-                      λ _. prints_changed q p kernel _ refl,
+                      λ _. prints_other q p kernel _ other,
                       (
                         λ _. prints_date_set q call kernel,
                         (
                           λ _. prints_date_answered q call kernel,
                           (
-                            λ _. prints_changed q p kernel _ refl,
+                            λ _. prints_other q p kernel _ other,
                             (
                               λ _. prints_polled q call p kernel,
                               (

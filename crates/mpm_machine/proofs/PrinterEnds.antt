@@ -4,7 +4,7 @@ use Rattle.std.proofs.Common.{◌≡◌, ◌≢◌, ◌∙◌, ℕ, zero, suc, B
 use Rattle.std.specs.Prelude.{nat_lt, is_some, slice_index_or}
 use Rattle.std.specs.List.{range_with_len}
 use Rattle.mpm_base.proofs.Choices.{either}
-use Rattle.mpm_base.specs.Calls.{word_at}
+use Rattle.mpm_base.specs.Calls.{Taken, word_at}
 use Rattle.mpm_base.specs.declared.functions.TheConstants.{CALL_RESIDENT_SYSTEM_PROCEDURE}
 use Rattle.mpm_consoles.specs.Consoles.{Consoles, console_at, owner_of, owns}
 use Rattle.mpm_consoles.specs.Handling.{key_by, keyed, key_answer, passed_by_key, subject, unit_detached, spoke as spoke_units}
@@ -15,6 +15,7 @@ use Rattle.mpm_consoles.specs.declared.keys.KeyDone.{KeyDone}
 use Rattle.mpm_consoles.specs.declared.keys.KeyDone.TheVariants.{Stored, Dropped, Wakes, Aborts, Passes, Nothing}
 use Rattle.mpm_base.specs.declared.unit.Unit.TheVariants.{Console, Printer}
 use Rattle.mpm_dispatcher.specs.Dispatch.{first_completed, with_completed, in_slot}
+use Rattle.mpm_kernel.proofs.Beside.{call_without_other}
 use Rattle.mpm_kernel.proofs.SoundLaws.{procs_happened}
 use Rattle.mpm_kernel.proofs.UnitWaits.{owner_units_without}
 use Rattle.mpm_kernel.specs.Columns.{spoke}
@@ -27,7 +28,6 @@ use Rattle.mpm_kernel.specs.Queueing.{given_to}
 use Rattle.mpm_kernel.specs.Waiting.{is_flag}
 use Rattle.mpm_procs.proofs.MapLaws.{process_without_other}
 use Rattle.mpm_procs.specs.Table.{Lives, process_in, call_of, lowest_free}
-use Rattle.mpm_procs.specs.declared.process.Process.{Process}
 use Rattle.mpm_procs.specs.declared.process.NewProcess.{NewProcess}
 use Rattle.mpm_queues.specs.Handling.{write_outcome, woken_by}
 use Rattle.mpm_queues.specs.Queue.{block_size}
@@ -37,6 +37,7 @@ use Rattle.mpm_script.specs.declared.event.Event.TheVariants.{Tick, Key, Ready, 
 use Rattle.mpm_xdos.proofs.CreatedLaws.{Made}
 use Rattle.mpm_xdos.specs.Creating.{children_of, may_create, all_admitted, created}
 use Rattle.mpm_machine.proofs.PrinterCalls.{KeepsPrinter, prints_same, prints_both, prints_changed, prints_keeping, prints_left, prints_given, prints_with_other, prints_signalled, prints_inside, owner_console_passed, prints_owner_made}
+use Rattle.mpm_machine.specs.Slots.{settings_of}
 
 -- what goes back to queues
 
@@ -48,18 +49,18 @@ prints_back_to q (Some n) p kernel =
     either (KeepsPrinter q kernel) (is_made kernel.queues n) _ kernel
     (λ _. prints_both q kernel gave _ (prints_given q p n kernel) (prints_with_other q (woken_by (write_outcome kernel.queues n)) gave)) (λ _. prints_same q kernel kernel refl refl)
 
-prints_outside : (q p : ℕ) (kernel : Kernel) → KeepsPrinter q kernel (outside p kernel)
+prints_outside : (q p : ℕ) (kernel : Kernel) → q ≢ p → KeepsPrinter q kernel (outside p kernel)
 unfolding outside
-prints_outside q p kernel =
+prints_outside q p kernel other =
     let process = process_in kernel.dispatcher.procs p in
     let changed = with_changed kernel p (record process { procedure = None }) in
     prints_both q kernel changed _ (prints_changed q p kernel (record process { procedure = None }) refl)
-    (prints_both q changed _ _ (prints_keeping q p changed (writing process.kept)) (prints_same q _ _ refl refl))
+    (prints_both q changed _ _ (prints_keeping q p changed (writing process.kept) other) (prints_same q _ _ refl refl))
 
-pub prints_given_back : (q p : ℕ) (kernel : Kernel) → KeepsPrinter q kernel (given_back p kernel)
+pub prints_given_back : (q p : ℕ) (kernel : Kernel) → q ≢ p → KeepsPrinter q kernel (given_back p kernel)
 unfolding given_back
-prints_given_back q p kernel =
-    prints_both q kernel (outside p kernel) _ (prints_outside q p kernel) (prints_back_to q (process_in kernel.dispatcher.procs p).procedure p (outside p kernel))
+prints_given_back q p kernel other =
+    prints_both q kernel (outside p kernel) _ (prints_outside q p kernel other) (prints_back_to q (process_in kernel.dispatcher.procs p).procedure p (outside p kernel))
 
 prints_returned : (q p n : ℕ) (kernel : Kernel) → KeepsPrinter q kernel (returned p n kernel)
 unfolding returned
@@ -88,7 +89,7 @@ prints_printers_left q p (suc n) kernel other =
 
 prints_dropped : (q p : ℕ) (kernel : Kernel) → KeepsPrinter q kernel (dropped_out p kernel)
 unfolding dropped_out
-prints_dropped q p kernel = record { number = refl; owner = λ n is. owner_units_without kernel.units p (Printer n) ∙ is }
+prints_dropped q p kernel = record { set = refl; block = refl; owner = λ n is. owner_units_without kernel.units p (Printer n) ∙ is }
 
 prints_relieved : (q p : ℕ) (kernel : Kernel) → q ≢ p → KeepsPrinter q kernel (relieved p kernel)
 unfolding relieved units_left
@@ -98,7 +99,7 @@ prints_relieved q p kernel other =
     let returned_all = all_returned (range_with_len 0 32) p back in
     let left = consoles_left p (length returned_all.units.consoles) returned_all in
     prints_both q kernel gone _ (prints_dropped q p kernel)
-    (prints_both q gone back _ (prints_given_back q p gone)
+    (prints_both q gone back _ (prints_given_back q p gone other)
     (prints_both q back returned_all _ (prints_all_returned q (range_with_len 0 32) p back)
     (prints_both q returned_all left _ (prints_consoles_left q p (length returned_all.units.consoles) returned_all other)
     (prints_printers_left q p (length left.units.printers) left other))))
@@ -108,7 +109,11 @@ unfolding discharged
 prints_discharged q kernel p other =
     let gone = relieved p kernel in
     prints_both q kernel gone _ (prints_relieved q p kernel other)
-    (record { number = ap (λ (x : Process). x.printer) (process_without_other gone.dispatcher.procs p q other); owner = λ n is. is })
+    (record {
+      set = ap settings_of (process_without_other gone.dispatcher.procs p q other);
+      block = ap (λ (x : Taken). x.fcb) (call_without_other gone.dispatcher.procs p q other);
+      owner = λ n is. is;
+    })
 
 -- events
 
@@ -157,7 +162,8 @@ owner_happens (Int flag) kernel q n is =
 
 pub prints_happened : (q : ℕ) (event : Event) (kernel : Kernel) → KeepsPrinter q kernel (happened event kernel)
 prints_happened q event kernel = record {
-  number = ap (λ t. (process_in t q).printer) (procs_happened event kernel);
+  set = ap (λ t. settings_of (process_in t q)) (procs_happened event kernel);
+  block = ap (λ t. (call_of t q).fcb) (procs_happened event kernel);
   owner = λ n is. owner_happens event (afresh kernel) q n is;
 }
 
@@ -191,7 +197,7 @@ owner_left_console t p console q n is =
 prints_passed_on : (q console : ℕ) (from : Option ℕ) (kernel : Kernel) → KeepsPrinter q kernel (passed_on console from kernel)
 unfolding unit_left
 prints_passed_on q console None kernel = prints_same q kernel kernel refl refl
-prints_passed_on q console (Some p) kernel = record { number = refl; owner = λ n is. owner_left_console kernel.units p console q n is }
+prints_passed_on q console (Some p) kernel = record { set = refl; block = refl; owner = λ n is. owner_left_console kernel.units p console q n is }
 
 prints_handed_over : (q console : ℕ) (from to : Option ℕ) (kernel : Kernel) → KeepsPrinter q kernel (handed_over console from to kernel)
 prints_handed_over q console from None kernel = prints_passed_on q console from kernel
@@ -217,10 +223,12 @@ units_created kernel p base =
 
 pub prints_created : (q : ℕ) (kernel : Kernel) (p base : ℕ) → Made kernel (created kernel p base) → Lives kernel.dispatcher.procs q → KeepsPrinter q kernel (created kernel p base)
 prints_created q kernel p base made h = record {
-  number = ap (λ (x : Process). x.printer) (made.process q h);
+  set = ap settings_of (made.process q h);
+  block = ap (λ (x : Taken). x.fcb) (made.call q h);
   owner = λ n is. ap (λ (t : Consoles). owner_of t (Printer n)) (units_created kernel p base) ∙ is;
 }
 
 pub prints_in_slot : (q : ℕ) (slot : Option ℕ) (new : NewProcess) (kernel : Kernel)
-    → process_in (dispatched (in_slot new slot) kernel).dispatcher.procs q ≡ process_in kernel.dispatcher.procs q → KeepsPrinter q kernel (dispatched (in_slot new slot) kernel)
-prints_in_slot q slot new kernel same = record { number = ap (λ (x : Process). x.printer) same; owner = λ n is. is }
+    → process_in (dispatched (in_slot new slot) kernel).dispatcher.procs q ≡ process_in kernel.dispatcher.procs q
+    → call_of (dispatched (in_slot new slot) kernel).dispatcher.procs q ≡ call_of kernel.dispatcher.procs q → KeepsPrinter q kernel (dispatched (in_slot new slot) kernel)
+prints_in_slot q slot new kernel same call = record { set = ap settings_of same; block = ap (λ (x : Taken). x.fcb) call; owner = λ n is. is }

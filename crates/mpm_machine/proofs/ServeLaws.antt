@@ -19,7 +19,6 @@ use Rattle.mpm_kernel.specs.Disk.{with_disk, ready_again as made_ready_again, Is
 use Rattle.mpm_output.specs.Outside.{Outside, by_sink}
 use Rattle.mpm_output.specs.Writing.{CameOut, Stopped, DeviceFails, Emits}
 use Rattle.mpm_output.proofs.WritingLaws.{wrote_nothing, wrote_cause, stopped_cause}
-use Rattle.mpm_port.specs.Causes.{HasCause}
 use Rattle.mpm_render.specs.Outputs.{Output}
 use Rattle.mpm_file_functions.specs.declared.refusals.Extended.{Extended}
 use Rattle.mpm_directories.specs.Direct.{Directly}
@@ -31,6 +30,7 @@ use Rattle.mpm_bdos.specs.Serving.{Kept, InService, Serves}
 use Rattle.mpm_bdos.specs.Turns.{images_of}
 use Rattle.mpm_system.specs.declared.system.System.{System}
 use Rattle.mpm_system.specs.Whole.{SystemChange, HasRoomForAll, IsWhole, silent}
+use Rattle.mpm_machine.specs.Faults.{EndsBySink}
 use Rattle.mpm_machine.specs.Files.{FilesInService, Between, Within, StandsBetween, StandsServed, StandsForFiles, StandsWorkedBy, StandsWorked}
 use Rattle.mpm_machine.specs.FileCalls.{told_of, concluded}
 use Rattle.mpm_machine.specs.DiskStep.{ready_again, step_passed, call_over, over_after, served_by, disk_served, over_by, process_over, files_over, files_served_by, files_served, told_of_call}
@@ -96,9 +96,10 @@ over_serves told p system none =
     same_then system.kernel.disk afterwards.kernel.disk (call_over told p system).system.kernel.disk (concluded_serves told p again (ap (is_call_of p) none)) (finishing_serves afterwards)
 
 -- what was written, whether the sink failed or not
-pub emits_cause : {A : Type 0} (r : Result A Failed) (o n : Outside) (emitted : List Output) → Emits by_sink o n emitted r → HasCause o.faults.sink n.faults.sink r
-emits_cause (Ok a) o n emitted emits = wrote_cause a o n emitted emits.ok
-emits_cause (Err e) o n emitted emits = stopped_cause e o n emitted emits.err
+pub ends_by_sink : {A : Type 0} (r : Result A Failed) (o n : Outside) (emitted : List Output) → Emits by_sink o n emitted r
+    → EndsBySink o.kept.trace n.kept.trace o.faults.sink n.faults.sink r
+ends_by_sink (Ok a) o n emitted emits = record { trace = emits.ok.trace; cause = wrote_cause a o n emitted emits.ok }
+ends_by_sink (Err e) o n emitted emits = record { trace = emits.err.trace; cause = stopped_cause e o n emitted emits.err }
 
 -- a step of the call in service: whose it is
 

@@ -6,7 +6,8 @@ use Rattle.mpm_port.specs.Disks.{Disks}
 use Rattle.mpm_port.specs.Texts.{Begins}
 use Rattle.mpm_drives.specs.Images.{Images}
 use Rattle.mpm_mount.specs.Directories.{Directory}
-use Rattle.mpm_mount.specs.Mounting.{SameDrives}
+use Rattle.mpm_port.specs.declared.drives.Drives.{Ghosts}
+use Rattle.mpm_port.specs.Frames.{SameDrives}
 use Rattle.mpm_render.specs.Outputs.{Output, rendered, closed}
 use Rattle.mpm_render.specs.Shown.{KeptLines, Shows, EndsBetween}
 use Rattle.mpm_render.proofs.Grows.{begins_refl, begins_more, widened}
@@ -165,8 +166,8 @@ pub keeps_synced : (told told' told'' : Images) (x y z : Disks) (one other : Lis
 keeps_synced told told' told'' x y z one other keeps same told_same =
     subst (λ (d : Disks). KeepsMounted told told'' x d one other) (sym same) (subst (λ (i : Images). KeepsMounted told i x y one other) (sym told_same) keeps)
 
-pub same_still : {D : Type 0} (disks : D → Disks) (told : D → Images) (names : D → List (List ℕ)) (drives now : D) → now ≡ drives → SameDrives disks told names drives now
-same_still disks told names drives now same = record { images = ap disks same; told_are = ap told same; failed = ap names same }
+pub same_still : {D : Type 0} (of : Ghosts D) (drives now : D) → now ≡ drives → SameDrives of drives now
+same_still of drives now same = record { images = ap of.disks same; told_are = ap of.told same; failed = ap of.failed_names same }
 
 some_label : (d : Directory) → Some (labelled d) ≡ None → ⊥
 some_label d e = absurd (cc)

@@ -48,7 +48,7 @@ use Rattle.mpm_system.proofs.PlacedLaws.{home_bare}
 use Rattle.mpm_system.proofs.OpeningLaws.{interpreting_begun, command_here, boots}
 use Rattle.mpm_system.proofs.ResidingLaws.{terminals_begun, spool_begun, spooler_begun, spooler_has, schedule_begun, scheduler_has, all_begun}
 use Rattle.mpm_machine.specs.Interpreting.{sets_or_chains, Interprets}
-use Rattle.mpm_machine.specs.Slots.{HasInterpreter, HasResident, HasTerminal, HasResidents}
+use Rattle.mpm_machine.specs.Slots.{settings_of, first_settings, HasInterpreter, HasResident, HasTerminal, HasResidents}
 
 -- the lowest free slot, where all below it have a process
 if_in : (b : Bool) (p : ℕ) → b ≡ true → (if b then Some p else None) ≡ Some p
@@ -103,9 +103,11 @@ due_there : (table : Table) (p : ℕ) (new : NewProcess) → HasSlots table → 
 unfolding opening_process
 due_there table p new slots within = ap (λ (x : Process). x.abort_due) (process_added table p new (omega (arith, within, slots.processes)))
 
-printer_there : (table : Table) (p : ℕ) (new : NewProcess) → HasSlots table → p < 32 → (process_in (added table p new) p).printer ≡ 0
+set_there : (table : Table) (p : ℕ) (new : NewProcess) → HasSlots table → p < 32 → new.drive ≡ 0 → new.user ≡ 0 → settings_of (process_in (added table p new) p) ≡ first_settings
 unfolding opening_process
-printer_there table p new slots within = ap (λ (x : Process). x.printer) (process_added table p new (omega (arith, within, slots.processes)))
+set_there table p new slots within drive user =
+    ap settings_of (process_added table p new (omega (arith, within, slots.processes)))
+    ∙ ap (λ (d : ℕ). record { printer = 0; drive = d; user = new.user; multi = 1 }) drive ∙ ap (λ (u : ℕ). record { printer = 0; drive = 0; user = u; multi = 1 }) user
 
 call_there : (table : Table) (p : ℕ) (new : NewProcess) (process : Process) → HasSlots table → p < 32 → call_of (begun_in table p new process) p ≡ no_call
 unfolding added
@@ -130,14 +132,14 @@ module _ (system : System) (w : IsWhole system) (p : ℕ) (few : p < 32) (free :
         resides = ap (λ (x : Process). x.seg) (same_as_before table p q new process apart) ∙ has.resides;
         answers = ap (λ (x : Process). x.error_mode) (same_as_before table p q new process apart) ∙ has.answers;
         goes_on = ap (λ (x : Process). x.abort_due) (same_as_before table p q new process apart) ∙ has.goes_on;
-        printer = ap (λ (x : Process). x.printer) (same_as_before table p q new process apart) ∙ has.printer;
+        set = ap settings_of (same_as_before table p q new process apart) ∙ has.set;
         calls = ap (λ (c : Taken). c.function) (call_as_before table p q new process apart) ∙ has.calls;
         resident = front system.residents (native ∷ []) q other has.resident;
       }
 
-  resident_there : (named : Name8) → new.name ≡ named → new.seg ≡ None → length system.residents ≡ p → HasResident p named native with_it
+  resident_there : (named : Name8) → new.name ≡ named → new.seg ≡ None → new.drive ≡ 0 → new.user ≡ 0 → length system.residents ≡ p → HasResident p named native with_it
   unfolding with_resident with_begun
-  resident_there named is home many =
+  resident_there named is home drive user many =
       let table = system.kernel.dispatcher.procs in
       let slots = w.sound.slots in
       let process = record (process_in (added table p new) p) { error_mode = 255 } in
@@ -147,7 +149,7 @@ module _ (system : System) (w : IsWhole system) (p : ℕ) (few : p < 32) (free :
         resides = ap (λ (x : Process). x.seg) (same_there table p new process slots few) ∙ seg_there table p new slots few ∙ home;
         answers = ap (λ (x : Process). x.error_mode) (same_there table p new process slots few);
         goes_on = ap (λ (x : Process). x.abort_due) (same_there table p new process slots few) ∙ due_there table p new slots few;
-        printer = ap (λ (x : Process). x.printer) (same_there table p new process slots few) ∙ printer_there table p new slots few;
+        set = ap settings_of (same_there table p new process slots few) ∙ set_there table p new slots few drive user;
         calls = ap (λ (c : Taken). c.function) (call_there table p new process slots few);
         resident = ap (slice_get (system.residents ++ native ∷ [])) (sym many) ∙ last system.residents native;
       }
@@ -226,6 +228,14 @@ terminal_home : (console : ℕ) → (terminal_process console).seg ≡ None
 unfolding resident_process
 terminal_home console = refl
 
+terminal_drive : (console : ℕ) → (terminal_process console).drive ≡ 0
+unfolding resident_process
+terminal_drive console = refl
+
+terminal_user : (console : ℕ) → (terminal_process console).user ≡ 0
+unfolding resident_process
+terminal_user console = refl
+
 lodges_terminal : (consoles n : ℕ) (system : System) → IsWhole system → n < 8 → lowest_free system.kernel.dispatcher.procs ≡ Some (n + 1) → Lodges consoles n (n + 1) system
     → Lodges consoles (n + 1) (n + 1 + 1) (with_terminal (Some (n + 1)) n system)
 lodges_terminal consoles n system w few free has =
@@ -237,7 +247,7 @@ lodges_terminal consoles n system w few free has =
         | inr past ↦
             let same : k ≡ n = omega (arith, less, past) in
             subst (λ (j : ℕ). HasTerminal j (with_terminal (Some (n + 1)) n system)) (sym same)
-            (resident_there system w (n + 1) (omega (arith, few)) free (terminal_process n) (Tmp (opening n)) (terminal_name n) (terminal_called n) (terminal_home n) has.residents)
+            (resident_there system w (n + 1) (omega (arith, few)) free (terminal_process n) (Tmp (opening n)) (terminal_name n) (terminal_called n) (terminal_home n) (terminal_drive n) (terminal_user n) has.residents)
       ];
       some = next.some;
       above = omega arith;
@@ -278,7 +288,7 @@ lodges_kernel consoles n count system kernel same has =
         calls = has.interpreter.calls;
         resident = has.interpreter.resident;
       };
-      terminals = λ k less. let there = has.terminals k less in record { lives = there.lives; name = there.name; resides = there.resides; answers = there.answers; goes_on = there.goes_on; printer = there.printer; calls = there.calls; resident = there.resident };
+      terminals = λ k less. let there = has.terminals k less in record { lives = there.lives; name = there.name; resides = there.resides; answers = there.answers; goes_on = there.goes_on; set = there.set; calls = there.calls; resident = there.resident };
       some = has.some;
       above = has.above;
       taken = has.taken;
@@ -295,7 +305,7 @@ resident_kernel : (q : ℕ) (named : Name8) (other : Native) (system : System) (
     → HasResident q named other (record system { kernel = kernel })
 resident_kernel q named other system kernel same has =
     let P : Dispatcher → Type 0 = λ d. HasResident q named other (record system { kernel = record kernel { dispatcher = d } }) in
-    subst P (sym same) (record { lives = has.lives; name = has.name; resides = has.resides; answers = has.answers; goes_on = has.goes_on; printer = has.printer; calls = has.calls; resident = has.resident })
+    subst P (sym same) (record { lives = has.lives; name = has.name; resides = has.resides; answers = has.answers; goes_on = has.goes_on; set = has.set; calls = has.calls; resident = has.resident })
 
 record LodgesOne (consoles n count : ℕ) (named : Name8) (native : Native) (old system : System) : Type 0 where
   lodges : Lodges consoles n (count + 1) system
@@ -310,7 +320,7 @@ one_lodges consoles n count named priority native system w few has =
     let new = resident_process named priority 0 in
     subst (λ (o : Option ℕ). LodgesOne consoles n count named native system (with_resident o new native system)) (sym free) (record {
       lodges = lodges_next consoles n count system new native w few free has;
-      there = resident_there system w count few free new native named refl refl has.residents;
+      there = resident_there system w count few free new native named refl refl refl refl has.residents;
       stays = λ q who other apart there. resident_stays system w count few free new native q who other apart there;
     })
 
@@ -436,7 +446,7 @@ record Opens (file : MachineFile) (system : System) : Type 0 where
   pub memory : system.memory ≡ new_memory file.segments
 
 stays_picked : (q : ℕ) (named : Name8) (native : Native) (system : System) → HasResident q named native system → HasResident q named native (record system { kernel = dispatched (picked false) system.kernel })
-stays_picked q named native system has = record { lives = has.lives; name = has.name; resides = has.resides; answers = has.answers; goes_on = has.goes_on; printer = has.printer; calls = has.calls; resident = has.resident }
+stays_picked q named native system has = record { lives = has.lives; name = has.name; resides = has.resides; answers = has.answers; goes_on = has.goes_on; set = has.set; calls = has.calls; resident = has.resident }
 
 picked_too : (consoles : ℕ) (spool sched : Bool) (system : System) → LodgesAll consoles spool sched system → OnlyHas (resident_queues spool sched) system.kernel
     → HasResidents consoles spool sched (record system { kernel = dispatched (picked false) system.kernel })

@@ -127,6 +127,7 @@ spares_said q call string p system other says =
       printer = spoke.printer;
       resident = spoke.resident;
       place = spoke.place;
+      pays = spoke.pays;
       awaits = spoke.awaits;
       nothing = λ n is. nothing_printed (call.function == LIST_OUTPUT && nat_lt 0 (length system.kernel.units.printers)) n process.printer _ _
           (λ prints. other_printer q p n process.printer system other is (says.own prints)) ∙ spoke.nothing n is;
@@ -142,13 +143,13 @@ pub spares_answering : (q : ℕ) (reply : Answer) (call : Taken) (p seg : ℕ) (
 unfolding answering_call recorded replied
 spares_answering q reply call p seg system =
     let regs = spares_regs q p (answered reply.hl (process_in system.kernel.dispatcher.procs p).regs) system in
-    record { beside = regs.beside; printer = regs.printer; resident = regs.resident; place = regs.place; awaits = regs.awaits; nothing = regs.nothing }
+    record { beside = regs.beside; printer = regs.printer; resident = regs.resident; place = regs.place; pays = regs.pays; awaits = regs.awaits; nothing = regs.nothing }
 
 spares_entry : (q : ℕ) (reply : Answer) (call : Taken) (p : ℕ) (system : System) → Spares q system (silent (with_entry reply call p system))
 unfolding with_entry entered entering
 spares_entry q reply call p system =
     either (λ (kernel : Kernel). Spares q system (silent (record system { kernel = kernel }))) (is_entry call reply) _ system.kernel
-    (λ _. spares_changed q p (entering (call_of system.kernel.dispatcher.procs p) (process_in system.kernel.dispatcher.procs p)) system refl refl refl refl refl)
+    (λ _. spares_changed q p (entering (call_of system.kernel.dispatcher.procs p) (process_in system.kernel.dispatcher.procs p)) system refl refl refl refl)
     (λ _. spares_itself q system)
 
 pub spares_fulfilling : (q : ℕ) (reply : Answer) (call : Taken) (p seg : ℕ) (system : System) → Spares q system (silent (fulfilling reply call p seg system))
@@ -228,6 +229,7 @@ spares_echoed q call p old system change a = record {
   printer = a.printer;
   resident = a.resident;
   place = a.place;
+  pays = a.pays;
   awaits = a.awaits;
   nothing = λ n is. bytes_both n change.emitted (spoken (process_in system.kernel.dispatcher.procs p).console (echo_of call system.kernel))
       ∙ ap (λ (xs : List ℕ). xs ++ bytes_to n (spoken (process_in system.kernel.dispatcher.procs p).console (echo_of call system.kernel))) (a.nothing n is)
@@ -241,11 +243,12 @@ spares_after q old middle change a b = record {
   printer = (spares_on q old (silent middle) change.system a (silenced b)).printer;
   resident = b.resident ∙ a.resident;
   place = b.place ∙ a.place;
+  pays = λ pays. b.pays (a.pays pays);
   awaits = λ k x. b.awaits k (a.awaits k x);
   nothing = λ n is. b.nothing n (a.printer.owner n is);
 } where
   silenced : Spares q middle change → Spares q middle (silent change.system)
-  silenced c = record { beside = c.beside; printer = c.printer; resident = c.resident; place = c.place; awaits = c.awaits; nothing = λ n is. nothing_said n }
+  silenced c = record { beside = c.beside; printer = c.printer; resident = c.resident; place = c.place; pays = c.pays; awaits = c.awaits; nothing = λ n is. nothing_said n }
 
 spares_gate_step : (q p seg : ℕ) (system : System) → IsWhole system → Lives system.kernel.dispatcher.procs p → IsReady system.kernel.dispatcher p → q ≢ p
     → Lives system.kernel.dispatcher.procs q → (process_in system.kernel.dispatcher.procs q).seg ≡ None → Spares q system (gate_step p seg system)
@@ -269,18 +272,18 @@ unfolding returning returned_from_procedure leaving
 spares_returning q p system w h other =
     let back = given_back p system.kernel in
     spares_then q system (record system { kernel = back }) _
-    (spares_kernel q system back (beside_given_back p q system.kernel w.sound h other) (prints_given_back q p system.kernel)
+    (spares_kernel q system back (beside_given_back p q system.kernel w.sound h other) (prints_given_back q p system.kernel other)
     (disk_place q system.kernel back (disk_given_back p system.kernel)) (λ k x. awaits_given_back k q p system.kernel w.sound h x))
     (spares_regs_also q p back system)
   where
     spares_regs_also : (q p : ℕ) (kernel : Kernel) (system : System) → Spares q (record system { kernel = kernel }) (silent (record system { kernel = with_changed kernel p (leaving (process_in kernel.dispatcher.procs p)) }))
-    spares_regs_also q p kernel system = spares_changed q p (leaving (process_in kernel.dispatcher.procs p)) (record system { kernel = kernel }) refl refl refl refl refl
+    spares_regs_also q p kernel system = spares_changed q p (leaving (process_in kernel.dispatcher.procs p)) (record system { kernel = kernel }) refl refl refl refl
 
 spares_instructed : (q : ℕ) (outcome : Option StepOutcome) (p seg : ℕ) (system : System) → Spares q system (silent (instructed outcome p seg system))
 unfolding instructed
 spares_instructed q outcome p seg system =
     let regs = spares_regs q p (registers_after outcome (process_in system.kernel.dispatcher.procs p).regs) system in
-    record { beside = regs.beside; printer = record { number = regs.printer.number; owner = λ n is. is }; resident = refl; place = refl; awaits = λ k x. x; nothing = regs.nothing }
+    record { beside = regs.beside; printer = record { set = regs.printer.set; block = regs.printer.block; owner = λ n is. is }; resident = refl; place = refl; pays = λ x. x; awaits = λ k x. x; nothing = regs.nothing }
 
 spares_illegal : (q p : ℕ) (system : System) → IsWhole system → Lives system.kernel.dispatcher.procs p → q ≢ p → Spares q system (illegal p system)
 unfolding illegal

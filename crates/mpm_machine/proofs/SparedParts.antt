@@ -1,6 +1,6 @@
 -- What a part of a step leaves of a resident's slot, where another process makes it: its process, the calls that it awaits, its printers,
 -- and what came to these.
-use Rattle.std.proofs.Common.{ℕ, ◌≡◌, ◌≢◌, ◌∙◌, ◌==◌, ◌&&◌, not, Bool, true, false, List, [], ◌∷◌, ◌++◌, length, Option, Some, None, refl, sym, ap, subst, arith}
+use Rattle.std.proofs.Common.{ℕ, ◌≡◌, ◌≢◌, ◌∙◌, ◌==◌, ◌&&◌, not, Bool, true, false, List, [], ◌∷◌, ◌++◌, length, Option, Some, None, refl, sym, ap, subst, arith, get_or-set_other}
 use Rattle.std.specs.Prelude.{nat_lt, is_none, if◌then◌else◌}
 use Rattle.std.proofs.lemmas.Bool.{false≢true, and_parts}
 use Rattle.std.proofs.lemmas.Bool.Decides.{nat_tests}
@@ -57,8 +57,10 @@ use Rattle.mpm_machine.proofs.PrinterCalls.{KeepsPrinter, prints_same, prints_bo
 use Rattle.mpm_machine.proofs.PrinterEnds.{prints_discharged, prints_gave, prints_created}
 use Rattle.mpm_machine.proofs.WholeLaws.{aborted_by, aborted_is, ends_at_once}
 use Rattle.mpm_machine.specs.Ending.{ended}
+use Rattle.mpm_machine.specs.Files.{owes}
 use Rattle.mpm_machine.specs.Printed.{is_printer, bytes_to}
 use Rattle.mpm_machine.specs.Serving.{aborted, aborting, aborting_this, creating, served, served_to_all}
+use Rattle.mpm_machine.specs.Slots.{Settings, settings_of}
 
 -- what comes to a printer
 
@@ -94,6 +96,7 @@ pub record Spares (q : ℕ) (old : System) (change : SystemChange) : Type 0 wher
   pub printer : KeepsPrinter q old.kernel change.system.kernel
   pub resident : native_in change.system.residents q ≡ native_in old.residents q
   pub place : at_disk change.system.kernel.disk q ≡ at_disk old.kernel.disk q
+  pub pays : owes old.owed q ≡ false → owes change.system.owed q ≡ false
   pub awaits : (k : ℕ) → AwaitsIn k q old.kernel → AwaitsIn k q change.system.kernel
   pub nothing : (n : ℕ) → owner_of old.kernel.units (Printer n) ≡ Some q → bytes_to n change.emitted ≡ []
 
@@ -107,6 +110,7 @@ spares_both q old first last a b = record {
   printer = prints_both q old.kernel first.system.kernel last.system.kernel a.printer b.printer;
   resident = b.resident ∙ a.resident;
   place = b.place ∙ a.place;
+  pays = λ pays. b.pays (a.pays pays);
   awaits = λ k x. b.awaits k (a.awaits k x);
   nothing = λ n is. bytes_both n last.emitted first.emitted ∙ ap (λ (xs : List ℕ). xs ++ bytes_to n first.emitted) (b.nothing n (a.printer.owner n is)) ∙ a.nothing n is;
 }
@@ -122,6 +126,7 @@ spares_on q old first new a b = record {
   printer = prints_both q old.kernel first.system.kernel new.kernel a.printer b.printer;
   resident = b.resident ∙ a.resident;
   place = b.place ∙ a.place;
+  pays = λ pays. b.pays (a.pays pays);
   awaits = λ k x. b.awaits k (a.awaits k x);
   nothing = a.nothing;
 }
@@ -132,12 +137,14 @@ still_awaited q old new lists completed k a =
     subst (λ (c : List ℕ). Awaits k q new.dispatcher.lists c) (sym completed) (subst (λ (l : List (List Member)). Awaits k q l old.dispatcher.completed) (sym lists) a)
 
 pub spares_with : (q : ℕ) (old new : System) → new.residents ≡ old.residents → StaysBeside q old.kernel.dispatcher.procs new.kernel.dispatcher.procs → KeepsPrinter q old.kernel new.kernel
-    → at_disk new.kernel.disk q ≡ at_disk old.kernel.disk q → ((k : ℕ) → AwaitsIn k q old.kernel → AwaitsIn k q new.kernel) → Spares q old (silent new)
-spares_with q old new residents beside printer place awaits = record {
+    → at_disk new.kernel.disk q ≡ at_disk old.kernel.disk q → (owes old.owed q ≡ false → owes new.owed q ≡ false)
+    → ((k : ℕ) → AwaitsIn k q old.kernel → AwaitsIn k q new.kernel) → Spares q old (silent new)
+spares_with q old new residents beside printer place pays awaits = record {
   beside = beside;
   printer = printer;
   resident = ap (λ (r : List Native). native_in r q) residents;
   place = place;
+  pays = pays;
   awaits = awaits;
   nothing = λ n is. nothing_said n;
 }
@@ -148,31 +155,31 @@ disk_place q old new same = ap (λ (disk : DiskService). at_disk disk q) same
 -- processes, the lists, the completions and the disk are as they are
 pub spares_same : (q : ℕ) (old new : System) → new.residents ≡ old.residents → new.kernel.dispatcher.procs ≡ old.kernel.dispatcher.procs
     → new.kernel.units.printers ≡ old.kernel.units.printers → new.kernel.disk ≡ old.kernel.disk
-    → new.kernel.dispatcher.lists ≡ old.kernel.dispatcher.lists → new.kernel.dispatcher.completed ≡ old.kernel.dispatcher.completed → Spares q old (silent new)
-spares_same q old new residents procs printers disk lists completed =
+    → new.kernel.dispatcher.lists ≡ old.kernel.dispatcher.lists → new.kernel.dispatcher.completed ≡ old.kernel.dispatcher.completed
+    → (owes old.owed q ≡ false → owes new.owed q ≡ false) → Spares q old (silent new)
+spares_same q old new residents procs printers disk lists completed pays =
     spares_with q old new residents (beside_same q old.kernel.dispatcher.procs new.kernel.dispatcher.procs procs) (prints_same q old.kernel new.kernel procs printers)
-    (disk_place q old.kernel new.kernel disk) (still_awaited q old.kernel new.kernel lists completed)
+    (disk_place q old.kernel new.kernel disk) pays (still_awaited q old.kernel new.kernel lists completed)
 
 pub spares_itself : (q : ℕ) (system : System) → Spares q system (silent system)
-spares_itself q system = spares_same q system system refl refl refl refl refl refl
+spares_itself q system = spares_same q system system refl refl refl refl refl refl (λ x. x)
 
 -- another kernel
 pub spares_kernel : (q : ℕ) (system : System) (kernel : Kernel) → StaysBeside q system.kernel.dispatcher.procs kernel.dispatcher.procs → KeepsPrinter q system.kernel kernel
     → at_disk kernel.disk q ≡ at_disk system.kernel.disk q → ((k : ℕ) → AwaitsIn k q system.kernel → AwaitsIn k q kernel) → Spares q system (silent (record system { kernel = kernel }))
-spares_kernel q system kernel beside printer place awaits = spares_with q system (record system { kernel = kernel }) refl beside printer place awaits
+spares_kernel q system kernel beside printer place awaits = spares_with q system (record system { kernel = kernel }) refl beside printer place (λ x. x) awaits
 
 -- parts of what a process does
 
 pub spares_changed : (q p : ℕ) (process : Process) (system : System) → process.seg ≡ (process_in system.kernel.dispatcher.procs p).seg → process.abort_due ≡ (process_in system.kernel.dispatcher.procs p).abort_due
-    → process.error_mode ≡ (process_in system.kernel.dispatcher.procs p).error_mode → process.multi ≡ (process_in system.kernel.dispatcher.procs p).multi
-    → process.printer ≡ (process_in system.kernel.dispatcher.procs p).printer → Spares q system (silent (record system { kernel = with_changed system.kernel p process }))
-spares_changed q p process system seg due mode multi printer =
-    spares_kernel q system (with_changed system.kernel p process) (beside_changed system.kernel.dispatcher.procs p q process seg due (λ _. mode) (λ _. multi))
-    (prints_changed q p system.kernel process printer) refl (λ k x. x)
+    → process.error_mode ≡ (process_in system.kernel.dispatcher.procs p).error_mode → settings_of process ≡ settings_of (process_in system.kernel.dispatcher.procs p) → Spares q system (silent (record system { kernel = with_changed system.kernel p process }))
+spares_changed q p process system seg due mode set =
+    spares_kernel q system (with_changed system.kernel p process) (beside_changed system.kernel.dispatcher.procs p q process seg due (λ _. mode) (λ _. ap (λ (x : Settings). x.multi) set))
+    (prints_changed q p system.kernel process set) refl (λ k x. x)
 
 pub spares_regs : (q p : ℕ) (regs : Regs) (system : System)
     → Spares q system (silent (record system { kernel = with_changed system.kernel p (record (process_in system.kernel.dispatcher.procs p) { regs = regs }) }))
-spares_regs q p regs system = spares_changed q p (record (process_in system.kernel.dispatcher.procs p) { regs = regs }) system refl refl refl refl refl
+spares_regs q p regs system = spares_changed q p (record (process_in system.kernel.dispatcher.procs p) { regs = regs }) system refl refl refl refl
 
 pub spares_spoke : (q console : ℕ) (bytes : List ℕ) (system : System) → Spares q system (speaking console bytes system)
 unfolding speaking spoke Rattle.mpm_consoles.specs.Handling.spoke
@@ -181,6 +188,7 @@ spares_spoke q console bytes system = record {
   printer = prints_same q system.kernel (speaking console bytes system).system.kernel refl refl;
   resident = refl;
   place = refl;
+  pays = λ x. x;
   awaits = λ k x. x;
   nothing = λ n is. nothing_spoken n console bytes;
 }
@@ -190,20 +198,20 @@ unfolding ended
 spares_ended q p system w h other =
     spares_with q system (ended p system) refl (beside_discharged system.kernel p q w.sound h other) (prints_discharged q system.kernel p other)
     (ap (λ (disk : DiskService). at_disk disk q) (disk_discharged system.kernel p) ∙ at_without_other system.kernel.disk p q other)
-    (λ k x. awaits_discharged k q system.kernel p w.sound h other x)
+    (λ pays. get_or-set_other system.owed p q true false other ∙ pays) (λ k x. awaits_discharged k q system.kernel p w.sound h other x)
 
 pub spares_asking : (q p : ℕ) (call : Taken) (system : System) → q ≢ p → Spares q system (silent (asking p call system))
 spares_asking q p call system other =
-    spares_kernel q system (asking p call system).kernel (beside_others_call system.kernel.dispatcher.procs p q call other) (prints_keeping q p system.kernel call) refl (λ k x. x)
+    spares_kernel q system (asking p call system).kernel (beside_others_call system.kernel.dispatcher.procs p q call other) (prints_keeping q p system.kernel call other) refl (λ k x. x)
 
 -- a process is aborted by another, or by a key
 
 spares_aborted_by : (q : ℕ) (stays waits : Bool) (p : ℕ) (system : System) → IsWhole system → Lives system.kernel.dispatcher.procs p → (stays ≡ false → q ≢ p)
     → Spares q system (silent (aborted_by stays waits p system))
-spares_aborted_by q true waits p system w h other = spares_same q system _ refl refl refl refl refl refl
+spares_aborted_by q true waits p system w h other = spares_same q system _ refl refl refl refl refl refl (λ x. x)
 spares_aborted_by q false true p system w h other =
     spares_with q system _ refl (beside_other system.kernel.dispatcher.procs p q (record (process_in system.kernel.dispatcher.procs p) { abort_due = true }) (other refl))
-    (prints_changed q p system.kernel (record (process_in system.kernel.dispatcher.procs p) { abort_due = true }) refl) refl (λ k x. x)
+    (prints_changed q p system.kernel (record (process_in system.kernel.dispatcher.procs p) { abort_due = true }) refl) refl (λ x. x) (λ k x. x)
 spares_aborted_by q false false p system w h other = subst (λ (s : System). Spares q system (silent s)) (sym (ends_at_once p system)) (spares_ended q p system w h (other refl))
 
 pub resident_apart : (q p : ℕ) (system : System) → (process_in system.kernel.dispatcher.procs q).seg ≡ None → is_resident system.kernel.dispatcher.procs p ≡ false → q ≢ p
@@ -320,9 +328,9 @@ unfolding served_to_all reserving releasing
 spares_to_all q call p system w h ready other =
     let f = call.function in
     let P : Served → Type 0 = SparesServed q system in
-    either P (f == ABSOLUTE_MEMORY_REQUEST) _ _ (λ _. spares_same q system _ refl refl refl refl refl refl)
-    (λ _. either P (f == RELOCATABLE_MEMORY_REQUEST) _ _ (λ _. spares_same q system _ refl refl refl refl refl refl)
-    (λ _. either P (f == MEMORY_FREE) _ _ (λ _. spares_same q system _ refl refl refl refl refl refl)
+    either P (f == ABSOLUTE_MEMORY_REQUEST) _ _ (λ _. spares_same q system _ refl refl refl refl refl refl (λ x. x))
+    (λ _. either P (f == RELOCATABLE_MEMORY_REQUEST) _ _ (λ _. spares_same q system _ refl refl refl refl refl refl (λ x. x))
+    (λ _. either P (f == MEMORY_FREE) _ _ (λ _. spares_same q system _ refl refl refl refl refl refl (λ x. x))
     (λ _. either P (f == SEND_CLI_COMMAND) _ _ (λ _. spares_sending q (has_interpreter system) p system w h ready other)
     (λ _. spares_calling q p system w h ready other))))
 

@@ -1,5 +1,5 @@
 -- What another resident does leaves a resident's slot: its calls, and what the interpreter hands over.
-use Rattle.std.proofs.Common.{ℕ, [], ◌≡◌, ◌≢◌, ◌∙◌, ◌<◌, true, false, List, ◌∷◌, zero, suc, length, Option, Some, None, refl, sym, ap, arith}
+use Rattle.std.proofs.Common.{ℕ, [], ◌≡◌, ◌≢◌, ◌∙◌, ◌<◌, true, List, ◌∷◌, zero, suc, length, Option, Some, None, refl, sym, ap, arith}
 use Rattle.std.specs.Prelude.{slice_get, slice_set}
 use Rattle.std.proofs.lemmas.Bool.{false≢true, and_parts}
 use Rattle.std.proofs.lemmas.Bool.Decides.{nat_tests}
@@ -62,6 +62,7 @@ spares_taking q reply p system other =
       printer = itself.printer;
       resident = taken_other (native_in system.residents p) reply p q system.residents other;
       place = refl;
+      pays = λ x. x;
       awaits = λ k x. x;
       nothing = itself.nothing;
     }
@@ -131,7 +132,7 @@ prints_begun q (Some r) p new kernel free h =
     let procs = kernel.dispatcher.procs in
     let apart : q ≢ r = λ is. false≢true (sym (free_is_dead procs r free) ∙ ap (lives procs) (sym is) ∙ h) in
     let begun = with_dispatcher (admitted r new) kernel in
-    prints_both q kernel begun _ (prints_in_slot q (Some r) new kernel (process_added_other procs r q new apart)) (prints_gave q new.console (Some p) (Some r) begun)
+    prints_both q kernel begun _ (prints_in_slot q (Some r) new kernel (process_added_other procs r q new apart) (call_added_other procs r q new apart)) (prints_gave q new.console (Some p) (Some r) begun)
 
 awaits_begun : (q : ℕ) (slot : Option ℕ) (k p : ℕ) (new : NewProcess) (system : System) → IsWhole system → new.console < length system.kernel.units.consoles
     → lowest_free system.kernel.dispatcher.procs ≡ slot → AwaitsIn k q system.kernel → AwaitsIn k q (begun_for p new slot system.kernel)
@@ -151,14 +152,14 @@ spares_beginning q seg new p system w h =
     let parts = and_parts (is_console new.console system.kernel) _ (and_parts (may_live system.memory seg) _ may).1 in
     let there : is_console new.console system.kernel ≡ true = parts.0 in
     spares_with q system _ refl (beside_begun q slot p here system.kernel refl h) (prints_begun q slot p here system.kernel refl h)
-    (disk_place q system.kernel (begun_for p here slot system.kernel) (begun_for_disk p here slot system.kernel))
+    (disk_place q system.kernel (begun_for p here slot system.kernel) (begun_for_disk p here slot system.kernel)) (λ x. x)
     (λ k x. awaits_begun q slot k p here system w (grind (arith, nat_tests, there)) refl x))
     (λ _. spares_itself q system)
 
 spares_handed : (q : ℕ) (act : Act) (bytes : List ℕ) (p : ℕ) (system : System) → IsWhole system → Lives system.kernel.dispatcher.procs q → Spares q system (silent (handed_over act bytes p system))
 spares_handed q Ask bytes p system w h = spares_itself q system
-spares_handed q (Place seg address count) bytes p system w h = spares_same q system _ refl refl refl refl refl refl
-spares_handed q (Patch seg address count page) bytes p system w h = spares_same q system _ refl refl refl refl refl refl
+spares_handed q (Place seg address count) bytes p system w h = spares_same q system _ refl refl refl refl refl refl (λ x. x)
+spares_handed q (Patch seg address count page) bytes p system w h = spares_same q system _ refl refl refl refl refl refl (λ x. x)
 spares_handed q (Begin seg new) bytes p system w h = spares_beginning q seg new p system w h
 spares_handed q (Give console) bytes p system w h = spares_given q console p system w
 

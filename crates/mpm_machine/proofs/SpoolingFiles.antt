@@ -1,19 +1,22 @@
 -- The spooler goes on through file calls: another's, and its own, which is done at once, or waits for the disk, is served, and is over in a
 -- later step.
-use Rattle.std.proofs.Common.{ℕ, [], ◌≡◌, ◌≢◌, ◌∙◌, ◌==◌, ◌&&◌, not, Bool, true, false, List, if◌then◌else◌, Option, Some, None, option_map, inl, inr, refl, sym, ap, subst, arith}
+use Rattle.std.proofs.Common.{ℕ, [], ◌≡◌, ◌≢◌, ◌∙◌, ◌==◌, ◌&&◌, not, Bool, true, false, List, ◌∷◌, if◌then◌else◌, Option, Some, None, option_map, inl, inr, refl, sym, ap, subst, arith}
 use Rattle.std.proofs.lemmas.Bool.{false≢true, cases_eq}
 use Rattle.mpm_base.proofs.Choices.{either}
 use Rattle.mpm_base.specs.Calls.{Taken, Answer}
-use Rattle.mpm_directories.specs.Direct.{Directly, CallerChange, Resets, Selects, Stays}
+use Rattle.mpm_directories.specs.Direct.{Directly, CallerChange, Resets, Selects}
+use Rattle.mpm_directories.specs.Direct.{Stays as Unchanged}
 use Rattle.mpm_dispatcher.specs.Dispatch.{IsReady}
 use Rattle.mpm_file_functions.specs.declared.refusals.Extended.{Extended}
 use Rattle.mpm_kernel.proofs.AwaitingLaws.{awaits_removed}
+use Rattle.mpm_kernel.proofs.Beside.{beside_other}
 use Rattle.mpm_kernel.proofs.DiskLaws.{ready_not_at_disk}
 use Rattle.mpm_kernel.specs.Awaiting.{AwaitsIn}
 use Rattle.mpm_kernel.specs.Disk.{waiting_for_disk}
-use Rattle.mpm_kernel.specs.Kernel.{Kernel}
+use Rattle.mpm_kernel.specs.Kernel.{Kernel, with_changed}
 use Rattle.mpm_procs.proofs.MapLaws.{call_changed, lives_below}
 use Rattle.mpm_procs.specs.Table.{Lives, process_in, call_of}
+use Rattle.mpm_procs.specs.declared.process.Process.{Process}
 use Rattle.mpm_ready.proofs.TableLaws.{table_removed}
 use Rattle.mpm_render.specs.Outputs.{Output}
 use Rattle.mpm_residents.specs.Natives.{native_in, native_call}
@@ -33,11 +36,12 @@ use Rattle.mpm_system.specs.Taking.{asked, keeping}
 use Rattle.mpm_system.specs.Whole.{SystemChange, IsWhole, silent}
 use Rattle.mpm_system.specs.declared.system.System.{System}
 use Rattle.mpm_machine.proofs.DiskStepLaws.{entered_there}
+use Rattle.mpm_machine.proofs.PrinterCalls.{prints_other}
 use Rattle.mpm_machine.proofs.FileLaws.{whole_caller, whole_told, makes}
 use Rattle.mpm_machine.proofs.SparedActs.{spares_popped, spares_answering, spares_keeping, spares_after}
-use Rattle.mpm_machine.proofs.SparedParts.{Spares, spares_then, spares_on, spares_same, spares_itself, spares_changed, spares_spoke, spares_ended, spares_asking}
+use Rattle.mpm_machine.proofs.SparedParts.{Spares, spares_then, spares_on, spares_same, spares_itself, spares_kernel, spares_spoke, spares_ended, spares_asking}
 use Rattle.mpm_machine.proofs.SparedResidents.{spares_taking}
-use Rattle.mpm_machine.proofs.SpoolingLaws.{spooling_by, home_by, spooling_took}
+use Rattle.mpm_machine.proofs.SpoolingLaws.{Stays, Spools, spooling_by, so_then, spooling_took}
 use Rattle.mpm_machine.proofs.SpoolingRows.{Goes, Leads, HasPrinter, Asks, takes_at, leads_begun, leads_attach, leads_at, leads_detach, closed_leads, home_asked, mild_row}
 use Rattle.mpm_machine.proofs.SpoolingSteps.{goes_spared}
 use Rattle.mpm_machine.proofs.WholeStepLaws.{whole_counted}
@@ -45,17 +49,21 @@ use Rattle.mpm_machine.specs.DiskStep.{file_called, is_done_at_once}
 use Rattle.mpm_machine.specs.Ending.{ended}
 use Rattle.mpm_machine.specs.FileCalls.{answered_by, concluded, error_met, told_then, is_of_files, called_next, is_file_number, calls_files}
 use Rattle.mpm_machine.specs.Printed.{has_printer, printed_by, printed_in}
-use Rattle.mpm_machine.specs.Spooling.{IsAtHome, IsFiled, IsSpooling, may_wait, spooler_awaits, opens_or_attaches}
+use Rattle.mpm_machine.specs.Spooling.{IsAtHome, IsFiled, may_wait, spooler_awaits, opens_or_attaches}
 
 -- another's call
 
-spares_caller : (q : ℕ) (change : CallerChange) (p : ℕ) (system : System) → Spares q system (silent (with_caller change p system))
+spares_other : (q p : ℕ) (process : Process) (system : System) → q ≢ p → Spares q system (silent (record system { kernel = with_changed system.kernel p process }))
+spares_other q p process system other =
+    spares_kernel q system (with_changed system.kernel p process) (beside_other system.kernel.dispatcher.procs p q process other) (prints_other q p system.kernel process other) refl (λ k x. x)
+
+spares_caller : (q : ℕ) (change : CallerChange) (p : ℕ) (system : System) → q ≢ p → Spares q system (silent (with_caller change p system))
 unfolding with_caller
-spares_caller q Stays p system = spares_itself q system
-spares_caller q (Selects drive) p system = spares_changed q p (record (process_in system.kernel.dispatcher.procs p) { drive = drive }) system refl refl refl refl refl
-spares_caller q Resets p system =
+spares_caller q Unchanged p system other = spares_itself q system
+spares_caller q (Selects drive) p system other = spares_other q p (record (process_in system.kernel.dispatcher.procs p) { drive = drive }) system other
+spares_caller q Resets p system other =
     let process = process_in system.kernel.dispatcher.procs p in
-    spares_changed q p (record process { drive = 0; dma = first_dma system.memory process.seg }) system refl refl refl refl refl
+    spares_other q p (record process { drive = 0; dma = first_dma system.memory process.seg }) system other
 
 spares_reply_by : (q : ℕ) (seg : Option ℕ) (reply : Answer) (p : ℕ) (system : System) → q ≢ p → Spares q system (silent (reply_by seg reply p system))
 spares_reply_by q (Some seg) reply p system other = spares_answering q reply (call_of system.kernel.dispatcher.procs p) p seg system
@@ -96,7 +104,7 @@ unfolding concluded
 spares_concluded q told p system w h other =
     let now = with_caller told.caller p system in
     let changed = whole_caller told.caller p system w h in
-    spares_after q system now _ (spares_caller q told.caller p system) (spares_answered_by q told.extended told.answer p now changed.whole changed.lives other)
+    spares_after q system now _ (spares_caller q told.caller p system other) (spares_answered_by q told.extended told.answer p now changed.whole changed.lives other)
 
 spares_waiting : (q p : ℕ) (system : System) → q ≢ p → Spares q system (silent (record system { kernel = waiting_for_disk p system.kernel }))
 unfolding waiting_for_disk
@@ -105,9 +113,10 @@ spares_waiting q p system other =
     let itself = spares_itself q system in
     record {
       beside = itself.beside;
-      printer = record { number = refl; owner = λ n is. is };
+      printer = record { set = refl; block = refl; owner = λ n is. is };
       resident = refl;
       place = at_entered_other system.kernel.disk p q (process_in procs p).priority other;
+      pays = λ x. x;
       awaits = λ k x. awaits_removed k q system.kernel.dispatcher.lists system.kernel.dispatcher.completed p other x;
       nothing = itself.nothing;
     }
@@ -130,10 +139,27 @@ spares_made_by q (Some seg) p system other =
 spares_made : (q p : ℕ) (system : System) → q ≢ p → Spares q system (silent (call_made p system))
 unfolding call_made
 spares_made q p system other =
-    spares_then q system (counted system) _ (spares_same q system (counted system) refl refl refl refl refl refl)
+    spares_then q system (counted system) _ (spares_same q system (counted system) refl refl refl refl refl refl (λ x. x))
     (spares_made_by q (process_in system.kernel.dispatcher.procs p).seg p (counted system) other)
 
 -- its own
+
+-- what is so of its answers, and what is then, where a process's call has come to something
+pub record Passes (Such New : List Answer → Type 0) (q p : ℕ) (told : Directly) (system : System) : Type 0 where
+  pub others : q ≢ p → (answers : List Answer) → Such answers → New answers
+  pub own : q ≡ p → (answers : List Answer) → IsAtHome q system → IsFiled q answers system → Such answers → (told.caller ≡ Unchanged) × New (told.answer ∷ answers)
+
+-- and where it was made: it is done at once, or waits for the disk
+pub record Called (Such New : List Answer → Type 0) (q p : ℕ) (told : Directly) (system : System) : Type 0 where
+  pub at_once : is_done_at_once p system ≡ true → Passes Such New q p told system
+  pub waits : is_done_at_once p system ≡ false → (answers : List Answer) → Such answers → New answers
+  pub stays : Stays New
+
+others_so : {Such New : List Answer → Type 0} (q p : ℕ) (told : Directly) (system : System) → Called Such New q p told system → q ≢ p → (answers : List Answer) → Such answers → New answers
+others_so {Such} {New} q p told system c other answers so = by_test (is_done_at_once p system) refl where
+  by_test : (b : Bool) → is_done_at_once p system ≡ b → New answers
+  by_test true once = (c.at_once once).others other answers so
+  by_test false waits = c.waits waits answers so
 
 -- it made a call on files, which its process keeps, and awaits nothing
 pub record MakesFiled (q : ℕ) (answers : List Answer) (system : System) (outputs : List Output) : Type 0 where
@@ -172,39 +198,30 @@ filed_leads AskStop q s reply printed kernel outputs files kept has = absurd (cc
 filed_leads Print q s reply printed kernel outputs files kept has = absurd (cc)
 filed_leads Detach q s reply printed kernel outputs files kept has = absurd (cc)
 
-own_replied : (q : ℕ) (answers : List Answer) (reply : Answer) (system : System) (outputs : List Output) → MakesFiled q answers system outputs
-    → IsSpooling q (file_replied reply q system) outputs
+own_replied : {Such : List Answer → Type 0} (q : ℕ) (answers : List Answer) (reply : Answer) (system : System) (outputs : List Output) → MakesFiled q answers system outputs
+    → Such (reply ∷ answers) → Stays Such → Spools Such q (file_replied reply q system) outputs
 unfolding file_replied next_call
-own_replied q answers reply system outputs f =
+own_replied {Such} q answers reply system outputs f so stays =
     let s = after answers in
-    subst (λ (seg : Option ℕ). IsSpooling q (reply_by seg reply q system) outputs) (sym f.home.resides)
+    subst (λ (seg : Option ℕ). Spools Such q (reply_by seg reply q system) outputs) (sym f.home.resides)
     (spooling_took q answers reply system outputs
-    (takes_at q answers reply s.row system outputs refl f.acts f.home f.none f.gone (filed_leads s.row q s reply (printed_in answers) system.kernel outputs f.filed.files f.filed.kept f.has)))
+    (takes_at q answers reply s.row system outputs refl f.acts f.home f.none f.gone so stays (filed_leads s.row q s reply (printed_in answers) system.kernel outputs f.filed.files f.filed.kept f.has)))
 
-own_answered_by : (error : Option Extended) (q : ℕ) (answers : List Answer) (reply : Answer) (system : System) (outputs : List Output) → MakesFiled q answers system outputs
-    → Goes q (answered_by error reply q system) outputs
+own_answered_by : {Such : List Answer → Type 0} (error : Option Extended) (q : ℕ) (answers : List Answer) (reply : Answer) (system : System) (outputs : List Output) → MakesFiled q answers system outputs
+    → Such (reply ∷ answers) → Stays Such → Goes Such q (answered_by error reply q system) outputs
 unfolding error_met
-own_answered_by None q answers reply system outputs f = own_replied q answers reply system outputs f
-own_answered_by (Some error) q answers reply system outputs f =
+own_answered_by {Such} None q answers reply system outputs f so stays = own_replied q answers reply system outputs f so stays
+own_answered_by {Such} (Some error) q answers reply system outputs f so stays =
     let mode : ((process_in system.kernel.dispatcher.procs q).error_mode == 255) ≡ true = ap (λ (m : ℕ). m == 255) f.home.answers in
-    subst (λ (b : Bool). Goes q (if b then silent (file_replied reply q system) else (told_then ((process_in system.kernel.dispatcher.procs q).error_mode == 254) error reply q system)) outputs)
-    (sym mode) (own_replied q answers reply system outputs f)
+    subst (λ (b : Bool). Goes Such q (if b then silent (file_replied reply q system) else (told_then ((process_in system.kernel.dispatcher.procs q).error_mode == 254) error reply q system)) outputs)
+    (sym mode) (own_replied q answers reply system outputs f so stays)
 
-files_spared : (q : ℕ) (answers : List Answer) (old new : System) (outputs : List Output) → Spares q old (silent new) → MakesFiled q answers old outputs → MakesFiled q answers new outputs
-files_spared q answers old new outputs s f = record {
-  acts = s.resident ∙ f.acts;
-  home = home_by q old (silent new) s f.home;
-  filed = record { files = f.filed.files; kept = s.beside.function ∙ f.filed.kept };
-  none = s.awaits 0 f.none;
-  gone = s.place ∙ f.gone;
-  has = λ has. (s.printer.owner 0 (f.has has).0, (f.has has).1);
-}
-
-pub own_concluded : (q : ℕ) (answers : List Answer) (told : Directly) (system : System) (outputs : List Output) → MakesFiled q answers system outputs → Goes q (concluded told q system) outputs
-unfolding concluded
-own_concluded q answers told system outputs f =
-    let now = with_caller told.caller q system in
-    own_answered_by told.extended q answers told.answer now outputs (files_spared q answers system now outputs (spares_caller q told.caller q system) f)
+pub own_concluded : {Such : List Answer → Type 0} (q : ℕ) (answers : List Answer) (told : Directly) (system : System) (outputs : List Output) → MakesFiled q answers system outputs
+    → told.caller ≡ Unchanged → Such (told.answer ∷ answers) → Stays Such → Goes Such q (concluded told q system) outputs
+unfolding concluded with_caller
+own_concluded {Such} q answers told system outputs f same so stays =
+    subst (λ (change : CallerChange). Goes Such q (answered_by told.extended told.answer q (with_caller change q system)) outputs) (sym same)
+    (own_answered_by told.extended q answers told.answer system outputs f so stays)
 
 -- it waits for the disk
 
@@ -227,19 +244,19 @@ files_places answers places files = ap (λ (b : Bool). if b then 1 else places) 
 never_attaches : (row : Row) (s : Spooler) → is_of_files (call_at row s).function ≡ true → row ≡ Attach → ⊥
 never_attaches row s files is = false≢true (sym (waits_not row s files) ∙ ap may_wait is)
 
-own_waits : (q : ℕ) (answers : List Answer) (system : System) (outputs : List Output) → MakesFiled q answers system outputs
-    → IsSpooling q (record system { kernel = waiting_for_disk q system.kernel }) outputs
+own_waits : {Such : List Answer → Type 0} (q : ℕ) (answers : List Answer) (system : System) (outputs : List Output) → MakesFiled q answers system outputs
+    → Such answers → Stays Such → Spools Such q (record system { kernel = waiting_for_disk q system.kernel }) outputs
 unfolding waiting_for_disk next_call
-own_waits q answers system outputs f =
+own_waits {Such} q answers system outputs f so stays =
     let procs = system.kernel.dispatcher.procs in
     let disk = entered system.kernel.disk q (process_in procs q).priority in
     let some = entered_there system.kernel.disk q (process_in procs q).priority in
     record {
       answers = answers;
       acts = f.acts;
-      home = record { lives = f.home.lives; resides = f.home.resides; answers = f.home.answers; goes_on = f.home.goes_on; calls = f.home.calls; number = f.home.number };
+      home = record { lives = f.home.lives; resides = f.home.resides; answers = f.home.answers; goes_on = f.home.goes_on; calls = f.home.calls; set = f.home.set; pays = f.home.pays };
       asks = λ is. absurd (never_attaches (after answers).row (after answers) f.filed.files is);
-      filed = λ _. record { files = f.filed.files; kept = f.filed.kept };
+      filed = λ _. record { files = f.filed.files; kept = f.filed.kept; block = f.filed.block };
       awaits = record {
         table = table_removed system.kernel.dispatcher.lists q f.none.table;
         few = omega (arith, f.none.few);
@@ -247,28 +264,33 @@ own_waits q answers system outputs f =
       };
       owns = λ has. (f.has has).0;
       printed = λ has. (f.has has).1;
+      so = so;
+      stays = stays;
     }
 
-own_file_called : (q : ℕ) (answers : List Answer) (told : Directly) (system : System) (outputs : List Output) → MakesFiled q answers system outputs → Goes q (file_called told q system) outputs
+own_file_called : {Such New : List Answer → Type 0} (q : ℕ) (answers : List Answer) (told : Directly) (system : System) (outputs : List Output) → MakesFiled q answers system outputs
+    → Called Such New q q told system → Such answers → Goes New q (file_called told q system) outputs
 unfolding file_called
-own_file_called q answers told system outputs f =
-    either (λ (c : SystemChange). Goes q c outputs) (is_done_at_once q system) _ _ (λ _. own_concluded q answers told system outputs f) (λ _. own_waits q answers system outputs f)
+own_file_called {Such} {New} q answers told system outputs f c so =
+    either (λ (change : SystemChange). Goes New q change outputs) (is_done_at_once q system) _ _
+    (λ once. let own = (c.at_once once).own refl answers f.home f.filed so in own_concluded q answers told system outputs f own.0 own.1 c.stays)
+    (λ waits. own_waits q answers system outputs f (c.waits waits answers so) c.stays)
 
 -- it makes the call
 
-called_files : (seg : Option ℕ) (q : ℕ) (system : System) (outputs : List Output) (i : IsSpooling q system outputs) → seg ≡ None → is_file_number (called_next seg q system) ≡ true
+called_files : {Such : List Answer → Type 0} (seg : Option ℕ) (q : ℕ) (system : System) (outputs : List Output) (i : Spools Such q system outputs) → seg ≡ None → is_file_number (called_next seg q system) ≡ true
     → is_of_files (next_call (after i.answers)).function ≡ true
-called_files (Some seg) q system outputs i home is = absurd (cc)
-called_files None q system outputs i home is = sym (ap (λ (o : Option Native). is_file_number (option_map (λ (native : Native). (native_call native).function) o)) i.acts) ∙ is
+called_files {Such} (Some seg) q system outputs i home is = absurd (cc)
+called_files {Such} None q system outputs i home is = sym (ap (λ (o : Option Native). is_file_number (option_map (λ (native : Native). (native_call native).function) o)) i.acts) ∙ is
 
-none_waits : (q : ℕ) (system : System) (outputs : List Output) (i : IsSpooling q system outputs) → is_of_files (next_call (after i.answers)).function ≡ true → at_disk system.kernel.disk q ≡ 0
+none_waits : {Such : List Answer → Type 0} (q : ℕ) (system : System) (outputs : List Output) (i : Spools Such q system outputs) → is_of_files (next_call (after i.answers)).function ≡ true → at_disk system.kernel.disk q ≡ 0
     → AwaitsIn 0 q system.kernel
-none_waits q system outputs i files gone = subst (λ (k : ℕ). AwaitsIn k q system.kernel) (files_places i.answers (at_disk system.kernel.disk q) files ∙ gone) i.awaits
+none_waits {Such} q system outputs i files gone = subst (λ (k : ℕ). AwaitsIn k q system.kernel) (files_places i.answers (at_disk system.kernel.disk q) files ∙ gone) i.awaits
 
-own_asked : (q : ℕ) (system : System) (outputs : List Output) → IsWhole system → IsReady system.kernel.dispatcher q → (i : IsSpooling q system outputs)
+own_asked : {Such : List Answer → Type 0} (q : ℕ) (system : System) (outputs : List Output) → IsWhole system → IsReady system.kernel.dispatcher q → (i : Spools Such q system outputs)
     → is_of_files (next_call (after i.answers)).function ≡ true → MakesFiled q i.answers (asking q (next_call (after i.answers)) system) outputs
 unfolding next_call
-own_asked q system outputs w ready i files =
+own_asked {Such} q system outputs w ready i files =
     let call = next_call (after i.answers) in
     let procs = system.kernel.dispatcher.procs in
     let below = lives_below procs q w.sound.slots i.home.lives in
@@ -276,32 +298,39 @@ own_asked q system outputs w ready i files =
     record {
       acts = i.acts;
       home = home_asked q call system w (mild_row (after i.answers).row (after i.answers)) i.home;
-      filed = record { files = files; kept = ap (λ (c : Taken). c.function) (call_changed procs q call (omega (arith, w.sound.slots.calls, below))) };
+      filed = record {
+        files = files;
+        kept = ap (λ (c : Taken). c.function) (call_changed procs q call (omega (arith, w.sound.slots.calls, below)));
+        block = ap (λ (c : Taken). c.fcb) (call_changed procs q call (omega (arith, w.sound.slots.calls, below)));
+      };
       none = none_waits q system outputs i files gone;
       gone = gone;
       has = λ has. (i.owns has, i.printed has);
     }
 
-own_made : (q : ℕ) (system : System) (outputs : List Output) → IsWhole system → IsReady system.kernel.dispatcher q → (i : IsSpooling q system outputs) → calls_files q system ≡ true
+own_made : {Such : List Answer → Type 0} (q : ℕ) (system : System) (outputs : List Output) → IsWhole system → IsReady system.kernel.dispatcher q → (i : Spools Such q system outputs) → calls_files q system ≡ true
     → MakesFiled q i.answers (call_made q system) outputs
 unfolding call_made calls_files spooling_by
-own_made q system outputs w ready i is =
+own_made {Such} q system outputs w ready i is =
     let now = counted system in
-    let b = spooling_by q system (silent now) outputs (spares_same q system now refl refl refl refl refl refl) i in
+    let b = spooling_by q system (silent now) outputs (spares_same q system now refl refl refl refl refl refl (λ x. x)) i in
     let files = called_files (process_in system.kernel.dispatcher.procs q).seg q system outputs i i.home.resides is in
     let own : MakesFiled q i.answers (asking q (next_call (after i.answers)) now) outputs = own_asked q now outputs (whole_counted system w) ready b files in
     subst (λ (seg : Option ℕ). MakesFiled q i.answers (made_by seg q now) outputs) (sym i.home.resides)
     (subst (λ (o : Option Native). MakesFiled q i.answers (asked_by o q now) outputs) (sym i.acts) own)
 
-pub goes_file_called : (q : ℕ) (told : Directly) (p : ℕ) (system : System) (outputs : List Output) → IsWhole system → Lives system.kernel.dispatcher.procs p → IsReady system.kernel.dispatcher p
-    → calls_files p system ≡ true → IsSpooling q system outputs → Goes q (file_called told p (call_made p system)) outputs
-goes_file_called q told p system outputs w h ready is i = elim (cases_eq q p) [
+pub goes_file_called : {Such New : List Answer → Type 0} (q : ℕ) (told : Directly) (p : ℕ) (system : System) (outputs : List Output) → IsWhole system → Lives system.kernel.dispatcher.procs p → IsReady system.kernel.dispatcher p
+    → calls_files p system ≡ true → Called Such New q p told (call_made p system) → Spools Such q system outputs → Goes New q (file_called told p (call_made p system)) outputs
+goes_file_called {Such} {New} q told p system outputs w h ready is c i = elim (cases_eq q p) [
   | inl same ↦
-      let P : ℕ → Type 0 = λ r. Goes q (file_called told r (call_made r system)) outputs in
+      let P : ℕ → Type 0 = λ r. Goes New q (file_called told r (call_made r system)) outputs in
+      let Q : ℕ → Type 0 = λ r. Called Such New q r told (call_made r system) in
       subst P same (own_file_called q i.answers told (call_made q system) outputs
-      (own_made q system outputs w (subst (λ (r : ℕ). IsReady system.kernel.dispatcher r) (sym same) ready) i (subst (λ (r : ℕ). calls_files r system ≡ true) (sym same) is)))
+      (own_made q system outputs w (subst (λ (r : ℕ). IsReady system.kernel.dispatcher r) (sym same) ready) i (subst (λ (r : ℕ). calls_files r system ≡ true) (sym same) is))
+      (subst Q (sym same) c) i.so)
   | inr other ↦
       let made = makes p system w h in
       goes_spared q system _ outputs
-      (spares_after q system (call_made p system) _ (spares_made q p system other) (spares_file_called q told p (call_made p system) made.whole made.lives other)) i
+      (spares_after q system (call_made p system) _ (spares_made q p system other) (spares_file_called q told p (call_made p system) made.whole made.lives other))
+      (so_then q system outputs i c.stays (others_so q p told (call_made p system) c other i.answers i.so))
 ]

@@ -1,5 +1,5 @@
 -- The spooler goes on: through what leaves its slot, and as it takes an answer.
-use Rattle.std.proofs.Common.{ℕ, [], ◌≡◌, ◌≢◌, ◌∙◌, true, false, List, ◌∷◌, ◌++◌, zero, suc, reverse, Option, Some, None, refl, sym, ap, subst, arith}
+use Rattle.std.proofs.Common.{ℕ, ◌<◌, [], ◌≡◌, ◌∙◌, true, false, List, ◌∷◌, ◌++◌, zero, suc, reverse, Option, Some, None, refl, sym, ap, subst, arith}
 use Rattle.std.specs.Prelude.{slice_get, slice_set}
 use Rattle.std.proofs.lemmas.Bool.{false≢true}
 use Rattle.mpm_base.specs.Calls.{Answer}
@@ -14,15 +14,61 @@ use Rattle.mpm_residents.specs.Natives.{native_in, native_took, answer_taken}
 use Rattle.mpm_residents.specs.declared.native.Native.{Native}
 use Rattle.mpm_residents.specs.declared.native.Native.TheVariants.{Spool}
 use Rattle.mpm_service.specs.Places.{at_disk}
-use Rattle.mpm_spool.specs.Spoolers.{Spooler, took, after}
+use Rattle.mpm_spool.specs.Spoolers.{Spooler, next_call, took, after}
 use Rattle.mpm_spool.specs.declared.table.Row.TheVariants.{Attach}
 use Rattle.mpm_system.specs.Residents.{taking}
 use Rattle.mpm_system.specs.Whole.{SystemChange}
 use Rattle.mpm_system.specs.declared.system.System.{System}
 use Rattle.mpm_machine.proofs.SparedParts.{Spares, bytes_both}
+use Rattle.mpm_machine.specs.FileCalls.{is_of_files}
 use Rattle.mpm_machine.specs.Interpreting.{sets_or_chains}
 use Rattle.mpm_machine.specs.Printed.{printed_in, has_printer, bytes_to}
 use Rattle.mpm_machine.specs.Spooling.{IsAtHome, IsFiled, IsSpooling, spooler_awaits, opens_or_attaches}
+
+-- what else is so of the answers that it took, which stays so as it takes an answer to a call that isn't on files
+
+abbrev pub Stays : (List Answer → Type 0) → Type 0
+Stays Such = (answers : List Answer) (reply : Answer) → is_of_files (next_call (after answers)).function ≡ false → Such answers → Such (reply ∷ answers)
+
+pub record Spools (Such : List Answer → Type 0) (q : ℕ) (system : System) (outputs : List Output) : Type 0 where
+  pub answers : List Answer
+  pub acts : native_in system.residents q ≡ Some (Spool (after answers))
+  pub home : IsAtHome q system
+  pub asks : (after answers).row ≡ Attach → opens_or_attaches (call_of system.kernel.dispatcher.procs q).function ≡ true
+  pub filed : 0 < at_disk system.kernel.disk q → IsFiled q answers system
+  pub awaits : AwaitsIn (spooler_awaits (at_disk system.kernel.disk q) (after answers).row) q system.kernel
+  pub owns : has_printer (after answers).row ≡ true → owner_of system.kernel.units (Printer 0) ≡ Some q
+  pub printed : has_printer (after answers).row ≡ true → Begins (reverse (printed_in answers)) (bytes_to 0 outputs)
+  pub so : Such answers
+  pub stays : Stays Such
+
+pub spools_as : {Such : List Answer → Type 0} (q : ℕ) (system : System) (outputs : List Output) (i : IsSpooling q system outputs) → Stays Such → Such i.answers → Spools Such q system outputs
+spools_as q system outputs i stays so = record {
+  answers = i.answers;
+  acts = i.acts;
+  home = i.home;
+  asks = i.asks;
+  filed = i.filed;
+  awaits = i.awaits;
+  owns = i.owns;
+  printed = i.printed;
+  so = so;
+  stays = stays;
+}
+
+unfoldable pub so_then : {Such New : List Answer → Type 0} (q : ℕ) (system : System) (outputs : List Output) (i : Spools Such q system outputs) → Stays New → New i.answers → Spools New q system outputs
+so_then q system outputs i stays so = record {
+  answers = i.answers;
+  acts = i.acts;
+  home = i.home;
+  asks = i.asks;
+  filed = i.filed;
+  awaits = i.awaits;
+  owns = i.owns;
+  printed = i.printed;
+  so = so;
+  stays = stays;
+}
 
 -- what leaves its slot leaves it
 
@@ -33,7 +79,8 @@ home_by q old change s h = record {
   answers = s.beside.answers (λ is. false≢true (sym h.calls ∙ ap sets_or_chains is)) ∙ h.answers;
   goes_on = s.beside.due ∙ h.goes_on;
   calls = ap sets_or_chains s.beside.function ∙ h.calls;
-  number = s.printer.number ∙ h.number;
+  set = s.printer.set ∙ h.set;
+  pays = s.pays h.pays;
 }
 
 pub begins_still : (part : List ℕ) (emitted outputs : List Output) → bytes_to 0 emitted ≡ [] → Begins part (bytes_to 0 outputs) → Begins part (bytes_to 0 (emitted ++ outputs))
@@ -42,8 +89,8 @@ begins_still part emitted outputs none b = record {
   whole_is = bytes_both 0 emitted outputs ∙ ap (λ (xs : List ℕ). xs ++ bytes_to 0 outputs) none ∙ b.whole_is;
 }
 
-unfoldable pub spooling_by : (q : ℕ) (old : System) (change : SystemChange) (outputs : List Output) → Spares q old change → IsSpooling q old outputs → IsSpooling q change.system (change.emitted ++ outputs)
-spooling_by q old change outputs s i = record {
+unfoldable pub spooling_by : {Such : List Answer → Type 0} (q : ℕ) (old : System) (change : SystemChange) (outputs : List Output) → Spares q old change → Spools Such q old outputs → Spools Such q change.system (change.emitted ++ outputs)
+spooling_by {Such} q old change outputs s i = record {
   answers = i.answers;
   acts = s.resident ∙ i.acts;
   home = home_by q old change s i.home;
@@ -52,9 +99,11 @@ spooling_by q old change outputs s i = record {
   awaits = subst (λ (places : ℕ). AwaitsIn (spooler_awaits places (after i.answers).row) q change.system.kernel) (sym s.place) (s.awaits (spooler_awaits (at_disk old.kernel.disk q) (after i.answers).row) i.awaits);
   owns = λ has. s.printer.owner 0 (i.owns has);
   printed = λ has. begins_still (reverse (printed_in i.answers)) change.emitted outputs (s.nothing 0 (i.owns has)) (i.printed has);
+  so = i.so;
+  stays = i.stays;
 } where
   filed_still : IsFiled q i.answers old → IsFiled q i.answers change.system
-  filed_still f = record { files = f.files; kept = s.beside.function ∙ f.kept }
+  filed_still f = record { files = f.files; kept = s.beside.function ∙ f.kept; block = s.printer.block ∙ f.block }
 
 -- it takes an answer
 
@@ -81,7 +130,7 @@ pub awaits_more : (k q : ℕ) (kernel : Kernel) → AwaitsIn 0 q kernel → Awai
 awaits_more k q kernel a = record { table = a.table; few = omega (arith, a.few); at_once = λ _. a.at_once (omega arith) }
 
 -- nothing is at the disk, nothing is awaited, and where a printer is its own then, that has what was printed
-pub record Takes (q : ℕ) (answers : List Answer) (reply : Answer) (system : System) (outputs : List Output) : Type 0 where
+pub record Takes (Such : List Answer → Type 0) (q : ℕ) (answers : List Answer) (reply : Answer) (system : System) (outputs : List Output) : Type 0 where
   pub acts : native_in system.residents q ≡ Some (Spool (after answers))
   pub home : IsAtHome q system
   pub none : AwaitsIn 0 q system.kernel
@@ -89,16 +138,20 @@ pub record Takes (q : ℕ) (answers : List Answer) (reply : Answer) (system : Sy
   pub asks : (after (reply ∷ answers)).row ≡ Attach → opens_or_attaches (call_of system.kernel.dispatcher.procs q).function ≡ true
   pub owns : has_printer (after (reply ∷ answers)).row ≡ true → owner_of system.kernel.units (Printer 0) ≡ Some q
   pub printed : has_printer (after (reply ∷ answers)).row ≡ true → Begins (reverse (printed_in (reply ∷ answers))) (bytes_to 0 outputs)
+  pub so : Such (reply ∷ answers)
+  pub stays : Stays Such
 
-pub spooling_took : (q : ℕ) (answers : List Answer) (reply : Answer) (system : System) (outputs : List Output) → Takes q answers reply system outputs
-    → IsSpooling q (taking reply q system) outputs
-spooling_took q answers reply system outputs t = record {
+pub spooling_took : {Such : List Answer → Type 0} (q : ℕ) (answers : List Answer) (reply : Answer) (system : System) (outputs : List Output) → Takes Such q answers reply system outputs
+    → Spools Such q (taking reply q system) outputs
+spooling_took {Such} q answers reply system outputs t = record {
   answers = reply ∷ answers;
   acts = acts_took q system answers reply t.acts;
-  home = record { lives = t.home.lives; resides = t.home.resides; answers = t.home.answers; goes_on = t.home.goes_on; calls = t.home.calls; number = t.home.number };
+  home = record { lives = t.home.lives; resides = t.home.resides; answers = t.home.answers; goes_on = t.home.goes_on; calls = t.home.calls; set = t.home.set; pays = t.home.pays };
   asks = t.asks;
   filed = λ some. absurd (omega (arith, some, t.gone));
   awaits = awaits_more (spooler_awaits (at_disk system.kernel.disk q) (after (reply ∷ answers)).row) q system.kernel t.none;
   owns = t.owns;
   printed = t.printed;
+  so = t.so;
+  stays = t.stays;
 }

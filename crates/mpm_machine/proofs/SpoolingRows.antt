@@ -1,5 +1,5 @@
 -- The spooler takes its own step: in each row it goes on, and what it prints comes to its printer.
-use Rattle.std.proofs.Common.{ℕ, [], ◌≡◌, ◌≢◌, ◌∙◌, ◌<◌, ◌+◌, ◌%◌, ◌==◌, ◌||◌, ◌&&◌, not, Bool, true, false, List, ◌∷◌, ◌++◌, length, reverse, if◌then◌else◌, Option, Some, None, refl, sym, ap, subst, arith}
+use Rattle.std.proofs.Common.{ℕ, [], ◌≡◌, ◌∙◌, ◌<◌, ◌+◌, ◌%◌, ◌==◌, ◌||◌, ◌&&◌, not, Bool, true, false, List, ◌∷◌, ◌++◌, length, reverse, if◌then◌else◌, Option, Some, None, refl, sym, ap, subst, arith}
 use Rattle.std.proofs.lemmas.List.{append-nil, reverse-append}
 use Rattle.std.specs.Prelude.{nat_lt, slice_get, slice_index, slice_index_or, drop}
 use Rattle.std.proofs.lemmas.Bool.{false≢true, eq-eqb}
@@ -60,12 +60,14 @@ use Rattle.mpm_system.specs.declared.system.System.{System}
 use Rattle.mpm_machine.proofs.PrintedLaws.{nothing_at_attach}
 use Rattle.mpm_machine.proofs.PrinterCalls.{prints_read_at}
 use Rattle.mpm_machine.proofs.SparedParts.{Spares, spares_spoke, bytes_both, nothing_spoken}
-use Rattle.mpm_machine.proofs.SpoolingLaws.{home_by, Takes, spooling_took}
+use Rattle.mpm_machine.proofs.SpoolingLaws.{Stays, Spools, home_by, Takes, spooling_took}
+use Rattle.mpm_machine.specs.FileCalls.{is_of_files}
 use Rattle.mpm_machine.specs.Interpreting.{sets_or_chains}
 use Rattle.mpm_machine.specs.Printed.{printed_by, printed_in, has_printer, bytes_to}
 use Rattle.mpm_machine.specs.Residing.{calling_step, native_outcome, native_step, resided}
 use Rattle.mpm_machine.specs.Serving.{served_to_all, after_echo}
-use Rattle.mpm_machine.specs.Spooling.{IsAtHome, IsSpooling, may_wait, opens_or_attaches}
+use Rattle.mpm_machine.specs.Slots.{Settings, settings_of}
+use Rattle.mpm_machine.specs.Spooling.{IsAtHome, may_wait, opens_or_attaches}
 
 -- the row that comes next
 
@@ -133,30 +135,33 @@ HasPrinter q bytes kernel outputs = (owner_of kernel.units (Printer 0) ≡ Some 
 abbrev pub Asks : ℕ → Kernel → Type 0
 Asks q kernel = opens_or_attaches (call_of kernel.dispatcher.procs q).function ≡ true
 
-pub takes_at : (q : ℕ) (answers : List Answer) (reply : Answer) (row : Row) (system : System) (outputs : List Output) → (after answers).row ≡ row
+pub takes_at : {Such : List Answer → Type 0} (q : ℕ) (answers : List Answer) (reply : Answer) (row : Row) (system : System) (outputs : List Output) → (after answers).row ≡ row
     → native_in system.residents q ≡ Some (Spool (after answers)) → IsAtHome q system → AwaitsIn 0 q system.kernel → at_disk system.kernel.disk q ≡ 0
+    → Such (reply ∷ answers) → Stays Such
     → Leads (Asks q system.kernel) (HasPrinter q (printed_by row (call_at row (after answers)).word (printed_in answers)) system.kernel outputs) (took_at row (after answers) reply).row
-    → Takes q answers reply system outputs
-takes_at q answers reply row system outputs is acts home none gone leads =
+    → Takes Such q answers reply system outputs
+takes_at {Such} q answers reply row system outputs is acts home none gone such stays leads =
     let next = after_is answers reply row is in
     let bytes = word_is answers reply row is in
     let P : List ℕ → Type 0 = λ printed. Leads (Asks q system.kernel) (HasPrinter q printed system.kernel outputs) (after (reply ∷ answers)).row in
     let so : P (printed_in (reply ∷ answers)) =
     subst P (sym bytes) (subst (λ (s : Spooler). Leads (Asks q system.kernel) (HasPrinter q (printed_by row (call_at row (after answers)).word (printed_in answers)) system.kernel outputs) s.row) (sym next) leads) in
-    record { acts = acts; home = home; none = none; gone = gone; asks = so.0; owns = λ has. (so.1 has).0; printed = λ has. (so.1 has).1 }
+    record { acts = acts; home = home; none = none; gone = gone; asks = so.0; owns = λ has. (so.1 has).0; printed = λ has. (so.1 has).1; so = such; stays = stays }
 
 -- what is said to consoles leaves all that
 
-pub takes_by : (q : ℕ) (answers : List Answer) (reply : Answer) (old : System) (change : SystemChange) (outputs : List Output) → Spares q old change
-    → (has_printer (after (reply ∷ answers)).row ≡ true → bytes_to 0 change.emitted ≡ []) → Takes q answers reply old outputs
-    → Takes q answers reply change.system (change.emitted ++ outputs)
-takes_by q answers reply old change outputs s nothing t = record {
+pub takes_by : {Such : List Answer → Type 0} (q : ℕ) (answers : List Answer) (reply : Answer) (old : System) (change : SystemChange) (outputs : List Output) → Spares q old change
+    → (has_printer (after (reply ∷ answers)).row ≡ true → bytes_to 0 change.emitted ≡ []) → Takes Such q answers reply old outputs
+    → Takes Such q answers reply change.system (change.emitted ++ outputs)
+takes_by {Such} q answers reply old change outputs s nothing t = record {
   acts = s.resident ∙ t.acts;
   home = home_by q old change s t.home;
   none = s.awaits 0 t.none;
   gone = s.place ∙ t.gone;
   asks = λ is. ap opens_or_attaches s.beside.function ∙ t.asks is;
   owns = λ has. s.printer.owner 0 (t.owns has);
+  so = t.so;
+  stays = t.stays;
   printed = λ has. (let b = t.printed has in record {
     rest = b.rest;
     whole_is = bytes_both 0 change.emitted outputs ∙ ap (λ (xs : List ℕ). xs ++ bytes_to 0 outputs) (nothing has) ∙ b.whole_is;
@@ -179,6 +184,7 @@ quiet_said q call string system other =
       printer = spoke.printer;
       resident = spoke.resident;
       place = spoke.place;
+      pays = spoke.pays;
       awaits = spoke.awaits;
       nothing = λ n is. not_listed n process.printer (call.function == LIST_OUTPUT) (nat_lt 0 (length system.kernel.units.printers)) _ _ other ∙ spoke.nothing n is;
     }
@@ -189,16 +195,16 @@ quiet_bytes q call string system other =
     let process = process_in system.kernel.dispatcher.procs q in
     not_listed 0 process.printer (call.function == LIST_OUTPUT) (nat_lt 0 (length system.kernel.units.printers)) _ _ other ∙ nothing_spoken 0 process.console _
 
-own_done : (q : ℕ) (answers : List Answer) (reply : Answer) (call : Taken) (system : System) (outputs : List Output) → (call.function == LIST_OUTPUT) ≡ false
-    → Takes q answers reply system outputs → IsSpooling q (native_outcome Done reply call q system).system ((native_outcome Done reply call q system).emitted ++ outputs)
-own_done q answers reply call system outputs other t =
+own_done : {Such : List Answer → Type 0} (q : ℕ) (answers : List Answer) (reply : Answer) (call : Taken) (system : System) (outputs : List Output) → (call.function == LIST_OUTPUT) ≡ false
+    → Takes Such q answers reply system outputs → Spools Such q (native_outcome Done reply call q system).system ((native_outcome Done reply call q system).emitted ++ outputs)
+own_done {Such} q answers reply call system outputs other t =
     let spoke = said_by call call.bytes q system in
     spooling_took q answers reply spoke.system (spoke.emitted ++ outputs)
     (takes_by q answers reply system spoke outputs (quiet_said q call call.bytes system other) (λ _. quiet_bytes q call call.bytes system other) t)
 
 -- so does what the kernel says before it
-pub outputs_same : (q : ℕ) (system : System) (one other : List Output) → bytes_to 0 other ≡ bytes_to 0 one → IsSpooling q system one → IsSpooling q system other
-outputs_same q system one other same i = record {
+pub outputs_same : {Such : List Answer → Type 0} (q : ℕ) (system : System) (one other : List Output) → bytes_to 0 other ≡ bytes_to 0 one → Spools Such q system one → Spools Such q system other
+outputs_same {Such} q system one other same i = record {
   answers = i.answers;
   acts = i.acts;
   home = i.home;
@@ -207,11 +213,13 @@ outputs_same q system one other same i = record {
   awaits = i.awaits;
   owns = i.owns;
   printed = λ has. (let b = i.printed has in record { rest = b.rest; whole_is = same ∙ b.whole_is });
+  so = i.so;
+  stays = i.stays;
 }
 
-echoed_goes : (q : ℕ) (call : Taken) (system : System) (change : SystemChange) (outputs : List Output) → IsSpooling q change.system (change.emitted ++ outputs)
-    → IsSpooling q (after_echo call q system change).system ((after_echo call q system change).emitted ++ outputs)
-echoed_goes q call system change outputs i =
+echoed_goes : {Such : List Answer → Type 0} (q : ℕ) (call : Taken) (system : System) (change : SystemChange) (outputs : List Output) → Spools Such q change.system (change.emitted ++ outputs)
+    → Spools Such q (after_echo call q system change).system ((after_echo call q system change).emitted ++ outputs)
+echoed_goes {Such} q call system change outputs i =
     let echo = spoken (process_in system.kernel.dispatcher.procs q).console (echo_of call system.kernel) in
     outputs_same q change.system (change.emitted ++ outputs) ((change.emitted ++ echo) ++ outputs)
     (bytes_both 0 (change.emitted ++ echo) outputs ∙ ap (λ (xs : List ℕ). xs ++ bytes_to 0 outputs) (bytes_both 0 change.emitted echo
@@ -231,14 +239,15 @@ home_asked q call system w mild h =
       answers = ap (λ (x : Process). x.error_mode) same ∙ h.answers;
       goes_on = ap (λ (x : Process). x.abort_due) same ∙ h.goes_on;
       calls = ap (λ (x : Taken). sets_or_chains x.function) (call_changed procs q call (omega (arith, w.sound.slots.calls, below))) ∙ mild;
-      number = ap (λ (x : Process). x.printer) same ∙ h.number;
+      set = ap settings_of same ∙ h.set;
+      pays = h.pays;
     }
 
 -- and done by the kernel
 
-home_called : (q : ℕ) (system : System) → IsWhole system → (process_in (called q system.kernel).kernel.dispatcher.procs q).printer ≡ (process_in system.kernel.dispatcher.procs q).printer
+home_called : (q : ℕ) (system : System) → IsWhole system → settings_of (process_in (called q system.kernel).kernel.dispatcher.procs q) ≡ settings_of (process_in system.kernel.dispatcher.procs q)
     → IsAtHome q system → IsAtHome q (calling q system).system
-home_called q system w number h =
+home_called q system w set h =
     let beside = beside_called q q system.kernel w.sound h.lives in
     record {
       lives = beside.living ∙ h.lives;
@@ -246,7 +255,8 @@ home_called q system w number h =
       answers = beside.answers (λ is. false≢true (sym h.calls ∙ ap sets_or_chains is)) ∙ h.answers;
       goes_on = beside.due ∙ h.goes_on;
       calls = ap sets_or_chains beside.function ∙ h.calls;
-      number = number ∙ h.number;
+      set = set ∙ h.set;
+      pays = h.pays;
     }
 
 by_kept : (q : ℕ) (P : Called → Type 0) (call : Taken) (kernel : Kernel) → call_of kernel.dispatcher.procs q ≡ call
@@ -258,7 +268,7 @@ none_begun : (echoes : Bool) (q : ℕ) (kernel : Kernel) → IsSoundKernel kerne
 none_begun echoes q kernel s ready = record { table = s.table; few = omega arith; at_once = λ _. ready }
 
 -- a step of it, before which its call is kept
-record Asked (q : ℕ) (answers : List Answer) (row : Row) (system : System) (outputs : List Output) : Type 0 where
+record Asked (Such : List Answer → Type 0) (q : ℕ) (answers : List Answer) (row : Row) (system : System) (outputs : List Output) : Type 0 where
   is : (after answers).row ≡ row
   whole : IsWhole system
   ready : IsReady system.kernel.dispatcher q
@@ -267,16 +277,25 @@ record Asked (q : ℕ) (answers : List Answer) (row : Row) (system : System) (ou
   kept : call_of system.kernel.dispatcher.procs q ≡ call_at row (after answers)
   owns : has_printer row ≡ true → owner_of system.kernel.units (Printer 0) ≡ Some q
   printed : has_printer row ≡ true → Begins (reverse (printed_in answers)) (bytes_to 0 outputs)
+  other : is_of_files (call_at row (after answers)).function ≡ false
+  so : Such answers
+  stays : Stays Such
+
+asked_so : {Such : List Answer → Type 0} (q : ℕ) (answers : List Answer) (reply : Answer) (row : Row) (system : System) (outputs : List Output) → Asked Such q answers row system outputs
+    → Such (reply ∷ answers)
+unfolding next_call
+asked_so q answers reply row system outputs a =
+    a.stays answers reply (ap (λ (r : Row). is_of_files (call_at r (after answers)).function) a.is ∙ a.other) a.so
 
 -- what a call of a row leaves of the kernel: it is done at once and the spooler awaits nothing; or it is held, or to be tried again, and the
 -- spooler goes on in the same row
 record IsAnswered (q : ℕ) (answers : List Answer) (row : Row) (outputs : List Output) (old : Kernel) (call : Called) : Type 0 where
-  number : (process_in call.kernel.dispatcher.procs q).printer ≡ (process_in old.dispatcher.procs q).printer
+  set : settings_of (process_in call.kernel.dispatcher.procs q) ≡ settings_of (process_in old.dispatcher.procs q)
   none : AwaitsIn 0 q call.kernel
   leads : Leads (Asks q call.kernel) (HasPrinter q (printed_by row (call_at row (after answers)).word (printed_in answers)) call.kernel outputs) (took_at row (after answers) call.reply).row
 
 record StaysInRow (q : ℕ) (row : Row) (old : Kernel) (call : Called) : Type 0 where
-  number : (process_in call.kernel.dispatcher.procs q).printer ≡ (process_in old.dispatcher.procs q).printer
+  set : settings_of (process_in call.kernel.dispatcher.procs q) ≡ settings_of (process_in old.dispatcher.procs q)
   one : AwaitsIn 1 q call.kernel
   may : may_wait row ≡ true
   has : has_printer row ≡ false
@@ -290,65 +309,94 @@ ComesBy Ended q answers row outputs old call = ⊥
 record Comes (q : ℕ) (answers : List Answer) (row : Row) (outputs : List Output) (old : Kernel) (call : Called) : Type 0 where
   by : ComesBy call.outcome q answers row outputs old call
 
-asked_gone : (q : ℕ) (answers : List Answer) (row : Row) (system : System) (outputs : List Output) → Asked q answers row system outputs → at_disk (called q system.kernel).kernel.disk q ≡ 0
-asked_gone q answers row system outputs a =
+asked_gone : {Such : List Answer → Type 0} (q : ℕ) (answers : List Answer) (row : Row) (system : System) (outputs : List Output) → Asked Such q answers row system outputs → at_disk (called q system.kernel).kernel.disk q ≡ 0
+asked_gone {Such} q answers row system outputs a =
     ap (λ disk. at_disk disk q) (disk_called q system.kernel) ∙ ready_not_at_disk system.kernel q a.whole.sound a.ready
 
 -- the system then, and what is said
-abbrev pub Goes : ℕ → SystemChange → List Output → Type 0
-Goes q change outputs = IsSpooling q change.system (change.emitted ++ outputs)
+abbrev pub Goes : (List Answer → Type 0) → ℕ → SystemChange → List Output → Type 0
+Goes Such q change outputs = Spools Such q change.system (change.emitted ++ outputs)
 
-own_stays : (q : ℕ) (answers : List Answer) (row : Row) (system : System) (outputs : List Output) (a : Asked q answers row system outputs) → StaysInRow q row system.kernel (called q system.kernel)
-    → (row ≡ Attach → opens_or_attaches (call_at row (after answers)).function ≡ true) → IsSpooling q (calling q system).system outputs
-own_stays q answers row system outputs a s asks =
+own_stays : {Such : List Answer → Type 0} (q : ℕ) (answers : List Answer) (row : Row) (system : System) (outputs : List Output) (a : Asked Such q answers row system outputs) → StaysInRow q row system.kernel (called q system.kernel)
+    → (row ≡ Attach → opens_or_attaches (call_at row (after answers)).function ≡ true) → Spools Such q (calling q system).system outputs
+own_stays {Such} q answers row system outputs a s asks =
     let beside = beside_called q q system.kernel a.whole.sound a.home.lives in
     let never : has_printer (after answers).row ≡ true → ⊥ = λ has. false≢true (sym s.has ∙ ap has_printer (sym a.is) ∙ has) in
     record {
       answers = answers;
       acts = a.acts;
-      home = home_called q system a.whole s.number a.home;
+      home = home_called q system a.whole s.set a.home;
       asks = λ is. ap opens_or_attaches (beside.function ∙ ap (λ (c : Taken). c.function) a.kept) ∙ asks (sym a.is ∙ is);
       filed = λ some. absurd (omega (arith, some, asked_gone q answers row system outputs a));
       awaits = subst (λ (waits : Bool). AwaitsIn (if waits then 1 else at_disk (called q system.kernel).kernel.disk q) q (called q system.kernel).kernel) (sym (ap may_wait a.is ∙ s.may)) s.one;
       owns = λ has. absurd (never has);
       printed = λ has. absurd (never has);
+      so = a.so;
+      stays = a.stays;
     }
 
-own_by : (outcome : Ended_how) (q : ℕ) (answers : List Answer) (row : Row) (system : System) (outputs : List Output) (a : Asked q answers row system outputs)
+own_by : {Such : List Answer → Type 0} (outcome : Ended_how) (q : ℕ) (answers : List Answer) (row : Row) (system : System) (outputs : List Output) (a : Asked Such q answers row system outputs)
     → ComesBy outcome q answers row outputs system.kernel (called q system.kernel) → ((call_at row (after answers)).function == LIST_OUTPUT) ≡ false
     → (row ≡ Attach → opens_or_attaches (call_at row (after answers)).function ≡ true)
-    → Goes q (native_outcome outcome (calling q system).reply (call_at row (after answers)) q (calling q system).system) outputs
-own_by Done q answers row system outputs a c other asks =
+    → Goes Such q (native_outcome outcome (calling q system).reply (call_at row (after answers)) q (calling q system).system) outputs
+own_by {Such} Done q answers row system outputs a c other asks =
     own_done q answers (calling q system).reply (call_at row (after answers)) (calling q system).system outputs other
-    (takes_at q answers (calling q system).reply row (calling q system).system outputs a.is a.acts (home_called q system a.whole c.number a.home) c.none (asked_gone q answers row system outputs a) c.leads)
-own_by Held q answers row system outputs a c other asks = own_stays q answers row system outputs a c asks
-own_by Retry q answers row system outputs a c other asks = own_stays q answers row system outputs a c asks
-own_by Ended q answers row system outputs a c other asks = absurd c
+    (takes_at q answers (calling q system).reply row (calling q system).system outputs a.is a.acts (home_called q system a.whole c.set a.home) c.none (asked_gone q answers row system outputs a)
+    (asked_so q answers (calling q system).reply row system outputs a) a.stays c.leads)
+own_by {Such} Held q answers row system outputs a c other asks = own_stays q answers row system outputs a c asks
+own_by {Such} Retry q answers row system outputs a c other asks = own_stays q answers row system outputs a c asks
+own_by {Such} Ended q answers row system outputs a c other asks = absurd c
 
--- each row: first those on files, which the kernel refuses
+-- each row: those on files aren't the kernel's
 
-refused_row : (q : ℕ) (answers : List Answer) (row : Row) (outputs : List Output) (kernel : Kernel) → IsSoundKernel kernel → IsReady kernel.dispatcher q
-    → Leads (Asks q (call_begun false kernel)) (HasPrinter q (printed_by row (call_at row (after answers)).word (printed_in answers)) (call_begun false kernel) outputs) (took_at row (after answers) (answering 65535)).row
-    → Comes q answers row outputs kernel (valued 65535 (call_begun false kernel))
-refused_row q answers row outputs kernel s ready leads = record { by = record { number = refl; none = none_begun false q kernel s ready; leads = leads } }
+abbrev is_file_row : Row → Bool
+is_file_row Open = true
+is_file_row Read = true
+is_file_row Close = true
+is_file_row Delete = true
+is_file_row _ = false
+
+file_row : (row : Row) (s : Spooler) → is_file_row row ≡ true → is_of_files (call_at row s).function ≡ false → ⊥
+unfolding is_of_files Rattle.mpm_file_functions.specs.Functions.function_of Rattle.mpm_file_functions.specs.Functions.direct_of
+file_row Open s is none = false≢true (sym none)
+file_row Read s is none = false≢true (sym none)
+file_row Close s is none = false≢true (sym none)
+file_row Delete s is none = false≢true (sym none)
+file_row ReadList s is none = false≢true is
+file_row Attach s is none = false≢true is
+file_row AskStop s is none = false≢true is
+file_row Print s is none = false≢true is
+file_row Detach s is none = false≢true is
 
 pub closed_leads : (A H : Type 0) (b : Bool) (s : Spooler) → Leads A H (if b then record s { row = Delete } else begun_next s).row
 closed_leads A H true s = leads_delete A H
 closed_leads A H false s = leads_begun A H s
 
+pub waiting_row : (row : Row) (s : Spooler) → may_wait row ≡ true → is_of_files (call_at row s).function ≡ false
+unfolding is_of_files Rattle.mpm_file_functions.specs.Functions.function_of Rattle.mpm_file_functions.specs.Functions.direct_of
+waiting_row ReadList s may = refl
+waiting_row Attach s may = refl
+waiting_row Open s may = absurd (false≢true may)
+waiting_row AskStop s may = absurd (false≢true may)
+waiting_row Read s may = absurd (false≢true may)
+waiting_row Print s may = absurd (false≢true may)
+waiting_row Detach s may = absurd (false≢true may)
+waiting_row Close s may = absurd (false≢true may)
+waiting_row Delete s may = absurd (false≢true may)
+
 -- the queues are read
 
-read_number : (q : ℕ) (slot : Option ℕ) (waits : Bool) (call : Taken) (kernel : Kernel)
-    → (process_in (read_at slot waits call q kernel).kernel.dispatcher.procs q).printer ≡ (process_in kernel.dispatcher.procs q).printer
-read_number q slot waits call kernel = (prints_read_at q slot waits call q kernel).number
+read_set : (q : ℕ) (slot : Option ℕ) (waits : Bool) (call : Taken) (kernel : Kernel)
+    → settings_of (process_in (read_at slot waits call q kernel).kernel.dispatcher.procs q) ≡ settings_of (process_in kernel.dispatcher.procs q)
+read_set q slot waits call kernel = (prints_read_at q slot waits call q kernel).set
 
 list_by : (outcome : Ended_how) (q : ℕ) (answers : List Answer) (outputs : List Output) (old : Kernel) (call : Called) → AwaitsAfter outcome q call.kernel
-    → (process_in call.kernel.dispatcher.procs q).printer ≡ (process_in old.dispatcher.procs q).printer → (after answers).row ≡ ReadList → ComesBy outcome q answers ReadList outputs old call
-list_by Done q answers outputs old call awaits number is =
-    record { number = number; none = awaits; leads = leads_listed (Asks q call.kernel) (HasPrinter q (printed_in answers) call.kernel outputs) (list_of (in_width 128 call.reply.bytes)) (after answers) is }
-list_by Held q answers outputs old call awaits number is = record { number = number; one = awaits; may = refl; has = refl }
-list_by Retry q answers outputs old call awaits number is = absurd awaits
-list_by Ended q answers outputs old call awaits number is = absurd awaits
+    → settings_of (process_in call.kernel.dispatcher.procs q) ≡ settings_of (process_in old.dispatcher.procs q) → (after answers).row ≡ ReadList → ComesBy outcome q answers ReadList outputs old call
+list_by Done q answers outputs old call awaits set is =
+    record { set = set; none = awaits; leads = leads_listed (Asks q call.kernel) (HasPrinter q (printed_in answers) call.kernel outputs) (list_of (in_width 128 call.reply.bytes)) (after answers) is }
+list_by Held q answers outputs old call awaits set is = record { set = set; one = awaits; may = refl; has = refl }
+list_by Retry q answers outputs old call awaits set is = absurd awaits
+list_by Ended q answers outputs old call awaits set is = absurd awaits
 
 stop_leads : (A H : Type 0) (b : Bool) (s : Spooler) → H → Leads A H (if b then record s { row = Detach; left = []; is_unprinted = true } else record s { row = Read }).row
 stop_leads A H true s has = leads_detach A H has
@@ -369,7 +417,7 @@ stop_comes slot q answers call outputs old kernel s none same own printed =
     let read = read_at slot false call q kernel in
     let keeps = prints_read_at q slot false call q kernel in
     let so : IsAnswered q answers AskStop outputs old read = record {
-      number = keeps.number ∙ ap (λ t. (process_in t q).printer) same;
+      set = keeps.set ∙ ap (λ t. settings_of (process_in t q)) same;
       none = awaits_read_at 0 q slot false call q kernel s (λ waits. absurd (false≢true waits)) none;
       leads = stop_leads (Asks q read.kernel) (HasPrinter q (printed_in answers) read.kernel outputs) (read.reply.hl == 0) (after answers) (keeps.owner 0 own, printed);
     } in
@@ -406,13 +454,13 @@ attach_by true q answers outputs old kernel may there is same none =
     let first : Begins (reverse (printed_in answers)) (bytes_to 0 outputs) = record { rest = bytes_to 0 outputs; whole_is = ap (λ (xs : List ℕ). reverse xs ++ bytes_to 0 outputs) (sym (nothing_at_attach answers is)) } in
     record {
       by = record {
-        number = ap (λ t. (process_in t q).printer) same;
+        set = ap (λ t. settings_of (process_in t q)) same;
         none = none;
         leads = leads_stop (Asks q now) (HasPrinter q (printed_in answers) now outputs) (own, first);
       };
     }
 attach_by false q answers outputs old kernel may there is same none =
-    record { by = record { number = ap (λ t. (process_in t q).printer) same; one = left_one q kernel none; may = refl; has = refl } }
+    record { by = record { set = ap (λ t. settings_of (process_in t q)) same; one = left_one q kernel none; may = refl; has = refl } }
   where
     left_one : (q : ℕ) (kernel : Kernel) → AwaitsIn 0 q kernel → Awaits 1 q (removed kernel.dispatcher.lists q) kernel.dispatcher.completed
     left_one q kernel a = record { table = table_removed kernel.dispatcher.lists q a.table; few = omega (arith, a.few); at_once = λ all. absurd (omega (arith, all, a.few)) }
@@ -423,7 +471,7 @@ attach_if : (none_there : Bool) (q n : ℕ) (answers : List Answer) (outputs : L
 unfolding attached
 attach_if true q n answers outputs old kernel empty zero_is is same none = record {
   by = record {
-    number = ap (λ t. (process_in t q).printer) same;
+    set = ap (λ t. settings_of (process_in t q)) same;
     none = none;
     leads = leads_close (Asks q kernel) (HasPrinter q (printed_in answers) kernel outputs);
   };
@@ -441,7 +489,7 @@ detach_if : (none_there : Bool) (q n : ℕ) (answers : List Answer) (outputs : L
 unfolding unit_left
 detach_if true q n answers outputs old kernel empty fits s same none = record {
   by = record {
-    number = ap (λ t. (process_in t q).printer) same;
+    set = ap (λ t. settings_of (process_in t q)) same;
     none = none;
     leads = leads_close (Asks q kernel) (HasPrinter q (printed_in answers) kernel outputs);
   };
@@ -451,7 +499,7 @@ detach_if false q n answers outputs old kernel empty fits s same none =
     let left = unit_left q (Printer n) kernel in
     record {
       by = record {
-        number = ap (λ t. (process_in t q).printer) same;
+        set = ap (λ t. settings_of (process_in t q)) same;
         none = awaits_unit_left 0 q q (Printer n) kernel s (fits there) none;
         leads = leads_close (Asks q left) (HasPrinter q (printed_in answers) left outputs);
       };
@@ -459,10 +507,10 @@ detach_if false q n answers outputs old kernel empty fits s same none =
 
 -- so the kernel does the call of each row but that which prints
 
-comes_at : (row : Row) (q : ℕ) (answers : List Answer) (system : System) (outputs : List Output) → Asked q answers row system outputs → (row ≡ Print → ⊥)
+comes_at : {Such : List Answer → Type 0} (row : Row) (q : ℕ) (answers : List Answer) (system : System) (outputs : List Output) → Asked Such q answers row system outputs → (row ≡ Print → ⊥)
     → Comes q answers row outputs system.kernel (called q system.kernel)
 unfolding call_done unit_called printer_called
-comes_at ReadList q answers system outputs a other =
+comes_at {Such} ReadList q answers system outputs a other =
     let kernel = system.kernel in
     let begun = call_begun false kernel in
     let call = call_at ReadList (after answers) in
@@ -470,52 +518,39 @@ comes_at ReadList q answers system outputs a other =
     let slot = pointed begun.queues (word_at call 0) in
     let read = read_at slot true call q begun in
     by_kept q (Comes q answers ReadList outputs kernel) call kernel a.kept
-    (record { by = list_by read.outcome q answers outputs kernel read (own_read slot call q begun (sound_begun false kernel a.whole.sound) none) (read_number q slot true call begun) a.is })
-comes_at Open q answers system outputs a other =
-    let begun = call_begun false system.kernel in
-    by_kept q (Comes q answers Open outputs system.kernel) (call_at Open (after answers)) system.kernel a.kept
-    (refused_row q answers Open outputs system.kernel a.whole.sound a.ready (leads_begun (Asks q begun) (HasPrinter q [] begun outputs) (after answers)))
-comes_at Attach q answers system outputs a other =
+    (record { by = list_by read.outcome q answers outputs kernel read (own_read slot call q begun (sound_begun false kernel a.whole.sound) none) (read_set q slot true call begun) a.is })
+comes_at {Such} Open q answers system outputs a other = absurd (file_row Open (after answers) refl a.other)
+comes_at {Such} Attach q answers system outputs a other =
     let begun = call_begun false system.kernel in
     by_kept q (Comes q answers Attach outputs system.kernel) (call_at Attach (after answers)) system.kernel a.kept
-    (attach_if (length begun.units.printers == 0) q (process_in system.kernel.dispatcher.procs q).printer answers outputs system.kernel begun refl a.home.number a.is refl
+    (attach_if (length begun.units.printers == 0) q (process_in system.kernel.dispatcher.procs q).printer answers outputs system.kernel begun refl (ap (λ (x : Settings). x.printer) a.home.set) a.is refl
     (none_begun false q system.kernel a.whole.sound a.ready))
-comes_at AskStop q answers system outputs a other =
+comes_at {Such} AskStop q answers system outputs a other =
     let kernel = system.kernel in
     let begun = call_begun false kernel in
     let call = call_at AskStop (after answers) in
     let none = none_begun false q kernel a.whole.sound a.ready in
     by_kept q (Comes q answers AskStop outputs kernel) call kernel a.kept (stop_comes (pointed begun.queues (word_at call 0)) q answers call outputs kernel begun (sound_begun false kernel a.whole.sound) none refl (a.owns refl) (a.printed refl))
-comes_at Read q answers system outputs a other =
-    let begun = call_begun false system.kernel in
-    by_kept q (Comes q answers Read outputs system.kernel) (call_at Read (after answers)) system.kernel a.kept
-    (refused_row q answers Read outputs system.kernel a.whole.sound a.ready (leads_detach (Asks q begun) (HasPrinter q (printed_in answers) begun outputs) (a.owns refl, a.printed refl)))
-comes_at Print q answers system outputs a other = absurd (other refl)
-comes_at Detach q answers system outputs a other =
+comes_at {Such} Read q answers system outputs a other = absurd (file_row Read (after answers) refl a.other)
+comes_at {Such} Print q answers system outputs a other = absurd (other refl)
+comes_at {Such} Detach q answers system outputs a other =
     let begun = call_begun false system.kernel in
     let s = a.whole.sound in
     by_kept q (Comes q answers Detach outputs system.kernel) (call_at Detach (after answers)) system.kernel a.kept
     (detach_if (length begun.units.printers == 0) q (process_in system.kernel.dispatcher.procs q).printer answers outputs system.kernel begun refl (λ has. (s.fit q a.home.lives).printer has)
     (sound_begun false system.kernel s) refl (none_begun false q system.kernel s a.ready))
-comes_at Close q answers system outputs a other =
-    let begun = call_begun false system.kernel in
-    let s = after answers in
-    by_kept q (Comes q answers Close outputs system.kernel) (call_at Close (after answers)) system.kernel a.kept
-    (refused_row q answers Close outputs system.kernel a.whole.sound a.ready (closed_leads (Asks q begun) (HasPrinter q (printed_in answers) begun outputs) (s.item.delete && not s.is_unprinted) s))
-comes_at Delete q answers system outputs a other =
-    let begun = call_begun false system.kernel in
-    by_kept q (Comes q answers Delete outputs system.kernel) (call_at Delete (after answers)) system.kernel a.kept
-    (refused_row q answers Delete outputs system.kernel a.whole.sound a.ready (leads_begun (Asks q begun) (HasPrinter q (printed_in answers) begun outputs) (after answers)))
+comes_at {Such} Close q answers system outputs a other = absurd (file_row Close (after answers) refl a.other)
+comes_at {Such} Delete q answers system outputs a other = absurd (file_row Delete (after answers) refl a.other)
 
 -- a byte is printed
 
-printing : (q : ℕ) (answers : List Answer) (system : System) (outputs : List Output) → Asked q answers Print system outputs → called q system.kernel ≡ done (call_begun false system.kernel)
+printing : {Such : List Answer → Type 0} (q : ℕ) (answers : List Answer) (system : System) (outputs : List Output) → Asked Such q answers Print system outputs → called q system.kernel ≡ done (call_begun false system.kernel)
 unfolding call_done unit_called printer_called
-printing q answers system outputs a =
+printing {Such} q answers system outputs a =
     let kernel = system.kernel in
     let begun = call_begun false kernel in
     let number = (process_in kernel.dispatcher.procs q).printer in
-    let own : owner_of begun.units (Printer number) ≡ Some q = ap (λ (n : ℕ). owner_of begun.units (Printer n)) a.home.number ∙ a.owns refl in
+    let own : owner_of begun.units (Printer number) ≡ Some q = ap (λ (n : ℕ). owner_of begun.units (Printer n)) (ap (λ (x : Settings). x.printer) a.home.set) ∙ a.owns refl in
     let there : (length begun.units.printers == 0) ≡ false = has_some begun.units.printers 0 q (a.owns refl) in
     by_kept q (λ (c : Called). c ≡ done begun) (call_at Print (after answers)) kernel a.kept
     (ap (λ (b : Bool). if b then valued failure_code begun else (attached q (Printer number) begun)) there ∙ own_attached q number begun own)
@@ -532,12 +567,12 @@ spoken_then : (byte : ℕ) (printed : List ℕ) (whole : List ℕ) (b : Begins (
 spoken_then byte printed whole b = record { rest = b.rest; whole_is = ap (λ (xs : List ℕ). byte ∷ xs) b.whole_is ∙ ap (λ (xs : List ℕ). xs ++ b.rest) (sym (reverse-append printed (byte ∷ []))) }
 
 home_begun : (q : ℕ) (system : System) → IsAtHome q system → IsAtHome q (record system { kernel = call_begun false system.kernel })
-home_begun q system h = record { lives = h.lives; resides = h.resides; answers = h.answers; goes_on = h.goes_on; calls = h.calls; number = h.number }
+home_begun q system h = record { lives = h.lives; resides = h.resides; answers = h.answers; goes_on = h.goes_on; calls = h.calls; set = h.set; pays = h.pays }
 
-own_byte : (q : ℕ) (answers : List Answer) (system : System) (outputs : List Output) → Asked q answers Print system outputs
-    → Goes q (native_outcome Done (answering 0) (call_at Print (after answers)) q (record system { kernel = call_begun false system.kernel })) outputs
+own_byte : {Such : List Answer → Type 0} (q : ℕ) (answers : List Answer) (system : System) (outputs : List Output) → Asked Such q answers Print system outputs
+    → Goes Such q (native_outcome Done (answering 0) (call_at Print (after answers)) q (record system { kernel = call_begun false system.kernel })) outputs
 unfolding said_by speaking
-own_byte q answers system outputs a =
+own_byte {Such} q answers system outputs a =
     let s = after answers in
     let call = call_at Print s in
     let now = record system { kernel = call_begun false system.kernel } in
@@ -549,7 +584,7 @@ own_byte q answers system outputs a =
     let there : (length now.kernel.units.printers == 0) ≡ false = has_some now.kernel.units.printers 0 q (a.owns refl) in
     let some : nat_lt 0 (length now.kernel.units.printers) ≡ true = grind (arith, nat_tests, there) in
     let said_it : bytes_to 0 spoke.emitted ≡ call.word % 256 ∷ [] =
-    byte_said 0 process.printer true (nat_lt 0 (length now.kernel.units.printers)) (call.word % 256) quiet.emitted refl some a.home.number
+    byte_said 0 process.printer true (nat_lt 0 (length now.kernel.units.printers)) (call.word % 256) quiet.emitted refl some (ap (λ (x : Settings). x.printer) a.home.set)
     ∙ ap (λ (xs : List ℕ). call.word % 256 ∷ xs) (nothing_spoken 0 process.console text) in
     let whole : bytes_to 0 (spoke.emitted ++ outputs) ≡ call.word % 256 ∷ bytes_to 0 outputs =
     bytes_both 0 spoke.emitted outputs ∙ ap (λ (xs : List ℕ). xs ++ bytes_to 0 outputs) said_it in
@@ -559,12 +594,13 @@ own_byte q answers system outputs a =
     spooling_took q answers (answering 0) spoke.system (spoke.emitted ++ outputs)
     (takes_at q answers (answering 0) Print spoke.system (spoke.emitted ++ outputs) a.is (sp.resident ∙ a.acts) (home_by q now quiet sp (home_begun q system a.home))
     (sp.awaits 0 (none_begun false q system.kernel a.whole.sound a.ready)) (sp.place ∙ ready_not_at_disk system.kernel q a.whole.sound a.ready)
+    (asked_so q answers (answering 0) Print system outputs a) a.stays
     (leads_at (Asks q spoke.system.kernel) (HasPrinter q bytes spoke.system.kernel (spoke.emitted ++ outputs)) s.bytes (s.place + 1) (sp.printer.owner 0 (a.owns refl), printed_now)))
 
-own_print : (q : ℕ) (answers : List Answer) (system : System) (outputs : List Output) → Asked q answers Print system outputs
-    → Goes q (native_outcome (calling q system).outcome (calling q system).reply (call_at Print (after answers)) q (calling q system).system) outputs
-own_print q answers system outputs a =
-    let P : Called → Type 0 = λ c. Goes q (native_outcome c.outcome c.reply (call_at Print (after answers)) q (record system { kernel = c.kernel })) outputs in
+own_print : {Such : List Answer → Type 0} (q : ℕ) (answers : List Answer) (system : System) (outputs : List Output) → Asked Such q answers Print system outputs
+    → Goes Such q (native_outcome (calling q system).outcome (calling q system).reply (call_at Print (after answers)) q (calling q system).system) outputs
+own_print {Such} q answers system outputs a =
+    let P : Called → Type 0 = λ c. Goes Such q (native_outcome c.outcome c.reply (call_at Print (after answers)) q (record system { kernel = c.kernel })) outputs in
     subst P (sym (printing q answers system outputs a)) (own_byte q answers system outputs a)
 
 -- what is so of the calls of its rows
@@ -603,46 +639,47 @@ to_all_row Detach s q system = refl
 to_all_row Close s q system = refl
 to_all_row Delete s q system = refl
 
-own_kernel : (row : Row) (q : ℕ) (answers : List Answer) (system : System) (outputs : List Output) → Asked q answers row system outputs
-    → Goes q (native_outcome (calling q system).outcome (calling q system).reply (call_at row (after answers)) q (calling q system).system) outputs
-own_kernel Print q answers system outputs a = own_print q answers system outputs a
-own_kernel ReadList q answers system outputs a =
+own_kernel : {Such : List Answer → Type 0} (row : Row) (q : ℕ) (answers : List Answer) (system : System) (outputs : List Output) → Asked Such q answers row system outputs
+    → Goes Such q (native_outcome (calling q system).outcome (calling q system).reply (call_at row (after answers)) q (calling q system).system) outputs
+own_kernel {Such} Print q answers system outputs a = own_print q answers system outputs a
+own_kernel {Such} ReadList q answers system outputs a =
     own_by (calling q system).outcome q answers ReadList system outputs a (comes_at ReadList q answers system outputs a (λ e. absurd (cc))).by refl (asks_row ReadList (after answers))
-own_kernel Open q answers system outputs a =
+own_kernel {Such} Open q answers system outputs a =
     own_by (calling q system).outcome q answers Open system outputs a (comes_at Open q answers system outputs a (λ e. absurd (cc))).by refl (asks_row Open (after answers))
-own_kernel Attach q answers system outputs a =
+own_kernel {Such} Attach q answers system outputs a =
     own_by (calling q system).outcome q answers Attach system outputs a (comes_at Attach q answers system outputs a (λ e. absurd (cc))).by refl (asks_row Attach (after answers))
-own_kernel AskStop q answers system outputs a =
+own_kernel {Such} AskStop q answers system outputs a =
     own_by (calling q system).outcome q answers AskStop system outputs a (comes_at AskStop q answers system outputs a (λ e. absurd (cc))).by refl (asks_row AskStop (after answers))
-own_kernel Read q answers system outputs a =
+own_kernel {Such} Read q answers system outputs a =
     own_by (calling q system).outcome q answers Read system outputs a (comes_at Read q answers system outputs a (λ e. absurd (cc))).by refl (asks_row Read (after answers))
-own_kernel Detach q answers system outputs a =
+own_kernel {Such} Detach q answers system outputs a =
     own_by (calling q system).outcome q answers Detach system outputs a (comes_at Detach q answers system outputs a (λ e. absurd (cc))).by refl (asks_row Detach (after answers))
-own_kernel Close q answers system outputs a =
+own_kernel {Such} Close q answers system outputs a =
     own_by (calling q system).outcome q answers Close system outputs a (comes_at Close q answers system outputs a (λ e. absurd (cc))).by refl (asks_row Close (after answers))
-own_kernel Delete q answers system outputs a =
+own_kernel {Such} Delete q answers system outputs a =
     own_by (calling q system).outcome q answers Delete system outputs a (comes_at Delete q answers system outputs a (λ e. absurd (cc))).by refl (asks_row Delete (after answers))
 
 -- its step
 
-own_calls : (row : Row) (q : ℕ) (answers : List Answer) (system : System) (outputs : List Output) → Asked q answers row system outputs
-    → Goes q (calling_step (call_at row (after answers)) q system) outputs
+own_calls : {Such : List Answer → Type 0} (row : Row) (q : ℕ) (answers : List Answer) (system : System) (outputs : List Output) → Asked Such q answers row system outputs
+    → Goes Such q (calling_step (call_at row (after answers)) q system) outputs
 unfolding calling_step
-own_calls row q answers system outputs a =
+own_calls {Such} row q answers system outputs a =
     let call = call_at row (after answers) in
-    let P : Served → Type 0 = λ done. Goes q (after_echo call q done.system (native_outcome done.outcome done.reply call q done.system)) outputs in
+    let P : Served → Type 0 = λ done. Goes Such q (after_echo call q done.system (native_outcome done.outcome done.reply call q done.system)) outputs in
     let behind = calling q system in
     subst P (sym (to_all_row row (after answers) q system))
     (echoed_goes q call behind.system (native_outcome behind.outcome behind.reply call q behind.system) outputs (own_kernel row q answers system outputs a))
 
-own_native : (row : Row) (q : ℕ) (system : System) (outputs : List Output) (i : IsSpooling q system outputs) → (after i.answers).row ≡ row → IsWhole system → IsReady system.kernel.dispatcher q
-    → Goes q (native_step Ask (call_at row (after i.answers)) q (asking q (call_at row (after i.answers)) system)) outputs
-own_native row q system outputs i is w ready =
+own_native : {Such : List Answer → Type 0} (row : Row) (q : ℕ) (system : System) (outputs : List Output) (i : Spools Such q system outputs) → (after i.answers).row ≡ row → IsWhole system → IsReady system.kernel.dispatcher q
+    → is_of_files (call_at row (after i.answers)).function ≡ false
+    → Goes Such q (native_step Ask (call_at row (after i.answers)) q (asking q (call_at row (after i.answers)) system)) outputs
+own_native {Such} row q system outputs i is w ready other =
     let call = call_at row (after i.answers) in
     let now = asking q call system in
     let kept = keeps_asked q call system w i.home.lives in
     let tells_not : tells (native_in now.residents q) call ≡ false = ap (λ (o : Option Native). tells o call) i.acts in
-    subst (λ (b : Bool). Goes q (if b then telling_step call q now else calling_step call q now) outputs) (sym tells_not)
+    subst (λ (b : Bool). Goes Such q (if b then telling_step call q now else calling_step call q now) outputs) (sym tells_not)
     (own_calls row q i.answers now outputs (record {
       is = is;
       whole = kept.whole;
@@ -652,10 +689,13 @@ own_native row q system outputs i is w ready =
       kept = kept.call;
       owns = λ has. i.owns (ap has_printer is ∙ has);
       printed = λ has. i.printed (ap has_printer is ∙ has);
+      other = other;
+      so = i.so;
+      stays = i.stays;
     }))
 
-pub own_resided : (q : ℕ) (system : System) (outputs : List Output) → IsWhole system → IsReady system.kernel.dispatcher q → IsSpooling q system outputs
-    → Goes q (resided (native_in system.residents q) q system) outputs
+pub own_resided : {Such : List Answer → Type 0} (q : ℕ) (system : System) (outputs : List Output) → IsWhole system → IsReady system.kernel.dispatcher q → (i : Spools Such q system outputs)
+    → is_of_files (next_call (after i.answers)).function ≡ false → Goes Such q (resided (native_in system.residents q) q system) outputs
 unfolding next_call
-own_resided q system outputs w ready i =
-    subst (λ (o : Option Native). Goes q (resided o q system) outputs) (sym i.acts) (own_native (after i.answers).row q system outputs i refl w ready)
+own_resided {Such} q system outputs w ready i other =
+    subst (λ (o : Option Native). Goes Such q (resided o q system) outputs) (sym i.acts) (own_native (after i.answers).row q system outputs i refl w ready other)

@@ -2,9 +2,10 @@
 use Rattle.std.proofs.Common.{◌≡◌, ◌∙◌, ℕ, ◌+◌, ◌≤◌, Bool, false, List, [], Option, Some, None, Result, Ok, Err, is_some, length, refl, sym, ap, subst, arith}
 use Rattle.std.proofs.lemmas.List.{append-nil}
 use Rattle.mpm_script.specs.declared.event.Event.{Event}
-use Rattle.mpm_output.specs.Outside.{Outside, Device, DeviceFaults}
-use Rattle.mpm_output.specs.Writing.{CameOut, Stopped, Emits}
-use Rattle.mpm_output.proofs.WritingLaws.{emits_after, emits_same}
+use Rattle.mpm_render.specs.Shown.{KeptLines}
+use Rattle.mpm_output.specs.Outside.{Outside, DeviceFaults, seen}
+use Rattle.mpm_output.specs.Writing.{CameOut, Stopped}
+use Rattle.mpm_port.specs.declared.Failed.{Failed}
 use Rattle.mpm_port.specs.Disks.{Disks}
 use Rattle.mpm_render.specs.Outputs.{Output}
 use Rattle.mpm_directories.specs.Direct.{Directly}
@@ -13,6 +14,7 @@ use Rattle.mpm_system.specs.declared.system.System.{System}
 use Rattle.mpm_system.specs.Whole.{SystemChange, HasRoomForAll}
 use Rattle.mpm_system.specs.Coming.{coming, counted}
 use Rattle.mpm_machine.specs.declared.machine.StepFault.TheVariants.{WriteFault}
+use Rattle.mpm_machine.specs.Acting.{Makes}
 use Rattle.mpm_machine.specs.Faults.{FailureCounts, HaveCause, itself}
 use Rattle.mpm_machine.specs.Files.{FilesInService, StandsWorked}
 use Rattle.mpm_machine.specs.Finishing.{all_answered}
@@ -20,18 +22,20 @@ use Rattle.mpm_machine.specs.Step.{acted, interrupted_by, begun_by, then_also}
 use Rattle.mpm_machine.specs.FileCalls.{file_caller}
 use Rattle.mpm_machine.specs.Stepping.{begun_alone, begun_with, begun_as, is_instruction, nothing_told, files_begun_by, files_begun, before_disk}
 use Rattle.mpm_machine.specs.After.{IsOfSome, StopsBy, HasBegunTo}
+use Rattle.mpm_machine.proofs.MakingLaws.{makes_as, makes_after}
 use Rattle.mpm_machine.proofs.TallyLaws.{begun_more}
 use Rattle.mpm_machine.proofs.TurnLaws.{worked_on}
 use Rattle.mpm_machine.proofs.KeepingLaws.{ServesSame}
 
 -- where no event comes, what the running process does is what the step begins with
-pub emits_acted : {A E : Type 0} (device : E → Device) (r : Result A E) (event : Option Event) (old afterwards : System) (o m n : Outside)
-    → is_some event ≡ false → afterwards ≡ (interrupted_by event old).system → CameOut o m (interrupted_by event old).emitted
-    → Emits device m n (acted afterwards).emitted r → Emits device o n (begun_by event old).emitted r
-emits_acted device r None old afterwards o m n none is wrote emits =
-    let P : System → Type 0 = λ s. Emits device m n (acted s).emitted r in
-    emits_same device o n _ _ r (append-nil (acted old).emitted) (emits_after device o m n [] (acted old).emitted r wrote (subst P is emits))
-emits_acted device r (Some event) old afterwards o m n none is wrote emits = absurd (cc)
+pub makes_acted : {S A : Type 0} {written : S → List ℕ} {faults : S → ℕ} {kept mid kept' : KeptLines} {sink there sink' : S} {left : System} {r : Result A Failed} (event : Option Event)
+    (old afterwards : System) → is_some event ≡ false → afterwards ≡ (interrupted_by event old).system
+    → CameOut (seen written faults kept sink) (seen written faults mid there) (interrupted_by event old).emitted
+    → Makes written faults (acted afterwards) left mid there kept' sink' r → Makes written faults (begun_by event old) left kept sink kept' sink' r
+makes_acted {written = written} {faults = faults} {mid = mid} {kept' = kept'} {there = there} {sink' = sink'} {left = left} {r = r} None old afterwards none is wrote makes =
+    let P : System → Type 0 = λ s. Makes written faults (acted s) left mid there kept' sink' r in
+    makes_as _ _ (ap (λ emitted. record (acted old) { emitted = emitted }) (append-nil (acted old).emitted)) (makes_after [] (acted old) wrote (subst P is makes))
+makes_acted (Some event) old afterwards none is wrote makes = absurd (cc)
 
 -- the definitions, where none is made
 

@@ -21,6 +21,7 @@ use Rattle.mpm_machine.specs.Faults.{EndsBy}
 use Rattle.mpm_machine.specs.FileCalls.{file_caller, situation_of, outcome_in}
 use Rattle.mpm_machine.specs.DiskStep.{process_over, file_called, call_entered, disk_served, told_of_call, turns_within}
 use Rattle.mpm_machine.specs.Stepping.{rest_of, nothing_told, before_disk, files_begun, told_within, paid_after, files_then, telling_then, telling_of, files_rest, StepMade, stepped}
+use Rattle.mpm_machine.specs.Printing.{IsPrinting}
 use Rattle.mpm_machine.specs.Spooling.{IsSpooling}
 use Rattle.mpm_machine.specs.Contained.{IsContainedBy, Instructs, OnlyInstructed, CallsAtGate, DiffersInBytes, ServedByValue, Resides, ResidedByValue}
 
@@ -66,7 +67,8 @@ EntersByValue system =
     → situation_of filing function p other ≡ situation_of filing function p system
 
 -- what is so of the step of a state, by what its files show: each byte that it changes is one that it writes or answers. An instruction
--- leaves all but what is its own, and a call is served by what it took. A spooler goes on, and what it prints stands last on its printer
+-- leaves all but what is its own, and a call is served by what it took. A spooler goes on, and what it prints stands last on its printer: a first
+-- part of its file's text
 pub record IsStepOf (s : State) : Type 0 where
   pub contained : IsContainedBy (telling_of s.system s.files) s.system (next s).system
   pub instruction : (p seg : ℕ) → Instructs s.system p seg → OnlyInstructed (telling_of s.system s.files) p s.system (next s).system
@@ -77,6 +79,7 @@ pub record IsStepOf (s : State) : Type 0 where
   pub over : IsOverByValue (process_over (before_disk s.system s.files).system) (before_disk s.system s.files).system
   pub enters : EntersByValue (paid_after (telling_of s.system s.files).at_disk (before_disk s.system s.files).system)
   pub spools : (q : ℕ) → IsSpooling q s.system s.outputs → IsSpooling q (next s).system (next s).outputs
+  pub prints : (q : ℕ) → IsPrinting q s → IsPrinting q (next s)
 
 -- what a step begins with was done, by what is on the drives
 pub record HasBegunTo (files : FilesInService) (before behind : Outside) (old new : System) (kept : Filed) (disks : Disks) : Type 0 where

@@ -1,6 +1,6 @@
 -- The faults of a machine's devices: the counts, and what was written.
-use Rattle.std.specs.Prelude.{◌≡◌, ℕ, List, ◌++◌, Result, OnOk, IfErr, ⊤}
-use Rattle.mpm_port.specs.Causes.{Rose}
+use Rattle.std.specs.Prelude.{◌≡◌, ℕ, Bool, List, ◌++◌, Result, OnOk, IfErr, ⊤}
+use Rattle.mpm_port.specs.Causes.{Rose, HasCause}
 use Rattle.mpm_render.specs.Shown.{EndsBetween}
 use Rattle.mpm_machine.specs.declared.machine.StepFault.{StepFault}
 use Rattle.mpm_machine.specs.declared.machine.StepFault.TheVariants.{DiskFault, WriteFault}
@@ -23,6 +23,16 @@ HasFailed DiskFault old new = Rose old.drives new.drives × (new.sink ≡ old.si
 pub record HaveCause {A E : Type 0} (fault : E → StepFault) (old new : FailureCounts) (result : Result A E) : Type 0 where
   pub stays : OnOk result (new ≡ old)
   pub failed : IfErr result (λ error. HasFailed (fault error) old new)
+
+-- whether a part stopped or not, records of calls are asked for as before, and what failed has its cause
+pub record EndsByCause {A E : Type 0} (fault : E → StepFault) (before behind : Bool) (old new : FailureCounts) (result : Result A E) : Type 0 where
+  pub trace : behind ≡ before
+  pub cause : HaveCause fault old new result
+
+-- so it is of a part that calls no drive
+pub record EndsBySink {A E : Type 0} (before behind : Bool) (old new : ℕ) (result : Result A E) : Type 0 where
+  pub trace : behind ≡ before
+  pub cause : HasCause old new result
 
 abbrev pub itself : StepFault → StepFault
 itself fault = fault

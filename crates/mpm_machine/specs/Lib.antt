@@ -1,8 +1,11 @@
 pub mod Files
+pub mod Printing
 pub mod State
 pub mod Faults
 pub mod Mounting
+pub mod Booting
 pub mod Ending
+pub mod Acting
 pub mod Serving
 pub mod Loaded
 pub mod Residing
@@ -21,6 +24,7 @@ pub mod Filed
 pub mod Failing
 pub mod Contained
 pub mod After
+pub mod Standing
 pub mod AtEnd
 pub mod OneStep
 pub mod Parts

@@ -70,6 +70,13 @@ pub record MayEnd (machine : Machine) : Type 0 where
   pub completed : machine.system.kernel.dispatcher.completed ≡ []
   pub calls : HoldsCalls machine.system.kernel machine.bdos.service
 
+-- so it is before the rest of the step, in which records have room
+pub record MayEndStep (machine : Machine) : Type 0 where
+  pub whole : IsWhole machine.system
+  pub completed : machine.system.kernel.dispatcher.completed ≡ []
+  pub calls : HoldsCalls machine.system.kernel machine.bdos.service
+  pub room : HasRoomForAll (length machine.system.records + 1)
+
 -- what a step begins with was done: by what some file call came to, which leaves the call in service
 pub record HasBegunStep {D : Type 0} (disks : D → Disks) (old new : Machine) (drives : D) : Type 0 where
   pub made : IsOfSome (λ (told : Directly). (begun_as told old.system).system) new.system

@@ -8,6 +8,8 @@ use Rattle.mpm_render.specs.Outputs.{Output, Said, Completed}
 use Rattle.mpm_base.specs.declared.unit.Unit.{Unit}
 use Rattle.mpm_base.specs.declared.unit.Unit.TheVariants.{Console, Printer}
 use Rattle.mpm_spool.specs.Spoolers.{Spooler, next_call, record_in, after}
+use Rattle.mpm_spool.specs.SpoolLists.{no_item}
+use Rattle.mpm_spool.specs.declared.list.SpoolItem.{SpoolItem}
 use Rattle.mpm_spool.specs.declared.table.Row.{Row}
 use Rattle.mpm_spool.specs.declared.table.Row.TheVariants.{Open, Attach, AskStop, Read, Print, Detach, Close, Delete}
 
@@ -29,6 +31,16 @@ unfoldable pub read_in : List Answer → List ℕ
 read_in [] = []
 read_in (reply ∷ earlier) = read_by (after earlier).row reply (read_in earlier)
 
+-- whether the last answer to function 20, since the file was opened, was that there is no more to read
+abbrev pub ended_by : Row → Answer → Bool → Bool
+ended_by Open reply ended = false
+ended_by Read reply ended = reply.hl == 1
+ended_by _ reply ended = ended
+
+unfoldable pub ended_in : List Answer → Bool
+ended_in [] = false
+ended_in (reply ∷ earlier) = ended_by (after earlier).row reply (ended_in earlier)
+
 -- and those with which it has called function 5 since
 abbrev pub printed_by : Row → ℕ → List ℕ → List ℕ
 printed_by Open byte bytes = []
@@ -38,6 +50,15 @@ printed_by _ byte bytes = bytes
 unfoldable pub printed_in : List Answer → List ℕ
 printed_in [] = []
 printed_in (reply ∷ earlier) = printed_by (after earlier).row (next_call (after earlier)).word (printed_in earlier)
+
+-- the item whose file it opened last
+abbrev pub item_by : Row → SpoolItem → SpoolItem → SpoolItem
+item_by Open item earlier = item
+item_by _ item earlier = earlier
+
+unfoldable pub item_in : List Answer → SpoolItem
+item_in [] = no_item
+item_in (reply ∷ earlier) = item_by (after earlier).row (after earlier).item (item_in earlier)
 
 -- the rows in which it has its file open, in which the printer is its own, and in which it has come to the end of the file
 abbrev pub has_file : Row → Bool

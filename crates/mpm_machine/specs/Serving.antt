@@ -2,8 +2,7 @@
 -- "BDOS Calling Conventions"; functions 47, chain to program; 128 to 130, memory segments; 144, create process; 150, send CLI
 -- command; 151, call resident system procedure; 152, parse filename; 154, return address of system data page; 156, return process
 -- descriptor address; 157, abort specified process.)
-use Rattle.std.specs.Prelude.{ℕ, length, Bool, true, false, not, [], ◌∷◌, ◌++◌, Option, Some, None, ◌==◌, ◌&&◌, ◌||◌, if◌then◌else◌}
-use Rattle.mpm_base.specs.Lists.{is_among}
+use Rattle.std.specs.Prelude.{ℕ, length, Bool, true, false, not, ◌++◌, Option, Some, None, ◌==◌, ◌&&◌, ◌||◌, if◌then◌else◌}
 use Rattle.mpm_base.specs.Calls.{Taken, Answer, answering}
 use Rattle.mpm_base.specs.declared.call.Outcome.{Outcome}
 use Rattle.mpm_base.specs.declared.call.Outcome.TheVariants.{Done, Held, Retry, Ended}
@@ -77,14 +76,7 @@ served_to_all call p system =
     else (if call.function == SEND_CLI_COMMAND then served_by (sending (has_interpreter system) p system.kernel) system
     else (calling p system))))
 
--- whether a call is served here, and not by the kernel alone
-abbrev pub is_for_system : ℕ → Bool
-is_for_system function =
-    is_among function
-    (CHAIN_TO_PROGRAM ∷ ABSOLUTE_MEMORY_REQUEST ∷ RELOCATABLE_MEMORY_REQUEST ∷ MEMORY_FREE ∷ CREATE_PROCESS ∷ SEND_CLI_COMMAND
-    ∷ PARSE_FILENAME ∷ SYSTEM_DATA_ADDRESS ∷ RETURN_PROCESS_DESCRIPTOR_ADDRESS ∷ ABORT_SPECIFIED_PROCESS ∷ [])
-
--- the call is done
+-- and those of programs alone: the call is done
 unfoldable pub served : Taken → ℕ → System → Served
 served call p system =
     if call.function == CREATE_PROCESS then creating p system

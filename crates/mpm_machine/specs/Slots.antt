@@ -5,6 +5,7 @@ use Rattle.mpm_base.specs.Counts.{one_if}
 use Rattle.mpm_base.specs.declared.number.Name8.{Name8}
 use Rattle.mpm_dispatcher.specs.Dispatch.{IsReady}
 use Rattle.mpm_procs.specs.Table.{Lives, process_in, call_of}
+use Rattle.mpm_procs.specs.declared.process.Process.{Process}
 use Rattle.mpm_residents.specs.Terminals.{opening}
 use Rattle.mpm_residents.specs.declared.native.Native.{Native}
 use Rattle.mpm_residents.specs.declared.native.Native.TheVariants.{Tmp, Cli, Spool, Sched}
@@ -27,15 +28,29 @@ pub record HasInterpreter (consoles : ℕ) (system : System) : Type 0 where
   pub calls : (call_of system.kernel.dispatcher.procs 0).function ≡ 0
   pub resident : native_in system.residents 0 ≡ Some (Cli (opening_interpreter consoles))
 
+-- what a process has set, by which its calls on printers and files go: the number of its printer, its drive, its user and its multi-sector
+-- count. A resident begins with printer 0, drive A, user 0 and a count of one record
+pub record Settings : Type 0 where
+  pub printer : ℕ
+  pub drive : ℕ
+  pub user : ℕ
+  pub multi : ℕ
+
+abbrev pub settings_of : Process → Settings
+settings_of process = record { printer = process.printer; drive = process.drive; user = process.user; multi = process.multi }
+
+abbrev pub first_settings : Settings
+first_settings = record { printer = 0; drive = 0; user = 0; multi = 1 }
+
 -- a slot has the process of a name, in which a resident acts; it lives in no segment, takes extended errors as answers, no end of it is put
--- off, it prints on printer 0, and it has called nothing yet
+-- off, it has set nothing, and it has called nothing yet
 pub record HasResident (p : ℕ) (named : Name8) (native : Native) (system : System) : Type 0 where
   pub lives : Lives system.kernel.dispatcher.procs p
   pub name : (process_in system.kernel.dispatcher.procs p).name ≡ named
   pub resides : (process_in system.kernel.dispatcher.procs p).seg ≡ None
   pub answers : (process_in system.kernel.dispatcher.procs p).error_mode ≡ 255
   pub goes_on : (process_in system.kernel.dispatcher.procs p).abort_due ≡ false
-  pub printer : (process_in system.kernel.dispatcher.procs p).printer ≡ 0
+  pub set : settings_of (process_in system.kernel.dispatcher.procs p) ≡ first_settings
   pub calls : (call_of system.kernel.dispatcher.procs p).function ≡ 0
   pub resident : native_in system.residents p ≡ Some native
 

@@ -18,17 +18,20 @@ use Rattle.mpm_spool.specs.declared.table.Row.TheVariants.{ReadList, Attach}
 use Rattle.mpm_system.specs.declared.system.System.{System}
 use Rattle.mpm_machine.specs.FileCalls.{is_of_files}
 use Rattle.mpm_machine.specs.Interpreting.{sets_or_chains}
+use Rattle.mpm_machine.specs.Files.{owes}
+use Rattle.mpm_machine.specs.Slots.{settings_of, first_settings}
 use Rattle.mpm_machine.specs.Printed.{printed_in, has_printer, bytes_to}
 
--- a resident of a slot lives there in no segment, takes extended errors as answers, no end of it is put off, its last call neither set
--- the error mode nor chained, and it prints on printer 0
+-- a resident of a slot lives there in no segment, takes extended errors as answers, no end of it is put off, it owes nothing, and its last
+-- call neither set the error mode nor chained. It prints on printer 0, and its file calls are of drive A, of user 0 and of one record
 pub record IsAtHome (q : ℕ) (system : System) : Type 0 where
   pub lives : Lives system.kernel.dispatcher.procs q
   pub resides : (process_in system.kernel.dispatcher.procs q).seg ≡ None
   pub answers : (process_in system.kernel.dispatcher.procs q).error_mode ≡ 255
   pub goes_on : (process_in system.kernel.dispatcher.procs q).abort_due ≡ false
   pub calls : sets_or_chains (call_of system.kernel.dispatcher.procs q).function ≡ false
-  pub number : (process_in system.kernel.dispatcher.procs q).printer ≡ 0
+  pub set : settings_of (process_in system.kernel.dispatcher.procs q) ≡ first_settings
+  pub pays : owes system.owed q ≡ false
 
 -- it awaits a list of files as it reads one, may wait for the printer as it attaches it, and awaits the answer to its file call while
 -- that is at the disk; else it awaits nothing, is ready, and each answer comes at once
@@ -48,6 +51,7 @@ opens_or_attaches function = function == OPEN_FILE || function == ATTACH_LIST
 pub record IsFiled (q : ℕ) (answers : List Answer) (system : System) : Type 0 where
   pub files : is_of_files (next_call (after answers)).function ≡ true
   pub kept : (call_of system.kernel.dispatcher.procs q).function ≡ (next_call (after answers)).function
+  pub block : (call_of system.kernel.dispatcher.procs q).fcb ≡ (next_call (after answers)).fcb
 
 -- the spooler acts in a slot, as it is after some answers
 pub record IsSpooling (q : ℕ) (system : System) (outputs : List Output) : Type 0 where

@@ -1,6 +1,5 @@
 ghost use Rattle.std.specs.Prelude.{◌≡◌};
-ghost use Rattle.mpm_procs.specs.Table.{Lives};
-ghost use Rattle.mpm_system.specs.Whole.{IsWhole};
+ghost use Rattle.mpm_machine.specs.Acting.{LivesWithin, Gives};
 ghost use Rattle.mpm_machine.specs.Serving.{aborting, aborted};
 
 use mpm_base::{FAILURE_CODE, Outcome, Pid, Reply};
@@ -11,11 +10,8 @@ use mpm_system::System;
 #[inline(never)]
 #[tactic(auto, unfolding(crate::specs::Serving::aborting))]
 pub(crate) fn abort(system: &mut System, p: Pid, reply: &mut Reply) -> Outcome
-    requires whole { IsWhole system.old }
-    requires lives { Lives system.old.kernel.dispatcher.procs p }
-    ensures system { system.new ≡ (aborting p system.old).system }
-    ensures outcome { result ≡ (aborting p system.old).outcome }
-    ensures reply { reply.new ≡ (aborting p system.old).reply }
+    requires { LivesWithin p system.old }
+    ensures { Gives (aborting p system.old) system.new result reply.new }
 {
     let Some(other) = mpm_xdos::target(&system.kernel, p) else {
         reply.answer(FAILURE_CODE);
@@ -33,8 +29,7 @@ pub(crate) fn abort(system: &mut System, p: Pid, reply: &mut Reply) -> Outcome
 /// while a call of it is in service.
 #[tactic(auto, using(mpm_system::proofs::WholeLaws::segment_is_there, crate::proofs::WholeLaws::slot_is_there), unfolding(crate::specs::Serving::aborted))]
 pub(crate) fn abort_process(system: &mut System, p: Pid)
-    requires whole { IsWhole system.old }
-    requires lives { Lives system.old.kernel.dispatcher.procs p }
+    requires { LivesWithin p system.old }
     ensures { system.new ≡ aborted p system.old }
 {
     let waits = mpm_xdos::waits_to_end(&system.kernel, p);

@@ -1,13 +1,13 @@
 ghost use Rattle.std.specs.Prelude.{◌≡◌, ◌<◌, ◌≤◌, ◌+◌, true, Some, None, is_some, IfOk, OnOk, length};
 ghost use Rattle.mpm_script.specs.declared.line.TheConstants.{GREATEST_STEP};
-ghost use Rattle.mpm_procs.specs.Table.{Lives, process_in};
-ghost use Rattle.mpm_dispatcher.specs.Dispatch.{IsReady};
+ghost use Rattle.mpm_procs.specs.Table.{Lives};
 ghost use Rattle.mpm_output.specs.Writing.{WritesAlone};
 ghost use Rattle.mpm_gate.specs.Gates.{IsHome};
 ghost use Rattle.mpm_gate.specs.declared.gate.Gate.TheVariants.{Return};
 ghost use Rattle.mpm_system.specs.Procedures.{is_inside};
 ghost use Rattle.mpm_system.specs.Whole.{IsWhole, NoCompletions, HasRoom, HasRoomForAll};
 ghost use Rattle.mpm_system.specs.Coming.{coming};
+ghost use Rattle.mpm_machine.specs.Acting.{LivesWithin, ActsIn, Makes};
 ghost use Rattle.mpm_machine.specs.Step.{acted, acted_at, at_instruction, gate_before, is_no_gate, begun_by, instruction_unless, instruction_at, instructed, executed, illegal as at_unlisted};
 ghost use Rattle.mpm_machine.specs.Finishing.{all_answered};
 ghost use Rattle.mpm_machine.specs.Stepping.{begun_alone, is_instruction};
@@ -59,9 +59,8 @@ fn begin<S: Sink>(
     requires most { system.old.steps ≤ GREATEST_STEP }
     requires whole { IsWhole system.old }
     requires room { HasRoom system.old }
-    ensures system { OnOk result (system.new ≡ (begun_by (coming system.old) system.old).system) }
+    ensures done { Makes S.written S.faults (begun_by (coming system.old) system.old) system.new render.old sink.old render.new sink.new result }
     ensures instruction { IfOk result (λ instruction. instruction ≡ instruction_unless (coming system.old) system.old) }
-    ensures wrote { WritesAlone S.written S.faults render.old sink.old render.new sink.new (begun_by (coming system.old) system.old).emitted result }
 {
     let came = interrupt(system, render, sink)?;
     if came {
@@ -81,9 +80,8 @@ fn act<S: Sink>(
 ) -> Result<bool, Failed>
     requires whole { IsWhole system.old }
     requires room { HasRoom system.old }
-    ensures system { OnOk result (system.new ≡ (acted system.old).system) }
+    ensures done { Makes S.written S.faults (acted system.old) system.new render.old sink.old render.new sink.new result }
     ensures instruction { IfOk result (λ instruction. instruction ≡ at_instruction system.old) }
-    ensures wrote { WritesAlone S.written S.faults render.old sink.old render.new sink.new (acted system.old).emitted result }
 {
     let Some(p) = system.kernel.running() else {
         return Ok(false);
@@ -107,14 +105,9 @@ fn act_at<S: Sink>(
     render: &mut Render,
     sink: &mut S,
 ) -> Result<bool, Failed>
-    requires whole { IsWhole system.old }
-    requires lives { Lives system.old.kernel.dispatcher.procs p }
-    requires ready { IsReady system.old.kernel.dispatcher p }
-    requires home { (process_in system.old.kernel.dispatcher.procs p).seg ≡ Some seg }
-    requires room { HasRoom system.old }
-    ensures system { OnOk result (system.new ≡ (acted_at (gate_before p seg system.old) p seg system.old).system) }
+    requires { ActsIn p seg system.old }
+    ensures done { Makes S.written S.faults (acted_at (gate_before p seg system.old) p seg system.old) system.new render.old sink.old render.new sink.new result }
     ensures instruction { IfOk result (λ instruction. instruction ≡ is_no_gate (gate_before p seg system.old)) }
-    ensures wrote { WritesAlone S.written S.faults render.old sink.old render.new sink.new (acted_at (gate_before p seg system.old) p seg system.old).emitted result }
 {
     match gate(system, p, seg) {
         Some(Gate::End) => {
@@ -159,12 +152,10 @@ fn execute<S: Sink>(
     render: &mut Render,
     sink: &mut S,
 ) -> Result<(), Failed>
-    requires whole { IsWhole system.old }
-    requires lives { Lives system.old.kernel.dispatcher.procs p }
+    requires living { LivesWithin p system.old }
     requires home { IsHome system.old.memory seg }
     requires gate { gate_before p seg system.old ≡ None }
-    ensures system { OnOk result (system.new ≡ (executed (instruction_at p seg system.old) p seg system.old).system) }
-    ensures wrote { WritesAlone S.written S.faults render.old sink.old render.new sink.new (executed (instruction_at p seg system.old) p seg system.old).emitted result }
+    ensures { Makes S.written S.faults (executed (instruction_at p seg system.old) p seg system.old) system.new render.old sink.old render.new sink.new result }
 {
     if instruct(system, p, seg) {
         return Ok(());
@@ -200,10 +191,8 @@ fn illegal<S: Sink>(
     render: &mut Render,
     sink: &mut S,
 ) -> Result<(), Failed>
-    requires whole { IsWhole system.old }
-    requires lives { Lives system.old.kernel.dispatcher.procs p }
-    ensures system { OnOk result (system.new ≡ (at_unlisted p system.old).system) }
-    ensures wrote { WritesAlone S.written S.faults render.old sink.old render.new sink.new (at_unlisted p system.old).emitted result }
+    requires { LivesWithin p system.old }
+    ensures { Makes S.written S.faults (at_unlisted p system.old) system.new render.old sink.old render.new sink.new result }
 {
     let process = system.kernel.living(p);
     let console = process.console;

@@ -1,12 +1,11 @@
-ghost use Rattle.std.specs.Prelude.{true, ◌≡◌, ◌≢◌, ◌≤◌, Some, OnOk, length};
+ghost use Rattle.std.specs.Prelude.{◌≡◌, ◌≢◌, ◌≤◌, length};
 ghost use Rattle.mpm_base.specs.declared.call.Outcome.TheVariants.{Done};
-ghost use Rattle.mpm_procs.specs.Table.{Lives, process_in, call_of};
-ghost use Rattle.mpm_dispatcher.specs.Dispatch.{IsReady};
-ghost use Rattle.mpm_output.specs.Writing.{WritesAlone};
+ghost use Rattle.mpm_procs.specs.Table.{Lives, call_of};
 ghost use Rattle.mpm_base.specs.Calls.{Answer};
-ghost use Rattle.mpm_system.specs.Whole.{IsWhole, HasRoom, silent};
+ghost use Rattle.mpm_system.specs.Whole.{silent};
 ghost use Rattle.mpm_system.specs.Taking.{IsTaken};
-ghost use Rattle.mpm_machine.specs.Serving.{is_for_system as needs_system, served, served_to_all, creating, telling_system, telling_descriptor, fulfilling, completing, after_echo, outcome_of, gate_step};
+ghost use Rattle.mpm_machine.specs.Acting.{LivesWithin, IsReadyWithin, ActsIn, MayAnswer, Gives, Makes};
+ghost use Rattle.mpm_machine.specs.Serving.{served, served_to_all, creating, telling_system, telling_descriptor, fulfilling, completing, after_echo, outcome_of, gate_step};
 ghost use Rattle.mpm_machine.specs.Ending.{ended};
 
 use crate::abort::abort;
@@ -15,27 +14,6 @@ use mpm_base::{Outcome, Pid, Reply, Seg, functions};
 use mpm_port::{Failed, Sink};
 use mpm_render::Render;
 use mpm_system::System;
-
-/// Whether the call of a function needs more than the kernel. No lower one does.
-#[inline(always)]
-fn is_for_system(function: u8) -> bool
-    ensures { result ≡ needs_system function }
-{
-    functions::CHAIN_TO_PROGRAM <= function
-        && matches!(
-            function,
-            functions::CHAIN_TO_PROGRAM
-                | functions::ABSOLUTE_MEMORY_REQUEST
-                | functions::RELOCATABLE_MEMORY_REQUEST
-                | functions::MEMORY_FREE
-                | functions::CREATE_PROCESS
-                | functions::SEND_CLI_COMMAND
-                | functions::PARSE_FILENAME
-                | functions::SYSTEM_DATA_ADDRESS
-                | functions::RETURN_PROCESS_DESCRIPTOR_ADDRESS
-                | functions::ABORT_SPECIFIED_PROCESS
-        )
-}
 
 /// The gate step of a kernel call of a process of a segment.
 pub(crate) fn call<S: Sink>(
@@ -46,13 +24,8 @@ pub(crate) fn call<S: Sink>(
     render: &mut Render,
     sink: &mut S,
 ) -> Result<(), Failed>
-    requires whole { IsWhole system.old }
-    requires lives { Lives system.old.kernel.dispatcher.procs p }
-    requires ready { IsReady system.old.kernel.dispatcher p }
-    requires home { (process_in system.old.kernel.dispatcher.procs p).seg ≡ Some seg }
-    requires room { HasRoom system.old }
-    ensures system { OnOk result (system.new ≡ (gate_step p seg system.old).system) }
-    ensures wrote { WritesAlone S.written S.faults render.old sink.old render.new sink.new (gate_step p seg system.old).emitted result }
+    requires { ActsIn p seg system.old }
+    ensures { Makes S.written S.faults (gate_step p seg system.old) system.new render.old sink.old render.new sink.new result }
 {
     system.take_call(p, seg);
     let outcome = serve(system, p, reply);
@@ -70,11 +43,8 @@ fn conclude<S: Sink>(
     render: &mut Render,
     sink: &mut S,
 ) -> Result<(), Failed>
-    requires whole { IsWhole system.old }
-    requires lives { Lives system.old.kernel.dispatcher.procs p }
-    requires room { HasRoom system.old }
-    ensures system { OnOk result (system.new ≡ (outcome_of outcome reply.old (call_of system.old.kernel.dispatcher.procs p) p seg system.old).system) }
-    ensures wrote { WritesAlone S.written S.faults render.old sink.old render.new sink.new (after_echo (call_of system.old.kernel.dispatcher.procs p) p system.old (outcome_of outcome reply.old (call_of system.old.kernel.dispatcher.procs p) p seg system.old)).emitted result }
+    requires { MayAnswer p system.old }
+    ensures { Makes S.written S.faults (after_echo (call_of system.old.kernel.dispatcher.procs p) p system.old (outcome_of outcome reply.old (call_of system.old.kernel.dispatcher.procs p) p seg system.old)) system.new render.old sink.old render.new sink.new result }
 {
     if outcome == Outcome::Done {
         return conclude_done(system, p, seg, reply, render, sink);
@@ -92,11 +62,8 @@ fn conclude_done<S: Sink>(
     render: &mut Render,
     sink: &mut S,
 ) -> Result<(), Failed>
-    requires whole { IsWhole system.old }
-    requires lives { Lives system.old.kernel.dispatcher.procs p }
-    requires room { HasRoom system.old }
-    ensures system { OnOk result (system.new ≡ (completing reply.old (call_of system.old.kernel.dispatcher.procs p) p seg system.old).system) }
-    ensures wrote { WritesAlone S.written S.faults render.old sink.old render.new sink.new (after_echo (call_of system.old.kernel.dispatcher.procs p) p system.old (completing reply.old (call_of system.old.kernel.dispatcher.procs p) p seg system.old)).emitted result }
+    requires { MayAnswer p system.old }
+    ensures { Makes S.written S.faults (after_echo (call_of system.old.kernel.dispatcher.procs p) p system.old (completing reply.old (call_of system.old.kernel.dispatcher.procs p) p seg system.old)) system.new render.old sink.old render.new sink.new result }
 {
     system.put_echo(p, render, sink)?;
     complete(system, p, seg, reply, render, sink)
@@ -113,11 +80,9 @@ fn conclude_undone<S: Sink>(
     render: &mut Render,
     sink: &mut S,
 ) -> Result<(), Failed>
-    requires whole { IsWhole system.old }
-    requires lives { Lives system.old.kernel.dispatcher.procs p }
+    requires living { LivesWithin p system.old }
     requires undone { outcome ≢ Done }
-    ensures system { (reply : Answer) → OnOk result (system.new ≡ (outcome_of outcome reply (call_of system.old.kernel.dispatcher.procs p) p seg system.old).system) }
-    ensures wrote { (reply : Answer) → WritesAlone S.written S.faults render.old sink.old render.new sink.new (after_echo (call_of system.old.kernel.dispatcher.procs p) p system.old (outcome_of outcome reply (call_of system.old.kernel.dispatcher.procs p) p seg system.old)).emitted result }
+    ensures { (reply : Answer) → Makes S.written S.faults (after_echo (call_of system.old.kernel.dispatcher.procs p) p system.old (outcome_of outcome reply (call_of system.old.kernel.dispatcher.procs p) p seg system.old)) system.new render.old sink.old render.new sink.new result }
 {
     system.put_echo(p, render, sink)?;
     bring_about(system, outcome, p, seg);
@@ -126,8 +91,7 @@ fn conclude_undone<S: Sink>(
 
 /// What the outcome of the call that a process keeps brings about, where it isn't done.
 fn bring_about(system: &mut System, outcome: Outcome, p: Pid, seg: Seg)
-    requires whole { IsWhole system.old }
-    requires lives { Lives system.old.kernel.dispatcher.procs p }
+    requires living { LivesWithin p system.old }
     requires undone { outcome ≢ Done }
     ensures { (reply : Answer) → silent system.new ≡ outcome_of outcome reply (call_of system.old.kernel.dispatcher.procs p) p seg system.old }
 {
@@ -138,37 +102,13 @@ fn bring_about(system: &mut System, outcome: Outcome, p: Pid, seg: Seg)
     }
 }
 
-/// Does the call that a process keeps: mostly the kernel does it.
+/// Does the call that a process keeps. The functions here are those that no resident calls.
 #[inline(always)]
-#[tactic(auto, unfolding(crate::specs::Serving::served, crate::specs::Serving::served_to_all))]
+#[tactic(auto, using(crate::proofs::TakenLaws::few_descriptors, crate::proofs::TakenLaws::short_text), unfolding(crate::specs::Serving::served))]
 fn serve(system: &mut System, p: Pid, reply: &mut Reply) -> Outcome
-    requires whole { IsWhole system.old }
-    requires lives { Lives system.old.kernel.dispatcher.procs p }
-    requires ready { IsReady system.old.kernel.dispatcher p }
+    requires acts { IsReadyWithin p system.old }
     requires taken { IsTaken (call_of system.old.kernel.dispatcher.procs p) }
-    ensures system { system.new ≡ (served (call_of system.old.kernel.dispatcher.procs p) p system.old).system }
-    ensures outcome { result ≡ (served (call_of system.old.kernel.dispatcher.procs p) p system.old).outcome }
-    ensures reply { reply.new ≡ (served (call_of system.old.kernel.dispatcher.procs p) p system.old).reply }
-{
-    if is_for_system(system.kernel.kept_call(p).function) {
-        return serve_here(system, p, reply);
-    }
-    system.kernel.call(p, reply)
-}
-
-/// Does the call that a process keeps, which isn't the kernel's alone.
-#[cold]
-#[inline(never)]
-#[tactic(auto, using(crate::proofs::TakenLaws::few_descriptors, crate::proofs::TakenLaws::short_text), unfolding(crate::specs::Serving::served, crate::specs::Serving::served_to_all))]
-fn serve_here(system: &mut System, p: Pid, reply: &mut Reply) -> Outcome
-    requires whole { IsWhole system.old }
-    requires lives { Lives system.old.kernel.dispatcher.procs p }
-    requires ready { IsReady system.old.kernel.dispatcher p }
-    requires here { needs_system (call_of system.old.kernel.dispatcher.procs p).function ≡ true }
-    requires taken { IsTaken (call_of system.old.kernel.dispatcher.procs p) }
-    ensures system { system.new ≡ (served (call_of system.old.kernel.dispatcher.procs p) p system.old).system }
-    ensures outcome { result ≡ (served (call_of system.old.kernel.dispatcher.procs p) p system.old).outcome }
-    ensures reply { reply.new ≡ (served (call_of system.old.kernel.dispatcher.procs p) p system.old).reply }
+    ensures { Gives (served (call_of system.old.kernel.dispatcher.procs p) p system.old) system.new result reply.new }
 {
     match system.kernel.kept_call(p).function {
         functions::CREATE_PROCESS => create(system, p, reply),
@@ -177,26 +117,18 @@ fn serve_here(system: &mut System, p: Pid, reply: &mut Reply) -> Outcome
         functions::SYSTEM_DATA_ADDRESS => tell_system(system, reply),
         functions::RETURN_PROCESS_DESCRIPTOR_ADDRESS => tell_descriptor(system, p, reply),
         functions::CHAIN_TO_PROGRAM => system.chain(p, reply),
-        functions::ABSOLUTE_MEMORY_REQUEST => system.reserve(p, true, reply),
-        functions::RELOCATABLE_MEMORY_REQUEST => system.reserve(p, false, reply),
-        functions::MEMORY_FREE => system.release(p, reply),
-        _ => system.send_command(p, reply),
+        _ => serve_to_all(system, p, reply),
     }
 }
 
-/// Does the call that a process keeps, of those that residents make too.
+/// Does the call that a process keeps, of those that residents make too: mostly the kernel does it.
 #[inline(always)]
 #[tactic(auto, unfolding(crate::specs::Serving::served_to_all))]
 pub(crate) fn serve_to_all(system: &mut System, p: Pid, reply: &mut Reply) -> Outcome
-    requires whole { IsWhole system.old }
-    requires lives { Lives system.old.kernel.dispatcher.procs p }
-    requires ready { IsReady system.old.kernel.dispatcher p }
-    ensures system { system.new ≡ (served_to_all (call_of system.old.kernel.dispatcher.procs p) p system.old).system }
-    ensures outcome { result ≡ (served_to_all (call_of system.old.kernel.dispatcher.procs p) p system.old).outcome }
-    ensures reply { reply.new ≡ (served_to_all (call_of system.old.kernel.dispatcher.procs p) p system.old).reply }
+    requires { IsReadyWithin p system.old }
+    ensures { Gives (served_to_all (call_of system.old.kernel.dispatcher.procs p) p system.old) system.new result reply.new }
 {
-    let function = system.kernel.kept_call(p).function;
-    match function {
+    match system.kernel.kept_call(p).function {
         functions::ABSOLUTE_MEMORY_REQUEST => system.reserve(p, true, reply),
         functions::RELOCATABLE_MEMORY_REQUEST => system.reserve(p, false, reply),
         functions::MEMORY_FREE => system.release(p, reply),
@@ -209,12 +141,9 @@ pub(crate) fn serve_to_all(system: &mut System, p: Pid, reply: &mut Reply) -> Ou
 #[inline(never)]
 #[tactic(auto, using(mpm_system::proofs::WholeLaws::segment_is_there), unfolding(crate::specs::Serving::creating))]
 fn create(system: &mut System, p: Pid, reply: &mut Reply) -> Outcome
-    requires whole { IsWhole system.old }
-    requires lives { Lives system.old.kernel.dispatcher.procs p }
+    requires living { LivesWithin p system.old }
     requires few { length (call_of system.old.kernel.dispatcher.procs p).bytes ≤ 576 }
-    ensures system { system.new ≡ (creating p system.old).system }
-    ensures outcome { result ≡ (creating p system.old).outcome }
-    ensures reply { reply.new ≡ (creating p system.old).reply }
+    ensures { Gives (creating p system.old) system.new result reply.new }
 {
     mpm_xdos::create(&mut system.kernel, &system.memory, p, reply);
     Outcome::Done
@@ -223,8 +152,7 @@ fn create(system: &mut System, p: Pid, reply: &mut Reply) -> Outcome
 /// Function 154: tells the system data page.
 #[inline(never)]
 fn tell_system(system: &System, reply: &mut Reply) -> Outcome
-    ensures outcome { result ≡ (telling_system system.now).outcome }
-    ensures reply { reply.new ≡ (telling_system system.now).reply }
+    ensures { Gives (telling_system system.now) system.now result reply.new }
 {
     mpm_xdos::tell_system(&system.kernel, &system.memory, reply);
     Outcome::Done
@@ -234,8 +162,7 @@ fn tell_system(system: &System, reply: &mut Reply) -> Outcome
 #[inline(never)]
 fn tell_descriptor(system: &System, p: Pid, reply: &mut Reply) -> Outcome
     requires lives { Lives system.now.kernel.dispatcher.procs p }
-    ensures outcome { result ≡ (telling_descriptor p system.now).outcome }
-    ensures reply { reply.new ≡ (telling_descriptor p system.now).reply }
+    ensures { Gives (telling_descriptor p system.now) system.now result reply.new }
 {
     mpm_xdos::tell_descriptor(&system.kernel, p, reply);
     Outcome::Done
@@ -252,11 +179,8 @@ fn complete<S: Sink>(
     render: &mut Render,
     sink: &mut S,
 ) -> Result<(), Failed>
-    requires whole { IsWhole system.old }
-    requires lives { Lives system.old.kernel.dispatcher.procs p }
-    requires room { HasRoom system.old }
-    ensures system { OnOk result (system.new ≡ (completing reply.old (call_of system.old.kernel.dispatcher.procs p) p seg system.old).system) }
-    ensures wrote { WritesAlone S.written S.faults render.old sink.old render.new sink.new (completing reply.old (call_of system.old.kernel.dispatcher.procs p) p seg system.old).emitted result }
+    requires { MayAnswer p system.old }
+    ensures { Makes S.written S.faults (completing reply.old (call_of system.old.kernel.dispatcher.procs p) p seg system.old) system.new render.old sink.old render.new sink.new result }
 {
     system.speak(p, seg, render, sink)?;
     system.pop(p, seg);
@@ -269,9 +193,7 @@ fn complete<S: Sink>(
 #[inline(always)]
 #[tactic(auto, unfolding(crate::specs::Serving::fulfilling))]
 pub(crate) fn fulfil(system: &mut System, p: Pid, seg: Seg, reply: &mut Reply)
-    requires whole { IsWhole system.old }
-    requires lives { Lives system.old.kernel.dispatcher.procs p }
-    requires room { HasRoom system.old }
+    requires { MayAnswer p system.old }
     ensures { system.new ≡ fulfilling reply.old (call_of system.old.kernel.dispatcher.procs p) p seg system.old }
 {
     enter(system, p, reply);
@@ -283,8 +205,7 @@ pub(crate) fn fulfil(system: &mut System, p: Pid, seg: Seg, reply: &mut Reply)
 #[inline(never)]
 #[tactic(auto, using(mpm_system::proofs::WholeLaws::segment_is_there, crate::proofs::WholeLaws::slot_is_there), unfolding(crate::specs::Ending::ended))]
 pub(crate) fn end(system: &mut System, p: Pid)
-    requires whole { IsWhole system.old }
-    requires lives { Lives system.old.kernel.dispatcher.procs p }
+    requires { LivesWithin p system.old }
     ensures { system.new ≡ ended p system.old }
 {
     mpm_xdos::end(&mut system.kernel, &mut system.memory, p);

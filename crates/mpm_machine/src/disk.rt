@@ -1,9 +1,7 @@
-ghost use Rattle.std.specs.Prelude.{◌≡◌, ◌+◌, true, None, IsSome, OnOk, length};
+ghost use Rattle.std.specs.Prelude.{◌≡◌, true, None, IsSome};
 ghost use Rattle.mpm_procs.specs.Table.{Lives, call_of};
-ghost use Rattle.mpm_output.specs.Writing.{WritesAlone};
-ghost use Rattle.mpm_kernel.specs.Disk.{IsOver};
 ghost use Rattle.mpm_file_functions.specs.Functions.{function_of};
-ghost use Rattle.mpm_system.specs.Whole.{IsWhole, HasRoomForAll};
+ghost use Rattle.mpm_machine.specs.Acting.{MayEndCall, Makes};
 ghost use Rattle.mpm_machine.specs.FileCalls.{told_of};
 ghost use Rattle.mpm_machine.specs.DiskStep.{is_done_at_once as done_at_once, call_over};
 
@@ -39,11 +37,8 @@ pub(crate) fn end_file_call<S: Sink>(
     render: &mut Render,
     sink: &mut S,
 ) -> Result<(), Failed>
-    requires whole { IsWhole system.old }
-    requires over { IsOver p system.old.kernel }
-    requires room { HasRoomForAll (length system.old.records + 1) }
-    ensures system { OnOk result (system.new ≡ (call_over (told_of (call_of system.old.kernel.dispatcher.procs p) reply.old error) p system.old).system) }
-    ensures wrote { WritesAlone S.written S.faults render.old sink.old render.new sink.new (call_over (told_of (call_of system.old.kernel.dispatcher.procs p) reply.old error) p system.old).emitted result }
+    requires { MayEndCall p system.old }
+    ensures { Makes S.written S.faults (call_over (told_of (call_of system.old.kernel.dispatcher.procs p) reply.old error) p system.old) system.new render.old sink.old render.new sink.new result }
 {
     system.kernel.end_disk_call(p);
     conclude_file_call(system, p, error, reply, render, sink)?;

@@ -1,8 +1,8 @@
-ghost use Rattle.std.specs.Prelude.{◌≡◌, [], OnOk};
-ghost use Rattle.mpm_output.specs.Writing.{WritesAlone};
+ghost use Rattle.std.specs.Prelude.{◌≡◌};
 ghost use Rattle.mpm_kernel.specs.Kernel.{is_aborted};
 ghost use Rattle.mpm_system.specs.Whole.{IsWhole};
 ghost use Rattle.mpm_system.specs.Written.{records_out};
+ghost use Rattle.mpm_machine.specs.Acting.{HasNoRecords, Makes};
 ghost use Rattle.mpm_machine.specs.Due.{is_due as due_to_end, ended_if_due, all_due_terminated, with_ends};
 
 use crate::call::end;
@@ -22,8 +22,7 @@ pub(crate) fn end_all<S: Sink>(
     sink: &mut S,
 ) -> Result<(), Failed>
     requires whole { IsWhole system.old }
-    ensures system { OnOk result (system.new ≡ (records_out (with_ends system.old)).system) }
-    ensures wrote { WritesAlone S.written S.faults render.old sink.old render.new sink.new (records_out (with_ends system.old)).emitted result }
+    ensures { Makes S.written S.faults (records_out (with_ends system.old)) system.new render.old sink.old render.new sink.new result }
 {
     system.write_records(render, sink)?;
     end_due(system, reply, render, sink)
@@ -38,10 +37,8 @@ fn end_due<S: Sink>(
     render: &mut Render,
     sink: &mut S,
 ) -> Result<(), Failed>
-    requires whole { IsWhole system.old }
-    requires none { system.old.records ≡ [] }
-    ensures system { OnOk result (system.new ≡ (records_out (with_ends system.old)).system) }
-    ensures wrote { WritesAlone S.written S.faults render.old sink.old render.new sink.new (records_out (with_ends system.old)).emitted result }
+    requires { HasNoRecords system.old }
+    ensures { Makes S.written S.faults (records_out (with_ends system.old)) system.new render.old sink.old render.new sink.new result }
 {
     if system.abort_deferred {
         end_each_due(system, reply, render, sink)?;
@@ -59,10 +56,8 @@ fn end_each_due<S: Sink>(
     render: &mut Render,
     sink: &mut S,
 ) -> Result<(), Failed>
-    requires whole { IsWhole system.old }
-    requires none { system.old.records ≡ [] }
-    ensures system { OnOk result (system.new ≡ (records_out (all_due_terminated system.old)).system) }
-    ensures wrote { WritesAlone S.written S.faults render.old sink.old render.new sink.new (records_out (all_due_terminated system.old)).emitted result }
+    requires { HasNoRecords system.old }
+    ensures { Makes S.written S.faults (records_out (all_due_terminated system.old)) system.new render.old sink.old render.new sink.new result }
 {
     for number in 0..32 {
         if let Err(Failed) = end_if_due(system, Pid(number), reply, render, sink) {
@@ -81,10 +76,8 @@ fn end_if_due<S: Sink>(
     render: &mut Render,
     sink: &mut S,
 ) -> Result<(), Failed>
-    requires whole { IsWhole system.old }
-    requires none { system.old.records ≡ [] }
-    ensures system { OnOk result (system.new ≡ (records_out (ended_if_due p system.old)).system) }
-    ensures wrote { WritesAlone S.written S.faults render.old sink.old render.new sink.new (records_out (ended_if_due p system.old)).emitted result }
+    requires { HasNoRecords system.old }
+    ensures { Makes S.written S.faults (records_out (ended_if_due p system.old)) system.new render.old sink.old render.new sink.new result }
 {
     if is_due(system, p) {
         end(system, p);

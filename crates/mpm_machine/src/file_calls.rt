@@ -1,10 +1,10 @@
-ghost use Rattle.std.specs.Prelude.{◌≡◌, ◌<◌, true, Some, None, is_some, IfSome, OnOk, is_none};
+ghost use Rattle.std.specs.Prelude.{◌≡◌, ◌<◌, true, Some, None, is_some, IfSome, is_none};
 ghost use Rattle.mpm_script.specs.declared.line.TheConstants.{GREATEST_STEP};
 ghost use Rattle.mpm_procs.specs.Table.{Lives, call_of};
-ghost use Rattle.mpm_output.specs.Writing.{WritesAlone};
 ghost use Rattle.mpm_gate.specs.Gates.{IsHome};
 ghost use Rattle.mpm_file_functions.specs.declared.refusals.Extended.{Extended};
-ghost use Rattle.mpm_system.specs.Whole.{IsWhole, HasRoom};
+ghost use Rattle.mpm_system.specs.Whole.{IsWhole};
+ghost use Rattle.mpm_machine.specs.Acting.{LivesWithin, MayAnswer, Makes};
 ghost use Rattle.mpm_machine.specs.FileCalls.{is_of_files as is_file_function, called_next, is_file_number, calls_files as files_called, file_caller as caller_of_files, told_of, answered_or_ended, told_then, error_met, concluded};
 
 use crate::acting::gate;
@@ -46,8 +46,7 @@ pub(crate) fn file_caller(system: &System) -> Option<Pid>
 #[inline(always)]
 #[tactic(auto, unfolding(crate::specs::FileCalls::calls_files))]
 fn calls_files(system: &System, p: Pid) -> bool
-    requires whole { IsWhole system.now }
-    requires lives { Lives system.now.kernel.dispatcher.procs p }
+    requires { LivesWithin p system.now }
     ensures { result ≡ files_called p system.now }
 {
     match system.kernel.segment(p) {
@@ -97,11 +96,8 @@ pub(crate) fn conclude_file_call<S: Sink>(
     render: &mut Render,
     sink: &mut S,
 ) -> Result<(), Failed>
-    requires whole { IsWhole system.old }
-    requires lives { Lives system.old.kernel.dispatcher.procs p }
-    requires room { HasRoom system.old }
-    ensures system { OnOk result (system.new ≡ (concluded (told_of (call_of system.old.kernel.dispatcher.procs p) reply.now error) p system.old).system) }
-    ensures wrote { WritesAlone S.written S.faults render.old sink.old render.new sink.new (concluded (told_of (call_of system.old.kernel.dispatcher.procs p) reply.now error) p system.old).emitted result }
+    requires { MayAnswer p system.old }
+    ensures { Makes S.written S.faults (concluded (told_of (call_of system.old.kernel.dispatcher.procs p) reply.now error) p system.old) system.new render.old sink.old render.new sink.new result }
 {
     system.change_caller(p, error.is_none());
     match error {
@@ -123,11 +119,8 @@ fn meet_error<S: Sink>(
     render: &mut Render,
     sink: &mut S,
 ) -> Result<(), Failed>
-    requires whole { IsWhole system.old }
-    requires lives { Lives system.old.kernel.dispatcher.procs p }
-    requires room { HasRoom system.old }
-    ensures system { OnOk result (system.new ≡ (error_met error reply.now p system.old).system) }
-    ensures wrote { WritesAlone S.written S.faults render.old sink.old render.new sink.new (error_met error reply.now p system.old).emitted result }
+    requires { MayAnswer p system.old }
+    ensures { Makes S.written S.faults (error_met error reply.now p system.old) system.new render.old sink.old render.new sink.new result }
 {
     let mode = system.kernel.living(p).error_mode;
     if mode == ANSWERS {
@@ -156,11 +149,8 @@ fn tell_and_meet<S: Sink>(
     render: &mut Render,
     sink: &mut S,
 ) -> Result<(), Failed>
-    requires whole { IsWhole system.old }
-    requires lives { Lives system.old.kernel.dispatcher.procs p }
-    requires room { HasRoom system.old }
-    ensures system { OnOk result (system.new ≡ (told_then answers error reply.now p system.old).system) }
-    ensures wrote { WritesAlone S.written S.faults render.old sink.old render.new sink.new (told_then answers error reply.now p system.old).emitted result }
+    requires { MayAnswer p system.old }
+    ensures { Makes S.written S.faults (told_then answers error reply.now p system.old) system.new render.old sink.old render.new sink.new result }
 {
     system.tell_error(p, error, render, sink)?;
     answer_or_end(system, p, answers, reply);
@@ -169,9 +159,7 @@ fn tell_and_meet<S: Sink>(
 
 /// A file call whose extended error was displayed is answered, or ends its process.
 fn answer_or_end(system: &mut System, p: Pid, answers: bool, reply: &Reply)
-    requires whole { IsWhole system.old }
-    requires lives { Lives system.old.kernel.dispatcher.procs p }
-    requires room { HasRoom system.old }
+    requires { MayAnswer p system.old }
     ensures { system.new ≡ answered_or_ended answers reply.now p system.old }
 {
     if answers {

@@ -12,7 +12,7 @@ ghost use Rattle.mpm_directories.specs.Places.{in_places as in_their_places};
 ghost use Rattle.mpm_bdos.specs.Starting.{caller_of};
 ghost use Rattle.mpm_bdos.specs.Starting.{HasBegunService};
 ghost use Rattle.mpm_bdos.specs.Turns.{FitsDrives, has_work};
-ghost use Rattle.mpm_system.specs.Whole.{IsWhole};
+ghost use Rattle.mpm_machine.specs.Acting.{LivesWithin};
 ghost use Rattle.mpm_machine.specs.Files.{FilesInService, StandsBetween, StandsForFiles, StandsWorked, all_left};
 ghost use Rattle.mpm_machine.specs.Holding.{HoldsKept};
 ghost use Rattle.mpm_machine.specs.FileCalls.{outcome_in, situation_of, looked_at as as_looked_at};
@@ -75,8 +75,7 @@ pub(crate) fn call_files<D: Drives, L: Ledger>(
     drives: &mut D,
     steps: &mut Steps<L>,
 ) -> Result<Option<Extended>, Failed>
-    requires whole { IsWhole system.now }
-    requires lives { Lives system.now.kernel.dispatcher.procs p }
+    requires living { LivesWithin p system.now }
     requires fits { FitsDrives D.disks bdos.old.mounted bdos.old.cached drives.old }
     ensures done { (filing : Filing) → StandsBetween bdos.old (D.disks drives.old) filing
         → ComesToOutcome filing p system.now bdos.new reply.new (D.disks drives.new) steps.old steps.new result }
@@ -105,8 +104,7 @@ fn call_disk<D: Drives, L: Ledger>(
     drives: &mut D,
     steps: &mut Steps<L>,
 ) -> Result<Option<Extended>, Failed>
-    requires whole { IsWhole system.now }
-    requires lives { Lives system.now.kernel.dispatcher.procs p }
+    requires living { LivesWithin p system.now }
     requires fits { FitsDrives D.disks bdos.old.mounted bdos.old.cached drives.old }
     requires function { IsSome (function_of (call_of system.now.kernel.dispatcher.procs p).function) }
     ensures done { (filing : Filing) → StandsBetween bdos.old (D.disks drives.old) filing
@@ -146,8 +144,7 @@ fn call_directly(system: &System, bdos: &Bdos, p: Pid, reply: &mut Reply) -> Opt
 #[cold]
 #[inline(never)]
 pub(crate) fn start_call(system: &System, bdos: &mut Bdos, p: Pid) -> u32
-    requires whole { IsWhole system.now }
-    requires lives { Lives system.now.kernel.dispatcher.procs p }
+    requires living { LivesWithin p system.now }
     requires function { IsSome (function_of (call_of system.now.kernel.dispatcher.procs p).function) }
     ensures turns { (images : ℕ → List ℕ) (drives : List (Option Drive)) (function : FileFunction) → function_of (call_of system.now.kernel.dispatcher.procs p).function ≡ Some function
         → StandEach images bdos.old.mounted drives → result ≡ call_turns (situation_of (filing_of bdos.old drives) function p system.now) }

@@ -2,7 +2,8 @@ ghost use Rattle.std.specs.Prelude.{◌≡◌, ◌≤◌, ◌+◌, length, IfSom
 ghost use Rattle.mpm_procs.specs.Table.{Lives, process_in};
 ghost use Rattle.mpm_kernel.specs.Waiting.{completion_reply};
 ghost use Rattle.mpm_dispatcher.specs.Dispatch.{first_completed};
-ghost use Rattle.mpm_system.specs.Whole.{IsWhole, HasRoom, HasRoomForAll, most_records};
+ghost use Rattle.mpm_system.specs.Whole.{IsWhole, HasRoomForAll, most_records};
+ghost use Rattle.mpm_machine.specs.Acting.{MayAnswer, MayAnswerAll};
 ghost use Rattle.mpm_machine.specs.Finishing.{finished, completion_dequeued, all_finished, command_let_in, finished_or_ended, all_answered};
 
 use crate::call::{end, fulfil};
@@ -13,8 +14,7 @@ use mpm_system::System;
 /// of them.
 #[inline(always)]
 pub(crate) fn answer_all(system: &mut System, reply: &mut Reply)
-    requires whole { IsWhole system.old }
-    requires room { HasRoomForAll (length system.old.records + 1) }
+    requires { MayAnswerAll system.old }
     ensures system { system.new ≡ all_answered system.old }
     ensures few { length system.new.records ≤ length system.old.records + 65 }
 {
@@ -27,8 +27,7 @@ pub(crate) fn answer_all(system: &mut System, reply: &mut Reply)
 #[cold]
 #[inline(never)]
 fn answer_each(system: &mut System, reply: &mut Reply)
-    requires whole { IsWhole system.old }
-    requires room { HasRoomForAll (length system.old.records + 1) }
+    requires { MayAnswerAll system.old }
     ensures system { system.new ≡ all_answered system.old }
     ensures few { length system.new.records ≤ length system.old.records + 65 }
 {
@@ -40,10 +39,8 @@ fn answer_each(system: &mut System, reply: &mut Reply)
 
 /// The held call that was completed first: a command goes in with it, and it is answered, unless its process chained by it.
 fn finish_first(system: &mut System, p: Pid, reply: &mut Reply)
-    requires whole { IsWhole system.old }
-    requires lives { Lives system.old.kernel.dispatcher.procs p }
+    requires answers { MayAnswer p system.old }
     requires reply { reply.old ≡ completion_reply system.old.kernel p }
-    requires room { HasRoom system.old }
     ensures { system.new ≡ finished_or_ended p (command_let_in p system.old) }
 {
     system.let_in(p);
@@ -95,10 +92,8 @@ fn next_completed(system: &mut System, reply: &mut Reply) -> Option<Pid>
 
 /// The held call of a process is completed, with its reply. A resident takes the answer.
 fn finish(system: &mut System, p: Pid, reply: &mut Reply)
-    requires whole { IsWhole system.old }
-    requires lives { Lives system.old.kernel.dispatcher.procs p }
+    requires answers { MayAnswer p system.old }
     requires reply { reply.old ≡ completion_reply system.old.kernel p }
-    requires room { HasRoom system.old }
     ensures { system.new ≡ finished (process_in system.old.kernel.dispatcher.procs p).seg p system.old }
 {
     match system.kernel.segment(p) {

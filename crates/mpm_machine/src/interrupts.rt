@@ -1,10 +1,11 @@
-ghost use Rattle.std.specs.Prelude.{◌≡◌, ◌≤◌, None, is_some, IfOk, OnOk};
+ghost use Rattle.std.specs.Prelude.{◌≡◌, ◌≤◌, None, is_some, IfOk};
 ghost use Rattle.mpm_script.specs.declared.line.TheConstants.{GREATEST_STEP};
 ghost use Rattle.mpm_script.specs.Events.{IsEvent};
 ghost use Rattle.mpm_kernel.specs.Consoling.{AbortLives};
 ghost use Rattle.mpm_output.specs.Writing.{WritesAlone};
 ghost use Rattle.mpm_system.specs.Whole.{IsWhole};
 ghost use Rattle.mpm_system.specs.Coming.{coming};
+ghost use Rattle.mpm_machine.specs.Acting.{Makes};
 ghost use Rattle.mpm_machine.specs.Step.{interrupted_by, event_come, key_aborted, event_text};
 
 use crate::abort::abort_process;
@@ -25,8 +26,7 @@ pub(crate) fn interrupt<S: Sink>(
     requires whole { IsWhole system.old }
     requires most { system.old.steps ≤ GREATEST_STEP }
     ensures came { IfOk result (λ came. came ≡ is_some (coming system.old)) }
-    ensures system { OnOk result (system.new ≡ (interrupted_by (coming system.old) system.old).system) }
-    ensures wrote { WritesAlone S.written S.faults render.old sink.old render.new sink.new (interrupted_by (coming system.old) system.old).emitted result }
+    ensures done { Makes S.written S.faults (interrupted_by (coming system.old) system.old) system.new render.old sink.old render.new sink.new result }
 {
     if !system.is_open() {
         return Ok(false);
@@ -52,8 +52,7 @@ fn come<S: Sink>(
 ) -> Result<(), Failed>
     requires whole { IsWhole system.old }
     requires is { IsEvent event }
-    ensures system { OnOk result (system.new ≡ (event_come event system.old).system) }
-    ensures wrote { WritesAlone S.written S.faults render.old sink.old render.new sink.new (event_come event system.old).emitted result }
+    ensures { Makes S.written S.faults (event_come event system.old) system.new render.old sink.old render.new sink.new result }
 {
     system.unhalt();
     system.kernel.event(event);

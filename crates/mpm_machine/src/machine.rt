@@ -1,4 +1,4 @@
-ghost use Rattle.std.specs.Prelude.{◌≡◌, ℕ, ◌+◌, ◌-◌, ◌*◌, ◌<◌, ◌≤◌, true, false, List, [], Option, Some, None, IfOk, OnOk, IfErr, MatchOption, MatchResult, length, option_map};
+ghost use Rattle.std.specs.Prelude.{◌≡◌, ℕ, ◌+◌, ◌-◌, ◌*◌, ◌<◌, ◌≤◌, true, false, [], Option, Some, None, IfOk, OnOk, IfErr, MatchOption, MatchResult, length, option_map};
 ghost use Rattle.mpm_script.specs.declared.line.TheConstants.{GREATEST_STEP};
 
 use crate::filing::{bdos_of, work};
@@ -32,7 +32,7 @@ pub struct RunFault {
 }
 
 /// A machine: its processes, their memory segments and consoles, the kernel behind the gates, and what is kept of files and
-/// drives.
+/// drives. It is large: as it is booted it stays on the heap.
 #[derive(Drop)]
 pub struct Machine {
     pub(crate) system: System,
@@ -47,28 +47,31 @@ impl Machine {
     ghost use Rattle.mpm_kernel.specs.Kernel.{IsConsole};
     ghost use Rattle.mpm_consoles.specs.Consoles.{console_at};
     ghost use Rattle.mpm_machine_file.specs.MachineFiles.{IsMachine};
-    ghost use Rattle.mpm_drives.specs.Mounted.{SameBeside, AsksNothing, placed};
+    ghost use Rattle.mpm_drives.specs.Mounted.{placed};
     ghost use Rattle.mpm_port.specs.Disks.{Disks};
-    ghost use Rattle.mpm_drives.specs.Stopping.{Stops};
     ghost use Rattle.mpm_directories.specs.Places.{directory_at, in_places};
     ghost use Rattle.mpm_bdos.specs.Serving.{nothing_kept};
-    ghost use Rattle.mpm_bdos.specs.Syncing.{AreMountedSynced};
     ghost use Rattle.mpm_output.specs.Outside.{seen};
     ghost use Rattle.mpm_system.specs.Whole.{IsWhole, NoCompletions};
     ghost use Rattle.mpm_machine.specs.State.{State, IsAt, StandsWithDrives};
-    ghost use Rattle.mpm_machine.specs.Files.{FilesInService, Between, StandsForFiles};
+    ghost use Rattle.mpm_machine.specs.Files.{Between, StandsForFiles};
     ghost use Rattle.mpm_machine.specs.Holding.{HoldsDrives};
     ghost use Rattle.mpm_service.specs.Disk.{no_service};
-    ghost use Rattle.mpm_machine.specs.Faults.{counts, HaveCause, itself, of_run};
+    ghost use Rattle.mpm_machine.specs.Faults.{counts, EndsByCause, itself, of_run};
     ghost use Rattle.mpm_machine.specs.Slots.{HasResidents};
     ghost use Rattle.mpm_machine.specs.Interpreting.{Interprets};
+    ghost use Rattle.mpm_opens.specs.Opens.{AreOpen};
+    ghost use Rattle.mpm_refusals.specs.Filing.{Filing};
+    ghost use Rattle.mpm_machine.specs.Printing.{at_beginning, IsPrinting};
     ghost use Rattle.mpm_machine.specs.Spooling.{IsSpooling};
     ghost use Rattle.mpm_system.specs.Opening.{booted, opened, IsBare, MayPlace, with_placed, opening_system, OnlyHas, with_residents};
     ghost use Rattle.mpm_queues.specs.Queues.{no_queues};
     ghost use Rattle.mpm_machine.specs.OneStep.{LeavesMachine, StopsStep, StopsRun, LeavesDrives};
+    ghost use Rattle.mpm_machine.specs.Standing.{StandingFor, StandingAt};
     ghost use Rattle.mpm_machine.specs.Parts.{IsBetweenSteps, HasMadeStep, HasAdvanced, StopsTaking, UsesDrives, CallsInStep};
     ghost use Rattle.mpm_machine.specs.After.{next, after, IsStepOf, HasSteppedTo};
-    ghost use Rattle.mpm_machine.specs.Mounting.{HasMounted, HasNoDrive, HasDrives, OpensOn, untouched};
+    ghost use Rattle.mpm_machine.specs.Booting.{StandsOnDrives, LeavesUnlisted};
+    ghost use Rattle.mpm_machine.specs.Mounting.{HasNoDrive, untouched};
     ghost use Rattle.mpm_machine.specs.Failing.{leaving, does_work, turns_done, working_in};
 
     /// The machine of a machine file, and of its script's events, as it is run. It has the command queue, the command line interpreter, a
@@ -84,30 +87,19 @@ impl Machine {
         file: &MachineFile,
         script: Script,
         drives: &mut D,
-    ) -> Result<Machine, BootError>
+    ) -> Result<Box<Machine>, BootError>
         requires { IsMachine file.now }
-        ensures opening { IfOk result (λ machine. machine.system ≡ opened file.now script) }
-        ensures residents { IfOk result (λ machine. HasResidents file.now.consoles file.now.spool file.now.sched machine.system) }
-        ensures interprets { IfOk result (λ machine. Interprets machine.system) }
-        ensures spools { IfOk result (λ machine. file.now.spool ≡ true → IsSpooling (file.now.consoles + 1) machine.system []) }
-        ensures start { IfOk result (λ machine. machine.system.steps ≡ 0) }
-        ensures whole { IfOk result (λ machine. IsWhole machine.system) }
-        ensures no_completions { IfOk result (λ machine. NoCompletions machine.system) }
-        ensures disk { IfOk result (λ machine. machine.system.kernel.disk ≡ no_service file.now.disk_turn) }
-        ensures mounted { IfOk result (λ machine. HasMounted (D.disks drives.new) (D.told drives.old) file.now.drives machine.bdos) }
-        ensures drives { IfOk result (λ machine. HasDrives (D.disks drives.new) file.now.drives machine.bdos.mounted) }
-        ensures files { IfOk result (λ machine. OpensOn (D.told drives.old) file.now.drives machine.system.kernel.disk machine.bdos (D.disks drives.new)) }
-        ensures holds { IfOk result (λ machine. HoldsDrives D.disks machine.system.kernel machine.bdos drives.new) }
-        ensures count { OnOk result (D.faults drives.new ≡ D.faults drives.old) }
-        ensures names { OnOk result (D.failed_names drives.new ≡ D.failed_names drives.old) }
-        ensures err { IfErr result (λ error. Stops (D.disks drives.new) (D.told drives.old) file.now.drives
-            (record { faults = D.faults drives.old; names = D.failed_names drives.old })
-            (record { faults = D.faults drives.new; names = D.failed_names drives.new }) error) }
-        ensures told { D.told drives.new ≡ D.told drives.old }
-        ensures beside { SameBeside file.now.drives (D.disks drives.old) (D.disks drives.new) }
-        ensures fresh { IfOk result (λ machine. AreMountedSynced (D.unsynced drives.new) machine.bdos.mounted) }
-        ensures asks { AsksNothing file.now.drives (D.unsynced drives.old) (D.unsynced drives.new) }
-        ensures none { file.now.drives ≡ [] → drives.new ≡ drives.old }
+        ensures opening { IfOk result (λ machine. machine.value.system ≡ opened file.now script) }
+        ensures residents { IfOk result (λ machine. HasResidents file.now.consoles file.now.spool file.now.sched machine.value.system) }
+        ensures interprets { IfOk result (λ machine. Interprets machine.value.system) }
+        ensures spools { IfOk result (λ machine. file.now.spool ≡ true → IsSpooling (file.now.consoles + 1) machine.value.system []) }
+        ensures prints { IfOk result (λ machine. file.now.spool ≡ true → (filing : Filing) → AreOpen filing.opens → IsPrinting (file.now.consoles + 1) (at_beginning filing machine.value.system)) }
+        ensures start { IfOk result (λ machine. machine.value.system.steps ≡ 0) }
+        ensures whole { IfOk result (λ machine. IsWhole machine.value.system) }
+        ensures no_completions { IfOk result (λ machine. NoCompletions machine.value.system) }
+        ensures disk { IfOk result (λ machine. machine.value.system.kernel.disk ≡ no_service file.now.disk_turn) }
+        ensures stands { IfOk result (λ machine. StandsOnDrives D.disks (D.told drives.old) (D.unsynced drives.new) file.now.drives machine.value drives.new) }
+        ensures leaves { LeavesUnlisted D.Drives file.now.drives drives.old drives.new result }
     {
         let mut machine = match Machine::boot_bare(alloc, file, script, drives) {
             Ok(machine) => machine,
@@ -144,60 +136,56 @@ impl Machine {
         file: &MachineFile,
         script: Script,
         drives: &mut D,
-    ) -> Result<Machine, BootError>
+    ) -> Result<Box<Machine>, BootError>
         requires { IsMachine file.now }
-        ensures booted { IfOk result (λ machine. machine.system ≡ booted file.now script) }
-        ensures bare { IfOk result (λ machine. IsBare machine.system) }
-        ensures disk { IfOk result (λ machine. machine.system.kernel.disk ≡ no_service file.now.disk_turn) }
-        ensures mounted { IfOk result (λ machine. HasMounted (D.disks drives.new) (D.told drives.old) file.now.drives machine.bdos) }
-        ensures drives { IfOk result (λ machine. HasDrives (D.disks drives.new) file.now.drives machine.bdos.mounted) }
-        ensures files { IfOk result (λ machine. OpensOn (D.told drives.old) file.now.drives machine.system.kernel.disk machine.bdos (D.disks drives.new)) }
-        ensures holds { IfOk result (λ machine. HoldsDrives D.disks machine.system.kernel machine.bdos drives.new) }
-        ensures count { OnOk result (D.faults drives.new ≡ D.faults drives.old) }
-        ensures names { OnOk result (D.failed_names drives.new ≡ D.failed_names drives.old) }
-        ensures err { IfErr result (λ error. Stops (D.disks drives.new) (D.told drives.old) file.now.drives
-            (record { faults = D.faults drives.old; names = D.failed_names drives.old })
-            (record { faults = D.faults drives.new; names = D.failed_names drives.new }) error) }
-        ensures told { D.told drives.new ≡ D.told drives.old }
-        ensures beside { SameBeside file.now.drives (D.disks drives.old) (D.disks drives.new) }
-        ensures fresh { IfOk result (λ machine. AreMountedSynced (D.unsynced drives.new) machine.bdos.mounted) }
-        ensures asks { AsksNothing file.now.drives (D.unsynced drives.old) (D.unsynced drives.new) }
-        ensures none { file.now.drives ≡ [] → drives.new ≡ drives.old }
+        ensures booted { IfOk result (λ machine. machine.value.system ≡ booted file.now script) }
+        ensures bare { IfOk result (λ machine. IsBare machine.value.system) }
+        ensures disk { IfOk result (λ machine. machine.value.system.kernel.disk ≡ no_service file.now.disk_turn) }
+        ensures stands { IfOk result (λ machine. StandsOnDrives D.disks (D.told drives.old) (D.unsynced drives.new) file.now.drives machine.value drives.new) }
+        ensures leaves { LeavesUnlisted D.Drives file.now.drives drives.old drives.new result }
     {
         let mounted = match MountedDrives::mount(alloc, file.drives.as_slice(), drives) {
             Ok(mounted) => mounted,
             Err(error) => return Err(error),
         };
-        match Machine::bare(alloc, file, script, mounted.into_mounted()) {
-            Ok(machine) => Ok(machine),
-            Err(AllocError) => Err(BootError::OutOfMemory),
-        }
+        Machine::bare(alloc, file, script, mounted.into_mounted())
     }
 
     /// The machine of a machine file, and of its script's events, without processes, and with these drives. Nothing is open,
     /// locked, marked, sought or protected.
     ///
     /// # Errors
-    /// Where no memory is found.
+    /// `BootError::OutOfMemory` alone.
     fn bare(
         alloc: Global,
         file: &MachineFile,
         script: Script,
         mounted: Vec<Mounted>,
-    ) -> Result<Machine, AllocError>
+    ) -> Result<Box<Machine>, BootError>
         requires { IsMachine file.now }
-        ensures booted { IfOk result (λ machine. machine.system ≡ booted file.now script) }
-        ensures bare { IfOk result (λ machine. IsBare machine.system) }
-        ensures disk { IfOk result (λ machine. machine.system.kernel.disk ≡ no_service file.now.disk_turn) }
-        ensures bdos { IfOk result (λ machine. machine.bdos ≡ nothing_kept (in_places mounted.items)) }
+        ensures booted { IfOk result (λ machine. machine.value.system ≡ booted file.now script) }
+        ensures bare { IfOk result (λ machine. IsBare machine.value.system) }
+        ensures disk { IfOk result (λ machine. machine.value.system.kernel.disk ≡ no_service file.now.disk_turn) }
+        ensures bdos { IfOk result (λ machine. machine.value.bdos ≡ nothing_kept (in_places mounted.items)) }
+        ensures memory { IfErr result (λ error. error ≡ BootError.OutOfMemory) }
     {
-        let bdos = bdos_of(alloc, mounted)?;
-        let system = System::bare(alloc, file, script)?;
-        Ok(Machine {
+        let bdos = match bdos_of(alloc, mounted) {
+            Ok(bdos) => bdos,
+            Err(AllocError) => return Err(BootError::OutOfMemory),
+        };
+        let system = match System::bare(alloc, file, script) {
+            Ok(system) => system,
+            Err(AllocError) => return Err(BootError::OutOfMemory),
+        };
+        let machine = Machine {
             system,
             bdos,
             reply: Reply::new(),
-        })
+        };
+        match Box::new(alloc, machine) {
+            Ok(machine) => Ok(machine),
+            Err(_) => Err(BootError::OutOfMemory),
+        }
     }
 
     /// The machine of a program, of at most 48,512 bytes: one console, no printer, no drive, one segment of 192 pages from
@@ -206,15 +194,15 @@ impl Machine {
     /// # Errors
     /// `BootError::OutOfMemory` alone.
     #[tactic(auto, unfolding(mpm_system::specs::Opening::opening_system))]
-    pub fn boot_program(alloc: Global, program: &[u8]) -> Result<Machine, BootError>
+    pub fn boot_program(alloc: Global, program: &[u8]) -> Result<Box<Machine>, BootError>
         requires { length program.now ≤ 48512 }
-        ensures opening { IfOk result (λ machine. machine.system ≡ opening_system program.now) }
-        ensures start { IfOk result (λ machine. machine.system.steps ≡ 0) }
-        ensures whole { IfOk result (λ machine. IsWhole machine.system) }
-        ensures no_completions { IfOk result (λ machine. NoCompletions machine.system) }
-        ensures disk { IfOk result (λ machine. machine.system.kernel.disk ≡ no_service 0) }
-        ensures bdos { IfOk result (λ machine. machine.bdos ≡ nothing_kept (in_places [])) }
-        ensures files { (disks : Disks) → IfOk result (λ machine. StandsForFiles machine.system.kernel.disk machine.bdos disks (Between (untouched (placed [])))) }
+        ensures opening { IfOk result (λ machine. machine.value.system ≡ opening_system program.now) }
+        ensures start { IfOk result (λ machine. machine.value.system.steps ≡ 0) }
+        ensures whole { IfOk result (λ machine. IsWhole machine.value.system) }
+        ensures no_completions { IfOk result (λ machine. NoCompletions machine.value.system) }
+        ensures disk { IfOk result (λ machine. machine.value.system.kernel.disk ≡ no_service 0) }
+        ensures bdos { IfOk result (λ machine. machine.value.bdos ≡ nothing_kept (in_places [])) }
+        ensures files { (disks : Disks) → IfOk result (λ machine. StandsForFiles machine.value.system.kernel.disk machine.value.bdos disks (Between (untouched (placed [])))) }
         ensures memory { IfErr result (λ error. error ≡ BootError.OutOfMemory) }
     {
         let file = match program_file(alloc) {
@@ -224,7 +212,7 @@ impl Machine {
         let bare = Machine::bare(alloc, &file, Script::empty(alloc), Vec::new(alloc));
         let mut machine = match bare {
             Ok(machine) => machine,
-            Err(AllocError) => return Err(BootError::OutOfMemory),
+            Err(error) => return Err(error),
         };
         let _p = machine.place(Seg(0), Name8(*b"PROGRAM "), 200, 0, program);
         Ok(machine)
@@ -297,24 +285,20 @@ impl Machine {
         requires whole { IsWhole self.old.system }
         requires no_completions { NoCompletions self.old.system }
         requires holds { HoldsDrives D.disks self.old.system.kernel self.old.bdos drives.old }
-        ensures ok { (s : State) (first : List ℕ) → StandsWithDrives self.old render.old (S.written sink.old) (D.disks drives.old) s first
-            → OnOk result (StandsWithDrives self.new render.new (S.written sink.new) (D.disks drives.new) (next s) first) }
+        ensures ok { StandingAt self.old render.old (S.written sink.old) (D.disks drives.old) (λ s first. OnOk result (StandsWithDrives self.new render.new (S.written sink.new) (D.disks drives.new) (next s) first)) }
         ensures model { (s : State) → IsAt self.old (D.disks drives.old) s → OnOk result (IsAt self.new (D.disks drives.new) (next s)) }
-        ensures stops { (s : State) (first : List ℕ) → StandsWithDrives self.old render.old (S.written sink.old) (D.disks drives.old) s first
-            → IfErr result (λ fault. StopsStep fault render.old.trace (leaving S.written D.disks render.new sink.new drives.new self.new.bdos.mounted) s first) }
+        ensures stops { StandingAt self.old render.old (S.written sink.old) (D.disks drives.old) (λ s first. IfErr result (λ fault. StopsStep fault render.old.trace (leaving S.written D.disks render.new sink.new drives.new self.new.bdos.mounted) s first)) }
         ensures law { (s : State) → s.system ≡ self.old.system → IsStepOf s }
         ensures leaves { OnOk result (LeavesMachine 1 self.old self.new) }
         ensures holds { OnOk result (HoldsDrives D.disks self.new.system.kernel self.new.bdos drives.new) }
         ensures drives { LeavesDrives D.disks D.told D.failed_names D.unsynced self.old.bdos.mounted self.new.bdos.mounted drives.old drives.new }
-        ensures trace { render.new.trace ≡ render.old.trace }
-        ensures cause { HaveCause itself (counts S.faults D.faults sink.old drives.old) (counts S.faults D.faults sink.new drives.new) result }
+        ensures ends { EndsByCause itself render.old.trace render.new.trace (counts S.faults D.faults sink.old drives.old) (counts S.faults D.faults sink.new drives.new) result }
 
         // A step that works on no drive calls none. One that does calls it at most 20 times a turn: where turns have steps, one turn is
         // done in a step.
         ensures rests { does_work self.old.system ≡ false → IfErr result (λ fault. fault ≡ StepFault.WriteFault) × (drives.new ≡ drives.old) × (steps.new ≡ steps.old) }
         ensures none { HasNoDrive self.old.bdos.mounted → IfErr result (λ fault. fault ≡ StepFault.WriteFault) × (drives.new ≡ drives.old) × HasNoDrive self.new.bdos.mounted }
-        ensures calls { (files : FilesInService) → StandsForFiles self.old.system.kernel.disk self.old.bdos (D.disks drives.old) files
-            → steps.new ≤ steps.old + 20 * turns_done (working_in self.old.system files) }
+        ensures calls { StandingFor self.old (D.disks drives.old) (λ files. steps.new ≤ steps.old + 20 * turns_done (working_in self.old.system files)) }
         ensures few { 0 < self.old.system.kernel.disk.turn_steps → steps.new ≤ steps.old + 20 }
     {
         match self.take_step(drives, render, sink, steps) {
@@ -337,15 +321,12 @@ impl Machine {
     ) -> Result<(), StepFault>
         requires most { self.old.system.steps < GREATEST_STEP }
         requires between { IsBetweenSteps D.disks self.old drives.old }
-        ensures ok { (files : FilesInService) → StandsForFiles self.old.system.kernel.disk self.old.bdos (D.disks drives.old) files
-            → OnOk result (HasSteppedTo files (seen S.written S.faults render.old sink.old) (seen S.written S.faults render.new sink.new) self.old.system self.new.system self.new.bdos (D.disks drives.new)) }
-        ensures stops { (files : FilesInService) → StandsForFiles self.old.system.kernel.disk self.old.bdos (D.disks drives.old) files
-            → IfErr result (λ fault. StopsTaking fault (seen S.written S.faults render.old sink.old) (seen S.written S.faults render.new sink.new) self.old.system self.new.bdos (D.disks drives.new) files) }
+        ensures ok { StandingFor self.old (D.disks drives.old) (λ files. OnOk result (HasSteppedTo files (seen S.written S.faults render.old sink.old) (seen S.written S.faults render.new sink.new) self.old.system self.new.system self.new.bdos (D.disks drives.new))) }
+        ensures stops { StandingFor self.old (D.disks drives.old) (λ files. IfErr result (λ fault. StopsTaking fault (seen S.written S.faults render.old sink.old) (seen S.written S.faults render.new sink.new) self.old.system self.new.bdos (D.disks drives.new) files)) }
         ensures made { OnOk result (HasMadeStep D.disks self.old self.new drives.new) }
         ensures uses { UsesDrives D.disks D.told D.failed_names D.unsynced itself self.old.bdos.mounted self.new.bdos.mounted drives.old drives.new result }
         ensures calls { CallsInStep (D.disks drives.old) self.old drives.old drives.new steps.old steps.new result }
-        ensures trace { render.new.trace ≡ render.old.trace }
-        ensures cause { HaveCause itself (counts S.faults D.faults sink.old drives.old) (counts S.faults D.faults sink.new drives.new) result }
+        ensures ends { EndsByCause itself render.old.trace render.new.trace (counts S.faults D.faults sink.old drives.old) (counts S.faults D.faults sink.new drives.new) result }
     {
         if let Err(Failed) = work(&self.system, &mut self.bdos, drives, steps) {
             return Err(StepFault::DiskFault);
@@ -374,17 +355,14 @@ impl Machine {
         requires whole { IsWhole self.old.system }
         requires no_completions { NoCompletions self.old.system }
         requires holds { HoldsDrives D.disks self.old.system.kernel self.old.bdos drives.old }
-        ensures ok { (s : State) (first : List ℕ) → StandsWithDrives self.old render.old (S.written sink.old) (D.disks drives.old) s first
-            → OnOk result (StandsWithDrives self.new render.new (S.written sink.new) (D.disks drives.new) (after n s) first) }
+        ensures ok { StandingAt self.old render.old (S.written sink.old) (D.disks drives.old) (λ s first. OnOk result (StandsWithDrives self.new render.new (S.written sink.new) (D.disks drives.new) (after n s) first)) }
         ensures model { (s : State) → IsAt self.old (D.disks drives.old) s → OnOk result (IsAt self.new (D.disks drives.new) (after n s)) }
-        ensures stops { (s : State) (first : List ℕ) → StandsWithDrives self.old render.old (S.written sink.old) (D.disks drives.old) s first
-            → IfErr result (λ error. StopsRun error render.old.trace (leaving S.written D.disks render.new sink.new drives.new self.new.bdos.mounted) n s first) }
+        ensures stops { StandingAt self.old render.old (S.written sink.old) (D.disks drives.old) (λ s first. IfErr result (λ error. StopsRun error render.old.trace (leaving S.written D.disks render.new sink.new drives.new self.new.bdos.mounted) n s first)) }
         ensures each { (s : State) → s.system ≡ self.old.system → (k : ℕ) → k < n → IsStepOf (after k s) }
         ensures leaves { OnOk result (LeavesMachine n self.old self.new) }
         ensures holds { OnOk result (HoldsDrives D.disks self.new.system.kernel self.new.bdos drives.new) }
         ensures drives { LeavesDrives D.disks D.told D.failed_names D.unsynced self.old.bdos.mounted self.new.bdos.mounted drives.old drives.new }
-        ensures trace { render.new.trace ≡ render.old.trace }
-        ensures cause { HaveCause of_run (counts S.faults D.faults sink.old drives.old) (counts S.faults D.faults sink.new drives.new) result }
+        ensures ends { EndsByCause of_run render.old.trace render.new.trace (counts S.faults D.faults sink.old drives.old) (counts S.faults D.faults sink.new drives.new) result }
 
         // Without a step no drive is called, nor where none is mounted. Where turns have steps, a step calls a drive at most 20 times.
         ensures still { n ≡ 0 → drives.new ≡ drives.old }
@@ -416,17 +394,14 @@ impl Machine {
         requires some { 0 < most }
         requires room { self.old.system.steps + most ≤ GREATEST_STEP }
         requires between { IsBetweenSteps D.disks self.old drives.old }
-        ensures ok { (s : State) (first : List ℕ) → StandsWithDrives self.old render.old (S.written sink.old) (D.disks drives.old) s first
-            → IfOk result (λ more. StandsWithDrives self.new render.new (S.written sink.new) (D.disks drives.new) (after more s) first) }
+        ensures ok { StandingAt self.old render.old (S.written sink.old) (D.disks drives.old) (λ s first. IfOk result (λ more. StandsWithDrives self.new render.new (S.written sink.new) (D.disks drives.new) (after more s) first)) }
         ensures model { (s : State) → IsAt self.old (D.disks drives.old) s → IfOk result (λ more. IsAt self.new (D.disks drives.new) (after more s)) }
-        ensures stops { (s : State) (first : List ℕ) → StandsWithDrives self.old render.old (S.written sink.old) (D.disks drives.old) s first
-            → IfErr result (λ error. StopsRun error render.old.trace (leaving S.written D.disks render.new sink.new drives.new self.new.bdos.mounted) most s first) }
+        ensures stops { StandingAt self.old render.old (S.written sink.old) (D.disks drives.old) (λ s first. IfErr result (λ error. StopsRun error render.old.trace (leaving S.written D.disks render.new sink.new drives.new self.new.bdos.mounted) most s first)) }
         ensures advanced { IfOk result (λ more. HasAdvanced most more self.old self.new) }
         ensures holds { OnOk result (HoldsDrives D.disks self.new.system.kernel self.new.bdos drives.new) }
         ensures uses { UsesDrives D.disks D.told D.failed_names D.unsynced of_run self.old.bdos.mounted self.new.bdos.mounted drives.old drives.new result }
         ensures calls { 0 < self.old.system.kernel.disk.turn_steps → MatchResult result (λ more. steps.new ≤ steps.old + 20 * more) (λ _. steps.new ≤ steps.old + 20 * most) }
-        ensures trace { render.new.trace ≡ render.old.trace }
-        ensures cause { HaveCause of_run (counts S.faults D.faults sink.old drives.old) (counts S.faults D.faults sink.new drives.new) result }
+        ensures ends { EndsByCause of_run render.old.trace render.new.trace (counts S.faults D.faults sink.old drives.old) (counts S.faults D.faults sink.new drives.new) result }
     {
         let done = self.run_on(most, drives, render, sink);
         if done == most {

@@ -1,10 +1,8 @@
-ghost use Rattle.std.specs.Prelude.{◌≡◌, is_some, true, OnOk};
+ghost use Rattle.std.specs.Prelude.{◌≡◌, is_some, true};
 ghost use Rattle.mpm_residents.specs.declared.cli.act.Act.TheVariants.{Ask};
-ghost use Rattle.mpm_procs.specs.Table.{Lives, call_of};
-ghost use Rattle.mpm_dispatcher.specs.Dispatch.{IsReady};
-ghost use Rattle.mpm_output.specs.Writing.{WritesAlone};
+ghost use Rattle.mpm_procs.specs.Table.{call_of};
 ghost use Rattle.mpm_residents.specs.Natives.{native_in};
-ghost use Rattle.mpm_system.specs.Whole.{IsWhole};
+ghost use Rattle.mpm_machine.specs.Acting.{LivesWithin, IsReadyWithin, Makes};
 ghost use Rattle.mpm_machine.specs.Residing.{resided, native_step, native_outcome, calling_step};
 
 use crate::call::{end, serve_to_all};
@@ -24,11 +22,8 @@ pub(crate) fn reside<S: Sink>(
     render: &mut Render,
     sink: &mut S,
 ) -> Result<(), Failed>
-    requires whole { IsWhole system.old }
-    requires lives { Lives system.old.kernel.dispatcher.procs p }
-    requires ready { IsReady system.old.kernel.dispatcher p }
-    ensures system { OnOk result (system.new ≡ (resided (native_in system.old.residents p) p system.old).system) }
-    ensures wrote { WritesAlone S.written S.faults render.old sink.old render.new sink.new (resided (native_in system.old.residents p) p system.old).emitted result }
+    requires { IsReadyWithin p system.old }
+    ensures { Makes S.written S.faults (resided (native_in system.old.residents p) p system.old) system.new render.old sink.old render.new sink.new result }
 {
     if !system.residents.has(p) {
         return Ok(());
@@ -46,12 +41,9 @@ fn act_native<S: Sink>(
     render: &mut Render,
     sink: &mut S,
 ) -> Result<(), Failed>
-    requires whole { IsWhole system.old }
-    requires lives { Lives system.old.kernel.dispatcher.procs p }
-    requires ready { IsReady system.old.kernel.dispatcher p }
+    requires acts { IsReadyWithin p system.old }
     requires has { is_some (native_in system.old.residents p) ≡ true }
-    ensures system { OnOk result (system.new ≡ (native_step act (call_of system.old.kernel.dispatcher.procs p) p system.old).system) }
-    ensures wrote { WritesAlone S.written S.faults render.old sink.old render.new sink.new (native_step act (call_of system.old.kernel.dispatcher.procs p) p system.old).emitted result }
+    ensures { Makes S.written S.faults (native_step act (call_of system.old.kernel.dispatcher.procs p) p system.old) system.new render.old sink.old render.new sink.new result }
 {
     match act {
         Act::Ask => make_call(system, p, reply, render, sink),
@@ -71,12 +63,9 @@ fn make_call<S: Sink>(
     render: &mut Render,
     sink: &mut S,
 ) -> Result<(), Failed>
-    requires whole { IsWhole system.old }
-    requires lives { Lives system.old.kernel.dispatcher.procs p }
-    requires ready { IsReady system.old.kernel.dispatcher p }
+    requires acts { IsReadyWithin p system.old }
     requires has { is_some (native_in system.old.residents p) ≡ true }
-    ensures system { OnOk result (system.new ≡ (native_step Ask (call_of system.old.kernel.dispatcher.procs p) p system.old).system) }
-    ensures wrote { WritesAlone S.written S.faults render.old sink.old render.new sink.new (native_step Ask (call_of system.old.kernel.dispatcher.procs p) p system.old).emitted result }
+    ensures { Makes S.written S.faults (native_step Ask (call_of system.old.kernel.dispatcher.procs p) p system.old) system.new render.old sink.old render.new sink.new result }
 {
     if system.tells(p) {
         return system.tell_text(p, reply, render, sink);
@@ -92,12 +81,9 @@ fn serve_native<S: Sink>(
     render: &mut Render,
     sink: &mut S,
 ) -> Result<(), Failed>
-    requires whole { IsWhole system.old }
-    requires lives { Lives system.old.kernel.dispatcher.procs p }
-    requires ready { IsReady system.old.kernel.dispatcher p }
+    requires acts { IsReadyWithin p system.old }
     requires has { is_some (native_in system.old.residents p) ≡ true }
-    ensures system { OnOk result (system.new ≡ (calling_step (call_of system.old.kernel.dispatcher.procs p) p system.old).system) }
-    ensures wrote { WritesAlone S.written S.faults render.old sink.old render.new sink.new (calling_step (call_of system.old.kernel.dispatcher.procs p) p system.old).emitted result }
+    ensures { Makes S.written S.faults (calling_step (call_of system.old.kernel.dispatcher.procs p) p system.old) system.new render.old sink.old render.new sink.new result }
 {
     let outcome = serve_to_all(system, p, reply);
     system.put_echo(p, render, sink)?;
@@ -113,11 +99,9 @@ fn conclude_residing<S: Sink>(
     render: &mut Render,
     sink: &mut S,
 ) -> Result<(), Failed>
-    requires whole { IsWhole system.old }
-    requires lives { Lives system.old.kernel.dispatcher.procs p }
+    requires living { LivesWithin p system.old }
     requires has { is_some (native_in system.old.residents p) ≡ true }
-    ensures system { OnOk result (system.new ≡ (native_outcome outcome reply.now (call_of system.old.kernel.dispatcher.procs p) p system.old).system) }
-    ensures wrote { WritesAlone S.written S.faults render.old sink.old render.new sink.new (native_outcome outcome reply.now (call_of system.old.kernel.dispatcher.procs p) p system.old).emitted result }
+    ensures { Makes S.written S.faults (native_outcome outcome reply.now (call_of system.old.kernel.dispatcher.procs p) p system.old) system.new render.old sink.old render.new sink.new result }
 {
     match outcome {
         Outcome::Done => {

@@ -1,11 +1,12 @@
 -- With what a machine file's bytes begin.
-use Rattle.std.proofs.Common.{◌≡◌, ◌∙◌, ℕ, List, [], Option, Some, None, ◌∷◌, ap, sym, subst, refl, IsSome, IfSome, Result, Ok, Err, IfOk, option_map, option_and_then, inl, inr}
+use Rattle.std.proofs.Common.{◌≡◌, ◌∙◌, ℕ, Bool, List, [], Option, Some, None, ◌∷◌, ap, sym, subst, refl, IsSome, IfSome, Result, Ok, Err, IfOk, option_map, option_and_then, inl, inr}
 use Rattle.std.specs.Option.{option_map_or}
 use Rattle.std.specs.Prelude.{MatchResult, IfErr}
 use Rattle.mpm_script.specs.declared.event.Timed.{Timed}
 use Rattle.mpm_machine_file.specs.declared.machine_file.MachineFile.{MachineFile}
 use Rattle.mpm_machine_file.specs.MachineFiles.{machine_of_text}
 use Rattle.mpm_system.specs.declared.system.System.{System}
+use Rattle.std.specs.Global.{Box}
 use Rattle.mpm_port.specs.Disks.{Disks}
 use Rattle.mpm_machine.specs.declared.machine.Machine.{Machine}
 use Rattle.mpm_system.specs.Opening.{opened, opening_system}
@@ -23,12 +24,14 @@ use Rattle.mpm_bdos.specs.Serving.{Kept as Filed, nothing_kept}
 use Rattle.mpm_directories.specs.Places.{in_places}
 use Rattle.mpm_machine.specs.State.{State}
 use Rattle.mpm_machine.specs.Files.{Between, StandsForFiles}
+use Rattle.mpm_machine.specs.Booting.{StandsOnDrives}
 use Rattle.mpm_machine.specs.Mounting.{HasDrives, HasNoDrive, OpensOn, untouched}
 use Rattle.mpm_machine.proofs.MountedLaws.{none_mounted}
 use Rattle.mpm_machine.proofs.DriveLaws.{nothing_mounted}
 use Rattle.mpm_drives.specs.Stopping.{Failures, IsFaultless, StopsMounting, IsFirst, Stops}
 use Rattle.mpm_top.proofs.StatusLaws.{always_disk}
 use Rattle.mpm_top.specs.Beginnings.{Host, FailedSoFar, system_of, script_name, drives_listed, begun, input_of, Holds, Scripted, Starts, StartsOf, BeginsCommand, BeginsOf}
+use Rattle.mpm_top.specs.Runs.{KeepsUnmounted}
 use Rattle.mpm_top.specs.Endings.{Unread, LacksScript, LacksDrive, Ends, EndsAfter, IsNoMachine, IsRefusal, IsEarly, status_of, UnlessDiskFault}
 
 pub no_system : (bytes : List ℕ) (events : List Timed) → machine_of_text bytes ≡ None → system_of Run bytes events ≡ None
@@ -198,14 +201,14 @@ starts_of_contents host form name bytes system kept disks from_file starts = rec
   idle = starts.idle;
 }
 
-pub starts_with_contents : (host : Host) (form which : Form) (name bytes : List ℕ) (disks : Disks) (result : Result Machine Status) → form ≡ which
+pub starts_with_contents : (host : Host) (form which : Form) (name bytes : List ℕ) (disks : Disks) (result : Result (Box Machine) Status) → form ≡ which
     → Holds host.contents (input_of form) name bytes
-    → IfOk result (λ machine. StartsOf host which (λ content. content ≡ bytes) machine.system machine.bdos disks)
-    → IfOk result (λ machine. Starts host form name machine.system machine.bdos disks)
+    → IfOk result (λ machine. StartsOf host which (λ content. content ≡ bytes) machine.value.system machine.value.bdos disks)
+    → IfOk result (λ machine. Starts host form name machine.value.system machine.value.bdos disks)
 starts_with_contents host form which name bytes disks (Err status) is from_file starts = tt
 starts_with_contents host form which name bytes disks (Ok machine) is from_file starts =
-    subst (λ (f : Form). Starts host f name machine.system machine.bdos disks) (sym is)
-    (starts_of_contents host which name bytes machine.system machine.bdos disks (subst (λ (f : Form). Holds host.contents (input_of f) name bytes) is from_file) starts)
+    subst (λ (f : Form). Starts host f name machine.value.system machine.value.bdos disks) (sym is)
+    (starts_of_contents host which name bytes machine.value.system machine.value.bdos disks (subst (λ (f : Form). Holds host.contents (input_of f) name bytes) is from_file) starts)
 
 -- so it is of how it ends
 
@@ -317,3 +320,20 @@ refusal_early ReadFault refusal = tt
 refusal_early (DiskFault step) refusal = absurd refusal
 refusal_early (WriteFault step) refusal = absurd refusal
 refusal_early OutOfMemory refusal = tt
+
+-- what is so of the machine in a box is so of the one that is lent of it
+
+pub starts_inside : {host : Host} {form : Form} {name : List ℕ} {disks : Disks} {lent machine : Machine} → lent ≡ machine → Starts host form name machine.system machine.bdos disks
+    → Starts host form name lent.system lent.bdos disks
+starts_inside {host = host} {form = form} {name = name} {disks = disks} same starts = subst (λ (m : Machine). Starts host form name m.system m.bdos disks) (sym same) starts
+
+pub beside_inside : {one other : Disks} {lent machine : Machine} → lent ≡ machine → KeepsUnmounted one other machine.bdos.mounted → KeepsUnmounted one other lent.bdos.mounted
+beside_inside {one = one} {other = other} same beside = subst (λ (m : Machine). KeepsUnmounted one other m.bdos.mounted) (sym same) beside
+
+pub bare_inside : {lent machine : Machine} → lent ≡ machine → HasNoDrive machine.bdos.mounted → HasNoDrive lent.bdos.mounted
+bare_inside same bare = subst (λ (m : Machine). HasNoDrive m.bdos.mounted) (sym same) bare
+
+pub stands_inside : {D : Type 0} {disks : D → Disks} {images : Images} {owes : ℕ → Bool} {specs : List DriveSpec} {drives : D} {lent machine : Machine} → lent ≡ machine
+    → StandsOnDrives disks images owes specs machine drives → StandsOnDrives disks images owes specs lent drives
+stands_inside {disks = disks} {images = images} {owes = owes} {specs = specs} {drives = drives} same stands =
+    subst (λ (m : Machine). StandsOnDrives disks images owes specs m drives) (sym same) stands

@@ -4,6 +4,7 @@ use Rattle.std.specs.Prelude.{◌⊎◌, length, option_map}
 use Rattle.std.specs.List.{All, AllByRecursion}
 use Rattle.std.proofs.lemmas.List.Elements.{All-from_recursion}
 use Rattle.std.proofs.lemmas.Option.{none-some}
+use Rattle.std.specs.Global.{Box}
 use Rattle.mpm_base.specs.declared.kind.Kind.{Kind}
 use Rattle.mpm_port.specs.Disks.{Disks}
 use Rattle.mpm_machine_file.specs.declared.lists.DriveSpec.{DriveSpec}
@@ -84,13 +85,13 @@ attached_still one other x y z number first last = (last.names number ∙ first.
 pub still_attached : (disks : Disks) (unsynced : ℕ → Bool) → SyncsAttached disks disks unsynced
 still_attached disks unsynced number = inl (refl, refl)
 
-pub nothing_called : {E : Type 0} (result : Result Machine E) (disks : Disks) → IfOk result (λ machine. KeepsUnmounted disks disks machine.bdos.mounted)
+pub nothing_called : {E : Type 0} (result : Result (Box Machine) E) (disks : Disks) → IfOk result (λ machine. KeepsUnmounted disks disks machine.value.bdos.mounted)
 nothing_called (Err error) disks = tt
 nothing_called (Ok machine) disks = record { images = λ number free. refl; names = λ number free. refl }
 
 -- where none is mounted all are synced
 
-pub none_synced : {E : Type 0} (result : Result Machine E) (unsynced : ℕ → Bool) → IfOk result (λ machine. HasNoDrive machine.bdos.mounted)
-    → IfOk result (λ machine. AreMountedSynced unsynced machine.bdos.mounted)
+pub none_synced : {E : Type 0} (result : Result (Box Machine) E) (unsynced : ℕ → Bool) → IfOk result (λ machine. HasNoDrive machine.value.bdos.mounted)
+    → IfOk result (λ machine. AreMountedSynced unsynced machine.value.bdos.mounted)
 none_synced (Err error) unsynced none = tt
 none_synced (Ok machine) unsynced none = λ number. subst (λ (directory : Option Directory). IfSome directory (λ d. unsynced number ≡ false)) (sym (none number)) tt

@@ -15,6 +15,8 @@ use Rattle.mpm_bdos.specs.Serving.{Kept as Filed}
 use Rattle.mpm_machine.specs.State.{State}
 use Rattle.mpm_machine.specs.Files.{Between, StandsForFiles}
 use Rattle.mpm_machine.specs.Mounting.{HasDrives, HasNoDrive, untouched}
+use Rattle.mpm_machine.specs.Parts.{IsBetweenSteps}
+use Rattle.mpm_machine.specs.declared.machine.Machine.{Machine}
 use Rattle.mpm_top.specs.declared.words.Form.{Form}
 use Rattle.mpm_top.specs.declared.words.Form.TheVariants.{Program, Run}
 use Rattle.mpm_top.specs.declared.words.Asked.{Asked}
@@ -125,3 +127,9 @@ pub record StartsOf (host : Host) (form : Form) (Of : List ℕ → Type 0) (syst
 
 abbrev pub Starts : Host → Form → List ℕ → System → Filed → Disks → Type 0
 Starts host form name system kept disks = StartsOf host form (Holds host.contents (input_of form) name) system kept disks
+
+-- a machine at its start: it is between steps, none was done, and no call is in service
+pub record IsAtStart {D : Type 0} (disks : D → Disks) (machine : Machine) (drives : D) : Type 0 where
+  pub between : IsBetweenSteps disks machine drives
+  pub start : machine.system.steps ≡ 0
+  pub idle : machine.system.kernel.disk.served ≡ None

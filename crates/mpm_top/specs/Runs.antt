@@ -18,6 +18,8 @@ use Rattle.mpm_machine.specs.After.{after, EndsInStep}
 use Rattle.mpm_machine.specs.Failing.{FailsWithin, StopsOn}
 use Rattle.mpm_machine.specs.Settling.{carried, left_of}
 use Rattle.mpm_machine.specs.Faults.{FailureCounts}
+use Rattle.mpm_machine.specs.Mounting.{HasDrives, HasNoDrive}
+use Rattle.mpm_machine.specs.declared.machine.RunFault.{RunFault}
 use Rattle.mpm_machine.specs.declared.machine.StepFault.{StepFault}
 use Rattle.mpm_machine.specs.declared.machine.StepFault.TheVariants.{WriteFault as SinkFailed, DiskFault as SyncFailed}
 
@@ -152,3 +154,18 @@ StopsRunBy Stand SyncFailed trace s steps old new step = ClosesAt Stand trace s 
 abbrev pub Causes : StepFault → FailureCounts → FailureCounts → Type 0
 Causes SinkFailed old new = Rose old.sink new.sink × (new.drives ≡ old.drives)
 Causes SyncFailed old new = Rose old.drives new.drives
+
+-- a run leaves the names and the sizes of all drives. An image that is no listed drive's is as it was, no name joined the failed ones, and
+-- where no drive is mounted none was called
+pub record RunLeaves {D : Type 0} (disks : D → Disks) (told : D → Images) (failed : D → List (List ℕ)) (mounted : List (Option Directory)) (old new : D) : Type 0 where
+  pub others : (specs : List DriveSpec) → HasDrives (disks old) specs mounted → KeepsOthers (told old) (told new) (disks old) (disks new) specs
+  pub attached : (number : ℕ) → IsAttachedAs (disks old) (disks new) number
+  pub names : failed new ≡ failed old
+  pub none : HasNoDrive mounted → new ≡ old
+
+-- it stopped in one of its steps, or in its end without one, with the images as they were known before; and where no drive is mounted
+-- the sink failed
+pub record StopsInRun {D : Type 0} (told : D → Images) (mounted : List (Option Directory)) (steps : ℕ) (old new : D) (error : RunFault) : Type 0 where
+  pub within : error.step ≤ steps
+  pub early : error.step ≡ 0 → told new ≡ told old
+  pub sink : HasNoDrive mounted → error.fault ≡ SinkFailed

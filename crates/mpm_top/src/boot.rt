@@ -1,10 +1,8 @@
 ghost use Rattle.std.specs.Prelude.{◌≡◌, ◌≤◌, ◌↔◌, ℕ, List, Some, IsSome, IfSome, IfOk, IfErr, MatchResult, length};
 ghost use Rattle.mpm_drives.specs.Mounted.{AsksNoWrite};
 ghost use Rattle.mpm_bdos.specs.Syncing.{AreMountedSynced};
-ghost use Rattle.mpm_system.specs.Whole.{IsWhole, NoCompletions};
-ghost use Rattle.mpm_machine.specs.Holding.{HoldsDrives};
 ghost use Rattle.mpm_machine.specs.Mounting.{HasNoDrive};
-ghost use Rattle.mpm_top.specs.Beginnings.{input_of as input_said, room_for, script_name, Host, host, failures, failed, Holds, HoldsEvents, Starts, StartsOf, Scripted};
+ghost use Rattle.mpm_top.specs.Beginnings.{input_of as input_said, room_for, script_name, Host, host, failures, failed, Holds, HoldsEvents, IsAtStart, Starts, StartsOf, Scripted};
 ghost use Rattle.mpm_top.specs.Runs.{KeepsUnmounted};
 ghost use Rattle.mpm_top.specs.Endings.{status_of, Unfetched, Unread, Ends, EndsAfter, IsRefusal, IsEarly, UnlessReadFault, UnlessDiskFault, EndsAs};
 
@@ -35,15 +33,12 @@ pub(crate) fn boot<F: Files, D: Drives>(
     form: Form,
     files: &mut F,
     drives: &mut D,
-) -> Result<Machine, Status>
-    ensures starts { IfOk result (λ machine. Starts (host F.contents D.told files.old drives.old) form name.now machine.system machine.bdos (D.disks drives.new)) }
-    ensures holds { IfOk result (λ machine. HoldsDrives D.disks machine.system.kernel machine.bdos drives.new) }
-    ensures beside { IfOk result (λ machine. KeepsUnmounted (D.disks drives.old) (D.disks drives.new) machine.bdos.mounted) }
+) -> Result<Box<Machine>, Status>
+    ensures starts { IfOk result (λ machine. Starts (host F.contents D.told files.old drives.old) form name.now machine.value.system machine.value.bdos (D.disks drives.new)) }
+    ensures begins { IfOk result (λ machine. IsAtStart D.disks machine.value drives.new) }
+    ensures beside { IfOk result (λ machine. KeepsUnmounted (D.disks drives.old) (D.disks drives.new) machine.value.bdos.mounted) }
     ensures asks { AsksNoWrite (D.unsynced drives.old) (D.unsynced drives.new) }
-    ensures fresh { IfOk result (λ machine. AreMountedSynced (D.unsynced drives.new) machine.bdos.mounted) }
-    ensures whole { IfOk result (λ machine. IsWhole machine.system) }
-    ensures no_completions { IfOk result (λ machine. NoCompletions machine.system) }
-    ensures start { IfOk result (λ machine. machine.system.steps ≡ 0) }
+    ensures fresh { IfOk result (λ machine. AreMountedSynced (D.unsynced drives.new) machine.value.bdos.mounted) }
     ensures early { IfErr result (λ status. IsEarly status) }
     ensures reason { IfErr result (λ status. Ends (D.disks drives.new) (host F.contents D.told files.old drives.old) form name.now
         (failed F.failed_names D.faults D.failed_names files.old drives.old) (failed F.failed_names D.faults D.failed_names files.new drives.new) status) }
@@ -57,7 +52,7 @@ pub(crate) fn boot<F: Files, D: Drives>(
         (λ status. UnlessDiskFault status (failures D.faults D.failed_names drives.new ≡ failures D.faults D.failed_names drives.old)) }
     ensures told { D.told drives.new ≡ D.told drives.old }
     ensures program { form ≡ Form.Program → drives.new ≡ drives.old }
-    ensures no_drive { form ≡ Form.Program → IfOk result (λ machine. HasNoDrive machine.bdos.mounted) }
+    ensures no_drive { form ≡ Form.Program → IfOk result (λ machine. HasNoDrive machine.value.bdos.mounted) }
 {
     let bytes = match fetch(alloc, name, form.input(), files) {
         Ok(bytes) => bytes,
@@ -95,14 +90,12 @@ fn fetch<F: Files>(
 }
 
 /// The machine of a program's bytes. No drive is mounted.
-fn boot_program<D: Drives>(alloc: Global, bytes: &[u8], drives: &D) -> Result<Machine, Status>
+#[inline(never)]
+fn boot_program<D: Drives>(alloc: Global, bytes: &[u8], drives: &D) -> Result<Box<Machine>, Status>
     requires { length bytes.now ≤ 48512 }
-    ensures starts { (host : Host) → IfOk result (λ machine. StartsOf host Form.Program (λ content. content ≡ bytes.now) machine.system machine.bdos (D.disks drives.now)) }
-    ensures holds { IfOk result (λ machine. HoldsDrives D.disks machine.system.kernel machine.bdos drives.now) }
-    ensures no_drive { IfOk result (λ machine. HasNoDrive machine.bdos.mounted) }
-    ensures whole { IfOk result (λ machine. IsWhole machine.system) }
-    ensures no_completions { IfOk result (λ machine. NoCompletions machine.system) }
-    ensures start { IfOk result (λ machine. machine.system.steps ≡ 0) }
+    ensures starts { (host : Host) → IfOk result (λ machine. StartsOf host Form.Program (λ content. content ≡ bytes.now) machine.value.system machine.value.bdos (D.disks drives.now)) }
+    ensures begins { IfOk result (λ machine. IsAtStart D.disks machine.value drives.now) }
+    ensures no_drive { IfOk result (λ machine. HasNoDrive machine.value.bdos.mounted) }
     ensures memory { IfErr result (λ status. status ≡ Status.OutOfMemory) }
 {
     let _ = drives;
@@ -113,21 +106,19 @@ fn boot_program<D: Drives>(alloc: Global, bytes: &[u8], drives: &D) -> Result<Ma
 }
 
 /// The machine of a machine file's bytes and of the script that it names, or how the command ends without one.
+#[inline(never)]
 fn boot_machine<F: Files, D: Drives>(
     alloc: Global,
     bytes: &[u8],
     files: &mut F,
     drives: &mut D,
-) -> Result<Machine, Status>
+) -> Result<Box<Machine>, Status>
     ensures starts { IfOk result (λ machine. StartsOf (host F.contents D.told files.old drives.old) Form.Run (λ content. content ≡ bytes.now)
-        machine.system machine.bdos (D.disks drives.new)) }
-    ensures holds { IfOk result (λ machine. HoldsDrives D.disks machine.system.kernel machine.bdos drives.new) }
-    ensures beside { IfOk result (λ machine. KeepsUnmounted (D.disks drives.old) (D.disks drives.new) machine.bdos.mounted) }
+        machine.value.system machine.value.bdos (D.disks drives.new)) }
+    ensures begins { IfOk result (λ machine. IsAtStart D.disks machine.value drives.new) }
+    ensures beside { IfOk result (λ machine. KeepsUnmounted (D.disks drives.old) (D.disks drives.new) machine.value.bdos.mounted) }
     ensures asks { AsksNoWrite (D.unsynced drives.old) (D.unsynced drives.new) }
-    ensures fresh { IfOk result (λ machine. AreMountedSynced (D.unsynced drives.new) machine.bdos.mounted) }
-    ensures whole { IfOk result (λ machine. IsWhole machine.system) }
-    ensures no_completions { IfOk result (λ machine. NoCompletions machine.system) }
-    ensures start { IfOk result (λ machine. machine.system.steps ≡ 0) }
+    ensures fresh { IfOk result (λ machine. AreMountedSynced (D.unsynced drives.new) machine.value.bdos.mounted) }
     ensures early { IfErr result (λ status. IsEarly status) }
     ensures reason { IfErr result (λ status. EndsAfter (D.disks drives.new) (host F.contents D.told files.old drives.old) Form.Run (λ content. content ≡ bytes.now)
         (failed F.failed_names D.faults D.failed_names files.old drives.old) (failed F.failed_names D.faults D.failed_names files.new drives.new) status) }

@@ -3,16 +3,14 @@ ghost use Rattle.mpm_script.specs.declared.line.TheConstants.{GREATEST_STEP};
 ghost use Rattle.mpm_machine_file.specs.declared.lists.DriveSpec.{DriveSpec};
 ghost use Rattle.mpm_drives.specs.Mounted.{NumberedDrive, placed};
 ghost use Rattle.mpm_bdos.specs.Syncing.{AreMountedSynced};
-ghost use Rattle.mpm_system.specs.Whole.{IsWhole, NoCompletions};
 ghost use Rattle.mpm_machine.specs.State.{State};
 ghost use Rattle.mpm_machine.specs.Files.{Between, StandsForFiles};
-ghost use Rattle.mpm_machine.specs.Holding.{HoldsDrives};
 ghost use Rattle.mpm_machine.specs.Faults.{counts};
-ghost use Rattle.mpm_machine.specs.Mounting.{HasDrives, HasNoDrive, untouched};
+ghost use Rattle.mpm_machine.specs.Mounting.{HasDrives, untouched};
 ghost use Rattle.mpm_machine.specs.After.{after, ShowsBefore};
 ghost use Rattle.mpm_top.specs.Words.{Command, texts, command_of};
-ghost use Rattle.mpm_top.specs.Beginnings.{command_on, input_of as input_said, room_for, script_name, host, failed, begun};
-ghost use Rattle.mpm_top.specs.Runs.{printed, StandFor, KeepsOthers, IsAttachedAs, SyncsAttached, RunsOut, StopsRunBy, ClosesAfter, Causes};
+ghost use Rattle.mpm_top.specs.Beginnings.{command_on, input_of as input_said, room_for, script_name, host, failed, begun, IsAtStart};
+ghost use Rattle.mpm_top.specs.Runs.{printed, StandFor, SyncsAttached, RunsOut, RunLeaves, StopsInRun, StopsRunBy, ClosesAfter, Causes};
 ghost use Rattle.mpm_top.specs.Endings.{stopped_by, Ends, EndsAs, IsRefusal};
 ghost use Rattle.mpm_top.specs.Promises.{seen, Writes, SeesLast, Fails, Promises};
 ghost use Rattle.mpm_top.specs.Seeds.{seeded_of, EndsSeeded};
@@ -172,11 +170,7 @@ fn run_to_end<D: Drives, S: Sink, V: Look, L: Ledger>(
     look: &mut V,
     blank: Blank,
 ) -> Result<(), RunFault>
-    requires whole { IsWhole machine.old.system }
-    requires no_completions { NoCompletions machine.old.system }
-    requires start { machine.old.system.steps ≡ 0 }
-    requires idle { machine.old.system.kernel.disk.served ≡ None }
-    requires holds { HoldsDrives D.disks machine.old.system.kernel machine.old.bdos drives.old }
+    requires begins { IsAtStart D.disks machine.old drives.old }
     requires limit { asked.steps ≤ GREATEST_STEP }
     requires name { blank.name ≡ L.name }
     requires parts { blank.parts ≡ L.parts }
@@ -191,17 +185,11 @@ fn run_to_end<D: Drives, S: Sink, V: Look, L: Ledger>(
         (printed S.written S.faults sink.old) (printed S.written S.faults sink.new) error.step) }
     ensures looked { (on : List NumberedDrive) → StandsForFiles machine.old.system.kernel.disk machine.old.bdos (D.disks drives.old) (Between (untouched (placed on)))
         → OnOk result (V.saw look.old (after asked.steps (begun machine.old.system on)).system look.new) }
-    ensures others { (specs : List DriveSpec) → HasDrives (D.disks drives.old) specs machine.old.bdos.mounted
-        → KeepsOthers (D.told drives.old) (D.told drives.new) (D.disks drives.old) (D.disks drives.new) specs }
+    ensures leaves { RunLeaves D.disks D.told D.failed_names machine.old.bdos.mounted drives.old drives.new }
     ensures synced { OnOk result (AreMountedSynced (D.unsynced drives.new) machine.old.bdos.mounted) }
-    ensures attached { (number : ℕ) → IsAttachedAs (D.disks drives.old) (D.disks drives.new) number }
-    ensures within { IfErr result (λ error. error.step ≤ asked.steps) }
-    ensures early { IfErr result (λ error. error.step ≡ 0 → D.told drives.new ≡ D.told drives.old) }
+    ensures stopped { IfErr result (λ error. StopsInRun D.told machine.old.bdos.mounted asked.steps drives.old drives.new error) }
     ensures cause { MatchResult result (λ _. counts S.faults D.faults sink.new drives.new ≡ counts S.faults D.faults sink.old drives.old)
         (λ error. Causes error.fault (counts S.faults D.faults sink.old drives.old) (counts S.faults D.faults sink.new drives.new)) }
-    ensures names { D.failed_names drives.new ≡ D.failed_names drives.old }
-    ensures none { HasNoDrive machine.old.bdos.mounted → drives.new ≡ drives.old }
-    ensures unfailing { HasNoDrive machine.old.bdos.mounted → IfErr result (λ error. error.fault ≡ StepFault.WriteFault) }
 {
     let mut steps = Steps::<L>::new(blank);
     let mut render = Render::new(asked.trace);

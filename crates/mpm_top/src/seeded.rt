@@ -9,14 +9,12 @@ ghost use Rattle.mpm_generator.specs.Machines.{machine as machine_said, script a
 ghost use Rattle.mpm_drives.specs.Mounted.{NumberedDrive, placed};
 ghost use Rattle.mpm_directories.specs.Places.{directory_at};
 ghost use Rattle.mpm_bdos.specs.Turns.{labelled};
-ghost use Rattle.mpm_system.specs.Whole.{IsWhole, NoCompletions};
 ghost use Rattle.mpm_machine.specs.Files.{Between, StandsForFiles};
-ghost use Rattle.mpm_machine.specs.Holding.{HoldsDrives};
 ghost use Rattle.mpm_machine.specs.Mounting.{untouched};
 ghost use Rattle.mpm_machine.specs.After.{after};
 ghost use Rattle.mpm_machine.specs.Settling.{carried};
 ghost use Rattle.mpm_top.specs.Words.{texts};
-ghost use Rattle.mpm_top.specs.Beginnings.{begun};
+ghost use Rattle.mpm_top.specs.Beginnings.{begun, IsAtStart};
 ghost use Rattle.mpm_top.specs.Runs.{drives_left};
 ghost use Rattle.mpm_top.specs.Endings.{IsRefusal, UnlessWriteFault};
 ghost use Rattle.mpm_top.specs.Data.{HasDriveA};
@@ -135,10 +133,7 @@ fn find_of(
     machine: &mut Machine,
     drives: &mut SteadyDrives,
 ) -> Result<Found, OutOfMemory>
-    requires whole { IsWhole machine.old.system }
-    requires no_completions { NoCompletions machine.old.system }
-    requires start { machine.old.system.steps ≡ 0 }
-    requires holds { HoldsDrives disks_of machine.old.system.kernel machine.old.bdos drives.old }
+    requires begins { IsAtStart disks_of machine.old drives.old }
     requires limit { steps ≤ GREATEST_STEP }
     requires size { size_of (disks_of drives.old) 0 ≡ Some 4194304 }
     requires drive { option_map labelled (directory_at machine.old.bdos.mounted 0) ≡ Some (0, Hd4) }
@@ -167,10 +162,7 @@ fn run_counted<L: Ledger>(
     counts: &mut LineCounts,
     blank: Blank,
 )
-    requires whole { IsWhole machine.old.system }
-    requires no_completions { NoCompletions machine.old.system }
-    requires start { machine.old.system.steps ≡ 0 }
-    requires holds { HoldsDrives disks_of machine.old.system.kernel machine.old.bdos drives.old }
+    requires begins { IsAtStart disks_of machine.old drives.old }
     requires limit { steps ≤ GREATEST_STEP }
     requires drive { option_map labelled (directory_at machine.old.bdos.mounted 0) ≡ Some (0, Hd4) }
     requires name { blank.name ≡ L.name }

@@ -4,13 +4,11 @@ use Rattle.mpm_machine.proofs.WholeStepLaws.{whole_counted, whole_after_begun}
 use Rattle.mpm_machine.proofs.StepLaws.{alone_room}
 use Rattle.mpm_machine.proofs.acting.begin_alone.Goals as goal
 
-pub answer_all-requires-clause-whole : goal.answer_all-requires-clause-whole
-answer_all-requires-clause-whole g c =
-    whole_after_begun (counted c.args.system.now) c.begin.new.system (whole_counted c.args.system.now c.requires.whole) c.in_ok-instruction.ensures.system
-
-pub answer_all-requires-clause-room : goal.answer_all-requires-clause-room
-answer_all-requires-clause-room g c =
-    begun_has_room (coming (counted c.args.system.now)) (counted c.args.system.now) c.begin.new.system c.requires.no_completions.written c.in_ok-instruction.ensures.system
+pub answer_all-requires : goal.answer_all-requires
+answer_all-requires g c = record {
+  whole = whole_after_begun (counted c.args.system.now) c.begin.new.system (whole_counted c.args.system.now c.requires.whole) c.in_ok-instruction.ensures.done.system;
+  room = begun_has_room (coming (counted c.args.system.now)) (counted c.args.system.now) c.begin.new.system c.requires.no_completions.written c.in_ok-instruction.ensures.done.system;
+}
 
 pub returns-clause-room : goal.returns-clause-room
-returns-clause-room g c = alone_room c.args.system.now c.begin.new.system c.answer_all.new.system c.requires.no_completions.written c.in_ok-instruction.ensures.system c.answer_all.ensures.few
+returns-clause-room g c = alone_room c.args.system.now c.begin.new.system c.answer_all.new.system c.requires.no_completions.written c.in_ok-instruction.ensures.done.system c.answer_all.ensures.few

@@ -1,11 +1,11 @@
 use Rattle.mpm_output.specs.Outside.{TheSink}
-use Rattle.mpm_output.proofs.WritingLaws.{passes_on}
+use Rattle.mpm_machine.proofs.MakingLaws.{makes_none}
 use Rattle.mpm_machine.proofs.CallLaws.{lives_said, room_popped, popped_after, completed_system, wrote_text, text_fails}
 use Rattle.mpm_machine.proofs.call.complete.Goals as goal
 
-pub returns-in_err-speak-clause-wrote : goal.returns-in_err-speak-clause-wrote
-returns-in_err-speak-clause-wrote g c =
-    passes_on _ _ _ _ c.from_residual.ensures.0
+pub returns-in_err-speak : goal.returns-in_err-speak
+returns-in_err-speak g c =
+    makes_none _ _ _ _ _ _ _ _ _ c.from_residual.ensures.0
     (text_fails TheSink _ _ c.args.reply.now c.args.p c.args.seg c.args.system.now c.in_err-speak.ensures.wrote.err)
 
 pub pop-requires : goal.pop-requires

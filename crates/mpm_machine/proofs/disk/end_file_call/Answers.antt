@@ -1,11 +1,16 @@
-use Rattle.mpm_procs.specs.Table.{call_of}
+use Rattle.std.proofs.Common.{sym, subst, arith}
+use Rattle.mpm_procs.specs.Table.{Lives, call_of}
+use Rattle.mpm_kernel.specs.Kernel.{Kernel}
 use Rattle.mpm_machine.specs.FileCalls.{told_of}
 use Rattle.mpm_machine.proofs.ServeLaws.{again_whole, concluded_whole, concluded_room}
 use Rattle.mpm_machine.proofs.disk.end_file_call.Goals as goal
 
-pub conclude_file_call-requires-clause-whole : goal.conclude_file_call-requires-clause-whole
-conclude_file_call-requires-clause-whole g c =
-    again_whole c.args.p c.args.system.now c.end_disk_call.new.self c.requires.whole c.requires.over c.end_disk_call.ensures.kernel
+pub conclude_file_call-requires : goal.conclude_file_call-requires
+conclude_file_call-requires g c = record {
+  whole = again_whole c.args.p c.args.system.now c.end_disk_call.new.self c.requires.whole c.requires.over c.end_disk_call.ensures.kernel;
+  lives = subst (λ (k : Kernel). Lives k.dispatcher.procs c.args.p) (sym c.end_disk_call.ensures.kernel) c.requires.over.lives;
+  room = omega (arith, c.requires.room);
+}
 
 pub finish_all-requires-clause-whole : goal.finish_all-requires-clause-whole
 finish_all-requires-clause-whole g c =

@@ -1,12 +1,12 @@
 use Rattle.mpm_output.specs.Outside.{TheSink, by_sink}
-use Rattle.mpm_output.proofs.WritingLaws.{passes_on}
+use Rattle.mpm_machine.proofs.MakingLaws.{makes_none}
 use Rattle.mpm_machine.proofs.WholeLaws.{whole_written}
 use Rattle.mpm_machine.proofs.DueLaws.{records_fail, emits_ends, ends_system, none_written}
 use Rattle.mpm_machine.proofs.due.end_all.Goals as goal
 
-pub returns-in_err-write_records-clause-wrote : goal.returns-in_err-write_records-clause-wrote
-returns-in_err-write_records-clause-wrote g c =
-    passes_on _ _ _ _ c.from_residual.ensures.0 (records_fail TheSink c.args.system.now _ _ c.in_err-write_records.ensures.wrote.err)
+pub returns-in_err-write_records : goal.returns-in_err-write_records
+returns-in_err-write_records g c =
+    makes_none _ _ _ _ _ _ _ _ _ c.from_residual.ensures.0 (records_fail TheSink c.args.system.now _ _ c.in_err-write_records.ensures.wrote.err)
 
 pub end_due-requires : goal.end_due-requires
 end_due-requires g c = record {

@@ -12,10 +12,13 @@ loop-number-init g c = record { so = due_nothing c.args.system.now _ c.requires.
 pub end_if_due-requires : goal.end_if_due-requires
 end_if_due-requires g c = record { whole = c.loop-number.invariant.whole; none = c.loop-number.invariant.so.none }
 
-pub returns-in-Err-clause-wrote : goal.returns-in-Err-clause-wrote
-returns-in-Err-clause-wrote g c = record {
-  ok = tt;
-  err = due_fails TheSink c.args.system.now c.loop-number.system c.loop-number.number _ _ _ (omega arith) c.loop-number.invariant.so c.in-Err.ensures.wrote.err;
+pub returns-in-Err : goal.returns-in-Err
+returns-in-Err g c = record {
+  system = tt;
+  wrote = record {
+    ok = tt;
+    err = due_fails TheSink c.args.system.now c.loop-number.system c.loop-number.number _ _ _ (omega arith) c.loop-number.invariant.so c.in-Err.ensures.wrote.err;
+  };
 }
 
 pub loop-number-preserved : goal.loop-number-preserved

@@ -1,8 +1,6 @@
-use Rattle.std.proofs.Common.{◌≡◌, ◌∙◌, OnOk, sym, ap, subst}
-use Rattle.mpm_output.specs.Outside.{by_sink}
-use Rattle.mpm_system.specs.Whole.{SystemChange}
-use Rattle.mpm_system.proofs.ChangeLaws.{emits_silent, emits_as}
+use Rattle.std.proofs.Common.{◌∙◌, sym, ap}
 use Rattle.mpm_machine.specs.Finishing.{all_finished}
+use Rattle.mpm_machine.proofs.MakingLaws.{makes_silent, makes_as}
 use Rattle.mpm_machine.proofs.DueLaws.{room_at_end, no_end_out, end_out}
 use Rattle.mpm_machine.proofs.WholeStepLaws.{whole_due_end}
 use Rattle.mpm_machine.proofs.due.end_if_due.Goals as goal
@@ -15,11 +13,8 @@ finish_all-requires-clause-room g c = room_at_end c.args.p c.args.system.now c.e
 
 pub returns-then-is_due : goal.returns-then-is_due
 returns-then-is_due g c =
-    let same = end_out c.args.p c.args.system.now c.finish_all.new.system (sym c.is_due.ensures ∙ c.if-is_due.true) (c.finish_all.ensures.system ∙ ap all_finished c.end.ensures) in
-    let P : SystemChange → Type 0 = λ change. OnOk c.write_records.result (c.write_records.new.self ≡ change.system) in
-    record { system = subst P same c.write_records.ensures.system; wrote = emits_as by_sink _ _ _ _ _ same c.write_records.ensures.wrote }
+    makes_as _ _ (end_out c.args.p c.args.system.now c.finish_all.new.system (sym c.is_due.ensures ∙ c.if-is_due.true) (c.finish_all.ensures.system ∙ ap all_finished c.end.ensures))
+    (record { system = c.write_records.ensures.system; wrote = c.write_records.ensures.wrote })
 
 pub returns : goal.returns
-returns g c =
-    let none = no_end_out c.args.p c.args.system.now (sym c.is_due.ensures ∙ c.if-is_due.false) c.requires.none in
-    record { system = sym (ap (λ (change : SystemChange). change.system) none); wrote = emits_silent by_sink _ _ _ _ none }
+returns g c = makes_silent _ _ _ _ _ _ _ (no_end_out c.args.p c.args.system.now (sym c.is_due.ensures ∙ c.if-is_due.false) c.requires.none)

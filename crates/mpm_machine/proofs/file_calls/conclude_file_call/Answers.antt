@@ -11,17 +11,9 @@ put_file_reply-requires g c = record {
       c.requires.room (c.change_caller.ensures c.args.error (granted_is c.is_none.result c.args.error c.is_none.ensures));
 }
 
-pub meet_error-requires-clause-whole : goal.meet_error-requires-clause-whole
-meet_error-requires-clause-whole g c =
-    (caller_stays (change_of (call_of c.args.system.now.kernel.dispatcher.procs c.args.p) c.args.error) c.args.p c.args.system.now c.change_caller.new.self
-    c.requires.whole c.requires.lives (c.change_caller.ensures c.args.error (granted_is c.is_none.result c.args.error c.is_none.ensures))).whole
-
-pub meet_error-requires-clause-lives : goal.meet_error-requires-clause-lives
-meet_error-requires-clause-lives g c =
-    (caller_stays (change_of (call_of c.args.system.now.kernel.dispatcher.procs c.args.p) c.args.error) c.args.p c.args.system.now c.change_caller.new.self
-    c.requires.whole c.requires.lives (c.change_caller.ensures c.args.error (granted_is c.is_none.result c.args.error c.is_none.ensures))).lives
-
-pub meet_error-requires-clause-room : goal.meet_error-requires-clause-room
-meet_error-requires-clause-room g c =
-    room_changed (change_of (call_of c.args.system.now.kernel.dispatcher.procs c.args.p) c.args.error) c.args.p c.args.system.now c.change_caller.new.self
-    c.requires.room (c.change_caller.ensures c.args.error (granted_is c.is_none.result c.args.error c.is_none.ensures))
+pub meet_error-requires : goal.meet_error-requires
+meet_error-requires g c =
+    let change = change_of (call_of c.args.system.now.kernel.dispatcher.procs c.args.p) c.args.error in
+    let changed = c.change_caller.ensures c.args.error (granted_is c.is_none.result c.args.error c.is_none.ensures) in
+    let stays = caller_stays change c.args.p c.args.system.now c.change_caller.new.self c.requires.whole c.requires.lives changed in
+    record { whole = stays.whole; lives = stays.lives; room = room_changed change c.args.p c.args.system.now c.change_caller.new.self c.requires.room changed }

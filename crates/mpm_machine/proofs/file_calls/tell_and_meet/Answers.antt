@@ -1,11 +1,11 @@
 use Rattle.mpm_output.specs.Outside.{TheSink}
-use Rattle.mpm_output.proofs.WritingLaws.{passes_on}
+use Rattle.mpm_machine.proofs.MakingLaws.{makes_none}
 use Rattle.mpm_machine.proofs.FileLaws.{room_told, told_stays, told_fails, wrote_told, told_system}
 use Rattle.mpm_machine.proofs.file_calls.tell_and_meet.Goals as goal
 
-pub returns-in_err-tell_error-clause-wrote : goal.returns-in_err-tell_error-clause-wrote
-returns-in_err-tell_error-clause-wrote g c =
-    passes_on _ _ _ _ c.from_residual.ensures.0
+pub returns-in_err-tell_error : goal.returns-in_err-tell_error
+returns-in_err-tell_error g c =
+    makes_none _ _ _ _ _ _ _ _ _ c.from_residual.ensures.0
     (told_fails TheSink c.args.answers c.args.error c.args.reply.now c.args.p c.args.system.now _ _ c.in_err-tell_error.ensures.wrote.err)
 
 pub answer_or_end-requires : goal.answer_or_end-requires

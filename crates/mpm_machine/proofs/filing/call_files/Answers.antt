@@ -1,4 +1,4 @@
-use Rattle.std.proofs.Common.{refl, arith}
+use Rattle.std.proofs.Common.{arith}
 use Rattle.mpm_machine.specs.Parts.{of_drive}
 use Rattle.mpm_machine.proofs.PartsLaws.{uses_none}
 use Rattle.mpm_machine.proofs.filing.call_files.Goals as goal

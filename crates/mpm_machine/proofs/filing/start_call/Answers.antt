@@ -6,11 +6,11 @@ use Rattle.mpm_machine.proofs.filing.start_call.Goals as goal
 
 pub looked_at-caller-requires-clause-some : goal.looked_at-caller-requires-clause-some
 looked_at-caller-requires-clause-some c =
-    subst (λ (one : Process). 1 ≤ one.multi) (sym c.living.ensures) (c.requires.whole.sound.fit c.args.p c.requires.lives).some
+    subst (λ (one : Process). 1 ≤ one.multi) (sym c.living.ensures) (c.requires.living.whole.sound.fit c.args.p c.requires.living.lives).some
 
 pub looked_at-caller-requires-clause-few : goal.looked_at-caller-requires-clause-few
 looked_at-caller-requires-clause-few c =
-    subst (λ (one : Process). one.multi ≤ 16) (sym c.living.ensures) (c.requires.whole.sound.fit c.args.p c.requires.lives).few
+    subst (λ (one : Process). one.multi ≤ 16) (sym c.living.ensures) (c.requires.living.whole.sound.fit c.args.p c.requires.living.lives).few
 
 pub returns-clause-turns : goal.returns-clause-turns
 returns-clause-turns c images drives function is stand =

@@ -4,8 +4,15 @@ use Rattle.mpm_machine.proofs.FinishLaws.{answered_system, answered_nobody, answ
 use Rattle.mpm_machine.proofs.WholeStepLaws.{whole_first_so}
 use Rattle.mpm_machine.proofs.finish.answer_each.Goals as goal
 
-pub finish_first-requires-clause-room : goal.finish_first-requires-clause-room
-finish_first-requires-clause-room c = first_has_room c.args.system.now c.next_completed.new.system c.requires.room c.in-Some.ensures.system
+pub finish_first-requires : goal.finish_first-requires
+finish_first-requires c = record {
+  answers = record {
+    whole = c.next_completed.ensures.whole;
+    lives = c.in-Some.ensures.lives;
+    room = first_has_room c.args.system.now c.next_completed.new.system c.requires.room c.in-Some.ensures.system;
+  };
+  reply = c.in-Some.ensures.reply;
+}
 
 pub finish_all-requires : goal.finish_all-requires
 finish_all-requires c = record {

@@ -3,9 +3,15 @@ use Rattle.mpm_machine.proofs.FinishLaws.{completed_none, finished_more, finishe
 use Rattle.mpm_machine.proofs.WholeStepLaws.{whole_left}
 use Rattle.mpm_machine.proofs.finish.finish_each.Goals as goal
 
-pub finish-requires-clause-room : goal.finish-requires-clause-room
-finish-requires-clause-room c =
-    has_room c.loop-p.system c.next_completed.new.system c.in-Some.p c.loop-p.invariant.room (sym c.in-Some.ensures.process) c.in-Some.ensures.system
+pub finish-requires : goal.finish-requires
+finish-requires c = record {
+  answers = record {
+    whole = c.next_completed.ensures.whole;
+    lives = c.in-Some.ensures.lives;
+    room = has_room c.loop-p.system c.next_completed.new.system c.in-Some.p c.loop-p.invariant.room (sym c.in-Some.ensures.process) c.in-Some.ensures.system;
+  };
+  reply = c.in-Some.ensures.reply;
+}
 
 pub loop-p-smaller : goal.loop-p-smaller
 loop-p-smaller c =

@@ -46,7 +46,7 @@ returns-clause-starts g c =
     starts_with_contents found c.args.form Run c.args.name.now c.as_slice-in-Run.result.now (g.D.Drives.disks c.boot_machine.new.drives) c.boot_machine.result c.in-Run.is
     (subst P c.input.ensures from_file)
     (subst (λ (contents : Contents). IfOk c.boot_machine.result (λ machine. StartsOf (record found { contents = contents }) Run (λ content. content ≡ c.as_slice-in-Run.result.now)
-    machine.system machine.bdos (g.D.Drives.disks c.boot_machine.new.drives))) (fun_ext c.in-Ok.ensures.files) c.boot_machine.ensures.starts)
+    machine.value.system machine.value.bdos (g.D.Drives.disks c.boot_machine.new.drives))) (fun_ext c.in-Ok.ensures.files) c.boot_machine.ensures.starts)
 
 pub returns-clause-reason : goal.returns-clause-reason
 returns-clause-reason g c =

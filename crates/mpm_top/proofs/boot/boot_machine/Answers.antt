@@ -32,17 +32,29 @@ returns-in-Err-clause-drives g c = always_disk c.in-Err.status _ refl
 pub returns-in-Ok-boot-clause-starts : goal.returns-in-Ok-boot-clause-starts
 returns-in-Ok-boot-clause-starts g c =
     starts_of_file (host g.F.Files.contents g.D.Drives.told c.args.files.now c.args.drives.now) c.args.bytes.now c.in-Ok.file c.in-Ok-read_script_of.script
-    c.in-Ok-boot.machine.system (g.D.Drives.disks c.boot.new.drives) c.in-Ok-boot.machine.bdos c.in-Ok.ensures.ok
-    c.in-Ok-read_script_of.ensures.scripted c.in-Ok-boot.ensures.opening c.in-Ok-boot.ensures.files c.in-Ok-boot.ensures.drives
-    (nobody_yet c.in-Ok-boot.machine.system.kernel.disk c.in-Ok.file.disk_turn c.in-Ok-boot.ensures.disk)
+    c.in-Ok-boot.machine.value.system (g.D.Drives.disks c.boot.new.drives) c.in-Ok-boot.machine.value.bdos c.in-Ok.ensures.ok
+    c.in-Ok-read_script_of.ensures.scripted c.in-Ok-boot.ensures.opening c.in-Ok-boot.ensures.stands.files c.in-Ok-boot.ensures.stands.each
+    (nobody_yet c.in-Ok-boot.machine.value.system.kernel.disk c.in-Ok.file.disk_turn c.in-Ok-boot.ensures.disk)
+
+pub returns-in-Ok-boot-clause-begins : goal.returns-in-Ok-boot-clause-begins
+returns-in-Ok-boot-clause-begins g c =
+    let booted = c.in-Ok-boot.ensures in
+    record {
+      between = record { whole = booted.whole; no_completions = booted.no_completions; holds = booted.stands.holds };
+      start = booted.start;
+      idle = nobody_yet c.in-Ok-boot.machine.value.system.kernel.disk c.in-Ok.file.disk_turn booted.disk;
+    }
 
 pub returns-in-Ok-boot-clause-drives : goal.returns-in-Ok-boot-clause-drives
-returns-in-Ok-boot-clause-drives g c = λ i. record { faults = c.in-Ok-boot.ensures.count i; names = c.in-Ok-boot.ensures.names i }
+returns-in-Ok-boot-clause-drives g c = λ i. record { faults = c.in-Ok-boot.ensures.leaves.count i; names = c.in-Ok-boot.ensures.leaves.names i }
 
 pub returns-in-Ok-boot-clause-beside : goal.returns-in-Ok-boot-clause-beside
 returns-in-Ok-boot-clause-beside g c =
-    keeps_unmounted c.in-Ok.file.drives (g.D.Drives.disks c.args.drives.now) (g.D.Drives.disks c.boot.new.drives) c.in-Ok-boot.machine.bdos.mounted c.boot.ensures.beside
-    c.in-Ok-boot.ensures.drives
+    keeps_unmounted c.in-Ok.file.drives (g.D.Drives.disks c.args.drives.now) (g.D.Drives.disks c.boot.new.drives) c.in-Ok-boot.machine.value.bdos.mounted c.boot.ensures.leaves.beside
+    c.in-Ok-boot.ensures.stands.each
+
+pub returns-in-Ok-boot-clause-asks : goal.returns-in-Ok-boot-clause-asks
+returns-in-Ok-boot-clause-asks g c = c.boot.ensures.leaves.asks.write
 
 pub returns-in-Ok-boot-clause-missing : goal.returns-in-Ok-boot-clause-missing
 returns-in-Ok-boot-clause-missing g c script named missing =
@@ -53,7 +65,10 @@ returns-clause-reason g c =
     ends_unmounted (g.D.Drives.disks c.boot.new.drives) (host g.F.Files.contents g.D.Drives.told c.args.files.now c.args.drives.now) c.args.bytes.now c.in-Ok.file c.in-Ok-read_script_of.script
     (failed g.F.Files.failed_names g.D.Drives.faults g.D.Drives.failed_names c.args.files.now c.args.drives.now)
     (failed g.F.Files.failed_names g.D.Drives.faults g.D.Drives.failed_names c.read_script_of.new.files c.boot.new.drives)
-    c.in-Err-boot.error c.refusal.result c.refusal.ensures c.in-Ok.ensures.ok c.in-Ok-read_script_of.ensures.scripted c.in-Err-boot.ensures.err
+    c.in-Err-boot.error c.refusal.result c.refusal.ensures c.in-Ok.ensures.ok c.in-Ok-read_script_of.ensures.scripted c.in-Err-boot.ensures.leaves.err
+
+pub returns-clause-asks : goal.returns-clause-asks
+returns-clause-asks g c = c.boot.ensures.leaves.asks.write
 
 pub returns-clause-missing : goal.returns-clause-missing
 returns-clause-missing g c script named missing =
@@ -61,4 +76,4 @@ returns-clause-missing g c script named missing =
 
 pub returns-clause-drives : goal.returns-clause-drives
 returns-clause-drives g c =
-    unless_disk (g.D.Drives.disks c.boot.new.drives) (g.D.Drives.told c.args.drives.now) c.in-Ok.file.drives _ _ c.in-Err-boot.error c.refusal.result _ c.refusal.ensures c.in-Err-boot.ensures.err (λ same. same)
+    unless_disk (g.D.Drives.disks c.boot.new.drives) (g.D.Drives.told c.args.drives.now) c.in-Ok.file.drives _ _ c.in-Err-boot.error c.refusal.result _ c.refusal.ensures c.in-Err-boot.ensures.leaves.err (λ same. same)

@@ -1,9 +1,11 @@
 use Rattle.std.proofs.Common.{◌∙◌, ℕ, refl, sym, ap, subst, inr}
 use Rattle.mpm_machine.specs.Faults.{FailureCounts, counts}
 use Rattle.mpm_drives.specs.Stopping.{Failures}
-use Rattle.mpm_top.specs.Beginnings.{host, failed, begun, command_on, drives_listed}
+use Rattle.mpm_machine.specs.declared.machine.Machine.{Machine}
+use Rattle.mpm_top.specs.Beginnings.{host, failed, begun, command_on, drives_listed, IsAtStart}
 use Rattle.mpm_top.specs.Runs.{Causes}
 use Rattle.mpm_top.specs.Promises.{seen}
+use Rattle.mpm_top.proofs.BootLaws.{starts_inside, beside_inside, bare_inside}
 use Rattle.mpm_top.proofs.RunLaws.{ends_by_fault}
 use Rattle.mpm_top.proofs.StatusLaws.{ran_wrote, early_ran, writes_early, fails_early, ended_ran, ended_usage, ended_refusal, writes_stopped, fails_stopped}
 use Rattle.mpm_top.proofs.Naming.{others_then}
@@ -12,36 +14,36 @@ use Rattle.mpm_top.proofs.run.run_command.Goals as goal
 
 -- all is done
 
-pub run_to_end-requires-clause-idle : goal.run_to_end-requires-clause-idle
-run_to_end-requires-clause-idle g c = c.in-Ok.ensures.starts.idle
+pub run_to_end-requires-clause-begins : goal.run_to_end-requires-clause-begins
+run_to_end-requires-clause-begins g c = subst (λ (m : Machine). IsAtStart g.D.Drives.disks m c.boot.new.drives) (sym c.deref_mut.ensures.value) c.in-Ok.ensures.begins
 
 pub returns-in-Ok-run_to_end-clause-writes : goal.returns-in-Ok-run_to_end-clause-writes
 returns-in-Ok-run_to_end-clause-writes g c =
-    let starts = c.in-Ok.ensures.starts in
+    let starts = starts_inside c.deref_mut.ensures.value c.in-Ok.ensures.starts in
     let specs = drives_listed c.args.asked.form starts.begins.bytes in
     let runs = c.in-Ok-run_to_end.ensures.runs specs starts.drives starts.listed starts.files in
     record {
-      start = begun c.in-Ok.machine.system starts.drives;
+      start = begun c.deref_mut.result.now.system starts.drives;
       begins = starts.begins;
       text = runs.text;
       images = runs.stand;
       synced =
-          listed_synced (g.D.Drives.disks c.boot.new.drives) c.in-Ok.machine.bdos.mounted (g.D.Drives.unsynced c.run_to_end.new.drives) specs starts.listed.each
+          listed_synced (g.D.Drives.disks c.boot.new.drives) c.deref_mut.result.now.bdos.mounted (g.D.Drives.unsynced c.run_to_end.new.drives) specs starts.listed.each
           c.in-Ok-run_to_end.ensures.synced;
-      others = others_then _ _ _ _ (g.D.Drives.disks c.boot.new.drives) _ c.in-Ok.machine.bdos.mounted specs c.in-Ok.ensures.told starts.listed c.in-Ok.ensures.beside (c.in-Ok-run_to_end.ensures.others specs starts.listed);
+      others = others_then _ _ _ _ (g.D.Drives.disks c.boot.new.drives) _ c.deref_mut.result.now.bdos.mounted specs c.in-Ok.ensures.told starts.listed (beside_inside c.deref_mut.ensures.value c.in-Ok.ensures.beside) (c.in-Ok-run_to_end.ensures.leaves.others specs starts.listed);
     }
 
 pub returns-in-Ok-run_to_end-clause-looked : goal.returns-in-Ok-run_to_end-clause-looked
 unfolding returns-in-Ok-run_to_end-clause-writes
 returns-in-Ok-run_to_end-clause-looked g c is = record {
   writes = returns-in-Ok-run_to_end-clause-writes g c;
-  saw = c.in-Ok-run_to_end.ensures.looked c.in-Ok.ensures.starts.drives c.in-Ok.ensures.starts.files;
+  saw = let starts = starts_inside c.deref_mut.ensures.value c.in-Ok.ensures.starts in c.in-Ok-run_to_end.ensures.looked starts.drives starts.files;
 }
 
 pub returns-in-Ok-run_to_end-clause-fails : goal.returns-in-Ok-run_to_end-clause-fails
 returns-in-Ok-run_to_end-clause-fails g c =
     let faults = ap (λ (k : FailureCounts). k.drives) c.in-Ok-run_to_end.ensures.cause ∙ ap (λ (f : Failures). f.faults) c.in-Ok.ensures.drives in
-    let names = c.in-Ok-run_to_end.ensures.names ∙ ap (λ (f : Failures). f.names) c.in-Ok.ensures.drives in
+    let names = c.in-Ok-run_to_end.ensures.leaves.names ∙ ap (λ (f : Failures). f.names) c.in-Ok.ensures.drives in
     record {
       files = c.in-Ok.ensures.names;
       drives = λ i. record { faults = faults i; names = names i };
@@ -52,10 +54,10 @@ returns-in-Ok-run_to_end-clause-fails g c =
 pub returns-in-Ok-run_to_end-clause-synced : goal.returns-in-Ok-run_to_end-clause-synced
 returns-in-Ok-run_to_end-clause-synced g c is =
     syncs_attached (g.D.Drives.disks c.args.drives.now) (g.D.Drives.disks c.boot.new.drives) (g.D.Drives.disks c.run_to_end.new.drives) (g.D.Drives.unsynced c.run_to_end.new.drives)
-    c.in-Ok.machine.bdos.mounted c.in-Ok.ensures.beside c.in-Ok-run_to_end.ensures.attached c.in-Ok-run_to_end.ensures.synced
+    c.deref_mut.result.now.bdos.mounted (beside_inside c.deref_mut.ensures.value c.in-Ok.ensures.beside) c.in-Ok-run_to_end.ensures.leaves.attached c.in-Ok-run_to_end.ensures.synced
 
 pub returns-in-Ok-run_to_end-clause-reason : goal.returns-in-Ok-run_to_end-clause-reason
-returns-in-Ok-run_to_end-clause-reason g c = inr (begun c.in-Ok.machine.system c.in-Ok.ensures.starts.drives, c.in-Ok.ensures.starts.begins)
+returns-in-Ok-run_to_end-clause-reason g c = inr (begun c.in-Ok.machine.value.system c.in-Ok.ensures.starts.drives, c.in-Ok.ensures.starts.begins)
 
 pub returns-in-Ok-run_to_end-clause-missing : goal.returns-in-Ok-run_to_end-clause-missing
 returns-in-Ok-run_to_end-clause-missing g c missing = absurd (c.in-Ok.ensures.missing missing)
@@ -70,36 +72,36 @@ pub returns-in-Ok-run_to_end-clause-files : goal.returns-in-Ok-run_to_end-clause
 returns-in-Ok-run_to_end-clause-files g c = c.boot.ensures.files
 
 pub returns-in-Ok-run_to_end-clause-program : goal.returns-in-Ok-run_to_end-clause-program
-returns-in-Ok-run_to_end-clause-program g c is = c.in-Ok-run_to_end.ensures.none (c.in-Ok.ensures.no_drive is) ∙ c.in-Ok.ensures.program is
+returns-in-Ok-run_to_end-clause-program g c is = c.in-Ok-run_to_end.ensures.leaves.none (bare_inside c.deref_mut.ensures.value (c.in-Ok.ensures.no_drive is)) ∙ c.in-Ok.ensures.program is
 
 -- the run stopped
 
 pub returns-in-Ok-clause-reason : goal.returns-in-Ok-clause-reason
 returns-in-Ok-clause-reason g c =
-    let starts = c.in-Ok.ensures.starts in
+    let starts = starts_inside c.deref_mut.ensures.value c.in-Ok.ensures.starts in
     let found = host g.F.Files.contents g.D.Drives.told c.args.files.now c.args.drives.now in
     let fault = c.in-Err-run_to_end.error.fault in
     let now = counts g.S.Sink.faults g.D.Drives.faults c.run_to_end.new.sink c.run_to_end.new.drives in
     let Q : ℕ → Type 0 = λ n. Causes fault (record { sink = g.S.Sink.faults c.args.sink.now; drives = n }) now in
-    ends_by_fault (g.D.Drives.disks c.run_to_end.new.drives) found c.args.asked.form c.args.name.now (begun c.in-Ok.machine.system starts.drives)
+    ends_by_fault (g.D.Drives.disks c.run_to_end.new.drives) found c.args.asked.form c.args.name.now (begun c.deref_mut.result.now.system starts.drives)
     (failed g.F.Files.failed_names g.D.Drives.faults g.D.Drives.failed_names c.args.files.now c.args.drives.now)
     (failed g.F.Files.failed_names g.D.Drives.faults g.D.Drives.failed_names c.boot.new.files c.run_to_end.new.drives)
     fault c.in-Err-run_to_end.error.step (g.S.Sink.faults c.args.sink.now) (g.S.Sink.faults c.run_to_end.new.sink) c.stopped.result c.stopped.ensures
-    starts.begins (λ none. c.in-Err-run_to_end.ensures.unfailing (starts.bare (sym starts.same ∙ none)))
+    starts.begins (λ none. c.in-Err-run_to_end.ensures.stopped.sink (starts.bare (sym starts.same ∙ none)))
     (subst Q (ap (λ (f : Failures). f.faults) c.in-Ok.ensures.drives) c.in-Err-run_to_end.ensures.cause)
-    (c.in-Err-run_to_end.ensures.names ∙ ap (λ (f : Failures). f.names) c.in-Ok.ensures.drives)
+    (c.in-Err-run_to_end.ensures.leaves.names ∙ ap (λ (f : Failures). f.names) c.in-Ok.ensures.drives)
 
 pub returns-in-Ok-clause-writes : goal.returns-in-Ok-clause-writes
 returns-in-Ok-clause-writes g c =
-    let starts = c.in-Ok.ensures.starts in
+    let starts = starts_inside c.deref_mut.ensures.value c.in-Ok.ensures.starts in
     let specs = drives_listed c.args.asked.form starts.begins.bytes in
     writes_stopped _ (command_on c.args.name.now c.args.asked)
     (seen g.F.Files.contents g.F.Files.failed_names g.D.Drives.disks g.D.Drives.told g.D.Drives.unsynced g.D.Drives.faults g.D.Drives.failed_names g.S.Sink.written g.S.Sink.faults c.args.files.now c.args.drives.now c.args.sink.now)
     (seen g.F.Files.contents g.F.Files.failed_names g.D.Drives.disks g.D.Drives.told g.D.Drives.unsynced g.D.Drives.faults g.D.Drives.failed_names g.S.Sink.written g.S.Sink.faults c.boot.new.files c.run_to_end.new.drives c.run_to_end.new.sink)
-    (begun c.in-Ok.machine.system starts.drives) c.in-Err-run_to_end.error.fault c.in-Err-run_to_end.error.step c.stopped.result c.stopped.ensures starts.begins
-    c.in-Err-run_to_end.ensures.within (c.in-Err-run_to_end.ensures.stops specs starts.drives starts.listed starts.files)
-    (others_then _ _ _ _ (g.D.Drives.disks c.boot.new.drives) _ c.in-Ok.machine.bdos.mounted specs c.in-Ok.ensures.told starts.listed c.in-Ok.ensures.beside (c.in-Err-run_to_end.ensures.others specs starts.listed))
-    (λ zero. c.in-Err-run_to_end.ensures.early zero ∙ c.in-Ok.ensures.told)
+    (begun c.deref_mut.result.now.system starts.drives) c.in-Err-run_to_end.error.fault c.in-Err-run_to_end.error.step c.stopped.result c.stopped.ensures starts.begins
+    c.in-Err-run_to_end.ensures.stopped.within (c.in-Err-run_to_end.ensures.stops specs starts.drives starts.listed starts.files)
+    (others_then _ _ _ _ (g.D.Drives.disks c.boot.new.drives) _ c.deref_mut.result.now.bdos.mounted specs c.in-Ok.ensures.told starts.listed (beside_inside c.deref_mut.ensures.value c.in-Ok.ensures.beside) (c.in-Err-run_to_end.ensures.leaves.others specs starts.listed))
+    (λ zero. c.in-Err-run_to_end.ensures.stopped.early zero ∙ c.in-Ok.ensures.told)
 
 pub returns-in-Ok-clause-fails : goal.returns-in-Ok-clause-fails
 returns-in-Ok-clause-fails g c =
@@ -110,7 +112,7 @@ returns-in-Ok-clause-fails g c =
     (seen g.F.Files.contents g.F.Files.failed_names g.D.Drives.disks g.D.Drives.told g.D.Drives.unsynced g.D.Drives.faults g.D.Drives.failed_names g.S.Sink.written g.S.Sink.faults c.args.files.now c.args.drives.now c.args.sink.now)
     (seen g.F.Files.contents g.F.Files.failed_names g.D.Drives.disks g.D.Drives.told g.D.Drives.unsynced g.D.Drives.faults g.D.Drives.failed_names g.S.Sink.written g.S.Sink.faults c.boot.new.files c.run_to_end.new.drives c.run_to_end.new.sink)
     fault c.in-Err-run_to_end.error.step c.stopped.result c.stopped.ensures c.in-Ok.ensures.names
-    (c.in-Err-run_to_end.ensures.names ∙ ap (λ (f : Failures). f.names) c.in-Ok.ensures.drives)
+    (c.in-Err-run_to_end.ensures.leaves.names ∙ ap (λ (f : Failures). f.names) c.in-Ok.ensures.drives)
     (subst Q (ap (λ (f : Failures). f.faults) c.in-Ok.ensures.drives) c.in-Err-run_to_end.ensures.cause)
 
 pub returns-in-Ok-clause-usage : goal.returns-in-Ok-clause-usage
@@ -135,7 +137,7 @@ pub returns-in-Ok-clause-files : goal.returns-in-Ok-clause-files
 returns-in-Ok-clause-files g c = c.boot.ensures.files
 
 pub returns-in-Ok-clause-program : goal.returns-in-Ok-clause-program
-returns-in-Ok-clause-program g c is = c.in-Err-run_to_end.ensures.none (c.in-Ok.ensures.no_drive is) ∙ c.in-Ok.ensures.program is
+returns-in-Ok-clause-program g c is = c.in-Err-run_to_end.ensures.leaves.none (bare_inside c.deref_mut.ensures.value (c.in-Ok.ensures.no_drive is)) ∙ c.in-Ok.ensures.program is
 
 -- it wasn't begun
 

@@ -1,4 +1,4 @@
-use Rattle.std.proofs.Common.{◌≡◌, ◌∙◌, ◌++◌, Bool, subst}
+use Rattle.std.proofs.Common.{◌≡◌, ◌∙◌, ◌++◌, Bool, subst, arith}
 use Rattle.mpm_port.specs.MemoryDisks.{disks_of}
 use Rattle.mpm_render.specs.Outputs.{closed}
 use Rattle.mpm_machine.specs.After.{after}
@@ -11,11 +11,16 @@ use Rattle.mpm_top.proofs.DataLaws.{has_drive_a}
 use Rattle.mpm_top.proofs.SeedLaws.{none_failed}
 use Rattle.mpm_top.proofs.seeded.run_counted.Goals as goal
 
+pub run-requires : goal.run-requires
+run-requires g c =
+    let begins = c.requires.begins in
+    record { most = omega (arith, c.requires.limit, begins.start); whole = begins.between.whole; no_completions = begins.between.no_completions; holds = begins.between.holds }
+
 pub unreachable-requires : goal.unreachable-requires
-unreachable-requires g c = none_failed c.in-Err.field-0.fault c.in-Err.ensures.cause.failed
+unreachable-requires g c = none_failed c.in-Err.field-0.fault c.in-Err.ensures.ends.cause.failed
 
 pub unreachable-requires-in-Err-settle : goal.unreachable-requires-in-Err-settle
-unreachable-requires-in-Err-settle g c = none_failed c.in-Err-settle.field-0 c.in-Err-settle.ensures.cause.failed
+unreachable-requires-in-Err-settle g c = none_failed c.in-Err-settle.field-0 c.in-Err-settle.ensures.ends.cause.failed
 
 pub returns-clause-text : goal.returns-clause-text
 returns-clause-text g c on stand =
@@ -23,7 +28,7 @@ returns-clause-text g c on stand =
     let s = begun c.args.machine.now.system on in
     let stands = stands_first c.args.machine.now s.files c.new-render.result first (disks_of c.args.drives.now) (c.new-render.ensures.fresh first) stand in
     let there = after c.args.steps s in
-    let traces = c.in-Ok.ensures.trace ∙ c.new-render.ensures.trace in
+    let traces = c.in-Ok.ensures.ends.trace ∙ c.new-render.ensures.trace in
     let P : Bool → Type 0 = λ trace. c.settle.new.sink ≡ c.args.counts.now ++ closed trace (carried there).outputs in
     subst P traces (c.in-Ok-settle.ensures.ok there first (c.in-Ok.ensures.ok s first stands)).text
 

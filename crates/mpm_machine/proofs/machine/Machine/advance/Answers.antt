@@ -2,7 +2,6 @@ use Rattle.std.proofs.Common.{◌∙◌, ℕ, sym, ap, subst, refl, arith}
 use Rattle.mpm_bdos.specs.Serving.{Kept}
 use Rattle.mpm_system.specs.declared.system.System.{System}
 use Rattle.mpm_machine.specs.State.{State, IsAt, StandsWithDrives}
-use Rattle.mpm_machine.specs.Faults.{of_run}
 use Rattle.mpm_machine.specs.After.{after, ShowsBefore}
 use Rattle.mpm_machine.specs.Mounting.{HasNoDrive}
 use Rattle.mpm_machine.specs.Failing.{StopsWithImages}
@@ -53,8 +52,7 @@ returns-then-done-most g c =
         none = λ bare. record { sink = tt; drives = refl; bare = subst (λ (k : Kept). HasNoDrive k.mounted) (sym ran.bdos) bare };
       };
       calls = λ turns. omega arith;
-      trace = refl;
-      cause = record { stays = refl; failed = tt };
+      ends = record { trace = refl; cause = record { stays = refl; failed = tt } };
     }
 
 -- the last was a step of another sort
@@ -92,8 +90,7 @@ returns g c =
         none = λ bare. let none = stepped.none (bare_then bare) in record { sink = tt; drives = none.1; bare = none.2 };
       };
       calls = λ turns. omega (arith, stepped.few (omega (arith, turns, ran.turn_steps)));
-      trace = stepped.trace;
-      cause = record { stays = stepped.cause.stays; failed = tt };
+      ends = record { trace = stepped.ends.trace; cause = record { stays = stepped.ends.cause.stays; failed = tt } };
     }
 
 -- that step failed
@@ -128,6 +125,5 @@ returns-in-Err g c =
             record { sink = none.0; drives = none.1; bare = none.2 };
       };
       calls = λ turns. omega (arith, c.requires.some, failed.few (omega (arith, turns, ran.turn_steps)));
-      trace = failed.trace;
-      cause = record { stays = tt; failed = failed.cause.failed };
+      ends = record { trace = failed.ends.trace; cause = record { stays = tt; failed = failed.ends.cause.failed } };
     }

@@ -4,7 +4,7 @@ use Rattle.mpm_procs.specs.Table.{call_of}
 use Rattle.mpm_bdos.specs.Serving.{Kept}
 use Rattle.mpm_bdos.specs.Turns.{images_of}
 use Rattle.mpm_machine.specs.FileCalls.{told_of}
-use Rattle.mpm_machine.proofs.ServeLaws.{answered_ok, answered_err, answered_whole, answered_nobody, emits_cause}
+use Rattle.mpm_machine.proofs.ServeLaws.{answered_ok, answered_err, answered_whole, answered_nobody, ends_by_sink}
 use Rattle.mpm_machine.proofs.machine.Machine.answer_call.Goals as goal
 
 pub returns-clause-ok : goal.returns-clause-ok
@@ -32,5 +32,5 @@ returns-clause-completed g c =
     answered_nobody c.end_file_call.result (told_of (call_of c.args.self.now.system.kernel.dispatcher.procs c.args.p) c.reply-extended.new.reply c.reply-extended.result) c.args.p c.args.self.now.system
     c.end_file_call.new.system c.end_file_call.ensures.system
 
-pub returns-clause-cause : goal.returns-clause-cause
-returns-clause-cause g c = emits_cause c.end_file_call.result _ _ _ c.end_file_call.ensures.wrote
+pub returns-clause-ends : goal.returns-clause-ends
+returns-clause-ends g c = ends_by_sink c.end_file_call.result _ _ _ c.end_file_call.ensures.wrote

@@ -1,4 +1,4 @@
-use Rattle.std.proofs.Common.{◌∙◌, ℕ, Option, Ok, refl, sym, ap, arith}
+use Rattle.std.proofs.Common.{◌∙◌, ℕ, Option, refl, sym, ap, arith}
 use Rattle.mpm_output.specs.Outside.{seen}
 use Rattle.mpm_system.specs.declared.system.System.{System}
 use Rattle.mpm_system.specs.Coming.{counted}
@@ -36,8 +36,7 @@ returns-in-Ok g c =
         apart = λ some. let apart = done.rests.apart some in record { sink = tt; drives = apart.drives; calls = apart.calls };
       };
       calls = done.calls;
-      trace = done.trace;
-      cause = record { stays = done.cause.stays; failed = tt };
+      ends = record { trace = done.ends.trace; cause = record { stays = done.ends.cause.stays; failed = tt } };
     }
 
 pub returns-in-Err : goal.returns-in-Err
@@ -54,8 +53,7 @@ returns-in-Err g c =
         apart = λ some. let apart = failed.rests.apart some in record { sink = apart.sink; drives = apart.drives; calls = apart.calls };
       };
       calls = failed.calls;
-      trace = failed.trace;
-      cause = record { stays = tt; failed = failed.cause.failed };
+      ends = record { trace = failed.ends.trace; cause = record { stays = tt; failed = failed.ends.cause.failed } };
     }
 
 -- nobody did
@@ -84,9 +82,11 @@ returns-in-Ok-begin_alone g c =
       uses = uses_none _ _ _ _ itself _ _ _ tt;
       rests = record { idle = λ off. record { sink = tt; drives = refl; calls = refl }; apart = λ some. record { sink = tt; drives = refl; calls = refl } };
       calls = λ files stands. omega arith;
-      trace = alone.wrote.ok.trace;
-      cause = alone_done c.in-Ok-begin_alone.instruction (seen g.S.Sink.written g.S.Sink.faults c.args.render.now c.args.sink.now)
-          (seen g.S.Sink.written g.S.Sink.faults c.begin_alone.new.render c.begin_alone.new.sink) _ _ alone.wrote.ok;
+      ends = record {
+        trace = alone.wrote.ok.trace;
+        cause = alone_done c.in-Ok-begin_alone.instruction (seen g.S.Sink.written g.S.Sink.faults c.args.render.now c.args.sink.now)
+            (seen g.S.Sink.written g.S.Sink.faults c.begin_alone.new.render c.begin_alone.new.sink) _ _ alone.wrote.ok;
+      };
     }
 
 pub returns-in-Err-begin_alone : goal.returns-in-Err-begin_alone
@@ -106,7 +106,9 @@ returns-in-Err-begin_alone g c =
       uses = uses_none _ _ _ _ itself _ _ _ refl;
       rests = record { idle = λ off. record { sink = refl; drives = refl; calls = refl }; apart = λ some. record { sink = refl; drives = refl; calls = refl } };
       calls = λ files stands. omega arith;
-      trace = stopped.trace;
-      cause = alone_failed (seen g.S.Sink.written g.S.Sink.faults c.args.render.now c.args.sink.now)
-          (seen g.S.Sink.written g.S.Sink.faults c.begin_alone.new.render c.begin_alone.new.sink) _ _ stopped;
+      ends = record {
+        trace = stopped.trace;
+        cause = alone_failed (seen g.S.Sink.written g.S.Sink.faults c.args.render.now c.args.sink.now)
+            (seen g.S.Sink.written g.S.Sink.faults c.begin_alone.new.render c.begin_alone.new.sink) _ _ stopped;
+      };
     }

@@ -12,7 +12,10 @@ use Rattle.mpm_machine.proofs.PartsLaws.{uses_as}
 use Rattle.mpm_machine.proofs.machine.Machine.begin_with_files.Goals as goal
 
 pub make_file_call-requires : goal.make_file_call-requires
-make_file_call-requires g c = record { whole = c.requires.may.whole; most = c.requires.may.most; lives = lives_to_call c.args.p c.args.self.now.system c.requires.may.whole c.requires.caller }
+make_file_call-requires g c = record {
+  process = record { whole = c.requires.may.whole; lives = lives_to_call c.args.p c.args.self.now.system c.requires.may.whole c.requires.caller };
+  most = c.requires.may.most;
+}
 
 pub call_or_wait-requires : goal.call_or_wait-requires
 call_or_wait-requires g c =
@@ -89,8 +92,7 @@ returns-in-Ok g c =
         apart = λ some. let apart = done.rests.apart (gate_apart p old made is some) in record { sink = tt; drives = apart.drives; calls = apart.calls };
       };
       calls = λ files stands. gate_calls p old made kept disks files _ _ c.requires.caller is stands done.calls (λ some. (done.rests.apart some).calls);
-      trace = done.trace;
-      cause = done.cause;
+      ends = done.ends;
     }
 
 -- where it stopped
@@ -122,6 +124,5 @@ returns-in-Err g c =
         apart = λ some. failed.rests.apart (gate_apart p old made is some);
       };
       calls = λ files stands. gate_calls p old made kept disks files _ _ c.requires.caller is stands failed.calls (λ some. (failed.rests.apart some).calls);
-      trace = failed.trace;
-      cause = failed.cause;
+      ends = failed.ends;
     }

@@ -6,6 +6,7 @@ use Rattle.mpm_directories.specs.Places.{in_places}
 use Rattle.mpm_system.specs.declared.system.System.{System}
 use Rattle.mpm_system.specs.Opening.{MayPlace}
 use Rattle.mpm_system.proofs.PlacedLaws.{booted_program, may_place_program, opening_is}
+use Rattle.mpm_machine.specs.declared.machine.Machine.{Machine}
 use Rattle.mpm_machine.proofs.SettlingLaws.{nobody_yet}
 use Rattle.mpm_machine.proofs.FirstFiles.{opens_on_none}
 use Rattle.mpm_machine.proofs.machine.Machine.boot_program.Goals as goal
@@ -13,22 +14,22 @@ use Rattle.mpm_machine.proofs.machine.Machine.boot_program.Goals as goal
 pub place-p-requires : goal.place-p-requires
 place-p-requires c =
     let P : System → Type 0 = λ system. MayPlace system 0 0 (length c.args.program.now) in
-    let is = booted_program c.in-Ok.file c.empty.result c.in-Ok-bare.machine.system c.in-Ok-bare.ensures.booted c.in-Ok.ensures c.empty.ensures in
-    subst P (sym is) (may_place_program (length c.args.program.now) c.requires)
+    let is = booted_program c.in-Ok.file c.empty.result c.in-Ok-bare.machine.value.system c.in-Ok-bare.ensures.booted c.in-Ok.ensures c.empty.ensures in
+    subst P (sym (ap (λ (m : Machine). m.system) c.deref_mut.ensures.value ∙ is)) (may_place_program (length c.args.program.now) c.requires)
 
 pub returns-clause-opening : goal.returns-clause-opening
 returns-clause-opening c =
-    let is = booted_program c.in-Ok.file c.empty.result c.in-Ok-bare.machine.system c.in-Ok-bare.ensures.booted c.in-Ok.ensures c.empty.ensures in
-    opening_is c.args.program.now c.place-p.result c.place-p.new.self.system c.in-Ok-bare.machine.system is c.place-p.ensures.slot c.place-p.ensures.system
+    let is = booted_program c.in-Ok.file c.empty.result c.in-Ok-bare.machine.value.system c.in-Ok-bare.ensures.booted c.in-Ok.ensures c.empty.ensures in
+    opening_is c.args.program.now c.place-p.result c.place-p.new.self.system c.deref_mut.result.now.system (ap (λ (m : Machine). m.system) c.deref_mut.ensures.value ∙ is) c.place-p.ensures.slot c.place-p.ensures.system
 
 pub returns-clause-disk : goal.returns-clause-disk
-returns-clause-disk c = c.place-p.ensures.disk ∙ c.in-Ok-bare.ensures.disk ∙ ap (λ (file : MachineFile). no_service file.disk_turn) c.in-Ok.ensures
+returns-clause-disk c = c.place-p.ensures.disk ∙ ap (λ (m : Machine). m.system.kernel.disk) c.deref_mut.ensures.value ∙ c.in-Ok-bare.ensures.disk ∙ ap (λ (file : MachineFile). no_service file.disk_turn) c.in-Ok.ensures
 
 pub returns-clause-bdos : goal.returns-clause-bdos
-returns-clause-bdos c = c.place-p.ensures.bdos ∙ c.in-Ok-bare.ensures.bdos ∙ ap (λ items. nothing_kept (in_places items)) c.new.ensures.items
+returns-clause-bdos c = c.place-p.ensures.bdos ∙ ap (λ (m : Machine). m.bdos) c.deref_mut.ensures.value ∙ c.in-Ok-bare.ensures.bdos ∙ ap (λ items. nothing_kept (in_places items)) c.new.ensures.items
 
 pub returns-clause-files : goal.returns-clause-files
 returns-clause-files c disks =
     opens_on_none disks c.place-p.new.self.system.kernel.disk c.place-p.new.self.bdos
-    (c.place-p.ensures.bdos ∙ c.in-Ok-bare.ensures.bdos ∙ ap (λ items. nothing_kept (in_places items)) c.new.ensures.items)
-    (nobody_yet c.place-p.new.self.system.kernel.disk 0 (c.place-p.ensures.disk ∙ c.in-Ok-bare.ensures.disk ∙ ap (λ (file : MachineFile). no_service file.disk_turn) c.in-Ok.ensures))
+    (c.place-p.ensures.bdos ∙ ap (λ (m : Machine). m.bdos) c.deref_mut.ensures.value ∙ c.in-Ok-bare.ensures.bdos ∙ ap (λ items. nothing_kept (in_places items)) c.new.ensures.items)
+    (nobody_yet c.place-p.new.self.system.kernel.disk 0 (c.place-p.ensures.disk ∙ ap (λ (m : Machine). m.system.kernel.disk) c.deref_mut.ensures.value ∙ c.in-Ok-bare.ensures.disk ∙ ap (λ (file : MachineFile). no_service file.disk_turn) c.in-Ok.ensures))

@@ -1,4 +1,4 @@
-use Rattle.std.proofs.Common.{◌≡◌, ◌∙◌, ℕ, Err, OnOk, IfErr, refl, sym, ap, subst, arith}
+use Rattle.std.proofs.Common.{◌≡◌, ◌∙◌, Err, OnOk, IfErr, refl, sym, ap, subst, arith}
 use Rattle.std.specs.Prelude.{length}
 use Rattle.std.proofs.lemmas.Bool.{false≢true}
 use Rattle.mpm_procs.specs.Table.{call_of}
@@ -22,14 +22,12 @@ is_done_at_once-requires g c = record { lives = c.requires.may.lives }
 
 pub wait_for_disk-requires : goal.wait_for_disk-requires
 wait_for_disk-requires g c = record {
-  sound = c.requires.may.whole.sound;
-  lives = c.requires.may.lives;
-  ready = c.requires.may.ready;
+  caller = record { sound = c.requires.may.whole.sound; lives = c.requires.may.lives; ready = c.requires.may.ready };
   steps = waits_steps c.args.p c.args.self.now.system (sym c.is_done_at_once.ensures.done ∙ c.if-not-is_done_at_once.true);
 }
 
 pub call_files-requires : goal.call_files-requires
-call_files-requires g c = record { whole = c.requires.may.whole; lives = c.requires.may.lives; fits = c.requires.may.holds.fits }
+call_files-requires g c = record { living = record { whole = c.requires.may.whole; lives = c.requires.may.lives }; fits = c.requires.may.holds.fits }
 
 pub conclude-requires : goal.conclude-requires
 conclude-requires g c =
@@ -55,8 +53,7 @@ returns-then-not-is_done_at_once g c =
       holds = c.requires.may.holds;
       rests = record { idle = λ off. record { sink = tt; drives = refl; calls = refl }; apart = λ some. record { sink = tt; drives = refl; calls = refl } };
       calls = λ filing stands. omega arith;
-      trace = refl;
-      cause = record { stays = refl; failed = tt };
+      ends = record { trace = refl; cause = record { stays = refl; failed = tt } };
     }
 
 -- it was done
@@ -104,8 +101,7 @@ returns-in-Ok g c =
         apart = λ some. let d = files_done.direct (apart some) in record { sink = sink; drives = d.2; calls = d.3 };
       };
       calls = λ filing stands. once_calls p old filing _ _ done (files_done.done filing (between old kept disks filing stands)).calls;
-      trace = once_trace result o n _ c.conclude.ensures.wrote c.conclude.ensures.err;
-      cause = once_cause result o n _ _ _ files_done.cause.stays c.conclude.ensures.wrote c.conclude.ensures.err;
+      ends = record { trace = once_trace result o n _ c.conclude.ensures.wrote c.conclude.ensures.err; cause = once_cause result o n _ _ _ files_done.cause.stays c.conclude.ensures.wrote c.conclude.ensures.err };
     }
 
 -- a drive failed in it
@@ -135,6 +131,5 @@ returns-in-Err g c =
         apart = λ some. absurd (false≢true (failed.direct (apart some)).0);
       };
       calls = λ filing stands. once_calls p old filing _ _ done (failed.done filing (between old kept disks filing stands)).calls;
-      trace = refl;
-      cause = record { stays = tt; failed = (failed.cause.failed, refl) };
+      ends = record { trace = refl; cause = record { stays = tt; failed = (failed.cause.failed, refl) } };
     }

@@ -24,8 +24,7 @@ returns-in-Some g c =
       uses = carried.uses;
       called = carried.called;
       fits = carried.fits;
-      trace = carried.trace;
-      cause = carried.cause;
+      ends = carried.ends;
     }
 
 -- none is
@@ -42,6 +41,5 @@ returns-in-None g c =
       uses = uses_none _ _ _ _ itself _ _ _ tt;
       called = record { unsynced = unsynced_same _ _; calls = omega arith; idle = λ none. refl };
       fits = c.requires.between.holds.calls.fits;
-      trace = refl;
-      cause = record { stays = refl; failed = tt };
+      ends = record { trace = refl; cause = record { stays = refl; failed = tt } };
     }

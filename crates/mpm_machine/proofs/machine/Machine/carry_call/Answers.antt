@@ -64,8 +64,8 @@ pub returns-in-Err-clause-called : goal.returns-in-Err-clause-called
 returns-in-Err-clause-called g c =
     turns_call c.args.self.now.system c.args.p c.args.self.now.bdos _ _ c.finish_disk_call-turns.result c.requires.served c.do_turns.ensures.left.kept_unsynced c.do_turns.ensures.calls c.finish_disk_call-turns.ensures.turns
 
-pub returns-in-Err-clause-cause : goal.returns-in-Err-clause-cause
-returns-in-Err-clause-cause g c = record { stays = tt; failed = (c.in-Err.ensures.cause.failed, refl) }
+pub returns-in-Err-clause-ends : goal.returns-in-Err-clause-ends
+returns-in-Err-clause-ends g c = record { trace = refl; cause = record { stays = tt; failed = (c.in-Err.ensures.cause.failed, refl) } }
 
 -- all is done
 
@@ -97,9 +97,11 @@ pub returns-in-Ok-clause-called : goal.returns-in-Ok-clause-called
 returns-in-Ok-clause-called g c =
     turns_call c.args.self.now.system c.args.p c.args.self.now.bdos _ _ c.finish_disk_call-turns.result c.requires.served c.do_turns.ensures.left.kept_unsynced c.do_turns.ensures.calls c.finish_disk_call-turns.ensures.turns
 
-pub returns-in-Ok-clause-cause : goal.returns-in-Ok-clause-cause
-returns-in-Ok-clause-cause g c =
-    record { stays = λ i. record { sink = c.in-Ok.ensures.cause.stays i; drives = c.in_default.ensures.cause.stays i }; failed = tt }
+pub returns-in-Ok-clause-ends : goal.returns-in-Ok-clause-ends
+returns-in-Ok-clause-ends g c = record {
+  trace = c.end_call.ensures.ends.trace;
+  cause = record { stays = λ i. record { sink = c.in-Ok.ensures.ends.cause.stays i; drives = c.in_default.ensures.cause.stays i }; failed = tt };
+}
 
 -- the sink failed
 
@@ -131,5 +133,8 @@ pub returns-in-Err-end_call-clause-called : goal.returns-in-Err-end_call-clause-
 returns-in-Err-end_call-clause-called g c =
     turns_call c.args.self.now.system c.args.p c.args.self.now.bdos _ _ c.finish_disk_call-turns.result c.requires.served c.do_turns.ensures.left.kept_unsynced c.do_turns.ensures.calls c.finish_disk_call-turns.ensures.turns
 
-pub returns-in-Err-end_call-clause-cause : goal.returns-in-Err-end_call-clause-cause
-returns-in-Err-end_call-clause-cause g c = record { stays = tt; failed = (c.in-Err-end_call.ensures.cause.failed, c.in_default.ensures.cause.stays) }
+pub returns-in-Err-end_call-clause-ends : goal.returns-in-Err-end_call-clause-ends
+returns-in-Err-end_call-clause-ends g c = record {
+  trace = c.end_call.ensures.ends.trace;
+  cause = record { stays = tt; failed = (c.in-Err-end_call.ensures.ends.cause.failed, c.in_default.ensures.cause.stays) };
+}

@@ -1,13 +1,13 @@
-use Rattle.std.proofs.Common.{◌∙◌, ap, sym, subst, length, arith}
-use Rattle.mpm_output.specs.Outside.{seen}
+use Rattle.std.proofs.Common.{◌≡◌, ◌∙◌, ap, sym, subst, length, arith}
+use Rattle.mpm_output.specs.Outside.{DeviceFaults, seen}
 use Rattle.mpm_bdos.specs.Serving.{Kept}
 use Rattle.mpm_system.specs.Whole.{IsWhole}
 use Rattle.mpm_machine.proofs.DiskStepLaws.{whole_all_paid}
 use Rattle.mpm_machine.proofs.CarryingLaws.{Pays, carried_stopped_first, carried_stopped_last, carried_all, whole_at_end, keeps_paid, stopped_behind}
 use Rattle.mpm_machine.proofs.machine.Machine.end_call.Goals as goal
 
-pub answer_call-requires-clause-room : goal.answer_call-requires-clause-room
-answer_call-requires-clause-room g c = omega (arith, ap length c.requires.none)
+pub answer_call-requires : goal.answer_call-requires
+answer_call-requires g c = record { whole = c.requires.whole; over = c.requires.over; room = omega (arith, ap length c.requires.none) }
 
 pub end_all-requires : goal.end_all-requires
 end_all-requires g c = record { whole = subst IsWhole (sym c.pay.ensures.system) (whole_all_paid c.answer_call.new.self.system c.in_default.ensures.whole) }
@@ -28,13 +28,12 @@ returns-in-Err-end_all-clause-err g c disks s before serves whose is =
     carried_stopped_last _ m _ disks c.args.self.now.bdos c.pay.new.self.bdos s c.args.p c.args.self.now.system before c.answer_call.new.self.system c.pay.new.self.system whose is serves
     (ap (λ (k : Kept). k.mounted) c.pay.ensures.rest ∙ ap (λ (k : Kept). k.mounted) c.answer_call.ensures.kept) over.0 c.pay.ensures.system over.1 c.in-Err-end_all.ensures.wrote.err
 
-pub returns-in-Err-end_all-clause-trace : goal.returns-in-Err-end_all-clause-trace
-returns-in-Err-end_all-clause-trace g c = c.in-Err-end_all.ensures.wrote.err.trace ∙ c.answer_call.ensures.trace
-
-pub returns-in-Err-end_all-clause-cause : goal.returns-in-Err-end_all-clause-cause
-returns-in-Err-end_all-clause-cause g c =
-    stopped_behind _ _ _ _ (seen g.S.Sink.written g.S.Sink.faults c.answer_call.new.render c.answer_call.new.sink) (seen g.S.Sink.written g.S.Sink.faults c.end_all.new.render c.end_all.new.sink) _
-    c.in_default.ensures.cause.stays c.in-Err-end_all.ensures.wrote.err
+pub returns-in-Err-end_all-clause-ends : goal.returns-in-Err-end_all-clause-ends
+returns-in-Err-end_all-clause-ends g c = record {
+  trace = c.in-Err-end_all.ensures.wrote.err.trace ∙ c.answer_call.ensures.ends.trace;
+  cause = stopped_behind _ _ _ _ (seen g.S.Sink.written g.S.Sink.faults c.answer_call.new.render c.answer_call.new.sink)
+      (seen g.S.Sink.written g.S.Sink.faults c.end_all.new.render c.end_all.new.sink) _ c.in_default.ensures.ends.cause.stays c.in-Err-end_all.ensures.wrote.err;
+}
 
 pub returns-in-Err-end_all-clause-kept : goal.returns-in-Err-end_all-clause-kept
 returns-in-Err-end_all-clause-kept g c =
@@ -57,8 +56,11 @@ returns-clause-whole g c =
     whole_at_end c.answer_call.new.self.system c.pay.new.self.system c.end_all.new.system c.pay-2.new.self.system c.in_default.ensures.whole c.pay.ensures.system
     c.in_default-end_all.ensures.system c.pay-2.ensures.system
 
-pub returns-clause-trace : goal.returns-clause-trace
-returns-clause-trace g c = c.in_default-end_all.ensures.wrote.ok.trace ∙ c.answer_call.ensures.trace
+pub returns-clause-ends : goal.returns-clause-ends
+returns-clause-ends g c =
+    let wrote = c.in_default-end_all.ensures.wrote.ok in
+    let faults : g.S.Sink.faults c.end_all.new.sink ≡ g.S.Sink.faults c.args.sink.now = ap (λ (f : DeviceFaults). f.sink) wrote.faults ∙ c.in_default.ensures.ends.cause.stays in
+    record { trace = wrote.trace ∙ c.answer_call.ensures.ends.trace; cause = record { later = omega (arith, faults); stays = faults; failed = tt } }
 
 pub returns-clause-kept : goal.returns-clause-kept
 returns-clause-kept g c =

@@ -31,13 +31,12 @@ pub returns-in-Err-end_all-clause-stands : goal.returns-in-Err-end_all-clause-st
 returns-in-Err-end_all-clause-stands g c disks files stands =
     rest_images c.args.instruction c.args.self.now.system c.args.self.now.bdos c.serve_disk.new.self.bdos disks files c.serve_disk.ensures.leaves.kept stands
 
-pub returns-in-Err-end_all-clause-trace : goal.returns-in-Err-end_all-clause-trace
-returns-in-Err-end_all-clause-trace g c = c.in-Err-end_all.ensures.wrote.err.trace ∙ c.serve_disk.ensures.trace
-
-pub returns-in-Err-end_all-clause-cause : goal.returns-in-Err-end_all-clause-cause
-returns-in-Err-end_all-clause-cause g c =
-    stopped_behind _ _ _ _ (seen g.S.Sink.written g.S.Sink.faults c.serve_disk.new.render c.serve_disk.new.sink) (seen g.S.Sink.written g.S.Sink.faults c.end_all.new.render c.end_all.new.sink) _
-    c.in_default.ensures.cause.stays c.in-Err-end_all.ensures.wrote.err
+pub returns-in-Err-end_all-clause-ends : goal.returns-in-Err-end_all-clause-ends
+returns-in-Err-end_all-clause-ends g c = record {
+  trace = c.in-Err-end_all.ensures.wrote.err.trace ∙ c.serve_disk.ensures.ends.trace;
+  cause = stopped_behind _ _ _ _ (seen g.S.Sink.written g.S.Sink.faults c.serve_disk.new.render c.serve_disk.new.sink)
+      (seen g.S.Sink.written g.S.Sink.faults c.end_all.new.render c.end_all.new.sink) _ c.in_default.ensures.ends.cause.stays c.in-Err-end_all.ensures.wrote.err;
+}
 
 -- all was written
 
@@ -58,7 +57,7 @@ returns g c =
     let new : System = record paid.system { kernel = c.pick.new.self } in
     let ends = c.in_default-end_all.ensures.system in
     let wrote = c.in_default-end_all.ensures.wrote.ok in
-    let faults : g.S.Sink.faults c.end_all.new.sink ≡ g.S.Sink.faults c.args.sink.now = ap (λ (f : DeviceFaults). f.sink) wrote.faults ∙ c.in_default.ensures.cause.stays in
+    let faults : g.S.Sink.faults c.end_all.new.sink ≡ g.S.Sink.faults c.args.sink.now = ap (λ (f : DeviceFaults). f.sink) wrote.faults ∙ c.in_default.ensures.ends.cause.stays in
     let picks = ap (λ (k : Kernel). record paid.system { kernel = k }) c.pick.ensures.kernel in
     let same = λ (some : is_some ended.kernel.disk.served ≡ true). ap (λ (machine : Machine). machine.bdos) (c.pay.ensures.served some) in
     let made = ended_made instruction old.system served.system ended paid.system new c.in_default.ensures.made ends c.pay.ensures.system picks in
@@ -71,9 +70,9 @@ returns g c =
       stands = λ disks files stands. tt;
       made = made;
       ended = record {
-        due = ended_nobody_due instruction old.system new c.requires.may.whole made;
-        whole = ended_whole instruction old.system new c.requires.may.whole made;
-        no_completions = ended_no_completions instruction old.system new c.requires.may.completed made;
+        due = ended_nobody_due instruction old.system new c.requires.whole made;
+        whole = ended_whole instruction old.system new c.requires.whole made;
+        no_completions = ended_no_completions instruction old.system new c.requires.completed made;
         count = ended_steps instruction old.system new made;
         calls = record {
           filed = ended_filed instruction served.system new so c.in_default.ensures.may.calls.filed;
@@ -86,6 +85,5 @@ returns g c =
         kept = keeps_paid old.bdos served.bdos paid.bdos c.serve_disk.ensures.leaves.kept c.pay.ensures.rest;
         workless = λ none less. workless_paid served.bdos paid.bdos c.pay.ensures.rest (c.serve_disk.ensures.leaves.workless none less);
       };
-      trace = wrote.trace ∙ c.serve_disk.ensures.trace;
-      cause = record { later = omega (arith, faults); stays = faults; failed = tt };
+      ends = record { trace = wrote.trace ∙ c.serve_disk.ensures.ends.trace; cause = record { later = omega (arith, faults); stays = faults; failed = tt } };
     }

@@ -27,12 +27,11 @@ turn_disk-requires c = record { sound = c.requires.whole.sound; begun = c.requir
 
 -- one that waits enters
 
-pub start_call-turns-requires-clause-whole : goal.start_call-turns-requires-clause-whole
-start_call-turns-requires-clause-whole c = starts_whole c.args.self.now.system c.turn_disk.new.self c.turn_disk.ensures.kernel c.requires.whole
-
-pub start_call-turns-requires-clause-lives : goal.start_call-turns-requires-clause-lives
-start_call-turns-requires-clause-lives c =
-    starts_lives c.args.self.now.system.kernel c.turn_disk.new.self c.in-Starts.p c.turn_disk.ensures.kernel (sym c.turn_disk.ensures.answer ∙ c.in-Starts.is) c.requires.whole.sound
+pub start_call-turns-requires-clause-living : goal.start_call-turns-requires-clause-living
+start_call-turns-requires-clause-living c = record {
+  whole = starts_whole c.args.self.now.system c.turn_disk.new.self c.turn_disk.ensures.kernel c.requires.whole;
+  lives = starts_lives c.args.self.now.system.kernel c.turn_disk.new.self c.in-Starts.p c.turn_disk.ensures.kernel (sym c.turn_disk.ensures.answer ∙ c.in-Starts.is) c.requires.whole.sound;
+}
 
 pub start_call-turns-requires-clause-function : goal.start_call-turns-requires-clause-function
 start_call-turns-requires-clause-function c =

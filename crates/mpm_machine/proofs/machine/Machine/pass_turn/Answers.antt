@@ -1,4 +1,4 @@
-use Rattle.std.proofs.Common.{◌≡◌, ◌∙◌, ◌<◌, OnOk, OnErr, refl, sym, ap, subst, arith}
+use Rattle.std.proofs.Common.{rules, ◌≡◌, ◌∙◌, ◌<◌, OnOk, OnErr, refl, sym, ap, subst}
 use Rattle.mpm_service.specs.Disk.{served_process}
 use Rattle.mpm_service.specs.declared.service.Served.{Served}
 use Rattle.mpm_kernel.specs.Kernel.{Kernel}
@@ -15,7 +15,7 @@ use Rattle.mpm_machine.proofs.DiskStepLaws.{whole_passed}
 use Rattle.mpm_machine.proofs.EnterLaws.{nothing_passes, none_made, passed_filed, filed_if_passed}
 use Rattle.mpm_machine.proofs.ServeLaws.{IsOverFrom, over_made, passed_is, works_last, works_on, never_on, none_behind, pass_over, pass_stops, nobody_behind, none_holds, passes_so, passed_made, begun_so, own_so}
 use Rattle.mpm_machine.proofs.WorkLaws.{nobody_served, somebody_served}
-use Rattle.mpm_machine.proofs.PartsLaws.{may_end}
+use Rattle.mpm_machine.proofs.PartsLaws.{may_end, ends_still}
 use Rattle.mpm_machine.proofs.machine.Machine.pass_turn.Goals as goal
 
 -- nobody is served
@@ -33,14 +33,20 @@ returns-then-is_none-clause-made g c =
 pub returns-then-is_none-clause-leaves : goal.returns-then-is_none-clause-leaves
 returns-then-is_none-clause-leaves g c = record { kept = refl; workless = λ none less. less }
 
+pub returns-then-is_none-clause-ends : goal.returns-then-is_none-clause-ends
+returns-then-is_none-clause-ends g c = ends_still _ _ _
+
 pub turn_disk-requires : goal.turn_disk-requires
-turn_disk-requires g c = record { sound = c.requires.may.whole.sound; begun = c.requires.may.calls.begun }
+turn_disk-requires g c = record { sound = c.requires.whole.sound; begun = c.requires.calls.begun }
 
 -- its turn was the last
 
-pub answer_call-requires-clause-whole : goal.answer_call-requires-clause-whole
-answer_call-requires-clause-whole g c =
-    subst IsWhole (sym (passed_is c.args.self.now.system c.turn_disk.new.self c.turn_disk.ensures.kernel)) (whole_passed c.args.self.now.system c.requires.may.whole)
+pub answer_call-requires : goal.answer_call-requires
+answer_call-requires g c = record {
+  whole = subst IsWhole (sym (passed_is c.args.self.now.system c.turn_disk.new.self c.turn_disk.ensures.kernel)) (whole_passed c.args.self.now.system c.requires.whole);
+  over = search rules;
+  room = c.requires.room;
+}
 
 pub returns-then-last-clause-ok : goal.returns-then-last-clause-ok
 returns-then-last-clause-ok g c disks files stands =
@@ -84,7 +90,7 @@ returns-then-last-clause-may g c =
     nobody_behind result c.in-Work.p old new.system works
     (subst (λ (passed : System). OnOk result (IsOverFrom c.in-Work.p passed new.system)) (passed_is old c.turn_disk.new.self c.turn_disk.ensures.kernel) c.answer_call.ensures.made) in
     may_end result new c.answer_call.ensures.whole c.answer_call.ensures.completed
-    (filed_if_passed result old new.system c.requires.may.whole c.requires.may.calls.filed (returns-then-last-clause-made g c))
+    (filed_if_passed result old new.system c.requires.whole c.requires.calls.filed (returns-then-last-clause-made g c))
     (none_holds result (λ (call : Served). IsOwnCall new.system.kernel.dispatcher.procs call.p new.bdos.service) new.system.kernel.disk nobody)
     (none_holds result (λ (call : Served). 0 < call.left) new.system.kernel.disk nobody)
 
@@ -111,7 +117,7 @@ pub returns-else-last-clause-may : goal.returns-else-last-clause-may
 returns-else-last-clause-may g c =
     let old = c.args.self.now.system in
     let some = somebody_served old.kernel.disk c.serving.result c.is_none.result (c.serving.ensures.served ∙ ap served_process c.disk.ensures) c.is_none.ensures c.if-is_none.false in
-    let may = c.requires.may in
+    let may = c.requires in
     record {
       whole = subst IsWhole (sym (passed_is old c.turn_disk.new.self c.turn_disk.ensures.kernel)) (whole_passed old may.whole);
       completed = ap (λ (k : Kernel). k.dispatcher.completed) c.turn_disk.ensures.kernel ∙ may.completed;
@@ -125,6 +131,9 @@ returns-else-last-clause-may g c =
 pub returns-else-last-clause-leaves : goal.returns-else-last-clause-leaves
 returns-else-last-clause-leaves g c = record { kept = refl; workless = λ none less. less }
 
+pub returns-else-last-clause-ends : goal.returns-else-last-clause-ends
+returns-else-last-clause-ends g c = ends_still _ _ _
+
 pub returns-in_default : goal.returns-in_default
 returns-in_default g c =
     let old = c.args.self.now.system in
@@ -136,15 +145,14 @@ returns-in_default g c =
       err = λ disks files stands. tt;
       made = made;
       may = record {
-        whole = subst IsWhole (sym (passed_is old c.turn_disk.new.self c.turn_disk.ensures.kernel)) (whole_passed old c.requires.may.whole);
-        completed = ap (λ (k : Kernel). k.dispatcher.completed) c.turn_disk.ensures.kernel ∙ c.requires.may.completed;
+        whole = subst IsWhole (sym (passed_is old c.turn_disk.new.self c.turn_disk.ensures.kernel)) (whole_passed old c.requires.whole);
+        completed = ap (λ (k : Kernel). k.dispatcher.completed) c.turn_disk.ensures.kernel ∙ c.requires.completed;
         calls = record {
-          filed = passed_filed old _ c.requires.may.whole c.requires.may.calls.filed made;
-          own = own_so old.kernel c.turn_disk.new.self c.args.self.now.bdos.service c.turn_disk.ensures.kernel some c.requires.may.calls.own;
+          filed = passed_filed old _ c.requires.whole c.requires.calls.filed made;
+          own = own_so old.kernel c.turn_disk.new.self c.args.self.now.bdos.service c.turn_disk.ensures.kernel some c.requires.calls.own;
           begun = begun_so old.kernel.disk c.turn_disk.new.self.disk c.turn_disk.result some c.turn_disk.ensures.answer c.turn_disk.ensures.after;
         };
       };
       leaves = record { kept = refl; workless = λ none less. less };
-      trace = refl;
-      cause = record { later = omega arith; stays = refl; failed = tt };
+      ends = ends_still _ _ _;
     }

@@ -62,8 +62,8 @@ loop-left-preserved g c =
       whole = leaves.whole;
       no_completions = leaves.no_completions;
       steps = omega (arith, leaves.count, so_far.steps);
-      faults = done.cause.stays ∙ so_far.faults;
-      trace = done.trace ∙ so_far.trace;
+      faults = done.ends.cause.stays ∙ so_far.faults;
+      trace = done.ends.trace ∙ so_far.trace;
       holds = done.holds;
       names = done.uses.drives.names ∙ so_far.names;
       keeps = keeps_both _ _ _ _ _ _ c.args.self.now.bdos.mounted c.loop-left.self.bdos.mounted c.advance.new.self.bdos.mounted so_far.keeps done.uses.drives.keeps;
@@ -101,10 +101,12 @@ returns-in-Err g c =
           };
       each = λ s is k below. step_in_run k s c.args.self.now.system is c.requires.whole c.requires.no_completions;
       leaves = tt;
-      trace = c.in-Err.ensures.trace ∙ so_far.trace;
-      cause = record {
-        stays = tt;
-        failed = subst (λ (old : FailureCounts). HasFailed fault old (counts g.S.Sink.faults g.D.Drives.faults c.advance.new.sink c.advance.new.drives)) so_far.faults c.in-Err.ensures.cause.failed;
+      ends = record {
+        trace = c.in-Err.ensures.ends.trace ∙ so_far.trace;
+        cause = record {
+          stays = tt;
+          failed = subst (λ (old : FailureCounts). HasFailed fault old (counts g.S.Sink.faults g.D.Drives.faults c.advance.new.sink c.advance.new.drives)) so_far.faults c.in-Err.ensures.ends.cause.failed;
+        };
       };
       drives = record {
         keeps = keeps_both _ _ _ _ _ _ c.args.self.now.bdos.mounted c.loop-left.self.bdos.mounted c.advance.new.self.bdos.mounted so_far.keeps c.in-Err.ensures.uses.drives.keeps;
@@ -142,8 +144,7 @@ returns g c =
         interprets = so_far.interprets;
         turn_steps = so_far.turn_steps;
       };
-      trace = so_far.trace;
-      cause = record { stays = so_far.faults; failed = tt };
+      ends = record { trace = so_far.trace; cause = record { stays = so_far.faults; failed = tt } };
       drives = record { keeps = so_far.keeps; names = so_far.names; unsynced = so_far.unsynced };
       holds = so_far.holds;
       still = λ zero. so_far.still (omega (arith, zero, so_far.few));

@@ -40,7 +40,7 @@ pub returns-clause-may : goal.returns-clause-may
 returns-clause-may g c =
     let old = c.args.self.now.system in
     let new = c.enter_call.new.self.system in
-    let may = c.requires.may in
+    let may = c.requires in
     let made = returns-clause-made g c in
     record {
       whole = c.enter_call.ensures.whole;

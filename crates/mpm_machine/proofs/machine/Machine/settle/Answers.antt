@@ -1,5 +1,5 @@
 use Rattle.std.proofs.Common.{◌∙◌, inl, subst, arith}
-use Rattle.mpm_mount.specs.Mounting.{SameDrives}
+use Rattle.mpm_port.specs.Frames.{SameDrives}
 use Rattle.mpm_output.specs.Outside.{seen}
 use Rattle.mpm_base.proofs.Results.{on_ok}
 use Rattle.mpm_machine.specs.Faults.{itself}
@@ -18,7 +18,7 @@ close-requires g c = c.in-Ok.ensures.fits
 pub returns-in-Ok-clause-ok : goal.returns-in-Ok-clause-ok
 returns-in-Ok-clause-ok g c s first stands =
     let has = c.in-Ok.ensures.ok s.files stands.files in
-    ends_run c.close.result c.carry.new.self s _ _ _ _ _ c.args.render.now.trace c.carry.new.render.trace _ first stands.system.parts has c.close.ensures.drives.images c.in-Ok.ensures.trace
+    ends_run c.close.result c.carry.new.self s _ _ _ _ _ c.args.render.now.trace c.carry.new.render.trace _ first stands.system.parts has c.close.ensures.drives.images c.in-Ok.ensures.ends.trace
     (c.close.ensures.ok (carried s).outputs first (carried_shows s _ _ _ _ _ _ first stands.system.parts has stands.system.shown))
 
 pub returns-in-Ok-clause-whole : goal.returns-in-Ok-clause-whole
@@ -33,20 +33,23 @@ returns-in-Ok-clause-stops g c s first stands =
     let before = called g.D.Drives.unsynced c.args.drives.now c.args.steps.now in
     let between = called g.D.Drives.unsynced c.carry.new.drives c.carry.new.steps in
     err_stops c.close.result s m n c.carry.new.self.bdos.mounted (g.D.Drives.disks c.close.new.drives) first c.args.self.now.bdos before between _
-    (subst (λ (system : System). TurnsCall system c.args.self.now.bdos before between) stands.system.parts c.in-Ok.ensures.called) c.close.ensures.syncs c.close.ensures.trace shows
+    (subst (λ (system : System). TurnsCall system c.args.self.now.bdos before between) stands.system.parts c.in-Ok.ensures.called) c.close.ensures.syncs c.close.ensures.ends.trace shows
     (err_seen c.close.result g.S.Sink.written g.S.Sink.faults c.carry.new.render c.close.new.render c.carry.new.sink c.close.new.sink c.close.ensures.unwritten)
     (c.close.ensures.err (carried s).outputs first shows)
     (carried_images s _ m _ _ _ _ _ stands.system.parts has c.close.ensures.drives.images)
 
-pub returns-in-Ok-clause-cause : goal.returns-in-Ok-clause-cause
-returns-in-Ok-clause-cause g c = cause_behind itself _ _ _ c.close.result c.in-Ok.ensures.cause.stays c.close.ensures.cause
+pub returns-in-Ok-clause-ends : goal.returns-in-Ok-clause-ends
+returns-in-Ok-clause-ends g c = record {
+  trace = c.close.ensures.ends.trace ∙ c.in-Ok.ensures.ends.trace;
+  cause = cause_behind itself _ _ _ c.close.result c.in-Ok.ensures.ends.cause.stays c.close.ensures.ends.cause;
+}
 
 pub returns-in-Ok-clause-keeps : goal.returns-in-Ok-clause-keeps
 returns-in-Ok-clause-keeps g c = keeps_synced _ _ _ _ _ _ _ _ c.in-Ok.ensures.uses.drives.keeps c.close.ensures.drives.images c.close.ensures.drives.told_are
 
 pub returns-in-Ok-clause-idle : goal.returns-in-Ok-clause-idle
 returns-in-Ok-clause-idle g c none =
-    subst (λ d. SameDrives g.D.Drives.disks g.D.Drives.told g.D.Drives.failed_names d c.close.new.drives) (c.in-Ok.ensures.idle none) c.close.ensures.drives
+    subst (λ d. SameDrives g.D.Drives d c.close.new.drives) (c.in-Ok.ensures.idle none) c.close.ensures.drives
 
 pub returns-in-Ok-clause-names : goal.returns-in-Ok-clause-names
 returns-in-Ok-clause-names g c = c.close.ensures.drives.failed ∙ c.in-Ok.ensures.uses.drives.names
@@ -56,9 +59,6 @@ returns-in-Ok-clause-none g c none = (
   sink_alone c.close.result c.carry.new.self.bdos.mounted (c.in-Ok.ensures.uses.none none).bare c.close.ensures.some,
   c.close.ensures.none (none_counted c.carry.new.self.bdos.mounted (c.in-Ok.ensures.uses.none none).bare) ∙ (c.in-Ok.ensures.uses.none none).drives,
 )
-
-pub returns-in-Ok-clause-trace : goal.returns-in-Ok-clause-trace
-returns-in-Ok-clause-trace g c = c.close.ensures.trace ∙ c.in-Ok.ensures.trace
 
 pub returns-in-Ok-clause-synced : goal.returns-in-Ok-clause-synced
 returns-in-Ok-clause-synced g c =
@@ -77,7 +77,7 @@ returns-in-Ok-clause-calls g c =
 
 pub returns-in-Err-clause-stops : goal.returns-in-Err-clause-stops
 returns-in-Err-clause-stops g c s first stands =
-    stops_carrying c.in-Err.fault s _ _ _ _ _ first _ _ _ stands.system.parts c.in-Err.ensures.trace stands.system.shown (c.in-Err.ensures.err s.files stands.files) c.in-Err.ensures.called
+    stops_carrying c.in-Err.fault s _ _ _ _ _ first _ _ _ stands.system.parts c.in-Err.ensures.ends.trace stands.system.shown (c.in-Err.ensures.err s.files stands.files) c.in-Err.ensures.called
 
 pub returns-in-Err-clause-syncs : goal.returns-in-Err-clause-syncs
 returns-in-Err-clause-syncs g c = inl (c.in-Err.ensures.serves, c.in-Err.ensures.called)
@@ -86,7 +86,7 @@ pub returns-in-Err-clause-calls : goal.returns-in-Err-clause-calls
 returns-in-Err-clause-calls g c = omega (arith, c.in-Err.ensures.called.calls)
 
 pub returns-in-Err-clause-idle : goal.returns-in-Err-clause-idle
-returns-in-Err-clause-idle g c none = same_still g.D.Drives.disks g.D.Drives.told g.D.Drives.failed_names c.args.drives.now c.carry.new.drives (c.in-Err.ensures.idle none)
+returns-in-Err-clause-idle g c none = same_still g.D.Drives c.args.drives.now c.carry.new.drives (c.in-Err.ensures.idle none)
 
 pub returns-in-Err-clause-ok : goal.returns-in-Err-clause-ok
 returns-in-Err-clause-ok g c s first stands = tt
@@ -94,11 +94,8 @@ returns-in-Err-clause-ok g c s first stands = tt
 pub returns-in-Err-clause-whole : goal.returns-in-Err-clause-whole
 returns-in-Err-clause-whole g c = tt
 
-pub returns-in-Err-clause-trace : goal.returns-in-Err-clause-trace
-returns-in-Err-clause-trace g c = c.in-Err.ensures.trace
-
-pub returns-in-Err-clause-cause : goal.returns-in-Err-clause-cause
-returns-in-Err-clause-cause g c = c.in-Err.ensures.cause
+pub returns-in-Err-clause-ends : goal.returns-in-Err-clause-ends
+returns-in-Err-clause-ends g c = c.in-Err.ensures.ends
 
 pub returns-in-Err-clause-keeps : goal.returns-in-Err-clause-keeps
 returns-in-Err-clause-keeps g c = c.in-Err.ensures.uses.drives.keeps

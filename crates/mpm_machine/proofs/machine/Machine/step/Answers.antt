@@ -29,8 +29,7 @@ returns-in-Err g c =
       leaves = tt;
       holds = tt;
       drives = failed.uses.drives;
-      trace = failed.trace;
-      cause = failed.cause;
+      ends = failed.ends;
       rests = λ off. let rests = failed.calls.rests off in (rests.sink, rests.drives, rests.calls);
       none = λ bare. let none = failed.uses.none bare in (none.sink, none.drives, none.bare);
       calls = failed.calls.calls;
@@ -60,8 +59,7 @@ returns-in-Ok g c =
       };
       holds = done.made.holds;
       drives = done.uses.drives;
-      trace = done.trace;
-      cause = done.cause;
+      ends = done.ends;
       rests = λ off. let rests = done.calls.rests off in (tt, rests.drives, rests.calls);
       none = λ bare. let none = done.uses.none bare in (tt, none.drives, none.bare);
       calls = done.calls.calls;

@@ -1,4 +1,4 @@
-use Rattle.std.proofs.Common.{◌≡◌, ◌∙◌, Ok, Err, refl, ap, arith}
+use Rattle.std.proofs.Common.{◌∙◌, Ok, Err, refl, ap, arith}
 use Rattle.mpm_output.specs.Outside.{seen}
 use Rattle.mpm_bdos.specs.Serving.{Kept}
 use Rattle.mpm_machine.specs.declared.machine.StepFault.TheVariants.{DiskFault, WriteFault}
@@ -21,7 +21,9 @@ pub end_step-requires : goal.end_step-requires
 end_step-requires g c =
     let begun = c.in-Ok.ensures.begun in
     record {
-      may = record { whole = begun.whole; completed = begun.completed; calls = record { filed = begun.holds.filed; own = begun.holds.own; begun = begun.holds.begun } };
+      whole = begun.whole;
+      completed = begun.completed;
+      calls = record { filed = begun.holds.filed; own = begun.holds.own; begun = begun.holds.begun };
       room = begun.room;
     }
 
@@ -45,8 +47,7 @@ returns-in-Err g c =
             turn_calls old c.args.self.now.bdos (g.D.Drives.disks c.args.drives.now) files _ _ stands (λ none. no_sink (failed.idle none).sink) c.work.ensures.few;
         few = λ some. c.work.ensures.few;
       };
-      trace = refl;
-      cause = work_cause _ (g.S.Sink.faults c.args.sink.now) _ _ failed.cause;
+      ends = record { trace = refl; cause = work_cause _ (g.S.Sink.faults c.args.sink.now) _ _ failed.cause };
     }
 
 -- what it begins with stopped
@@ -78,8 +79,7 @@ returns-in-Err-begin_step g c =
             (λ some. (failed.rests.apart some).calls) (failed.calls files (c.in_default.ensures.ok files stands));
         few = λ some. let same = (failed.rests.idle (not_at_once old some)).calls in omega (arith, same, c.work.ensures.few);
       };
-      trace = failed.trace;
-      cause = begun_fails _ fault _ _ _ _ _ c.in_default.ensures.cause failed.cause;
+      ends = record { trace = failed.ends.trace; cause = begun_fails _ fault _ _ _ _ _ c.in_default.ensures.cause failed.ends.cause };
     }
 
 -- the rest of it did
@@ -116,8 +116,7 @@ returns-in-Err-end_step g c =
             (λ some. (first.rests.apart some).calls) (first.calls files (c.in_default.ensures.ok files stands));
         few = λ some. let same = (first.rests.idle (not_at_once old some)).calls in omega (arith, same, c.work.ensures.few);
       };
-      trace = c.end_step.ensures.trace ∙ c.begin_step.ensures.trace;
-      cause = ended_fails _ _ _ _ _ _ _ (begun_cause _ (Ok instruction) _ _ _ _ _ c.in_default.ensures.cause first.cause) failed.cause;
+      ends = record { trace = c.end_step.ensures.ends.trace ∙ c.begin_step.ensures.ends.trace; cause = ended_fails _ _ _ _ _ _ _ (begun_cause _ (Ok instruction) _ _ _ _ _ c.in_default.ensures.cause first.ends.cause) failed.ends.cause };
     }
 
 -- and all was done
@@ -164,6 +163,5 @@ returns-in-Ok-end_step g c =
             (λ some. (first.rests.apart some).calls) (first.calls files (c.in_default.ensures.ok files stands));
         few = λ some. let same = (first.rests.idle (not_at_once old some)).calls in omega (arith, same, c.work.ensures.few);
       };
-      trace = c.end_step.ensures.trace ∙ c.begin_step.ensures.trace;
-      cause = ended_stays _ _ _ _ _ _ _ _ (begun_cause _ (Ok instruction) _ _ _ _ _ c.in_default.ensures.cause first.cause) last.cause;
+      ends = record { trace = c.end_step.ensures.ends.trace ∙ c.begin_step.ensures.ends.trace; cause = ended_stays _ _ _ _ _ _ _ _ (begun_cause _ (Ok instruction) _ _ _ _ _ c.in_default.ensures.cause first.ends.cause) last.ends.cause };
     }
