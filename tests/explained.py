@@ -210,7 +210,7 @@ def drives():
     """Images: of another size, at fault, and such as can't be had."""
     for entries, cause, slot, *words in faults():
         status = f"4, `bad image A: cause {cause} at {slot}`"
-        words = [*words, f"cause {cause}", "./fsck apply ibm3740 COPY LIST`"]
+        words = [*words, f"cause {cause}", "`tools/images.py rescue ibm3740 IMAGE FOLDER`", "./fsck apply ibm3740 COPY LIST`"]
         yield sound() | {"disk.img": disk(*entries)}, status, [(f"disk.img: slot {slot}", *words)]
     # Two slots at fault; on `hd8` two extents of one entry.
     two = disk(entry(count=200), entry(blocks=[3]), entry(name=b"B       DAT", blocks=[0, 1]))

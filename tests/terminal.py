@@ -376,7 +376,8 @@ def resized(folder, sits):
 
 
 def killed(folder, sits):
-    """A signal ends a sitting with all that is owed: the terminal, the script, the images; its folder goes, also after a kill."""
+    """A signal ends a sitting with all that is owed: the terminal, the script, the images. After a kill the script is there, which makes
+    the images, and its folder goes."""
     takers(folder)
     rooms = lambda: {name for name in os.listdir("/dev/shm") + os.listdir(tempfile.gettempdir()) if name.startswith("mpm-terminal-")}
     for number in (signal.SIGTERM, signal.SIGHUP, signal.SIGINT):
@@ -388,12 +389,20 @@ def killed(folder, sits):
         sitter.ends(128 + number, b"")
         need(b"take n%d" % number in read(folder, "sat.keys"), "no script")
         need(file_of(folder, (b"N%d" % number).ljust(8) + b"TXT") is not None, "no file")
-    sitter = sits("machine.toml")
+    write(folder, "left.keys", b"what an older sitting left\n" * 100)
+    sitter = sits("--record", "left.keys", "--keep", "machine.toml")
     sitter.sees("0A>")
+    sitter.type(b"take k.txt\rab\x1a")
+    sitter.sees("0A>take k.txt", "0A>")
     held = {name for name in rooms()}
     sitter.process.kill()
     sitter.process.wait()
     need(rooms() & held, "no folder of a sitting")
+    need(file_of(folder, b"K       TXT") is None, "the images aren't as they were")
+    write(folder, "again.toml", b'script = "left.keys"\n' + read(folder, "machine.toml"))
+    done = running.run([PROGRAM, "run", "again.toml", "4000000000"], cwd=folder)
+    need(done.returncode == 0, done.stderr)
+    need(file_of(folder, b"K       TXT")[:3] == b"ab\x1a", "not what was typed")
     time.sleep(1.5)
     sitter = sits("machine.toml")
     sitter.sees("0A>")

@@ -8,6 +8,7 @@ Status: 0; 1 where the file can't be read or is none of a core, 2 where the word
 
 import argparse
 import re
+import signal
 import subprocess
 import sys
 import tempfile
@@ -93,6 +94,7 @@ def report(core):
 
 
 def main():
+    signal.signal(signal.SIGPIPE, signal.SIG_DFL)  # as in `.. | head`
     words = argparse.ArgumentParser(prog="core", description=__doc__, formatter_class=argparse.RawDescriptionHelpFormatter)
     words.add_argument("core", metavar="CORE", help="a file that mpm_snapshot saved")
     path = words.parse_args().core

@@ -117,7 +117,7 @@ def size_fault(kind_name, image, size):
         return Fault(None, "kind", f'{said}. The kind {fitting} fits: kind = "{fitting}"')
     sizes = ", ".join(f"{name} {other.size:,}" for name, other in images.KINDS.items())
     more = "too long" if size > kind.size else "too short"
-    return Fault(None, "size", f"{said}. It is {abs(size - kind.size):,} bytes {more}, and no kind fits it ({sizes})")
+    return Fault(None, "size", f"{said}. It is {abs(size - kind.size):,} bytes {more}, and no kind fits it ({sizes}). docs/IMAGES.md, \"An image at fault\", has what to do")
 
 
 def earlier(kind, image, slot, is_same):
@@ -175,7 +175,8 @@ def slot_findings(name, kind_name, image):
         more = "There are more, which speaks for a disk of another kind. " if len(slots) == MOST_SLOTS else ""
         last = findings[-1]
         it = "it" if len(slots) == 1 else "them"
-        how = f"{more}Of a copy `{check}` lists {it}, and `{apply}` frees {it} (docs/IMAGES.md, \"An image at fault\")"
+        rescue = f"`tools/images.py rescue {kind_name} IMAGE FOLDER` gets its files out"
+        how = f"{more}{rescue}. Of a copy `{check}` lists {it}, and `{apply}` frees {it} (docs/IMAGES.md, \"An image at fault\")"
         findings[-1] = last._replace(said=f"{last.said}. {how}")
     return findings
 

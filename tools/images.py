@@ -4,8 +4,9 @@
 images.py read KIND IMAGE           prints the drive that the image stands for, or its first fault as `cause N at N`
 images.py slots KIND IMAGE          prints each slot of the directory that isn't free: where its 32 bytes begin, and what they say
 images.py get KIND IMAGE FOLDER     writes the files of an image without fault into a folder, as USER/NAME.TYP
+images.py rescue KIND IMAGE FOLDER  writes what an image has into a new folder, whatever its faults, and prints each file with what is wrong
 
-Ends with status 0; 4 where the image is at fault; 1 where something can't be done.
+Ends with status 0; 4 where the image, or with `rescue` a file, is at fault; 1 where something can't be done.
 """
 
 import os
@@ -283,6 +284,104 @@ def contents(kind, image, parts):
     return data
 
 
+# The files of an image that may be at fault.
+
+
+class Part(NamedTuple):
+    """An entry of a file, its slot, and the number of its place in the file, None where it has none there; and what is wrong with it."""
+
+    slot: int
+    file: File
+    number: int | None
+    remarks: tuple
+
+
+def whole(kind, image):
+    """An image brought to its kind's size: a byte that is missing is E5h, as on a new disk."""
+    return image[: kind.size].ljust(kind.size, bytes([FREE]))
+
+
+def is_file(entry):
+    """Whether an entry is a file's, or has a name that is typed and a byte 0 that nothing has. One byte throughout is no entry."""
+    sort, name = entry[0], plain(entry[1:12])
+    is_name = name[0] > 0x20 and all(0x20 <= letter < 0x7F for letter in name)
+    return len(set(entry)) > 1 and (sort < 16 or sort > LABEL and sort != FREE and is_name)
+
+
+def mended(kind, file):
+    """An entry without blocks that no file can have, and, where its record count can't be right, with that of all its blocks."""
+    is_right = lambda block: kind.directory_blocks <= block <= kind.dsm
+    last = max((place + 1 for place, block in enumerate(file.blocks) if block), default=0)
+    count = file.count if file.count <= 128 else min(128, last * kind.block_records)
+    return file._replace(blocks=tuple(block if is_right(block) else 0 for block in file.blocks), count=count)
+
+
+def remarks_of(kind, slot, file, others):
+    """What is wrong with an entry, where `others` has the slots of each block, in words."""
+    if file.user > 15:
+        yield f"slot {slot}: its byte 0 is {file.user:02X}h, which no file has"
+    if file.count > 128:
+        yield f"slot {slot}: its record count is {file.count}: all of its blocks are taken"
+    bad = sorted(set(held(file)) - set(held(mended(kind, file))))
+    if bad:
+        yield f"slot {slot}: no file can have block {' '.join(map(str, bad))}: zeros"
+    if len(set(held(file))) < len(held(file)):
+        yield f"slot {slot}: a block is in it twice"
+    for other in sorted({other for block in held(file) for other in others[block]} - {slot}):
+        shared = (str(block) for block in held(file) if other in others[block])
+        yield f"slot {slot}: slot {other} has block {' '.join(shared)} too"
+
+
+def parts_of(kind, image):
+    """The parts of each file, by its folder and name. A part that has no place in its file is a file by itself."""
+    entries = ((slot, slot_bytes(kind, image, slot)) for slot in range(kind.drm + 1))
+    found = [(slot, file_entry(kind, entry)) for slot, entry in entries if is_file(entry)]
+    others, files = {}, {}
+    for slot, file in found:
+        for block in held(file):
+            others.setdefault(block, set()).add(slot)
+    for slot, file in found:
+        key = str(file.user) if file.user < 16 else f"{file.user:02X}h", file_text(file.name)
+        number, remarks = file.extent // (kind.mask + 1), []
+        first = next((part.slot for part in files.get(key, []) if part.number == number), None)
+        if file.s2 > 63 or file.ex > 31 or first is not None:
+            key, number = (key[0], f"{key[1]}.slot{slot}"), None
+            why = f"S2 is {file.s2} and EX {file.ex}" if first is None else f"slot {first} has this part of the file"
+            remarks = [f"slot {slot}: {why}: it is a file by itself"]
+        remarks += remarks_of(kind, slot, file, others)
+        files.setdefault(key, []).append(Part(slot, mended(kind, file), number, tuple(remarks)))
+    return files
+
+
+def unread(kind, image):
+    """The slots that have something else than is known, by their byte 0. 21h is a stamp of CP/M 3."""
+    slots = {}
+    for slot in range(kind.drm + 1):
+        entry = slot_bytes(kind, image, slot)
+        if not is_file(entry) and (entry[0] < 16 or entry[0] > LABEL + 1) and entry[0] != FREE:
+            slots.setdefault(entry[0], []).append(slot)
+    return slots
+
+
+def gaps(numbers):
+    """The runs of numbers that lack below the greatest, each with its first and the one after it."""
+    ordered = [-1, *sorted(numbers)]
+    return [(before + 1, after) for before, after in zip(ordered, ordered[1:]) if after > before + 1]
+
+
+def rescued(kind, image):
+    """Each file of an image of its kind's size: its folder, its name, its bytes, and what is wrong with it."""
+    size = kind.places * kind.block
+    for (folder, name), parts in sorted(parts_of(kind, image).items()):
+        remarks = [remark for part in parts for remark in part.remarks]
+        if parts[0].number is None:
+            yield folder, name, part_contents(kind, image, parts[0].file), remarks
+        else:
+            parts.sort(key=lambda part: part.number)
+            remarks += [f"no slot has bytes {first * size:,} to {end * size - 1:,}: zeros" for first, end in gaps([part.number for part in parts])]
+            yield folder, name, contents(kind, image, [part.file for part in parts]), remarks
+
+
 # The commands.
 
 
@@ -334,6 +433,26 @@ def get(kind, path, folder):
     return 0
 
 
+def rescue(kind, path, folder):
+    with open(path, "rb") as file:
+        image = file.read()
+    status = 0
+    if len(image) != kind.size:
+        print(f"{len(image):,} bytes in place of {kind.size:,}: what is missing is taken as E5h, and what is too much isn't read")
+        status = 4
+    os.mkdir(folder)
+    for user, name, data, remarks in rescued(kind, whole(kind, image)):
+        os.makedirs(os.path.join(folder, user), exist_ok=True)
+        with open(os.path.join(folder, user, name), "wb") as file:
+            file.write(data)
+        print("\n  ".join([f"{user}/{name} {len(data):,} bytes", *remarks]))
+        status = 4 if remarks else status
+    for sort, slots in unread(kind, whole(kind, image)).items():
+        print(f"no entry in slot {' '.join(map(str, slots))}: byte 0 is {sort:02X}h")
+        status = 4
+    return status
+
+
 def main(words):
     match words:
         case ["read", kind, path] if kind in KINDS:
@@ -342,6 +461,8 @@ def main(words):
             return slots(KINDS[kind], path)
         case ["get", kind, path, folder] if kind in KINDS:
             return get(KINDS[kind], path, folder)
+        case ["rescue", kind, path, folder] if kind in KINDS:
+            return rescue(KINDS[kind], path, folder)
     print(__doc__, file=sys.stderr)
     return 1
 

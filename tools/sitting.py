@@ -55,8 +55,8 @@ class Failed(Exception):
 class Sitting:
     """The loop: keys, signals and runs as they come."""
 
-    def __init__(self, session, screen, signals, console):
-        self.session, self.screen, self.signals = session, screen, signals
+    def __init__(self, session, screen, signals, console, record):
+        self.session, self.screen, self.signals, self.record = session, screen, signals, record
         self.unit, self.console = f"c{console}", console
         self.shown, self.command, self.is_helping = b"", None, False
         self.told, self.told_until = "", 0.0
@@ -110,6 +110,7 @@ class Sitting:
                 self.next_at = self.session.due_at = NEVER
         if runs and not runs[0].is_summed:
             self.show()
+            self.record.write_new(self.session)
 
     def stop(self):
         for run in self.runs:
@@ -279,11 +280,34 @@ def say(line):
         print(line, file=sys.stderr, flush=True)
 
 
+class Record:
+    """The file with what was typed, if one is wanted. It is written over after each key that is shown, and never gets shorter, so that a
+    sitting which is killed leaves it. What an earlier one left there stays until the first key."""
+
+    def __init__(self, path, machine):
+        self.path, self.machine, self.written, self.mode = path, machine, b"", "wb"
+        if path:
+            open(path, "ab").close()
+
+    def write_new(self, session):
+        """Writes what came since, if it can."""
+        if self.path and session.recorded() != self.written:
+            with contextlib.suppress(OSError):
+                self.write(session)
+
+    def write(self, session):
+        head = f"# Typed at {self.machine}: with this script, `mpm run` writes in {session.shown} steps the lines that were shown.\n"
+        keys = session.recorded()
+        with open(self.path, self.mode) as file:
+            file.write(head.encode(errors="replace") + keys)
+        self.written, self.mode = keys, "r+b"
+
+
 class Endings:
     """What is left after a sitting. Each part is done whatever becomes of the others."""
 
-    def __init__(self, session, options):
-        self.session, self.options, self.has_failed = session, options, False
+    def __init__(self, session, options, record):
+        self.session, self.options, self.typed, self.has_failed = session, options, record, False
 
     def leave(self):
         """Does all, and says what was done; whether nothing failed."""
@@ -312,9 +336,7 @@ class Endings:
     def record(self):
         if self.options.record:
             machine, steps = self.options.machine, self.session.shown
-            head = f"# Typed at {machine}: with this script, `mpm run` writes in {steps} steps the lines that were shown.\n"
-            with open(self.options.record, "wb") as file:
-                file.write(head.encode(errors="replace") + self.session.recorded())
+            self.typed.write(self.session)
             yield f"{self.options.record} is the script of this sitting: with it, {machine} writes in {steps} steps what was shown."
 
     def trace(self):
@@ -332,13 +354,12 @@ def sit(options):
     if not 0 <= options.console < machine.consoles:
         raise Failed(f"--console {options.console}: the machine has consoles 0 to {machine.consoles - 1}")
     given = [] if options.no_script else given_events(machine)
-    if options.record:
-        open(options.record, "ab").close()
+    record = Record(options.record, options.machine)
     program = os.path.abspath(options.program or os.path.join(ROOT, "crates/mpm/out/mpm"))
     room = rooms.Room(machine, options.keep)
     screen, signals = Screen(), Signals()
     session = Session(program, machine, room, given, options.rate)
-    sitting = Sitting(session, screen, signals, options.console)
+    sitting = Sitting(session, screen, signals, options.console, record)
     try:
         try:
             screen.enter()
@@ -346,7 +367,7 @@ def sit(options):
         finally:
             screen.leave()
             sitting.stop()
-        is_left = Endings(session, options).leave()
+        is_left = Endings(session, options, record).leave()
     finally:
         room.close()
     if not is_left:
