@@ -16,7 +16,7 @@ slow        a pipe that doesn't block, and whose reader takes its time
 full        /dev/full, and no standard output at all
 failing     each call that reads, writes or syncs the image, from the first on until none fails, on each kind of disk; then each write of
             which a part is taken before it fails; and each call that reads or writes any file, where a signal interrupts it: they need a
-            C compiler (failing.c)
+            C compiler (failing.c). The last call on the image is the one that brings it to the disk (fsync)
 
 All is done with a disk that does each call at once, and with one that serves calls in turns of twenty steps. The guest makes, renames,
 deletes and reads files (devices.asm). Of each run it checks the status and what is said; that what is written is the text of the steps
@@ -411,22 +411,24 @@ def full(folder, is_full):
 
 
 def failing(folder, number, library, how):
-    """A run whose call of that number fails so, if it makes so many."""
+    """A run whose call of that number fails so, if it makes so many: how it ends, and the name of that call."""
     mark = os.path.join(folder.path, "mark")
     environment = {"LD_PRELOAD": library, "FAILING": str(number), "FAILING_AS": how, "FAILING_MARK": mark}
     status, said, wrote = folder.ran(env=environment)
     if not os.path.exists(mark):
         need((status, said, wrote) == (0, "", text_of(folder, STEPS)), f"status {status} and {said!r} without a failure")
-        return None
+        return None, None
+    with open(mark) as file:
+        call = file.read()
     if how == "interrupted":
         need((status, said, wrote) == (0, "", text_of(folder, STEPS)), f"status {status} and {said!r} after a call that was interrupted")
         check_image(folder)
-        return "status 0"
+        return "status 0", call
     if said == "disk failed at step 0\n":
         need((status, wrote, folder.read_image()) == (7, b"", folder.disk), "a failure before the first step that changes something")
-        return "status 7 before the first step"
+        return "status 7 before the first step", call
     step = check_disk_fault(folder, status, said, wrote)
-    return "status 7 within the steps" if step < STEPS else "status 7 at the end"
+    return "status 7 within the steps" if step < STEPS else "status 7 at the end", call
 
 
 def all_failing(program, turn):
@@ -439,17 +441,20 @@ def all_failing(program, turn):
             print("failing: none, as there is no C compiler")
             return wrong
         for how, kind in itertools.product(("device", "part", "interrupted"), DISKS):
-            came = collections.Counter()
+            came, last = collections.Counter(), None
             for number in itertools.count(1):
                 with Folder(program, turn, kind) as folder:
                     try:
-                        end = failing(folder, number, library, how)
+                        end, call = failing(folder, number, library, how)
                     except Wrong as fault:
-                        end = "something wrong"
+                        end, call = "something wrong", None
                         wrong.append(f"failing {number} ({how}) on {kind}, turns of {turn}: {fault}")
                 if end is None:
                     break
                 came[end] += 1
+                last = call
+            if how != "interrupted" and last != "fsync":
+                wrong.append(f"failing ({how}) on {kind}, turns of {turn}: the last call on the image is {last}, no fsync")
             print(f"failing ({how}) on {kind}, turns of {turn}:", told(came), flush=True)
     return wrong
 

@@ -316,6 +316,10 @@ def cases():
     yield "program", {"hello.bin": b"\xC9"}, program, None, []
     yield "program that is long", {"hello.bin": bytes(48_513)}, program, "5, `input too long`", [("hello.bin", "at most 48,512")]
     yield "program that isn't there", {"hello.com": b""}, program, "6, `cannot read`", [("hello.bin", "is `hello.com` meant?")]
+    usage = "1, `usage: mpm program FILE STEPS [--trace] or mpm run MACHINE STEPS [--trace]`"
+    for steps, said in (("4000000001", "above 4,000,000,000"), ("1,000", "a comma"), ("+5", "a sign"), ("007", "leading zeros")):
+        yield f"steps {steps}", sound(), ["run", "machine.toml", steps], usage, [("STEPS", said)]
+    yield "a word after the steps", sound(), ["run", "machine.toml", "5", "--traced"], usage, [("after STEPS", "`--traced`")]
     yield "program that is a folder", {"hello.bin": FOLDER}, program, "6, `cannot read`", [("hello.bin", "it is a folder")]
 
 
@@ -323,7 +327,7 @@ def case_wrong(program, files, given, status, places):
     """What is wrong with a case; None where nothing is."""
     with tempfile.TemporaryDirectory() as folder, contextlib.chdir(folder):
         held = write(files)
-        run = [*given, "0"] if given[0] == "program" else ["run", *given, "0"]
+        run = given if given[0] == "run" else [*given, "0"] if given[0] == "program" else ["run", *given, "0"]
         found = wrong(explained(*given), status, places) or ends(program, run, status)
         for file in held:
             if file is not None:

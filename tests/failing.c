@@ -5,13 +5,14 @@
    part          of a write at a place a half is taken, and what is left of it fails with EIO; other calls as by `device`
    interrupted   the call fails with EINTR; calls that read or write any file count
 
-   Where that one comes, the file named by FAILING_MARK is made, so that it can be known. */
+   Where that one comes, the file named by FAILING_MARK is made, so that it can be known, and the call's name is written into it. */
 
 #define _GNU_SOURCE
 #include <dlfcn.h>
 #include <errno.h>
 #include <fcntl.h>
 #include <stddef.h>
+#include <stdio.h>
 #include <stdlib.h>
 #include <string.h>
 #include <sys/types.h>
@@ -33,28 +34,30 @@ static int counts(int file) {
     return is_interrupted || (fcntl(file, F_GETFL) & O_ACCMODE) == O_RDWR;
 }
 
-static int fails(int file) {
+static int fails(int file, const char *call) {
     if (!counts(file) || ++done != number) return 0;
-    const char *mark = getenv("FAILING_MARK");
-    int made = mark ? open(mark, O_CREAT | O_WRONLY, 0600) : -1;
-    if (made >= 0) close(made);
+    FILE *mark = getenv("FAILING_MARK") ? fopen(getenv("FAILING_MARK"), "w") : NULL;
+    if (mark) {
+        fputs(call, mark);
+        fclose(mark);
+    }
     errno = is_interrupted ? EINTR : EIO;
     return 1;
 }
 
 ssize_t read(int file, void *bytes, size_t size) {
     ssize_t (*next)(int, void *, size_t) = dlsym(RTLD_NEXT, "read");
-    return fails(file) ? -1 : next(file, bytes, size);
+    return fails(file, "read") ? -1 : next(file, bytes, size);
 }
 
 ssize_t write(int file, const void *bytes, size_t size) {
     ssize_t (*next)(int, const void *, size_t) = dlsym(RTLD_NEXT, "write");
-    return fails(file) ? -1 : next(file, bytes, size);
+    return fails(file, "write") ? -1 : next(file, bytes, size);
 }
 
 ssize_t pwrite(int file, const void *bytes, size_t size, off_t place) {
     ssize_t (*next)(int, const void *, size_t, off_t) = dlsym(RTLD_NEXT, "pwrite");
-    if (!fails(file)) return next(file, bytes, size, place);
+    if (!fails(file, "pwrite")) return next(file, bytes, size, place);
     if (!is_part || number != done) return -1;
     number++;
     return next(file, bytes, size / 2, place);
@@ -62,10 +65,10 @@ ssize_t pwrite(int file, const void *bytes, size_t size, off_t place) {
 
 int fsync(int file) {
     int (*next)(int) = dlsym(RTLD_NEXT, "fsync");
-    return fails(file) ? -1 : next(file);
+    return fails(file, "fsync") ? -1 : next(file);
 }
 
 int fdatasync(int file) {
     int (*next)(int) = dlsym(RTLD_NEXT, "fdatasync");
-    return fails(file) ? -1 : next(file);
+    return fails(file, "fdatasync") ? -1 : next(file);
 }

@@ -5,6 +5,7 @@ import contextlib
 import difflib
 import fcntl
 import os
+import re
 import stat
 import sys
 from typing import NamedTuple
@@ -15,6 +16,7 @@ from tools.machine_files import Fault, Refused
 ROOT = os.path.dirname(os.path.dirname(os.path.abspath(__file__)))
 
 PROGRAM_BYTES = 48_512
+MOST_STEPS = 4_000_000_000
 MOST_SLOTS = 20
 
 
@@ -37,6 +39,7 @@ class Ending(NamedTuple):
 
 
 SOUND = Ending()
+USAGE = Ending(1, "usage: mpm program FILE STEPS [--trace] or mpm run MACHINE STEPS [--trace]")
 
 
 def found(name, faults):
@@ -312,17 +315,30 @@ def explain_program(path):
     return [], SOUND
 
 
+def word_findings(words):
+    """What is wrong with the words after FILE or MACHINE, where there are any."""
+    steps, *rest = words or ["0"]
+    if not re.fullmatch("0|[1-9][0-9]*", steps):
+        yield Finding("STEPS", "form", f"`{steps}` isn't in decimal digits without a sign, a comma or leading zeros")
+    elif int(steps) > MOST_STEPS:
+        yield Finding("STEPS", "range", f"{int(steps):,} is above {MOST_STEPS:,}")
+    if rest not in ([], ["--trace"]):
+        yield Finding("after STEPS", "word", f"`{' '.join(rest)}`: only `--trace` may be there")
+
+
 def main(words, usage):
     """Explains what these words name: [run] MACHINE or program FILE, perhaps with steps and `--trace` after it."""
     match words:
         case ["-h" | "--help"]:
             print(usage)
             return 0
+        case ["run" | "program", path, *more] if faults := [*word_findings(more)]:
+            findings, ending = faults, USAGE
         case ["program", path, *_]:
             findings, ending = explain_program(path)
-        case ["run", path, steps, *_] if steps.isdecimal():
+        case ["run", path, steps, *_]:
             findings, ending = explain_machine(path, int(steps))
-        case ["run", path, *_] | [path]:
+        case ["run", path] | [path]:
             findings, ending = explain_machine(path)
         case _:
             print(usage, file=sys.stderr)

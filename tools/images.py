@@ -1,12 +1,12 @@
 #!/usr/bin/env python3
-"""Images of disks, read without the program: by docs/PROFILE.md alone, and by none of the program's code.
+"""Images of disks, read without the program: by docs/PROFILE.md and docs/IMAGES.md alone, and by none of the program's code.
 
 images.py read KIND IMAGE           prints the drive that the image stands for, or its first fault as `cause N at N`
 images.py slots KIND IMAGE          prints each slot of the directory that isn't free: where its 32 bytes begin, and what they say
 images.py get KIND IMAGE FOLDER     writes the files of an image without fault into a folder, as USER/NAME.TYP
 images.py rescue KIND IMAGE FOLDER  writes what an image has into a new folder, whatever its faults, and prints each file with what is wrong
 
-Ends with status 0; 4 where the image, or with `rescue` a file, is at fault; 1 where something can't be done.
+KIND is ibm3740, hd4 or hd8; docs/IMAGES.md, "The three kinds", says which. Ends with status 0; 4 where the image, or with `rescue` a file, is at fault; 1 where something can't be done.
 """
 
 import os
@@ -321,7 +321,7 @@ def remarks_of(kind, slot, file, others):
     if file.user > 15:
         yield f"slot {slot}: its byte 0 is {file.user:02X}h, which no file has"
     if file.count > 128:
-        yield f"slot {slot}: its record count is {file.count}: all of its blocks are taken"
+        yield f"slot {slot}: its record count is {file.count}, above 128: its blocks are written whole"
     bad = sorted(set(held(file)) - set(held(mended(kind, file))))
     if bad:
         yield f"slot {slot}: no file can have block {' '.join(map(str, bad))}: zeros"
@@ -425,6 +425,7 @@ def get(kind, path, folder):
     fault = first_fault(kind, image)
     if fault:
         print(fault)
+        print("images.py: nothing is written, as the image has a fault: `images.py rescue` writes what it has", file=sys.stderr)
         return 4
     for (user, name), parts in files_of(kind, image).items():
         os.makedirs(os.path.join(folder, str(user)), exist_ok=True)
@@ -463,6 +464,9 @@ def main(words):
             return get(KINDS[kind], path, folder)
         case ["rescue", kind, path, folder] if kind in KINDS:
             return rescue(KINDS[kind], path, folder)
+        case ["read" | "slots" | "get" | "rescue", kind, _, *_] if kind not in KINDS:
+            print(f"images.py: there is no kind {kind}: {', '.join(KINDS)}", file=sys.stderr)
+            return 1
     print(__doc__, file=sys.stderr)
     return 1
 
@@ -471,4 +475,4 @@ if __name__ == "__main__":
     try:
         sys.exit(main(sys.argv[1:]))
     except OSError as error:
-        sys.exit(f"images.py: {error}")
+        sys.exit(f"images.py: {error.filename}: {error.strerror}" if error.filename else f"images.py: {error}")

@@ -1,6 +1,6 @@
 # For a script that runs a proved program: `root` is the repository's folder, `name` the program's crate. `prove` makes the program
 # `built`, where it isn't there yet or a source is newer; it ends with 126 where it can't be built, and 127 where that needs `rt`,
-# which isn't there.
+# which isn't there. `run_built` runs it.
 
 . "$root/tools/saying.bash"
 built=$root/crates/$name/out/$name
@@ -34,3 +34,10 @@ build() {
 }
 
 prove() { is_fresh || build; }
+
+# Runs the program, which gets a signal where this script dies.
+run_built() {
+    local guard=()
+    ! command -v setpriv >/dev/null || guard=(setpriv --pdeathsig TERM)
+    "${guard[@]}" "$built" "$@"
+}
