@@ -9,8 +9,7 @@ use Rattle.z80_regs.specs.Outcome.{Action, Write, Input}
 use Rattle.mpm_banks.specs.declared.segment.Segment.{Segment}
 use Rattle.mpm_banks.specs.declared.range.Space.{Space}
 use Rattle.mpm_banks.specs.declared.range.Space.TheVariants.{Common, InSegment}
-use Rattle.mpm_banks.specs.Memory.{Memory, no_segment, segment_of, HasSegment, IsSegment, IsMemory, bytes_of, NamedByte, At, Nowhere, place_within, place_of, byte_of, put_to, byte_at, with_byte}
-use Rattle.mpm_banks.specs.MemoryLaws.{length_stays}
+use Rattle.mpm_banks.specs.Memory.{Memory, no_segment, segment_of, HasSegment, IsSegment, IsMemory, bytes_of, At, Nowhere, place_within, place_of, byte_of, put_to, byte_at, with_byte}
 use Rattle.mpm_banks.specs.Stretches.{with_range}
 use Rattle.mpm_banks.specs.Sides.{alone, with_sides, reach_of}
 use Rattle.mpm_banks.specs.Allocations.{spec_of}
@@ -196,30 +195,3 @@ whole_of memory seg spec whole new there alike is =
     let bytes = ap (λ (m : Memory). (segment_of m 0).bytes) alike.own_is in
     let common = ap (λ (m : Memory). m.common) alike.own_is in
     is ∙ ap (λ b. with_sides memory seg b new.common) bytes ∙ ap (with_sides memory seg alike.bytes) common ∙ sym alike.whole_is
-
-length_put_to : (spec : SegmentSpec) (bytes common : List ℕ) (place : NamedByte) (value : ℕ) (space : Space)
-    → length (bytes_of (put_to (alone spec bytes common) place value) space) ≡ length (bytes_of (alone spec bytes common) space)
-length_put_to spec bytes common (At at index) value space =
-    length_stays (alone spec bytes common) at space (slice_set (bytes_of (alone spec bytes common) at) index value) (length-set (bytes_of (alone spec bytes common) at) index value)
-length_put_to spec bytes common Nowhere value space = refl
-
-length_put : (spec : SegmentSpec) (bytes common : List ℕ) (address value : ℕ) (more others : List ℕ)
-    → with_byte (alone spec bytes common) 0 address value ≡ alone spec more others → (length more ≡ length bytes) × (length others ≡ length common)
-unfolding with_byte
-length_put spec bytes common address value more others is = (
-  ap (λ (m : Memory). length (bytes_of m (InSegment 0))) (sym is) ∙ length_put_to spec bytes common _ value (InSegment 0),
-  ap (λ (m : Memory). length m.common) (sym is) ∙ length_put_to spec bytes common _ value Common,
-)
-
--- a process's writes leave as many bytes as there were
-pub lengths_stay : (actions : List Action) (spec : SegmentSpec) (bytes common more others : List ℕ)
-    → alone spec more others ≡ memory_after actions 0 (alone spec bytes common) → (length more ≡ length bytes) × (length others ≡ length common)
-unfolding memory_after
-lengths_stay [] spec bytes common more others is =
-    (ap (λ (m : Memory). length (segment_of m 0).bytes) is, ap (λ (m : Memory). length m.common) is)
-lengths_stay (Write address byte ∷ rest) spec bytes common more others is =
-    let put = put_alike (alone spec bytes common) 0 spec bytes common address byte (omega arith) refl in
-    let later = lengths_stay rest spec put.bytes put.common more others (is ∙ ap (memory_after rest 0) put.own_is) in
-    let once = length_put spec bytes common address byte put.bytes put.common put.own_is in
-    (later.0 ∙ once.0, later.1 ∙ once.1)
-lengths_stay (Input port ∷ rest) spec bytes common more others is = lengths_stay rest spec bytes common more others is

@@ -1,4 +1,4 @@
-ghost use Rattle.std.specs.Prelude.{◌≡◌, ℕ, length};
+ghost use Rattle.std.specs.Prelude.{ℕ};
 ghost use Rattle.z80_regs.specs.declared.regs.Regs.{Regs};
 ghost use Rattle.mpm_base.specs.declared.devices.Devices.{Devices};
 ghost use Rattle.mpm_banks.specs.Memory.{Memory};
@@ -23,7 +23,5 @@ pub trait Burst {
         devices: &mut Devices,
     ) -> u64
         requires { FitsBelowCommon spec }
-        ensures ran { ran self.now regs.old (alone spec segment.old common.old) devices.old result regs.new (alone spec segment.new common.new) devices.new }
-        ensures segment { length segment.new ≡ length segment.old }
-        ensures common { length common.new ≡ length common.old };
+        ensures { ran self.now regs.old (alone spec segment.old common.old) devices.old result regs.new (alone spec segment.new common.new) devices.new };
 }

@@ -23,7 +23,7 @@ use Rattle.mpm_bdos.specs.Jobs.{job_by, unless_refused, job_of}
 use Rattle.mpm_bdos.specs.Serving.{InService, Kept, Serves, WorksOn, StandEach}
 use Rattle.mpm_directories.specs.Places.{directory_at}
 use Rattle.mpm_refusals.specs.Asking.{StandsWhere}
-use Rattle.mpm_bdos.specs.Turns.{FitsDrives, IsDiskIdle, KeepsImages, KeepsUnsynced, TurnKeeps, drive_served, has_work, labelled, without_work}
+use Rattle.mpm_bdos.specs.Turns.{FitsDrives, IsDiskIdle, KeepsImages, KeepsUnsynced, TurnKeeps, drive_served, has_work, drive_and_kind, without_work}
 use Rattle.mpm_bdos.specs.AtOnce.{TurnsLeave, ChangesAlone, IsAtRest, has_job}
 
 -- a turn leaves the drive in service
@@ -34,7 +34,7 @@ its_drive (Some service) = refl
 pub same_drive : (one other : Option InService) → option_map without_work other ≡ option_map without_work one → drive_served other ≡ drive_served one
 same_drive one other same = sym (its_drive other) ∙ ap drive_served same ∙ its_drive one
 
-pub still_there : (one other : Option Directory) → option_map labelled other ≡ option_map labelled one → is_some other ≡ is_some one
+pub still_there : (one other : Option Directory) → option_map drive_and_kind other ≡ option_map drive_and_kind one → is_some other ≡ is_some one
 still_there one other same = sym (there_label other) ∙ ap is_some same ∙ there_label one
 
 -- what is kept, after some turns and one more

@@ -136,7 +136,7 @@ free_by : (stops : Bool) (n count : ℕ) → n ≤ count → cond stops 0 (suc n
 free_by true n count few = omega arith
 free_by false n count few = omega (arith, few)
 
-until_within : (stops : ℕ → Bool) (n count : ℕ) → count_until stops n count ≤ count
+pub until_within : (stops : ℕ → Bool) (n count : ℕ) → count_until stops n count ≤ count
 unfolding count_until
 until_within stops n zero = omega arith
 until_within stops n (suc count) = free_by (stops n) (count_until stops (n + 1) count) count (until_within stops (n + 1) count)

@@ -12,22 +12,22 @@ use Rattle.mpm_cache.proofs.AliasLaws.{apart_after}
 use Rattle.mpm_mount.specs.Directories.{Directory, IsDirectory}
 use Rattle.mpm_directories.specs.Places.{directory_at, AreInPlace}
 use Rattle.mpm_bdos.specs.Syncing.{AreAttached}
-use Rattle.mpm_bdos.specs.Turns.{FitsDrives, KeepsImages, KeepsToldOf, KeepsUnsynced, StaysBeside, HasLeftDisk, has_directory, labelled}
+use Rattle.mpm_bdos.specs.Turns.{FitsDrives, KeepsImages, KeepsToldOf, KeepsUnsynced, StaysBeside, HasLeftDisk, has_directory, drive_and_kind}
 
 -- a directory that comes into another's place, of the same drive and kind, leaves each place's drive and kind
-pub labels_stay : (mounted : List (Option Directory)) (number other : ℕ) (new : Option Directory) → option_map labelled new ≡ option_map labelled (directory_at mounted number)
-    → option_map labelled (directory_at (slice_set mounted number new) other) ≡ option_map labelled (directory_at mounted other)
+pub labels_stay : (mounted : List (Option Directory)) (number other : ℕ) (new : Option Directory) → option_map drive_and_kind new ≡ option_map drive_and_kind (directory_at mounted number)
+    → option_map drive_and_kind (directory_at (slice_set mounted number new) other) ≡ option_map drive_and_kind (directory_at mounted other)
 labels_stay [] number other new same = refl
 labels_stay (d ∷ ds) zero zero new same = same
 labels_stay (d ∷ ds) zero (suc other) new same = refl
 labels_stay (d ∷ ds) (suc number) zero new same = refl
 labels_stay (d ∷ ds) (suc number) (suc other) new same = labels_stay ds number other new same
 
-pub there_label : (d : Option Directory) → is_some (option_map labelled d) ≡ is_some d
+pub there_label : (d : Option Directory) → is_some (option_map drive_and_kind d) ≡ is_some d
 there_label None = refl
 there_label (Some d) = refl
 
-there_stays : (mounted : List (Option Directory)) (number other : ℕ) (new : Option Directory) → option_map labelled new ≡ option_map labelled (directory_at mounted number)
+there_stays : (mounted : List (Option Directory)) (number other : ℕ) (new : Option Directory) → option_map drive_and_kind new ≡ option_map drive_and_kind (directory_at mounted number)
     → has_directory (slice_set mounted number new) other ≡ has_directory mounted other
 there_stays mounted number other new same =
     sym (there_label (directory_at (slice_set mounted number new) other)) ∙ ap is_some (labels_stay mounted number other new same) ∙ there_label (directory_at mounted other)
@@ -37,11 +37,11 @@ abbrev label_in : Option (ℕ × Kind) → ℕ × Kind → ℕ × Kind
 label_in None other = other
 label_in (Some label) other = label
 
-pub by_label : (P : ℕ × Kind → Type 0) (d e : Option Directory) → option_map labelled e ≡ option_map labelled d → IfSome d (λ one. P (labelled one)) → IfSome e (λ one. P (labelled one))
+pub by_label : (P : ℕ × Kind → Type 0) (d e : Option Directory) → option_map drive_and_kind e ≡ option_map drive_and_kind d → IfSome d (λ one. P (drive_and_kind one)) → IfSome e (λ one. P (drive_and_kind one))
 by_label P None None same so = tt
 by_label P (Some d) None same so = tt
 by_label P None (Some e) same so = absurd (true≢false (ap is_some same))
-by_label P (Some d) (Some e) same so = subst P (ap (λ found. label_in found (labelled d)) (sym same)) so
+by_label P (Some d) (Some e) same so = subst P (ap (λ found. label_in found (drive_and_kind d)) (sym same)) so
 
 -- directories without a fault in their places, one of which is changed to another of its drive and kind
 set_any : {X : Type 0} (P : X → Type 0) (places : List (Option X)) (number other : ℕ) (new : Option X) → IfSome new P → IfSome (slice_index_or places other None) P
@@ -52,7 +52,7 @@ set_any P (x ∷ xs) zero (suc other) new is each = each
 set_any P (x ∷ xs) (suc number) zero new is each = each
 set_any P (x ∷ xs) (suc number) (suc other) new is each = set_any P xs number other new is each
 
-pub in_place_after : (mounted : List (Option Directory)) (number : ℕ) (new : Option Directory) → AreInPlace mounted → option_map labelled new ≡ option_map labelled (directory_at mounted number)
+pub in_place_after : (mounted : List (Option Directory)) (number : ℕ) (new : Option Directory) → AreInPlace mounted → option_map drive_and_kind new ≡ option_map drive_and_kind (directory_at mounted number)
     → IfSome new (λ d. IsDirectory d.kind d.entries) → AreInPlace (slice_set mounted number new)
 in_place_after mounted number new placed same is = record {
   places = length-set mounted number new ∙ placed.places;
@@ -61,7 +61,7 @@ in_place_after mounted number new placed same is = record {
 }
 
 -- sizes go by the images
-sizes_after : (mounted : List (Option Directory)) (number : ℕ) (new : Option Directory) (disks now : Disks) → option_map labelled new ≡ option_map labelled (directory_at mounted number)
+sizes_after : (mounted : List (Option Directory)) (number : ℕ) (new : Option Directory) (disks now : Disks) → option_map drive_and_kind new ≡ option_map drive_and_kind (directory_at mounted number)
     → ((other : ℕ) → size_of now other ≡ size_of disks other) → ((other : ℕ) → IfSome (directory_at mounted other) (λ d. size_of disks other ≡ Some (geometry_of d.kind).bytes))
     → (other : ℕ) → IfSome (directory_at (slice_set mounted number new) other) (λ d. size_of now other ≡ Some (geometry_of d.kind).bytes)
 sizes_after mounted number new disks now same stay sizes other =
@@ -84,10 +84,10 @@ is_there : (mounted : List (Option Directory)) (number : ℕ) (d : Directory) �
 is_there mounted number d placed is = ap (has_directory mounted) (its_number mounted number d placed is) ∙ ap is_some is
 
 pub fits_after : {D : Type 0} (disks : D → Disks) (told : D → List ℕ → ToldImage) (failed : D → List (List ℕ)) (unsynced : D → ℕ → Bool) (mounted : List (Option Directory)) (number : ℕ) (d new : Option Directory)
-    (cached later : List (SectorPlace × List ℕ)) (old now : D) → AreInPlace mounted → directory_at mounted number ≡ d → option_map labelled new ≡ option_map labelled d
+    (cached later : List (SectorPlace × List ℕ)) (old now : D) → AreInPlace mounted → directory_at mounted number ≡ d → option_map drive_and_kind new ≡ option_map drive_and_kind d
     → HasLeftDisk disks told failed unsynced d cached later old now → FitsDrives disks mounted cached old → FitsDrives disks (slice_set mounted number new) later now
 fits_after disks told failed unsynced mounted number None new cached later old now placed is same left fits =
-    let all : option_map labelled new ≡ option_map labelled (directory_at mounted number) = same ∙ sym (ap (option_map labelled) is) in
+    let all : option_map drive_and_kind new ≡ option_map drive_and_kind (directory_at mounted number) = same ∙ sym (ap (option_map drive_and_kind) is) in
     let kept : FitsDrives disks mounted later now = subst (λ c. FitsDrives disks mounted c now) (sym left.cache) (subst (FitsDrives disks mounted cached) (sym left.drives) fits) in
     record {
       sizes = sizes_after mounted number new (disks now) (disks now) all (λ other. refl) kept.sizes;
@@ -95,7 +95,7 @@ fits_after disks told failed unsynced mounted number None new cached later old n
       apart = apart_among (has_directory mounted) (has_directory (slice_set mounted number new)) later (disks now) (λ other. there_stays mounted number other new all) kept.apart;
     }
 fits_after disks told failed unsynced mounted number (Some d) new cached later old now placed is same left fits =
-    let all : option_map labelled new ≡ option_map labelled (directory_at mounted number) = same ∙ sym (ap (option_map labelled) is) in
+    let all : option_map drive_and_kind new ≡ option_map drive_and_kind (directory_at mounted number) = same ∙ sym (ap (option_map drive_and_kind) is) in
     record {
       sizes = sizes_after mounted number new (disks old) (disks now) all left.others.sizes fits.sizes;
       coherent = left.coherent;

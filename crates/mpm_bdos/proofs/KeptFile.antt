@@ -19,7 +19,7 @@ use Rattle.mpm_refusals.specs.Refusals.{refusal_of}
 use Rattle.mpm_bdos.specs.Jobs.{reading_job, job_by, job_of, call_turns, turned}
 use Rattle.mpm_bdos.specs.Changes.{opens_by, filing_after}
 use Rattle.mpm_bdos.specs.Outcomes.{outcome_by, file_call, drives_after, left_by, without_search}
-use Rattle.mpm_bdos.specs.OpenToRead.{drive_in, HasFile, KeepsFile}
+use Rattle.mpm_bdos.specs.OpenToRead.{drive_or_blank, HasFile, KeepsFile}
 use Rattle.mpm_bdos.proofs.EndingLaws.{own_job}
 use Rattle.mpm_bdos.proofs.NextTurns.{job_drives, idle_drives}
 use Rattle.mpm_bdos.proofs.OthersItems.{call_leaves, end_leaves}
@@ -56,12 +56,12 @@ held s q key number apart has same = record {
   file = has.its_file;
   mode = has.its_mode;
   drive = same;
-  there = ap (λ d. is_there (drive_in s.filing d) (file_of key)) (sym same) ∙ has.there;
+  there = ap (λ d. is_there (drive_or_blank s.filing d) (file_of key)) (sym same) ∙ has.there;
 }
 
 job_keeps : (s : Situation) (q : ℕ) (key : FileKey) (number : ℕ) (job : Job) (j : ℕ) → s.caller.process ≢ q → AreOpen s.filing.opens → HasFile q key number s.filing
     → refusal_of s ≡ None → job_of s ≡ Some job
-    → KeepsEntries (file_of key) (drive_in s.filing key.drive) (drive_of (slice_set s.filing.drives (drive_number s) (Some (units_done (drive_at s) job j))) key.drive)
+    → KeepsEntries (file_of key) (drive_or_blank s.filing key.drive) (drive_of (slice_set s.filing.drives (drive_number s) (Some (units_done (drive_at s) job j))) key.drive)
 unfolding drive_at
 job_keeps s q key number job j apart sound has none is =
     put_somewhere (file_of key) s.filing.drives (drive_number s) key.drive (units_done (drive_at s) job j)
@@ -70,11 +70,11 @@ job_keeps s q key number job j apart sound has none is =
 
 -- while it is in service, with so many turns ended, and after it
 pub turns_keep_file : (s : Situation) (q : ℕ) (key : FileKey) (number j : ℕ) → s.caller.process ≢ q → AreOpen s.filing.opens → HasFile q key number s.filing → refusal_of s ≡ None
-    → KeepsEntries (file_of key) (drive_in s.filing key.drive) (drive_of (drives_after s j) key.drive)
+    → KeepsEntries (file_of key) (drive_or_blank s.filing key.drive) (drive_of (drives_after s j) key.drive)
 turns_keep_file s q key number j apart sound has none = by_job (job_of s) refl
   where
     old : Drive
-    old = drive_in s.filing key.drive
+    old = drive_or_blank s.filing key.drive
 
     by_job : (job : Option Job) → job_of s ≡ job → KeepsEntries (file_of key) old (drive_of (drives_after s j) key.drive)
     by_job None is = subst (λ drives. KeepsEntries (file_of key) old (drive_of drives key.drive)) (sym (idle_drives s j is)) (entries_same (file_of key) old)
@@ -83,30 +83,30 @@ turns_keep_file s q key number j apart sound has none = by_job (job_of s) refl
 
 -- a call whose job changes none
 idle_keeps : (s : Situation) (key : FileKey) (job : Job) → refusal_of s ≡ None → job_by s s.function ≡ Some job → changes_entries job.kind ≡ false
-    → KeepsEntries (file_of key) (drive_in s.filing key.drive) (drive_of (drives_after s (call_turns s)) key.drive)
+    → KeepsEntries (file_of key) (drive_or_blank s.filing key.drive) (drive_of (drives_after s (call_turns s)) key.drive)
 unfolding drive_at
 idle_keeps s key job none is idle =
     let j : ℕ = call_turns s in
-    subst (λ drives. KeepsEntries (file_of key) (drive_in s.filing key.drive) (drive_of drives key.drive)) (sym (job_drives s job j (own_job s none ∙ is)))
+    subst (λ drives. KeepsEntries (file_of key) (drive_or_blank s.filing key.drive) (drive_of drives key.drive)) (sym (job_drives s job j (own_job s none ∙ is)))
     (put_somewhere (file_of key) s.filing.drives (drive_number s) key.drive (units_done (drive_at s) job j)
     (λ same. entries_stay (drive_at s) job j (file_of key) (ap (λ b. b && names (drive_at s) job (file_of key)) idle)))
 
 pub idle_call_keeps : (s : Situation) (key : FileKey) (job : Job) → refusal_of s ≡ None → job_by s s.function ≡ Some job → changes_entries job.kind ≡ false
-    → KeepsEntries (file_of key) (drive_in s.filing key.drive) (drive_in (file_call s).filing key.drive)
+    → KeepsEntries (file_of key) (drive_or_blank s.filing key.drive) (drive_or_blank (file_call s).filing key.drive)
 unfolding file_call filing_after drives_after
 idle_call_keeps s key job none is idle =
-    subst (λ refusal. KeepsEntries (file_of key) (drive_in s.filing key.drive) (drive_in (outcome_by s (turned s (call_turns s)) refusal).filing key.drive)) (sym none)
+    subst (λ refusal. KeepsEntries (file_of key) (drive_or_blank s.filing key.drive) (drive_or_blank (outcome_by s (turned s (call_turns s)) refusal).filing key.drive)) (sym none)
     (idle_keeps s key job none is idle)
 
 call_keeps : (s : Situation) (q : ℕ) (key : FileKey) (number : ℕ) → s.caller.process ≢ q → AreOpen s.filing.opens → HasFile q key number s.filing
-    → KeepsEntries (file_of key) (drive_in s.filing key.drive) (drive_in (file_call s).filing key.drive)
+    → KeepsEntries (file_of key) (drive_or_blank s.filing key.drive) (drive_or_blank (file_call s).filing key.drive)
 unfolding file_call filing_after drives_after
 call_keeps s q key number apart sound has = by_refusal (refusal_of s) refl
   where
     by_refusal : (refusal : Option Refusal) → refusal_of s ≡ refusal
-        → KeepsEntries (file_of key) (drive_in s.filing key.drive) (drive_in (outcome_by s (turned s (call_turns s)) refusal).filing key.drive)
+        → KeepsEntries (file_of key) (drive_or_blank s.filing key.drive) (drive_or_blank (outcome_by s (turned s (call_turns s)) refusal).filing key.drive)
     by_refusal None is = turns_keep_file s q key number (call_turns s) apart sound has is
-    by_refusal (Some refusal) is = entries_same (file_of key) (drive_in s.filing key.drive)
+    by_refusal (Some refusal) is = entries_same (file_of key) (drive_or_blank s.filing key.drive)
 
 pub kept_by_others : (s : Situation) (q : ℕ) (key : FileKey) (number : ℕ) → s.caller.process ≢ q → AreOpen s.filing.opens → HasFile q key number s.filing
     → KeepsFile key number s.filing (file_call s).filing
@@ -114,8 +114,8 @@ kept_by_others s q key number apart sound has =
     let keeps = call_keeps s q key number apart sound has in
     record {
       placed = (call_leaves s).stays number has.item has.placed (λ e. apart (sym e ∙ has.its_process)) ∙ sym has.placed;
-      there = there_stays (file_of key) (drive_in s.filing key.drive) (drive_in (file_call s).filing key.drive) keeps has.there ∙ sym has.there;
-      records = λ n. records_stay (file_of key) (drive_in s.filing key.drive) (drive_in (file_call s).filing key.drive) n keeps;
+      there = there_stays (file_of key) (drive_or_blank s.filing key.drive) (drive_or_blank (file_call s).filing key.drive) keeps has.there ∙ sym has.there;
+      records = λ n. records_stay (file_of key) (drive_or_blank s.filing key.drive) (drive_or_blank (file_call s).filing key.drive) n keeps;
     }
 
 pub kept_as_left : (filing : Filing) (p q : ℕ) (key : FileKey) (number : ℕ) → p ≢ q → HasFile q key number filing
@@ -134,25 +134,28 @@ unfolding filing_after opens_by
 reads_open s number is None = ap (λ f. place_at (opens_by s (turned s (call_turns s)) f).items number) is
 reads_open s number is (Some refusal) = refl
 
-reads_keep : (s : Situation) (key : FileKey) → s.function ≡ ReadSequential → KeepsEntries (file_of key) (drive_in s.filing key.drive) (drive_in (file_call s).filing key.drive)
+pub reads_place : (s : Situation) (number : ℕ) → s.function ≡ ReadSequential → place_at (file_call s).filing.opens.items number ≡ place_at s.filing.opens.items number
+unfolding file_call
+reads_place s number is = reads_open s number is (refusal_of s)
+
+reads_keep : (s : Situation) (key : FileKey) → s.function ≡ ReadSequential → KeepsEntries (file_of key) (drive_or_blank s.filing key.drive) (drive_or_blank (file_call s).filing key.drive)
 unfolding file_call job_by
 reads_keep s key is = by_refusal (refusal_of s) refl
   where
-    by_refusal : (refusal : Option Refusal) → refusal_of s ≡ refusal → KeepsEntries (file_of key) (drive_in s.filing key.drive) (drive_in (file_call s).filing key.drive)
+    by_refusal : (refusal : Option Refusal) → refusal_of s ≡ refusal → KeepsEntries (file_of key) (drive_or_blank s.filing key.drive) (drive_or_blank (file_call s).filing key.drive)
     by_refusal None none = idle_call_keeps s key (reading_job s) none (ap (job_by s) is) refl
     by_refusal (Some refusal) refused =
-        subst (λ r. KeepsEntries (file_of key) (drive_in s.filing key.drive) (drive_in (outcome_by s (turned s (call_turns s)) r).filing key.drive)) (sym refused)
-        (entries_same (file_of key) (drive_in s.filing key.drive))
+        subst (λ r. KeepsEntries (file_of key) (drive_or_blank s.filing key.drive) (drive_or_blank (outcome_by s (turned s (call_turns s)) r).filing key.drive)) (sym refused)
+        (entries_same (file_of key) (drive_or_blank s.filing key.drive))
 
 pub kept_by_reading : (s : Situation) (q : ℕ) (key : FileKey) (number : ℕ) → s.function ≡ ReadSequential → HasFile q key number s.filing
     → KeepsFile key number s.filing (file_call s).filing
-unfolding file_call
 kept_by_reading s q key number is has =
     let keeps = reads_keep s key is in
     record {
-      placed = reads_open s number is (refusal_of s);
-      there = there_stays (file_of key) (drive_in s.filing key.drive) (drive_in (file_call s).filing key.drive) keeps has.there ∙ sym has.there;
-      records = λ n. records_stay (file_of key) (drive_in s.filing key.drive) (drive_in (file_call s).filing key.drive) n keeps;
+      placed = reads_place s number is;
+      there = there_stays (file_of key) (drive_or_blank s.filing key.drive) (drive_or_blank (file_call s).filing key.drive) keeps has.there ∙ sym has.there;
+      records = λ n. records_stay (file_of key) (drive_or_blank s.filing key.drive) (drive_or_blank (file_call s).filing key.drive) n keeps;
     }
 
 -- it is so after one change and another, and the file is open as it was

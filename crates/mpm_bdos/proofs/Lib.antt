@@ -1,5 +1,8 @@
 pub mod CallLaws
 pub mod RecordLaws
+pub mod CallEnds
+pub mod TestedCallEnds
+pub mod FailureShown
 pub mod TestedLaws
 pub mod KeptLaws
 pub mod ServingLaws
@@ -38,5 +41,6 @@ pub mod OtherFiles
 pub mod ThereLaws
 pub mod KeptFile
 pub mod OpenedFile
+pub mod ClosedFile
 pub mod AtOnceLaws
 pub mod SyncLaws

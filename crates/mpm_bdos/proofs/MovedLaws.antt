@@ -113,7 +113,7 @@ never_fails drive job Nothing is = refl
 pub all_moved : (drive : Drive) (job : Job) → moved_after drive job (turns_of drive job) ≡ sum_by records_moved (plan_of drive job).units
 all_moved drive job = ap (sum_by records_moved) (take_all (turns_of drive job) (plan_of drive job).units (omega arith))
 
-told_at_last : (drive : Drive) (job : Job) → error_after drive job (turns_of drive job) ≡ (plan_of drive job).error
+pub told_at_last : (drive : Drive) (job : Job) → error_after drive job (turns_of drive job) ≡ (plan_of drive job).error
 told_at_last drive job =
     let j : ℕ = turns_of drive job in
     ap (λ b. if b then None else (plan_of drive job).error) (le-ltb j j (omega arith))

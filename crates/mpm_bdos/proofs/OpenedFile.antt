@@ -14,15 +14,16 @@ use Rattle.mpm_opens.specs.declared.kinds.Mode.TheVariants.{ReadOnly}
 use Rattle.mpm_opens.specs.declared.kinds.OpenRefused.{OpenRefused}
 use Rattle.mpm_opens.specs.declared.kinds.OpenRefused.TheVariants.{Incompatible, ProcessLimit, NoRoom}
 use Rattle.mpm_opens.specs.Items as items
-use Rattle.mpm_opens.specs.Opens.{OpenFiles, item_of, IsItemOf, IsOpened, AreOpen, added}
+use Rattle.mpm_opens.specs.Opens.{OpenFiles, item_of, IsItemOf, HasNone, HasOne, IsOpened, AreOpen, added}
 use Rattle.mpm_opens.proofs.OpeningLaws.{live_stands}
 use Rattle.mpm_opens.proofs.FindingLaws.{named, opens_file, is_its_item}
+use Rattle.mpm_opens.proofs.OneItem.{free_first, one_opened}
 use Rattle.mpm_fcb.specs.declared.block.ControlBlock.{ControlBlock}
 use Rattle.mpm_fcb.specs.Blocks.{block_of, bytes_of}
-use Rattle.mpm_fcb.specs.Names.{has_f6, with_attributes}
+use Rattle.mpm_fcb.specs.Names.{has_f5, has_f6, with_attributes}
 use Rattle.mpm_fcb.specs.Opening as fcb
 use Rattle.mpm_fcb.specs.Positions.{sequential_record}
-use Rattle.mpm_fcb.proofs.Attributes.{still_plain, still_long, without_f6}
+use Rattle.mpm_fcb.proofs.Attributes.{still_plain, still_long, without_f5, without_f6}
 use Rattle.mpm_fcb.proofs.Back.{block_back}
 use Rattle.mpm_fcb.proofs.Handles.{handle_found}
 use Rattle.mpm_directories.specs.Direct.{where_changed}
@@ -40,7 +41,7 @@ use Rattle.mpm_bdos.specs.Jobs.{call_turns, turned, job_by}
 use Rattle.mpm_bdos.specs.Changes.{opens_by, filing_after}
 use Rattle.mpm_bdos.specs.Replies.{opened_as, opened_for, granted_of, answer_after}
 use Rattle.mpm_bdos.specs.Outcomes.{outcome_by, file_call}
-use Rattle.mpm_bdos.specs.OpenToRead.{drive_in, HasFile, OpensToRead}
+use Rattle.mpm_bdos.specs.OpenToRead.{drive_or_blank, HasFile, OpensToRead}
 use Rattle.mpm_bdos.proofs.Granted.{none_applies}
 use Rattle.mpm_bdos.proofs.LeavingLaws.{number_small}
 use Rattle.mpm_bdos.proofs.SoundLaws.{call_keeps_sound}
@@ -113,12 +114,16 @@ not_excluded s none is =
 abbrev its_number : Situation → ℕ
 its_number s = items.opened_number s.filing.opens.items s.caller.process (subject_key s)
 
+not_refused_there : (s : Situation) → refusal_of s ≡ None → s.function ≡ OpenFile
+    → items.refusal_of s.filing.opens.items s.caller.process (subject_key s) (mode_by s OpenFile) ≡ None
+unfolding opening_refusal
+not_refused_there s none is =
+    ap (λ f. items.refusal_of s.filing.opens.items s.caller.process (subject_key s) (mode_by s f)) (sym is) ∙ not_excluded s none is
+
 answers_number : (s : Situation) → refusal_of s ≡ None → s.function ≡ OpenFile
     → items.add_answer s.filing.opens.items s.caller.process (subject_key s) (mode_by s OpenFile) ≡ Ok (its_number s)
-unfolding items.add_answer opening_refusal
-answers_number s none is =
-    ap (λ refused. items.granted refused (its_number s))
-    (ap (λ f. items.refusal_of s.filing.opens.items s.caller.process (subject_key s) (mode_by s f)) (sym is) ∙ not_excluded s none is)
+unfolding items.add_answer
+answers_number s none is = ap (λ refused. items.granted refused (its_number s)) (not_refused_there s none is)
 
 -- so its process has an item of the file in that mode
 abbrev opens_then : Situation → OpenFiles
@@ -134,21 +139,30 @@ its_item s none is =
     (subst (λ answer. IfOk answer (λ number. items.number_of after s.caller.process (subject_key s) ≡ Some number)) (answers_number s none is)
     (named old.items s.caller.process (subject_key s) mode after (items.add_answer old.items s.caller.process (subject_key s) mode) refl refl))
 
-its_mode : (s : Situation) → refusal_of s ≡ None → s.function ≡ OpenFile → (item_of (opens_then s) (its_number s)).mode ≡ mode_by s OpenFile
+is_opened : (s : Situation) → refusal_of s ≡ None → s.function ≡ OpenFile
+    → IsOpened s.caller.process (subject_key s) (mode_by s OpenFile) (its_number s) s.filing.opens (opens_then s)
 unfolding added
-its_mode s none is =
+is_opened s none is =
     let old : OpenFiles = s.filing.opens in
     let mode : Mode = mode_by s OpenFile in
     let after = items.items_added old.items s.caller.process (subject_key s) mode in
-    let so : IsOpened s.caller.process (subject_key s) mode (its_number s) old (opens_then s) =
     subst (λ answer. IfOk answer (λ number. IsOpened s.caller.process (subject_key s) mode number old (opens_then s))) (answers_number s none is)
-    (opens_file old.items old.locks s.caller.process (subject_key s) mode after (items.add_answer old.items s.caller.process (subject_key s) mode) old refl refl refl) in
-    so.its_mode
+    (opens_file old.items old.locks s.caller.process (subject_key s) mode after (items.add_answer old.items s.caller.process (subject_key s) mode) old refl refl refl)
+
+its_mode : (s : Situation) → refusal_of s ≡ None → s.function ≡ OpenFile → (item_of (opens_then s) (its_number s)).mode ≡ mode_by s OpenFile
+its_mode s none is = (is_opened s none is).its_mode
 
 opens_are : (s : Situation) → refusal_of s ≡ None → s.function ≡ OpenFile → (file_call s).filing.opens ≡ opens_then s
 unfolding file_call filing_after opens_by
 opens_are s none is =
     ap (λ refusal. (outcome_by s (turned s (call_turns s)) refusal).filing.opens) none ∙ ap (opens_by s (turned s (call_turns s))) is
+
+-- and that alone, if it had none
+has_one : (s : Situation) → refusal_of s ≡ None → s.function ≡ OpenFile → HasNone s.caller.process s.filing.opens → HasOne s.caller.process (its_number s) (file_call s).filing.opens
+has_one s none is nothing =
+    subst (HasOne s.caller.process (its_number s)) (sym (opens_are s none is))
+    (one_opened s.caller.process (its_number s) (subject_key s) (mode_by s OpenFile) s.filing.opens (opens_then s) (is_opened s none is)
+    (free_first s.filing.opens s.caller.process (subject_key s) (mode_by s OpenFile) (not_refused_there s none is) nothing) nothing)
 
 -- and the file is there, as it was
 some_before : {X Y Z : Type 0} (f : Y → Z) (g : X → Option Y) (o : Option X) → is_some (option_map f (option_and_then g o)) ≡ true → is_some o ≡ true
@@ -162,10 +176,10 @@ there_before s none is =
     has_there (drive_at s) (subject s) (entry_number (drive_at s).kind (block s).ex)
     (some_before _ _ _ (not-false (is_some (extent_count (drive_at s) (subject s) (block s).ex)) (ap (is_missing s (subject s)) (sym is) ∙ granted.1.1.0)))
 
-there_then : (s : Situation) → refusal_of s ≡ None → s.function ≡ OpenFile → is_there (drive_in (file_call s).filing (drive_number s)) (subject s) ≡ true
+there_then : (s : Situation) → refusal_of s ≡ None → s.function ≡ OpenFile → is_there (drive_or_blank (file_call s).filing (drive_number s)) (subject s) ≡ true
 unfolding job_by drive_at
 there_then s none is =
-    there_stays (subject s) (drive_in s.filing (drive_number s)) (drive_in (file_call s).filing (drive_number s))
+    there_stays (subject s) (drive_or_blank s.filing (drive_number s)) (drive_or_blank (file_call s).filing (drive_number s))
     (idle_call_keeps s (subject_key s) _ none (ap (job_by s) is) refl) (there_before s none is)
 
 has_it : (s : Situation) → refusal_of s ≡ None → s.function ≡ OpenFile → mode_by s OpenFile ≡ ReadOnly → HasFile s.caller.process (subject_key s) (its_number s) (file_call s).filing
@@ -258,5 +272,7 @@ opens_to_read s is zero six size sound done =
       named = handle_found (block_of (bytes_of b)) (its_number s) (ap (λ (c : ControlBlock). c.map) back) (omega (arith, few));
       drive = ap (λ (c : ControlBlock). c.drive) back;
       name = ap (λ (c : ControlBlock). plain c.name) back ∙ still_plain (block s).name (fcb.without_f5_f6 (attributes_then s)) (name_size s size);
+      f5 = ap has_f5 back ∙ without_f5 (block s).name (attributes_then s);
+      one = has_one s none is;
       first = ap sequential_record back ∙ first_so (block s).ex (block s).cr;
     }

@@ -53,7 +53,7 @@ unless_done false false units plan k count rest one so = one_more units plan k c
 pub is_cut : (count : ℕ) → nat_lt 0 (suc count) ≡ true
 is_cut count = grind (arith, nat_tests)
 
-abbrev cut_writing : OpenFiles → ℕ → FileKey → Drive → ℕ → List (List ℕ) → Option (List ℕ) → ℕ → Ended
+abbrev pub cut_writing : OpenFiles → ℕ → FileKey → Drive → ℕ → List (List ℕ) → Option (List ℕ) → ℕ → Ended
 cut_writing opens p file drive n records stamp k = planned (writing drive (file_of file) n (take k records) stamp) (nat_lt k (length records))
 
 abbrev ended_at : OpenFiles → ℕ → FileKey → Drive → ℕ → Bool → Ended → Ended

@@ -25,7 +25,7 @@ use Rattle.mpm_bdos.specs.Serving.{Kept, StandEach, Serves, WorksOn, filing_of}
 use Rattle.mpm_directories.specs.Places.{directory_at}
 use Rattle.mpm_bdos.specs.Starting.{entering}
 use Rattle.mpm_refusals.specs.Subjects.{mounted, blank_drive, drive_number, drive_at}
-use Rattle.mpm_bdos.specs.Turns.{TurnKeeps, WorksOnDrives, has_work, labelled}
+use Rattle.mpm_bdos.specs.Turns.{TurnKeeps, WorksOnDrives, has_work, drive_and_kind}
 use Rattle.mpm_bdos.proofs.NextTurns.{idle_drives, job_drives}
 use Rattle.mpm_bdos.proofs.Started.{unmounted_begins}
 
@@ -115,9 +115,9 @@ starts_on_drives old new None other workless kept before = λ none.
 starts_on_drives old new (Some function) other workless kept before = λ none.
     workless refl (λ number. ap (λ (k : Kept). directory_at k.mounted number) (sym kept) ∙ none number)
 
-pub none_before : (one other : Option Directory) → option_map labelled other ≡ option_map labelled one → other ≡ None → one ≡ None
+pub none_before : (one other : Option Directory) → option_map drive_and_kind other ≡ option_map drive_and_kind one → other ≡ None → one ≡ None
 none_before None other same none = refl
-none_before (Some directory) other same none = absurd (none-some (labelled directory) (sym (ap (option_map labelled) none) ∙ same))
+none_before (Some directory) other same none = absurd (none-some (drive_and_kind directory) (sym (ap (option_map drive_and_kind) none) ∙ same))
 
 pub turns_on_drives : (old new : Kept) → TurnKeeps old new → has_work new.service ≡ has_work old.service → WorksOnDrives old → WorksOnDrives new
 turns_on_drives old new kept still before = λ none.

@@ -62,7 +62,7 @@ by_bytes drive file n test tests stamp k count rest false so = passing_ends driv
 abbrev errors_by : Bool → Bool → Option RecordError
 errors_by no_extent no_data = cond no_extent (Some UnwrittenExtent) (cond no_data (Some UnwrittenData) None)
 
-abbrev cut_testing : Drive → FileName → ℕ → List TestedRecord → Option (List ℕ) → ℕ → Ended
+abbrev pub cut_testing : Drive → FileName → ℕ → List TestedRecord → Option (List ℕ) → ℕ → Ended
 cut_testing drive file n tests stamp k = planned (testing drive file n (take k tests) stamp) (nat_lt k (length tests))
 
 abbrev ends_by : Bool → Bool → Bool → Bool → Option RecordEnd
@@ -88,7 +88,7 @@ by_record drive file n test tests stamp k rest false false false same so =
     by_bytes drive file n test (take k tests) stamp k (length tests) rest same (so refl)
 
 -- where each record is counted, locked or not, on the drive as the call finds it
-abbrev stops_at : OpenFiles → ℕ → FileKey → (ℕ → Option RecordError) → ℕ → Bool
+abbrev pub stops_at : OpenFiles → ℕ → FileKey → (ℕ → Option RecordError) → ℕ → Bool
 stops_at opens p file errors n = is_locked_off opens p file n && not (is_some (errors n))
 
 as_plan : (drive : Drive) (file : FileName) (n : ℕ) (test : TestedRecord) (tests : List TestedRecord) (stamp : Option (List ℕ)) (k : ℕ)

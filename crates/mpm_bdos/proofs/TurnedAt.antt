@@ -10,7 +10,7 @@ use Rattle.mpm_files.specs.declared.turning.Progress.{Progress}
 use Rattle.mpm_files.specs.declared.work.Work.{Work}
 use Rattle.mpm_files.specs.Plans.{turns_of}
 use Rattle.mpm_files.specs.Serving.{turns_in, IsServingJob}
-use Rattle.mpm_bdos.specs.Turns.{HasLeftDisk, labelled, progress_after}
+use Rattle.mpm_bdos.specs.Turns.{HasLeftDisk, drive_and_kind, progress_after}
 
 -- whether turns are left is known by the job that a work serves
 
@@ -22,7 +22,7 @@ told_by_job before job j work result serving told =
     subst (λ k. IfOk result (λ told. told ≡ progress_after k (turns_of before job))) ended
     (subst (λ n. IfOk result (λ told. told ≡ progress_after (work.ended + 1) n)) turns told)
 
-pub labels_as : (old new : Directory) → new.drive ≡ old.drive → new.kind ≡ old.kind → labelled new ≡ labelled old
+pub labels_as : (old new : Directory) → new.drive ≡ old.drive → new.kind ≡ old.kind → drive_and_kind new ≡ drive_and_kind old
 labels_as old new drive kind = ap (λ n. (n, new.kind)) drive ∙ ap (λ k. (old.drive, k)) kind
 
 -- nothing is done where none is mounted

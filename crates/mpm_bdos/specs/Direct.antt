@@ -15,6 +15,6 @@ kind_of filing number = option_map (λ drive. drive.kind) (mounted filing number
 unfoldable pub direct : Filing → ℕ → Taken → DirectFunction → Directly
 direct filing drive call function = direct_by (kind_of filing) (is_protected filing.protected) drive call function
 
--- so it is of what such a call comes to, if it is one
-abbrev pub IsDirect : Filing → ℕ → Taken → (Directly → Type 0) → Type 0
-IsDirect filing drive call P = IfSome (direct_of call.function) (λ function. P (direct filing drive call function))
+-- something is so of what a call comes to, if it is one that no disk serves
+abbrev pub IfDirect : Filing → ℕ → Taken → (Directly → Type 0) → Type 0
+IfDirect filing drive call P = IfSome (direct_of call.function) (λ function. P (direct filing drive call function))

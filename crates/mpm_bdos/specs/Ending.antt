@@ -1,4 +1,5 @@
--- What the records of a call come to, by the work of its job after its last turn.
+-- What the records of a call come to, by the work of its job after its last turn: the same as the rule in Replies.antt
+-- (`ended_for`), which goes by the drive.
 use Rattle.std.specs.Prelude.{◌≡◌, ℕ, Bool, true, false, List, Option, Some, None, length, nat_lt}
 use Rattle.std.specs.FinMap.{get}
 use Rattle.mpm_mount.specs.Drives.{FileName, PhysicalExtent, Drive, IsOfImage}

@@ -43,9 +43,9 @@ pub record ComesTo (images : ℕ → List ℕ) (s : Situation) (kept : Kept) (an
   pub filing_is : filing_of kept (file_call s).filing.drives ≡ (file_call s).filing
   pub stand : StandEach images kept.mounted (file_call s).filing.drives
 
--- the call in service comes to that after its turns
-abbrev pub ComesOut : Kept → Kept → Answer → Option Extended → Type 0
-ComesOut old new answer extended =
+-- the call in service comes to its outcome after its turns, for whatever images it is served
+abbrev pub ComesToAfterTurns : Kept → Kept → Answer → Option Extended → Type 0
+ComesToAfterTurns old new answer extended =
     (images : ℕ → List ℕ) (s : Situation) → Serves images old s (call_turns s) → ComesTo images s new answer extended
 
 -- a call in service, of what its reply is made of, its moment and its refusal

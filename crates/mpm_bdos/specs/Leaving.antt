@@ -1,4 +1,5 @@
--- What a call on a mounted drive leaves of open files, by what was looked up of it.
+-- What a call on a mounted drive leaves of open files, by what was looked up of it: the same as the rules in Changes.antt and
+-- Replies.antt, which look it up themselves.
 use Rattle.std.specs.Prelude.{◌≡◌, ℕ, ◌≤◌, ◌==◌, true, List, Option, Some, None, if◌then◌else◌}
 use Rattle.mpm_dirent.specs.declared.limits.TheConstants.{LAST_RECORD}
 use Rattle.mpm_opens.specs.declared.kinds.FileKey.{FileKey}

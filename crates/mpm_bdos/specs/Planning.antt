@@ -1,4 +1,4 @@
--- A call with what was looked up of it, of which its job is made.
+-- A call with what was looked up of it, of which its job is made: the same as the rules in Jobs.antt, which look it up themselves.
 use Rattle.std.specs.Prelude.{◌≡◌, ℕ, ◌*◌, ◌&&◌, not, Bool, true, List, take, Option, option_map, unwrap_or, if◌then◌else◌}
 use Rattle.std.specs.FinMap.{get}
 use Rattle.mpm_dirent.specs.Names.{plain}

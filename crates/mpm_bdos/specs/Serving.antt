@@ -15,7 +15,7 @@ use Rattle.mpm_files.specs.declared.work.Work.{Work}
 use Rattle.mpm_files.specs.Serving.{IsInService}
 use Rattle.mpm_files.specs.Turning.{Suits}
 use Rattle.mpm_refusals.specs.declared.caller.Caller.{Caller}
-use Rattle.mpm_refusals.specs.Filing.{LastSearch, Filing, Situation}
+use Rattle.mpm_refusals.specs.Filing.{LastSearch, Filing, Situation, HaveUsers}
 use Rattle.mpm_refusals.specs.Searches.{no_searches}
 use Rattle.mpm_refusals.specs.Subjects.{drive_number, drive_at}
 use Rattle.mpm_refusals.specs.Refusals.{refusal_of}
@@ -31,6 +31,11 @@ pub record IsCaller (caller : Caller) : Type 0 where
   pub user : caller.user < 16
   pub some : 1 ≤ caller.multi
   pub few : caller.multi ≤ 16
+
+-- a process calls upon open files: its user and its count are in their ranges, and so are the users of all open files
+pub record CallsUpon (process : Caller) (opens : OpenFiles) : Type 0 where
+  pub caller : IsCaller process
+  pub users : HaveUsers opens
 
 -- what it was, what refused it, the work of its job, and its caller's open files that it deletes
 pub record InService : Type 0 where

@@ -35,11 +35,11 @@ abbrev pub caller_of : ℕ → Process → Caller
 caller_of p process =
     record { process = p; user = process.user; drive = process.drive; multi = process.multi; password = process.password }
 
--- its call, upon what is kept and the drives for which the images stand
+-- a caller's call, upon what is kept and the drives for which the images stand
 abbrev pub entering : Kept → List (Option Drive) → Caller → FileFunction → Taken → List ℕ → Situation
 entering kept drives caller function call moment = called drives kept.protected kept.opens kept.marks kept.searches caller function call moment
 
--- likewise of a process at a moment
+-- the call of a process at a moment
 abbrev pub entering_at : Kept → ℕ → Process → Taken → Moment → List (Option Drive) → FileFunction → Situation
 entering_at kept p process call now drives function = entering kept drives (caller_of p process) function call (stamp now)
 
@@ -51,53 +51,55 @@ about_in opens p b function drive owner number = record {
   has_written = is_some (option_and_then (λ n. file_named opens.items p n drive (plain b.name)) number) && (item_of opens (unwrap_or number 0)).has_written;
 }
 
--- its job begins, if it has one, and suits its drive
+-- the job of a call begins, if it has one, and suits its drive
 pub record BeginsJob (image : List ℕ) (directory : Option Directory) (s : Situation) (work : Option Work) : Type 0 where
   pub suits : IfSome (job_of s) (Suits (drive_at s))
   pub works : WorksOn image directory (drive_at s) (job_of s) 0 work
 
--- a job that suits the drive of a directory is begun; so is that of each call that isn't refused, upon drives and marks, and of each
--- that is or isn't refused, where its drive may be mounted
+-- a job begins on each drive for which some image and the directory stand, and suits it
 abbrev pub BeginsOn : Directory → Option Job → Option Work → Type 0
 BeginsOn directory job work =
     (image : List ℕ) (drive : Drive) → Stands image directory drive → IfSome job (Suits drive) → WorksOn image (Some directory) drive job 0 work
 
+-- the job of a call that isn't refused begins, on each drive for which some image and the directory stand, whatever marks there are
 abbrev pub BeginsCall : Directory → (List (Option Drive) → List ℕ → Situation) → Option Work → Type 0
 BeginsCall directory call work =
     (image : List ℕ) (drives : List (Option Drive)) (marks : List ℕ) → Stands image directory (drive_at (call drives marks))
     → refusal_of (call drives marks) ≡ None → BeginsJob image (Some directory) (call drives marks) work
 
+-- the job of a call begins, whose refusal is known and whose drive may be mounted
 abbrev pub BeginsUnless : Option Refusal → Option Directory → (List (Option Drive) → List ℕ → Situation) → Option Work → Type 0
 BeginsUnless refusal directory call work =
     (image : List ℕ) (drives : List (Option Drive)) (marks : List ℕ) → StandsForDirectory image directory (call drives marks)
     → refusal ≡ refusal_of (call drives marks) → BeginsJob image directory (call drives marks) work
 
--- the open files that a call deletes are looked up: of a deletion on a drive that is mounted, and of any call, by its caller, drive and
--- block
+-- something is so of each call on a directory's drive that has these open files, this process and this deletion
 abbrev pub IsDeletedOn : Directory → OpenFiles → ℕ → Deletion → (Situation → Type 0) → Type 0
 IsDeletedOn directory opens p by P =
     (image : List ℕ) (s : Situation) → Stands image directory (drive_at s) → opens ≡ s.filing.opens → p ≡ s.caller.process → by ≡ deletion s → P s
 
+-- these open files are deleted by each call that isn't refused and has this caller, drive, block and function
 abbrev pub IsDeletedBy : Option Directory → OpenFiles → Caller → ℕ → ControlBlock → FileFunction → List (Option FileKey) → Type 0
 IsDeletedBy directory opens caller drive b function deleted =
     (image : List ℕ) (s : Situation) → StandsForDirectory image directory s → refusal_of s ≡ None → opens ≡ s.filing.opens → caller ≡ s.caller
     → drive ≡ drive_number s → b ≡ block s → function ≡ s.function → deleted ≡ deleted_by s s.function
 
--- what is kept of it, as it enters
+-- a call enters service: what is kept is of that call, and its job begins
 pub record Enters (image : List ℕ) (directory : Option Directory) (s : Situation) (service : InService) : Type 0 where
   pub is : IsCallOf service s
   pub begins : BeginsJob image directory s service.work
 
--- likewise over the directories of all drives
+-- a call enters service, by the directories of all drives
 pub record EntersAmong (images : ℕ → List ℕ) (mounted : List (Option Directory)) (s : Situation) (service : InService) : Type 0 where
   pub enters : Enters (images (drive_number s)) (directory_at mounted (drive_number s)) s service
 
--- so each call enters, upon drives: by the directory of its drive, and by all directories
+-- a call enters service upon any drives, by the directory of its drive
 abbrev pub EntersBy : Option Directory → ℕ → (List (Option Drive) → Situation) → InService → Type 0
 EntersBy directory number call service =
     (image : List ℕ) (drives : List (Option Drive)) → StandsForDirectory image directory (call drives) → number ≡ drive_number (call drives)
     → Enters image directory (call drives) service
 
+-- a call enters service upon any drives for which the images stand, by the directories of all drives
 abbrev pub EntersAll : List (Option Directory) → (List (Option Drive) → Situation) → InService → Type 0
 EntersAll mounted call service =
     (images : ℕ → List ℕ) (drives : List (Option Drive)) → StandEach images mounted drives → EntersAmong images mounted (call drives) service

@@ -8,7 +8,7 @@ ghost use Rattle.mpm_bdos.specs.Ending as ending;
 ghost use Rattle.mpm_file_entries.specs.Granting as granting;
 ghost use Rattle.mpm_file_functions.specs.Ends.{done_by};
 ghost use Rattle.mpm_bdos.specs.Replies as spec;
-ghost use Rattle.mpm_bdos.specs.Standing.{OnItsDrive};
+ghost use Rattle.mpm_mount.specs.Standing.{OnItsDrive};
 ghost use Rattle.mpm_directories.specs.Direct as directly;
 
 use crate::replies::read_bytes;

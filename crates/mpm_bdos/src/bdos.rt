@@ -4,7 +4,7 @@ ghost use Rattle.mpm_port.specs.Disks.{Disks};
 ghost use Rattle.mpm_cache.specs.Coherent.{IsCoherent, HasNoAlias};
 ghost use Rattle.mpm_files.specs.declared.turning.Progress.TheVariants as progress;
 ghost use Rattle.mpm_mount.specs.Drives.{Drive};
-ghost use Rattle.mpm_bdos.specs.Direct.{IsDirect};
+ghost use Rattle.mpm_bdos.specs.Direct.{IfDirect};
 ghost use Rattle.mpm_bdos.specs.Standing.{OnItsDrives, WhileServing};
 ghost use Rattle.mpm_file_functions.specs.Functions.{direct_of};
 ghost use Rattle.mpm_bdos.specs.Outcomes.{left_by, without_search};
@@ -104,10 +104,10 @@ impl Bdos {
     /// whatever is on them; nothing where it is another one. While a call is in service it answers as before that. What becomes of
     /// the process's drive is not done here.
     pub fn direct(&self, call: &Call, process: &Process, reply: &mut Reply) -> Option<Extended>
-        ensures answer { OnItsDrives self.now (λ filing. IsDirect filing process.now.drive call.now (λ all. reply.new ≡ all.answer)) }
-        ensures extended { OnItsDrives self.now (λ filing. IsDirect filing process.now.drive call.now (λ all. result ≡ all.extended)) }
-        ensures served { (images : ℕ → List ℕ) → WhileServing images self.now (λ s j. IsDirect s.filing process.now.drive call.now (λ all. reply.new ≡ all.answer)) }
-        ensures served_extended { (images : ℕ → List ℕ) → WhileServing images self.now (λ s j. IsDirect s.filing process.now.drive call.now (λ all. result ≡ all.extended)) }
+        ensures answer { OnItsDrives self.now (λ filing. IfDirect filing process.now.drive call.now (λ all. reply.new ≡ all.answer)) }
+        ensures extended { OnItsDrives self.now (λ filing. IfDirect filing process.now.drive call.now (λ all. result ≡ all.extended)) }
+        ensures served { (images : ℕ → List ℕ) → WhileServing images self.now (λ s j. IfDirect s.filing process.now.drive call.now (λ all. reply.new ≡ all.answer)) }
+        ensures served_extended { (images : ℕ → List ℕ) → WhileServing images self.now (λ s j. IfDirect s.filing process.now.drive call.now (λ all. result ≡ all.extended)) }
         ensures other { direct_of call.now.function ≡ None → reply.new ≡ reply.old }
         ensures unanswered { direct_of call.now.function ≡ None → result ≡ None }
     {

@@ -12,7 +12,7 @@ ghost use Rattle.mpm_bdos.specs.Jobs.{call_turns};
 ghost use Rattle.mpm_file_functions.specs.Refusals as outcomes;
 ghost use Rattle.mpm_refusals.specs.Refusals as refusals;
 ghost use Rattle.mpm_bdos.specs.Replying as replying;
-ghost use Rattle.mpm_bdos.specs.Serving.{IsCaller, Serves};
+ghost use Rattle.mpm_bdos.specs.Serving.{IsCaller, CallsUpon, Serves};
 ghost use Rattle.mpm_bdos.specs.Standing.{entered_at};
 
 use crate::answering::dma_of_call;
@@ -121,8 +121,7 @@ fn reply_granted(
     searches: &mut Searches,
     served: &Served<'_>,
 )
-    requires caller { IsCaller served.now.file_call.caller }
-    requires users { HaveUsers opens.old }
+    requires { CallsUpon served.now.file_call.caller opens.old }
     ensures users { HaveUsers opens.new }
     ensures finished { (images : ℕ → List ℕ) (s : Situation) (moment : List ℕ) (refusal : Option Refused)
         → Serves images (spec.serving mounted.now protected.old opens.old marks.old searches.old (spec.service_of served.now moment refusal)) s (call_turns s) → refusals.refusal_of s ≡ None → spec.IsFinished s reply.new protected.new opens.new marks.new searches.new }
@@ -162,7 +161,7 @@ fn reply_service(
 ) -> Option<Extended>
     requires users { HaveUsers opens.old }
     ensures users { HaveUsers opens.new }
-    ensures comes { spec.ComesOut (spec.serving mounted.now protected.old opens.old marks.old searches.old service.now) (spec.serving mounted.now protected.new opens.new marks.new searches.new service.now) reply.new result }
+    ensures comes { spec.ComesToAfterTurns (spec.serving mounted.now protected.old opens.old marks.old searches.old service.now) (spec.serving mounted.now protected.new opens.new marks.new searches.new service.now) reply.new result }
 {
     match service.refusal {
         Some(refusal) => refuse(reply, refusal, service.drive),
@@ -186,12 +185,12 @@ fn reply_service(
 
 impl Bdos {
     ghost use Rattle.std.specs.Prelude.{◌≡◌, None};
-    ghost use Rattle.mpm_bdos.specs.Finishing.{ComesOut};
+    ghost use Rattle.mpm_bdos.specs.Finishing.{ComesToAfterTurns};
 
     /// Answers the call in service, after its turns, with its extended error, if it has one; then none is in service. Nothing is
     /// answered where none was. (MP/M II Programmer's Guide, "BDOS Function Calls", "BDOS Error Handling".)
     pub fn reply(&mut self, reply: &mut Reply) -> Option<Extended>
-        ensures comes { ComesOut self.old self.new reply.new result }
+        ensures comes { ComesToAfterTurns self.old self.new reply.new result }
         ensures kept { self.new ≡ record self.old { protected = self.new.protected; opens = self.new.opens; marks = self.new.marks; searches = self.new.searches; service = None } }
         ensures idle { self.old.service ≡ None → self.new ≡ self.old }
         ensures no_reply { self.old.service ≡ None → reply.new ≡ reply.old }

@@ -9,7 +9,7 @@ ghost use Rattle.mpm_bdos.specs.Replies.{opened_as};
 ghost use Rattle.mpm_refusals.specs.Filing.{HaveUsers};
 ghost use Rattle.mpm_bdos.specs.Leaving as spec;
 ghost use Rattle.mpm_bdos.specs.Records.{AreOfFile, MayLock};
-ghost use Rattle.mpm_bdos.specs.Standing.{OnItsDrive};
+ghost use Rattle.mpm_mount.specs.Standing.{OnItsDrive};
 ghost use Rattle.mpm_refusals.specs.Asking as asking;
 
 use crate::ending::ended;

@@ -5,7 +5,8 @@ ghost use Rattle.mpm_fcb.specs.Blocks.{block_of};
 ghost use Rattle.mpm_fcb.specs.Names.{new_name_of};
 ghost use Rattle.mpm_jobs.specs.declared.jobs.JobKind.TheVariants as kinds;
 ghost use Rattle.mpm_jobs.specs.Jobs as jobs;
-ghost use Rattle.mpm_bdos.specs.Standing.{OnItsDrive, entered_by};
+ghost use Rattle.mpm_mount.specs.Standing.{OnItsDrive};
+ghost use Rattle.mpm_bdos.specs.Standing.{entered_at_own_moment};
 ghost use Rattle.mpm_bdos.specs.Planning as planning;
 ghost use Rattle.mpm_bdos.specs.Jobs as spec;
 ghost use Rattle.mpm_locks.specs.Locks as locks;
@@ -167,7 +168,7 @@ pub(crate) fn job_by(
     requires first { about.first ≤ LAST_POSITION }
     requires plain { plain about.file.name ≡ about.file.name }
     requires block { block.now ≡ block_of file_call.now.call.now.fcb }
-    ensures { planning.IsJobOf mounted.now about (λ drives protected marks searches. entered_by file_call.now protected opens.now searches drives marks) result }
+    ensures { planning.IsJobOf mounted.now about (λ drives protected marks searches. entered_at_own_moment file_call.now protected opens.now searches drives marks) result }
 {
     let FileCall {
         caller,

@@ -5,7 +5,7 @@ ghost use Rattle.mpm_opens.specs.Opens.{process_of};
 ghost use Rattle.mpm_locks.specs.Locks as locks;
 ghost use Rattle.mpm_bdos.specs.Jobs as jobs;
 ghost use Rattle.mpm_bdos.specs.Records as spec;
-ghost use Rattle.mpm_bdos.specs.Standing.{OnItsDrive};
+ghost use Rattle.mpm_mount.specs.Standing.{OnItsDrive};
 
 use mpm_base::Pid;
 use mpm_file_functions::Ended;

@@ -4,7 +4,7 @@ ghost use Rattle.mpm_opens.specs.Opens.{given_back};
 ghost use Rattle.mpm_mount.specs.Files.{is_fitting, has_file};
 ghost use Rattle.mpm_refusals.specs.Subjects.{file_of};
 ghost use Rattle.mpm_bdos.specs.Changes as spec;
-ghost use Rattle.mpm_bdos.specs.Standing.{OnItsDrive};
+ghost use Rattle.mpm_mount.specs.Standing.{OnItsDrive};
 
 use mpm_base::Pid;
 use mpm_mount::Mounted;

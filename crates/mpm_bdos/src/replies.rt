@@ -4,7 +4,7 @@ ghost use Rattle.mpm_mount.specs.Files.{where_there};
 ghost use Rattle.mpm_file_entries.specs.Telling as telling;
 ghost use Rattle.mpm_refusals.specs.Asking.{found_as};
 ghost use Rattle.mpm_bdos.specs.Ending.{IsRead};
-ghost use Rattle.mpm_bdos.specs.Standing.{OnItsDrive};
+ghost use Rattle.mpm_mount.specs.Standing.{OnItsDrive};
 
 use mpm_file_entries::found_bytes;
 use mpm_files::Work;

@@ -6,7 +6,8 @@ ghost use Rattle.mpm_refusals.specs.Asking as asking;
 ghost use Rattle.mpm_refusals.specs.Filing.{HaveUsers};
 ghost use Rattle.mpm_bdos.specs.Replying.{IsRepliedOn};
 ghost use Rattle.mpm_bdos.specs.Serving.{IsCaller};
-ghost use Rattle.mpm_bdos.specs.Standing.{OnItsDrive, entered_at};
+ghost use Rattle.mpm_mount.specs.Standing.{OnItsDrive};
+ghost use Rattle.mpm_bdos.specs.Standing.{entered_at};
 
 use crate::answering::answer;
 use crate::ending::moved_by;

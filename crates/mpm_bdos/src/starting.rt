@@ -6,12 +6,11 @@ ghost use Rattle.mpm_mount.specs.Drives.{Drive};
 ghost use Rattle.mpm_opens.specs.Items.{file_named};
 ghost use Rattle.mpm_opens.specs.Opens.{item_of};
 ghost use Rattle.mpm_fcb.specs.Positions.{sequential_record};
-ghost use Rattle.mpm_refusals.specs.Filing.{HaveUsers};
 ghost use Rattle.mpm_refusals.specs.Subjects as subjects;
 ghost use Rattle.mpm_bdos.specs.Changes as changes;
 ghost use Rattle.mpm_file_functions.specs.Functions.{function_of};
-ghost use Rattle.mpm_bdos.specs.Serving.{IsCaller};
-ghost use Rattle.mpm_bdos.specs.Standing.{entered_by};
+ghost use Rattle.mpm_bdos.specs.Serving.{CallsUpon};
+ghost use Rattle.mpm_bdos.specs.Standing.{entered_at_own_moment};
 ghost use Rattle.mpm_bdos.specs.Starting as spec;
 
 use crate::bdos::Bdos;
@@ -132,9 +131,8 @@ fn begin_call(
     searches: &Searches,
     file_call: &FileCall<'_>,
 )
-    requires caller { IsCaller file_call.now.caller }
-    requires users { HaveUsers opens.now }
-    ensures { spec.BeginsCall mounted.now (entered_by file_call.now protected.now opens.now searches.now) work.new }
+    requires { CallsUpon file_call.now.caller opens.now }
+    ensures { spec.BeginsCall mounted.now (entered_at_own_moment file_call.now protected.now opens.now searches.now) work.new }
 {
     let FileCall {
         caller,
@@ -168,9 +166,8 @@ fn begin_unless(
     searches: &Searches,
     file_call: &FileCall<'_>,
 )
-    requires caller { IsCaller file_call.now.caller }
-    requires users { HaveUsers opens.now }
-    ensures { spec.BeginsUnless refusal (option_copied mounted.entry) (entered_by file_call.now protected.now opens.now searches.now) work.new }
+    requires { CallsUpon file_call.now.caller opens.now }
+    ensures { spec.BeginsUnless refusal (option_copied mounted.entry) (entered_at_own_moment file_call.now protected.now opens.now searches.now) work.new }
 {
     if refusal.is_some() {
         *work = None;
@@ -255,11 +252,10 @@ fn entered(
     searches: &Searches,
     file_call: &FileCall<'_>,
 ) -> Service
-    requires caller { IsCaller file_call.now.caller }
-    requires users { HaveUsers opens.now }
+    requires { CallsUpon file_call.now.caller opens.now }
     ensures entered { spec.IsEntered file_call.now.caller file_call.now.function file_call.now.call.now result }
     ensures drive { result.drive ≡ drive }
-    ensures all { spec.EntersBy (option_copied mounted.entry) drive (λ drives. entered_by file_call.now protected.now opens.now searches.now drives marks.now) result }
+    ensures all { spec.EntersBy (option_copied mounted.entry) drive (λ drives. entered_at_own_moment file_call.now protected.now opens.now searches.now drives marks.now) result }
 {
     let FileCall {
         caller,
@@ -295,11 +291,10 @@ fn entered_among(
     searches: &Searches,
     file_call: &FileCall<'_>,
 ) -> Service
-    requires caller { IsCaller file_call.now.caller }
-    requires users { HaveUsers opens.now }
+    requires { CallsUpon file_call.now.caller opens.now }
     ensures entered { spec.IsEntered file_call.now.caller file_call.now.function file_call.now.call.now result }
-    ensures drive { (drives : List (Option Drive)) → result.drive ≡ subjects.drive_number (entered_by file_call.now protected.now opens.now searches.now drives marks.now) }
-    ensures all { spec.EntersAll mounted.now (λ drives. entered_by file_call.now protected.now opens.now searches.now drives marks.now) result }
+    ensures drive { (drives : List (Option Drive)) → result.drive ≡ subjects.drive_number (entered_at_own_moment file_call.now protected.now opens.now searches.now drives marks.now) }
+    ensures all { spec.EntersAll mounted.now (λ drives. entered_at_own_moment file_call.now protected.now opens.now searches.now drives marks.now) result }
 {
     let FileCall {
         caller,
@@ -349,7 +344,7 @@ impl Bdos {
     ghost use Rattle.mpm_file_functions.specs.Functions.{function_of};
     ghost use Rattle.mpm_bdos.specs.Jobs.{call_turns};
     ghost use Rattle.mpm_bdos.specs.Serving.{IsCaller, Serves};
-    ghost use Rattle.mpm_bdos.specs.Standing.{EntersOnAny, OfFunction};
+    ghost use Rattle.mpm_bdos.specs.Standing.{UponAnyDrives, OfFunction};
     ghost use Rattle.mpm_directories.specs.Places.{directory_at};
     ghost use Rattle.mpm_refusals.specs.Subjects.{drive_number};
     ghost use Rattle.mpm_bdos.specs.Turns.{drive_served, has_work};
@@ -360,8 +355,8 @@ impl Bdos {
     pub fn start(&mut self, p: Pid, call: &Call, process: &Process, now: Moment) -> u32
         requires caller { IsCaller (caller_of p process.now) }
         requires time { IsTime now }
-        ensures turns { EntersOnAny self.old call.now (λ images drives function. result ≡ call_turns (entering_at self.old p process.now call.now now drives function)) }
-        ensures serves { EntersOnAny self.old call.now (λ images drives function. Serves images self.new (entering_at self.old p process.now call.now now drives function) 0) }
+        ensures turns { UponAnyDrives self.old call.now (λ images drives function. result ≡ call_turns (entering_at self.old p process.now call.now now drives function)) }
+        ensures serves { UponAnyDrives self.old call.now (λ images drives function. Serves images self.new (entering_at self.old p process.now call.now now drives function) 0) }
         ensures entered { OfFunction call.now (λ function. HasBegunService (caller_of p process.now) function call.now self.new.service) }
         ensures drive { (drives : List (Option Drive)) → OfFunction call.now (λ function. drive_served self.new.service ≡ Some (drive_number (entering_at self.old p process.now call.now now drives function))) }
         ensures some { is_some (function_of call.now.function) ≡ true → 0 < result }

@@ -3,11 +3,10 @@ ghost use Rattle.mpm_port.specs.Causes.{HasCause};
 ghost use Rattle.mpm_port.specs.Disks.{size_of};
 ghost use Rattle.mpm_blocks.specs.Geometries.{geometry_of};
 ghost use Rattle.mpm_cache.specs.Coherent.{IsCoherent, HasNoAlias};
-ghost use Rattle.mpm_mount.specs.Directories.{IsDirectory};
 ghost use Rattle.mpm_files.specs.declared.turning.Progress.TheVariants as progress;
 ghost use Rattle.mpm_directories.specs.Places.{directory_at};
 ghost use Rattle.mpm_bdos.specs.Standing.{WhileWorking};
-ghost use Rattle.mpm_bdos.specs.Turns.{FitsDrives, TurnLeaves, TakesTurn, TellsProgress, labelled, HasLeftDisk, IsWorking, IsWorkingOn, IsContainedAt, IsServing, IsServiceContained, IsReadingRecord, IsReadingCached, ServesReading, ServesCached, IsDiskIdle, has_work, drive_served, without_work};
+ghost use Rattle.mpm_bdos.specs.Turns.{FitsDrives, TurnsPlace, TurnsDrive, TurnLeaves, TakesTurn, TellsProgress, IsWorkingOn, IsContainedAt, IsServing, IsServiceContained, IsReadingRecord, IsReadingCached, ServesReading, ServesCached, IsDiskIdle, has_work, drive_served, without_work};
 
 use crate::directories::Directories;
 use crate::service::{Held, Service};
@@ -30,14 +29,7 @@ pub(crate) fn turn_at<D: Drives, L: Ledger>(
     requires size { IfSome place.old (λ d. size_of (D.disks drives.old) d.drive ≡ Some (geometry_of d.kind).bytes) }
     requires coherent { IsCoherent cache.old (D.disks drives.old) }
     requires apart { IfSome place.old (λ d. HasNoAlias cache.old (D.disks drives.old) d.drive) }
-    ensures ok { WhileWorking (λ before job j. IsWorking (D.disks drives.old) place.old before job j work.old) (λ before job j. OnOk result (IsWorking (D.disks drives.new) place.new before job (suc j) work.new)) }
-    ensures err { WhileWorking (λ before job j. IsWorking (D.disks drives.old) place.old before job j work.old) (λ before job j. OnErr result (IsContainedAt (D.disks drives.new) place.old before job j)) }
-    ensures progress { TellsProgress (λ before job j. IsWorking (D.disks drives.old) place.old before job j work.old) result }
-    ensures same { option_map labelled place.new ≡ option_map labelled place.old }
-    ensures takes { TakesTurn (IsReadingRecord (Some work.old)) (IsReadingCached cache.old place.old (Some work.old)) steps.old steps.new (D.unsynced drives.old) (D.unsynced drives.new) }
-    ensures directory { IfSome place.new (λ d. IsDirectory d.kind d.entries) }
-    ensures leaves { HasLeftDisk D.disks D.told D.failed_names D.unsynced place.old cache.old cache.new drives.old drives.new }
-    ensures cause { HasCause (D.faults drives.old) (D.faults drives.new) result }
+    ensures { TurnsPlace D.Drives place.old place.new work.old work.new cache.old cache.new drives.old drives.new steps.old steps.new result }
 {
     match place {
         Some(mounted) => {
@@ -62,12 +54,7 @@ impl Directories {
         steps: &mut Steps<L>,
     ) -> Result<Progress, Failed>
         requires { FitsDrives D.disks self.old cache.old drives.old }
-        ensures ok { WhileWorking (λ before job j. IsWorking (D.disks drives.old) (directory_at self.old number) before job j work.old) (λ before job j. OnOk result (IsWorking (D.disks drives.new) (directory_at self.new number) before job (suc j) work.new)) }
-        ensures err { WhileWorking (λ before job j. IsWorking (D.disks drives.old) (directory_at self.old number) before job j work.old) (λ before job j. OnErr result (IsContainedAt (D.disks drives.new) (directory_at self.old number) before job j)) }
-        ensures progress { TellsProgress (λ before job j. IsWorking (D.disks drives.old) (directory_at self.old number) before job j work.old) result }
-        ensures left { TurnLeaves D.Drives (Some number) self.old self.new cache.new drives.old drives.new }
-        ensures takes { TakesTurn (IsReadingRecord (Some work.old)) (IsReadingCached cache.old (directory_at self.old number) (Some work.old)) steps.old steps.new (D.unsynced drives.old) (D.unsynced drives.new) }
-        ensures cause { HasCause (D.faults drives.old) (D.faults drives.new) result }
+        ensures { TurnsDrive D.Drives number self.old self.new work.old work.new cache.old cache.new drives.old drives.new steps.old steps.new result }
     {
         let place = usize::from(number);
         if place < self.places.len() {

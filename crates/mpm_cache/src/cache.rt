@@ -1,6 +1,5 @@
-ghost use Rattle.std.specs.Prelude.{◌≡◌, ◌⊎◌, ℕ, ◌+◌, ◌≤◌, [], length, Option, IfOk, IfSome, IfNone, IsSome, OnOk, OnErr, is_some, if◌then◌else◌};
-ghost use Rattle.mpm_port.specs.Causes.{HasCause};
-ghost use Rattle.mpm_port.specs.Disks.{Disks, IsInsideDrive, WritesSector, size_of, sector_of};
+ghost use Rattle.std.specs.Prelude.{◌≡◌, ℕ, ◌≤◌, [], length, Option, IfOk, IfNone};
+ghost use Rattle.mpm_port.specs.Disks.{Disks};
 
 use crate::OutOfMemory;
 use lru::LruCache;
@@ -42,9 +41,8 @@ impl Model for Cache {
 
 impl Cache {
     ghost use Rattle.mpm_cache.specs.Cached.{cached_at, used, IsPut, taken_out, SameCached, CachesSector, Forgets};
-    ghost use Rattle.mpm_cache.specs.Coherent.{IsCoherent, HasNoAlias, StayApart};
-    ghost use Rattle.mpm_port.specs.Frames.{OnlyCountsFaults};
-    ghost use Rattle.mpm_cache.specs.Calls.{IsHit, CachesRead, CachesWritten, IsAskedToWrite};
+    ghost use Rattle.mpm_cache.specs.Coherent.{IsCoherent, HasNoAlias};
+    ghost use Rattle.mpm_cache.specs.Calls.{MayRead, MayWrite, ReadsThrough, WritesThrough};
 
     /// No sector is cached. Room for 256 is taken here but for their bytes.
     #[tactic(auto, using(crate::proofs::CoherentLaws::coherent_none, crate::proofs::AliasLaws::no_alias_none))]
@@ -107,43 +105,13 @@ impl Cache {
         out: &mut [u8; 128],
         steps: &mut Steps<L>,
     ) -> Result<(), Failed>
-        requires inside { IsInsideDrive (size_of (D.disks drives.old) drive) sector }
-        requires coherent { IsCoherent self.old (D.disks drives.old) }
-        ensures bytes { OnOk result (IfSome ((D.disks drives.old).image drive) (λ image. out.new ≡ sector_of image sector)) }
-        ensures coherent { IsCoherent self.new (D.disks drives.new) }
-        ensures apart { StayApart drive self.old self.new (D.disks drives.old) (D.disks drives.new) }
-        ensures calls { steps.new ≡ (if is_some (cached_at self.old drive sector) then steps.old else steps.old + 1) }
-        ensures hit { IsSome (cached_at self.old drive sector) → IsHit drive sector out.new self.old self.new drives.old drives.new result }
-        ensures cached { CachesRead drive sector out.new self.old self.new result }
-        ensures same { OnlyCountsFaults D.Drives drives.old drives.new }
-        ensures cause { HasCause (D.faults drives.old) (D.faults drives.new) result }
+        requires { MayRead self.old (D.disks drives.old) drive sector }
+        ensures { ReadsThrough D.Drives drive sector out.new self.old self.new drives.old drives.new steps.old steps.new result }
     {
         if let Some(bytes) = self.find(drive, sector) {
             *out = bytes;
             return Ok(());
         }
-        self.read_through(drives, drive, sector, out, steps)
-    }
-
-    /// Reads a sector that isn't cached.
-    fn read_through<D: Drives, L: Ledger>(
-        &mut self,
-        drives: &mut D,
-        drive: u8,
-        sector: u32,
-        out: &mut [u8; 128],
-        steps: &mut Steps<L>,
-    ) -> Result<(), Failed>
-        requires inside { IsInsideDrive (size_of (D.disks drives.old) drive) sector }
-        requires coherent { IsCoherent self.old (D.disks drives.old) }
-        ensures bytes { OnOk result (IfSome ((D.disks drives.old).image drive) (λ image. out.new ≡ sector_of image sector)) }
-        ensures coherent { IsCoherent self.new (D.disks drives.new) }
-        ensures apart { StayApart drive self.old self.new (D.disks drives.old) (D.disks drives.new) }
-        ensures calls { steps.new ≡ steps.old + 1 }
-        ensures cached { CachesRead drive sector out.new self.old self.new result }
-        ensures same { OnlyCountsFaults D.Drives drives.old drives.new }
-        ensures cause { HasCause (D.faults drives.old) (D.faults drives.new) result }
-    {
         steps.tick();
         match drives.read(drive, sector, out) {
             Ok(()) => {
@@ -166,17 +134,8 @@ impl Cache {
         bytes: &[u8; 128],
         steps: &mut Steps<L>,
     ) -> Result<(), Failed>
-        requires inside { IsInsideDrive (size_of (D.disks drives.old) drive) sector }
-        requires coherent { IsCoherent self.old (D.disks drives.old) }
-        requires apart { HasNoAlias self.old (D.disks drives.old) drive }
-        ensures ok { OnOk result (WritesSector drive sector bytes.now (D.disks drives.old) (D.disks drives.new)) }
-        ensures err { OnErr result ((D.disks drives.new ≡ D.disks drives.old) ⊎ WritesSector drive sector bytes.now (D.disks drives.old) (D.disks drives.new)) }
-        ensures coherent { IsCoherent self.new (D.disks drives.new) }
-        ensures apart { StayApart drive self.old self.new (D.disks drives.old) (D.disks drives.new) }
-        ensures calls { steps.new ≡ steps.old + 1 }
-        ensures cached { CachesWritten drive sector bytes.now self.old self.new result }
-        ensures asked { IsAskedToWrite D.Drives drive drives.old drives.new }
-        ensures cause { HasCause (D.faults drives.old) (D.faults drives.new) result }
+        requires { MayWrite self.old (D.disks drives.old) drive sector }
+        ensures { WritesThrough D.Drives drive sector bytes.now self.old self.new drives.old drives.new steps.old steps.new result }
     {
         steps.tick();
         match drives.write(drive, sector, bytes) {

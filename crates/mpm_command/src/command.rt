@@ -1,4 +1,5 @@
-ghost use Rattle.std.specs.Prelude.{◌≡◌, ◌≤◌, ◌<◌, ◌-◌, Some, None, IfOk, OnOk, OnErr, length, drop};
+ghost use Rattle.std.specs.Prelude.{◌≡◌, ◌≤◌, ◌<◌, ◌-◌, IfOk, OnOk, length, drop};
+ghost use Rattle.mpm_names.specs.Readings.{IsBytes, IsNumber, IsSuch, Reads};
 ghost use Rattle.mpm_command.specs.Commands.{text_of as text_in, command_in, console_in, tail_in, command_named, program_drive, IsCommand};
 
 use crate::text::{Run, front, rest};
@@ -27,10 +28,9 @@ pub struct Command {
 /// Where the text up to its first space doesn't begin with a file name.
 #[tactic(auto, unfolding(crate::specs::Commands::command_in, crate::specs::Commands::tail_in), using(crate::proofs::Naming::spelled_drive, crate::proofs::Naming::is_no_name))]
 pub fn command_of(message: &[u8; 130]) -> Result<Command, BadName>
-    ensures ok { IfOk result (λ command. command_in message.now ≡ Some command) }
-    ensures bounds { IfOk result (λ command. IsCommand command) }
+    ensures command { Reads (command_in message.now) result }
+    ensures bounds { IfOk result IsCommand }
     ensures tail { OnOk result (length (tail_in message.now) ≤ 127) }
-    ensures err { OnErr result (command_in message.now ≡ None) }
 {
     let text = text_of(message);
     let word = front(Run::Word, text);
@@ -53,8 +53,7 @@ pub fn console_of(message: &[u8; 130]) -> u8
 /// The tail of a command: its text from the first space on, at most 128 bytes.
 #[tactic(auto, unfolding(crate::specs::Commands::tail_in))]
 pub fn tail_of(message: &[u8; 130]) -> &[u8]
-    ensures tail { result.now ≡ tail_in message.now }
-    ensures few { length result.now ≤ 128 }
+    ensures { IsBytes (tail_in message.now) 128 result.now }
 {
     rest(Run::Word, text_of(message))
 }
@@ -62,8 +61,7 @@ pub fn tail_of(message: &[u8; 130]) -> &[u8]
 /// The text of a message.
 #[tactic(auto, unfolding(crate::specs::Commands::text_of))]
 fn text_of(message: &[u8; 130]) -> &[u8]
-    ensures text { result.now ≡ text_in message.now }
-    ensures few { length result.now ≤ 128 }
+    ensures { IsBytes (text_in message.now) 128 result.now }
 {
     front(Run::Text, behind_sender(message))
 }
@@ -71,8 +69,7 @@ fn text_of(message: &[u8; 130]) -> &[u8]
 /// What follows user, drive and console.
 fn behind_sender(message: &[u8]) -> &[u8]
     requires { 2 ≤ length message.now }
-    ensures rest { result.now ≡ drop 2 message.now }
-    ensures size { length result.now ≡ length message.now - 2 }
+    ensures { IsBytes (drop 2 message.now) (length message.now - 2) result.now }
 {
     &message[2..]
 }
@@ -80,8 +77,7 @@ fn behind_sender(message: &[u8]) -> &[u8]
 /// The command of a name.
 fn named(message: &[u8; 130], parsed: Parsed) -> Command
     requires { parsed.drive ≤ 16 }
-    ensures command { result ≡ command_named message.now parsed }
-    ensures bounds { IsCommand result }
+    ensures { IsSuch (command_named message.now parsed) IsCommand result }
 {
     let mut name = [0; 8];
     name.copy_from_slice(&parsed.name[..8]);
@@ -98,8 +94,7 @@ fn named(message: &[u8; 130], parsed: Parsed) -> Command
 fn drive_of(current: u8, drive: u8) -> u8
     requires current { current < 16 }
     requires named { drive ≤ 16 }
-    ensures drive { result ≡ program_drive current drive }
-    ensures below { result < 16 }
+    ensures { IsNumber (program_drive current drive) 15 result }
 {
     if drive == 0 { current } else { drive - 1 }
 }

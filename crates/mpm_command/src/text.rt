@@ -1,5 +1,6 @@
-ghost use Rattle.std.specs.Prelude.{◌≡◌, ◌≤◌, length};
+ghost use Rattle.std.specs.Prelude.{◌≡◌, length};
 ghost use Rattle.std.specs.List.{prefix_len};
+ghost use Rattle.mpm_names.specs.Readings.{IsBytes, IsNumber};
 ghost use Rattle.mpm_command.specs.Texts.{is_of, run_of, behind_run as behind_run_of, first_word as first_word_of, second_word as second_word_of, behind_first as behind_first_of};
 
 use mpm_base::ends_text;
@@ -17,16 +18,14 @@ pub(crate) enum Run {
 
 /// The part of a text up to where a run stops.
 pub(crate) fn front(kind: Run, text: &[u8]) -> &[u8]
-    ensures run { result.now ≡ run_of kind text.now }
-    ensures size { length result.now ≤ length text.now }
+    ensures { IsBytes (run_of kind text.now) (length text.now) result.now }
 {
     &text[..run_length(kind, text)]
 }
 
 /// What follows the run with which a text begins.
 pub(crate) fn rest(kind: Run, text: &[u8]) -> &[u8]
-    ensures rest { result.now ≡ behind_run_of kind text.now }
-    ensures size { length result.now ≤ length text.now }
+    ensures { IsBytes (behind_run_of kind text.now) (length text.now) result.now }
 {
     &text[run_length(kind, text)..]
 }
@@ -34,16 +33,14 @@ pub(crate) fn rest(kind: Run, text: &[u8]) -> &[u8]
 /// The first word of a text, parted from the others by spaces.
 #[tactic(auto, unfolding(crate::specs::Texts::first_word))]
 pub(crate) fn first_word(text: &[u8]) -> &[u8]
-    ensures word { result.now ≡ first_word_of text.now }
-    ensures size { length result.now ≤ length text.now }
+    ensures { IsBytes (first_word_of text.now) (length text.now) result.now }
 {
     front(Run::Word, rest(Run::Spaces, text))
 }
 
 /// Its second word.
 pub(crate) fn second_word(text: &[u8]) -> &[u8]
-    ensures word { result.now ≡ second_word_of text.now }
-    ensures size { length result.now ≤ length text.now }
+    ensures { IsBytes (second_word_of text.now) (length text.now) result.now }
 {
     first_word(behind_first(text))
 }
@@ -51,16 +48,14 @@ pub(crate) fn second_word(text: &[u8]) -> &[u8]
 /// What follows the first word of a text.
 #[tactic(auto, unfolding(crate::specs::Texts::behind_first))]
 fn behind_first(text: &[u8]) -> &[u8]
-    ensures rest { result.now ≡ behind_first_of text.now }
-    ensures size { length result.now ≤ length text.now }
+    ensures { IsBytes (behind_first_of text.now) (length text.now) result.now }
 {
     rest(Run::Word, rest(Run::Spaces, text))
 }
 
 /// How long the run is with which a text begins.
 fn run_length(kind: Run, text: &[u8]) -> usize
-    ensures count { result ≡ prefix_len (is_of kind) text.now }
-    ensures within { result ≤ length text.now }
+    ensures { IsNumber (prefix_len (is_of kind) text.now) (length text.now) result }
 {
     for (place, byte) in text.iter().enumerate() {
         if !goes_on(kind, *byte) {

@@ -265,7 +265,7 @@ fn asks(native: &mut Native, call: &mut Call, function: u8) -> bool {
 fn gives(native: &mut Native, call: &mut Call, given: u8) -> bool {
     let told = native.function() == 0;
     match native.next(call) {
-        Act::Give { console } => told && console == given,
+        Act::GiveConsole { console } => told && console == given,
         _ => false,
     }
 }

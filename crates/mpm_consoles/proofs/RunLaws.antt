@@ -9,7 +9,7 @@ use Rattle.mpm_consoles.specs.Consoles.{Consoles, console_at, HasConsole, with_c
 use Rattle.mpm_consoles.specs.Keys.{control_of}
 use Rattle.mpm_consoles.specs.Handling.{given, unlisted, listed, attach_from, unit_attached, pass_to, passed, unit_detached, console_assigned, subject, passed_by_key, key_by, keyed, first_taken, raw_set, gate_wait_begun, put_out, units_without_waiter}
 use Rattle.mpm_consoles.specs.Fates.{Stays}
-use Rattle.mpm_consoles.specs.Runs.{stored, missed, as_list, KeyChange, Attaches, Detaches, Assigns, MakesRaw, Waits, Writes, Leaves, ConsoleOperation, Types, Takes, Makes, change_made, operation_made, Passage, no_passage, type_in, take_out, passage, ConservesKeys, operations_made, passages}
+use Rattle.mpm_consoles.specs.Runs.{stored, missed, as_list, OtherCall, Attaches, Detaches, Assigns, MakesRaw, Waits, Writes, Leaves, ConsoleOperation, Types, Takes, Makes, change_made, operation_made, Passage, no_passage, type_in, take_out, passage, ConservesKeys, operations_made, passages}
 use Rattle.mpm_consoles.specs.declared.console.Awaited.TheVariants.{Key, Output}
 use Rattle.mpm_consoles.specs.declared.keys.Control.{Control}
 use Rattle.mpm_consoles.specs.declared.keys.Control.TheVariants.{Stop, Resume, Abort, Detach}
@@ -50,7 +50,7 @@ unfolding without_wait_of
 stays_without_wait t n p =
     either (Stays (console_at t n)) (is_owner (console_at t n).owner p) _ _ (λ _. record { keys = refl; lost = refl }) (λ _. stays_itself (console_at t n))
 
-stays_change : (t : Consoles) (n : ℕ) (change : KeyChange) → HasConsole t n → Stays (console_at t n) (console_at (change_made t change) n)
+stays_change : (t : Consoles) (n : ℕ) (change : OtherCall) → HasConsole t n → Stays (console_at t n) (console_at (change_made t change) n)
 unfolding unit_attached unit_detached passed console_assigned raw_set with_raw gate_wait_begun awaiting put_out written spoken units_without_waiter unlisted
 stays_change t n (Attaches p priority unit wait) has = stays_attached (owner_of t unit) t n p priority unit wait has
 stays_change t n (Detaches p unit) has = either (λ (new : Consoles). Stays (console_at t n) (console_at new n)) (owns t p unit) _ _ (λ _. stays_passed (first_waiter t unit) t n unit has) (λ _. stays_itself (console_at t n))
@@ -166,7 +166,7 @@ unfolding unlisted
 keeps_called true t p unit owner = keeps_given (unlisted t p) unit owner
 keeps_called false t p unit owner = keeps_given t unit owner
 
-pub keeps_change : (t : Consoles) (change : KeyChange) → Keeps t (change_made t change)
+pub keeps_change : (t : Consoles) (change : OtherCall) → Keeps t (change_made t change)
 unfolding unit_attached unit_detached passed console_assigned raw_set gate_wait_begun put_out units_without_waiter unlisted
 keeps_change t (Attaches p priority unit wait) = keeps_attached (owner_of t unit) t p priority unit wait
 keeps_change t (Detaches p unit) = either (Keeps t) (owns t p unit) _ _ (λ _. keeps_passed (first_waiter t unit) t unit) (λ _. keeps_itself t)

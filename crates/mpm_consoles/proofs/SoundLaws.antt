@@ -1,4 +1,5 @@
 -- What is so of the consoles and printers stays so after each call.
+use Rattle.mpm_base.proofs.Choices.{either}
 use Rattle.mpm_base.proofs.Lists.{all_at}
 use Rattle.std.proofs.Common.{◌≡◌, ◌≢◌, ◌∙◌, inl, inr, ℕ, ◌+◌, ◌<◌, ◌≤◌, Bool, true, false, List, [], Option, Some, None, eqb, map, length, get_or, set, replicate, refl, sym, ap, subst, arith}
 use Rattle.std.proofs.lemmas.Bool.{false≢true, cases_eq, eq-eqb, ne_eqb, and_right, or_from}
@@ -11,7 +12,7 @@ use Rattle.mpm_ready.proofs.TableLaws.{list_at_inserted, list_at_inserted_other,
 use Rattle.mpm_consoles.specs.Console.{Console, new_console, is_owner, passed_to, with_raw, with_output_stopped, awaited_for, awaiting, without_wait_of, resumed, typed, without_first, spoken, written, IsProperConsole}
 use Rattle.mpm_base.specs.Units.{place_of}
 use Rattle.mpm_consoles.specs.Consoles.{Consoles, no_owners, console_at, HasConsole, HasUnit, owner_of, owns, waiters_of, first_waiter, waits_for, WaitsForNoUnit, with_console, MayWait, AreSoundConsoles}
-use Rattle.mpm_consoles.specs.Handling.{given, unlisted, listed, first_taken, raw_set, gate_wait_begun, put_out, units_without_waiter}
+use Rattle.mpm_consoles.specs.Handling.{given, unlisted, listed, called_off, first_taken, raw_set, gate_wait_begun, put_out, units_without_waiter}
 use Rattle.mpm_base.specs.declared.unit.Unit.{Unit}
 use Rattle.mpm_base.specs.declared.unit.Unit.TheVariants.{Console as ConsoleUnit, Printer as PrinterUnit}
 use Rattle.mpm_consoles.proofs.ConsoleLaws.{owner_typed, owner_resumed, owner_without_wait, proper_new, proper_passed, proper_raw, proper_stop, proper_wait, proper_without_wait, proper_resumed, proper_typed, proper_taken, proper_written}
@@ -185,6 +186,9 @@ for_unlisted t unit p = for_one p _ (ap (in_list p) (list_at_removed t.waiters p
 
 pub for_absent : (t : Consoles) (unit : Unit) (p : ℕ) → waits_for t p unit ≡ false → MayWait (Some p) (waiters_of t unit)
 for_absent t unit p absent = for_one p (waiters_of t unit) absent
+
+pub for_called_off : (t : Consoles) (unit : Unit) (p : ℕ) → MayWait (Some p) (waiters_of (called_off t p unit) unit)
+for_called_off t unit p = either (λ (u : Consoles). MayWait (Some p) (waiters_of u unit)) (waits_for t p unit) _ _ (λ _. for_unlisted t unit p) (λ absent. for_absent t unit p absent)
 
 pub for_free : (t : Consoles) (unit : Unit) (p : ℕ) → AreSoundConsoles t → HasUnit t unit → owner_of t unit ≡ None → MayWait (Some p) (waiters_of t unit)
 for_free t unit p sound has none = for_one p (waiters_of t unit) (ap (in_list p) ((sound.waited unit has).free none) ∙ none_in_none p)

@@ -3,10 +3,10 @@ use Rattle.std.proofs.Common.{◌≡◌, ◌∙◌, inl, inr, ℕ, Bool, true, f
 use Rattle.std.proofs.lemmas.Bool.{false≢true, cases_Bool, eq-eqb, eqb-true}
 use Rattle.mpm_ready.specs.Order.{Member, in_list}
 use Rattle.mpm_ready.specs.Tables.{list_at, list_of, IsTable}
-use Rattle.mpm_ready.proofs.TableLaws.{list_of_known, in_its_list, in_list_removed, unlisted as not_listed, not_itself}
-use Rattle.mpm_base.specs.Units.{place_of}
+use Rattle.mpm_ready.proofs.TableLaws.{list_of_known, in_its_list, unlisted as not_listed}
+use Rattle.mpm_base.proofs.Choices.{either}
 use Rattle.mpm_consoles.specs.Consoles.{Consoles, HasUnit, waits_for}
-use Rattle.mpm_consoles.specs.Handling.{unlisted}
+use Rattle.mpm_consoles.specs.Handling.{unlisted, called_off}
 use Rattle.mpm_base.specs.declared.unit.Unit.{Unit}
 use Rattle.mpm_base.specs.declared.unit.Unit.TheVariants.{Console as ConsoleUnit, Printer as PrinterUnit}
 
@@ -30,7 +30,5 @@ unfolding unlisted
 has_unlisted t p (ConsoleUnit n) has = has
 has_unlisted t p (PrinterUnit n) has = has
 
--- and it waits no more
-pub gone : (t : Consoles) (p : ℕ) (unit : Unit) → waits_for (unlisted t p) p unit ≡ false
-unfolding unlisted
-gone t p unit = in_list_removed t.waiters p p (place_of unit) ∙ not_itself _ _ (eq-eqb p p refl)
+pub has_called_off : (t : Consoles) (p : ℕ) (unit : Unit) → HasUnit t unit → HasUnit (called_off t p unit) unit
+has_called_off t p unit has = either (λ (u : Consoles). HasUnit u unit) (waits_for t p unit) _ _ (λ _. has_unlisted t p unit has) (λ _. has)

@@ -95,6 +95,11 @@ spoken bytes console = record console { column = columns_after console.column by
 unfoldable pub written : ℕ → Bool → Console → Console
 written byte tabs console = spoken (text_of console.column byte tabs) console
 
+-- a call makes one value of another, and answers something
+pub record Yields {T A : Type 0} (value : T) (answer : A) (now : T) (result : A) : Type 0 where
+  pub made : now ≡ value
+  pub answered : result ≡ answer
+
 -- what is so of a console at any time: at most so many keys are there, a raw console isn't stopped, and who waits at its gate is
 -- its owner
 pub record IsProperConsole (console : Console) : Type 0 where

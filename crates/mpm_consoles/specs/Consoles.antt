@@ -1,6 +1,6 @@
 -- The consoles and printers by number, and the processes that wait for each. (MP/M II Programmer's Guide, "Function 146:
 -- Attach Console", "Function 158: Attach List".)
-use Rattle.std.specs.Prelude.{◌≡◌, ℕ, ◌+◌, ◌<◌, ◌≤◌, Bool, false, List, [], Option, Some, None, nat_lt, length, replicate, slice_index_or, slice_set, is_some, ◌&&◌}
+use Rattle.std.specs.Prelude.{◌≡◌, ◌≢◌, ℕ, ◌+◌, ◌<◌, ◌≤◌, Bool, false, List, [], Option, Some, None, nat_lt, length, replicate, slice_index_or, slice_set, is_some, ◌&&◌}
 use Rattle.std.specs.Prelude.{count_by}
 use Rattle.std.specs.Option.{option_map_or}
 use Rattle.mpm_base.specs.Units.{place_of}
@@ -77,6 +77,19 @@ with_console t n console = record t { consoles = slice_set t.consoles n console 
 pub record MayWait (owner : Option ℕ) (ms : List Member) : Type 0 where
   pub free : owner ≡ None → ms ≡ []
   pub others : (p : ℕ) → owner ≡ Some p → in_list p ms ≡ false
+
+-- so many consoles and printers a machine may have
+pub record AreFewUnits (consoles printers : ℕ) : Type 0 where
+  pub some : 1 ≤ consoles
+  pub few : consoles ≤ 8
+  pub few_printers : printers ≤ 4
+
+-- a process that waits for no unit may wait for one, which another owns
+pub record MayBeListed (p : ℕ) (unit : Unit) (t : Consoles) : Type 0 where
+  pub there : HasUnit t unit
+  pub nowhere : WaitsForNoUnit t p
+  pub owned : owner_of t unit ≢ None
+  pub other : owns t p unit ≡ false
 
 -- what is so at any time: there are 1 to 8 consoles and at most 4 printers; a process waits at most for one unit, in the order
 -- of priorities, and only for one that another owns

@@ -24,22 +24,22 @@ abbrev pub as_list : Option ℕ → List ℕ
 as_list None = []
 as_list (Some key) = key ∷ []
 
--- each call: a key comes to a console, one is taken, or what changes no keys
-pub data KeyChange : Type 0 where
-  Attaches : ℕ → ℕ → Unit → Bool → KeyChange
-  Detaches : ℕ → Unit → KeyChange
-  Assigns : ℕ → ℕ → KeyChange
-  MakesRaw : ℕ → Bool → KeyChange
-  Waits : ℕ → Bool → KeyChange
-  Writes : Unit → ℕ → Bool → KeyChange
-  Leaves : ℕ → KeyChange
+-- each call: a key comes to a console, one is taken, or another call, which changes no keys
+pub data OtherCall : Type 0 where
+  Attaches : ℕ → ℕ → Unit → Bool → OtherCall
+  Detaches : ℕ → Unit → OtherCall
+  Assigns : ℕ → ℕ → OtherCall
+  MakesRaw : ℕ → Bool → OtherCall
+  Waits : ℕ → Bool → OtherCall
+  Writes : Unit → ℕ → Bool → OtherCall
+  Leaves : ℕ → OtherCall
 
 pub data ConsoleOperation : Type 0 where
   Types : ℕ → ℕ → Bool → ConsoleOperation
   Takes : ℕ → ConsoleOperation
-  Makes : KeyChange → ConsoleOperation
+  Makes : OtherCall → ConsoleOperation
 
-abbrev pub change_made : Consoles → KeyChange → Consoles
+abbrev pub change_made : Consoles → OtherCall → Consoles
 change_made t (Attaches p priority unit wait) = unit_attached t p priority unit wait
 change_made t (Detaches p unit) = unit_detached t p unit
 change_made t (Assigns n to) = console_assigned t n to

@@ -1,5 +1,5 @@
 ghost use Rattle.std.specs.Prelude.{◌≡◌, length, nat_lt, is_some, IfOk};
-ghost use Rattle.mpm_consoles.specs.Console.{new_console, is_owner, passed_to, with_raw, with_output_stopped, awaited_for, awaiting, is_for as is_one_for, woken, awakened, without_wait_of, resumed, has_room, with_key, typed, first_key, without_first, written};
+ghost use Rattle.mpm_consoles.specs.Console.{new_console, is_owner, passed_to, with_raw, with_output_stopped, awaited_for, awaiting, is_for as is_one_for, woken, awakened, without_wait_of, resumed, has_room, with_key, typed, first_key, without_first, written, Yields};
 ghost use Rattle.mpm_consoles.specs.declared.console.Awaited.TheVariants.{Output};
 ghost use Rattle.mpm_consoles.specs.Handling.{typed_answer};
 ghost use Rattle.mpm_consoles.specs.Columns.{spaces_for};
@@ -140,8 +140,7 @@ impl Console {
     /// Its output goes on. Answers the owner that waited for that.
     #[tactic(auto, unfolding(crate::specs::Console::resumed, crate::specs::Console::woken, crate::specs::Console::awakened))]
     pub fn resume(&mut self) -> Option<Pid>
-        ensures console { self.new ≡ resumed self.old }
-        ensures woken { result ≡ woken Output self.old }
+        ensures { Yields (resumed self.old) (woken Output self.old) self.new result }
     {
         self.stopped = false;
         self.wake(Awaited::Output)
@@ -158,8 +157,7 @@ impl Console {
     /// Where its owner waits at its gate for something, it does no more. Answers the owner then.
     #[tactic(auto, unfolding(crate::specs::Console::woken, crate::specs::Console::awakened))]
     fn wake(&mut self, what: Awaited) -> Option<Pid>
-        ensures console { self.new ≡ awakened what self.old }
-        ensures woken { result ≡ woken what self.old }
+        ensures { Yields (awakened what self.old) (woken what self.old) self.new result }
     {
         if is_for(self.awaits, what) {
             self.awaits = None;
@@ -193,8 +191,7 @@ impl Console {
     /// waits no more.
     #[tactic(auto, using(crate::proofs::ConsoleLaws::woken_key), unfolding(crate::specs::Console::typed, crate::specs::Handling::typed_answer))]
     pub fn type_key(&mut self, byte: u8) -> KeyDone
-        ensures console { self.new ≡ typed byte self.old }
-        ensures answer { result ≡ typed_answer self.old }
+        ensures { Yields (typed byte self.old) (typed_answer self.old) self.new result }
     {
         let done = if self.store(byte) {
             KeyDone::Stored
@@ -210,8 +207,7 @@ impl Console {
     /// Stores a key after the others; false where 64 are there, and then it is counted as lost.
     #[tactic(auto, unfolding(crate::specs::Console::with_key))]
     fn store(&mut self, byte: u8) -> bool
-        ensures console { self.new ≡ with_key byte self.old }
-        ensures room { result ≡ has_room self.old }
+        ensures { Yields (with_key byte self.old) (has_room self.old) self.new result }
     {
         match self.keys.try_push_back(byte) {
             Ok(()) => true,
@@ -225,8 +221,7 @@ impl Console {
     /// Takes the oldest key; None exactly where there is none.
     #[tactic(auto, unfolding(crate::specs::Console::without_first))]
     pub fn take(&mut self) -> Option<u8>
-        ensures console { self.new ≡ without_first self.old }
-        ensures key { result ≡ first_key self.old }
+        ensures { Yields (without_first self.old) (first_key self.old) self.new result }
     {
         self.keys.pop_front()
     }
@@ -242,8 +237,7 @@ impl Console {
     /// for itself.
     #[tactic(auto, using(crate::proofs::ColumnLaws::columns_spaces, crate::proofs::ColumnLaws::columns_one), unfolding(crate::specs::Console::written, crate::specs::Console::spoken, crate::specs::Columns::spaces_for, crate::specs::Columns::tab_text))]
     pub fn write(&mut self, byte: u8, tabs: bool) -> u8
-        ensures console { self.new ≡ written byte tabs self.old }
-        ensures spaces { result ≡ spaces_for self.old.column byte tabs }
+        ensures { Yields (written byte tabs self.old) (spaces_for self.old.column byte tabs) self.new result }
     {
         if tabs && byte == b'\t' {
             let spaces = tab_width(self.column);

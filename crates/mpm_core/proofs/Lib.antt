@@ -6,3 +6,4 @@ pub mod StepViews
 pub mod Agreeing
 pub mod StateRuns
 pub mod TakeLaws
+pub mod Resumed

@@ -17,7 +17,7 @@ use Rattle.mpm_machine.specs.declared.housing.Home.{Home}
 use Rattle.mpm_machine.specs.Housing.{home_in, home_of}
 use Rattle.mpm_core_file.specs.CoreFiles.{CoreContents, IsCore}
 use Rattle.mpm_core_file.specs.declared.head.Head.{Head}
-use Rattle.mpm_core.specs.Taking.{head_of, core_in, segment_at, core_at}
+use Rattle.mpm_core.specs.Taking.{IsHomeOf, head_of, core_in, segment_at, core_at}
 
 -- a space from its first address to its last
 whole_of : (space : Space) (memory : Memory) (first end size : ℕ) → end ≡ first + size → length (bytes_of memory space) ≡ size
@@ -50,7 +50,7 @@ common_range memory seg is =
     whole_of Common memory 49152 (end_of memory Common) 16384 end is.common
 
 -- what a view of all of it has
-pub segment_viewed : (system : System) (seg base pages : ℕ) (found : Option (List ℕ)) → IsWhole system → IsHome system.memory seg
+segment_viewed : (system : System) (seg base pages : ℕ) (found : Option (List ℕ)) → IsWhole system → IsHome system.memory seg
     → base ≡ (segment_of system.memory seg).base → pages ≡ (segment_of system.memory seg).pages
     → found ≡ option_map (range_bytes system.memory) (range_of system.memory seg (256 * base) (256 * pages)) → found ≡ Some (segment_of system.memory seg).bytes
 segment_viewed system seg base pages found w home same_base same_pages is =
@@ -94,11 +94,19 @@ found system p home is =
 pub home_lives : (system : System) (p : ℕ) (home : Home) → home_of system p ≡ Some home → Lives system.kernel.dispatcher.procs p
 home_lives system p home is = (found system p home is).lives
 
-pub home_base : (system : System) (p : ℕ) (home : Home) → home_of system p ≡ Some home → home.base ≡ (segment_of system.memory home.seg).base
+home_base : (system : System) (p : ℕ) (home : Home) → home_of system p ≡ Some home → home.base ≡ (segment_of system.memory home.seg).base
 home_base system p home is = ap (λ (h : Home). h.base) (found system p home is).is
 
-pub home_pages : (system : System) (p : ℕ) (home : Home) → home_of system p ≡ Some home → home.pages ≡ (segment_of system.memory home.seg).pages
+home_pages : (system : System) (p : ℕ) (home : Home) → home_of system p ≡ Some home → home.pages ≡ (segment_of system.memory home.seg).pages
 home_pages system p home is = ap (λ (h : Home). h.pages) (found system p home is).is
+
+pub home_pages_some : (system : System) (p : ℕ) (home : Home) → IsHomeOf p system home → 0 < 256 * home.pages
+home_pages_some system p home is = omega (arith, home_pages system p home is.there, is.is_home.pages)
+
+pub home_viewed : (system : System) (p : ℕ) (home : Home) (found : Option (List ℕ)) → IsHomeOf p system home
+    → found ≡ option_map (range_bytes system.memory) (range_of system.memory home.seg (256 * home.base) (256 * home.pages)) → found ≡ Some (segment_of system.memory home.seg).bytes
+home_viewed system p home found is viewed =
+    segment_viewed system home.seg home.base home.pages found is.whole is.is_home (home_base system p home is.there) (home_pages system p home is.there) viewed
 
 -- and the core that is taken of it
 

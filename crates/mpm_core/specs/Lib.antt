@@ -2,3 +2,4 @@ pub mod Taking
 pub mod Alone
 pub mod Replaying
 pub mod Agreement
+pub mod Files

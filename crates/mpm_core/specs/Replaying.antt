@@ -3,7 +3,7 @@ use Rattle.std.specs.Prelude.{◌≡◌, ℕ, ◌*◌, List, [], take, false}
 use Rattle.z80_regs.specs.declared.regs.Regs.{Regs}
 use Rattle.mpm_base.specs.Lists.{zeros}
 use Rattle.mpm_banks.specs.Sides.{alone}
-use Rattle.mpm_core_file.specs.CoreFiles.{CoreContents}
+use Rattle.mpm_core_file.specs.CoreFiles.{CoreContents, IsCore}
 use Rattle.mpm_core_file.specs.declared.head.Head.{Head}
 use Rattle.mpm_replay.specs.Replays.{IsReplay, portless}
 use Rattle.mpm_replay.specs.declared.replaying.Replayed.{Replayed}
@@ -58,3 +58,8 @@ pub record Replays (most : ℕ) (old new : CoreContents) (replayed : Replayed) :
   pub head : new.head ≡ record old.head { regs = new.head.regs }
   pub replay : IsReplay old.head.inside most (portless old.head.spec old.head.regs old.segment old.common)
       new.head.regs (alone old.head.spec new.segment new.common) replayed
+
+-- and it is one still
+pub record RunsOn (most : ℕ) (old new : CoreContents) (count : Replayed) : Type 0 where
+  pub replayed : Replays most old new count
+  pub is : IsCore new

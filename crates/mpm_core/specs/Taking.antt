@@ -1,11 +1,16 @@
 -- The core of a process of a machine. (This project's own.)
-use Rattle.std.specs.Prelude.{ℕ, Bool, Option, option_map, option_and_then}
+use Rattle.std.specs.Prelude.{◌≡◌, ℕ, Bool, Option, Some, is_some, option_map, option_and_then}
+use Rattle.std.specs.Bool.{OnTrue, OnFalse}
 use Rattle.mpm_banks.specs.Memory.{segment_of}
 use Rattle.mpm_banks.specs.Allocations.{spec_of}
 use Rattle.mpm_procs.specs.Table.{process_in, process_at}
 use Rattle.mpm_system.specs.declared.system.System.{System}
 use Rattle.mpm_system.specs.Procedures.{is_inside}
-use Rattle.mpm_core_file.specs.CoreFiles.{CoreContents}
+use Rattle.mpm_gate.specs.Gates.{IsHome}
+use Rattle.mpm_system.specs.Whole.{IsWhole}
+use Rattle.mpm_machine.specs.declared.housing.Home.{Home}
+use Rattle.mpm_machine.specs.Housing.{home_of}
+use Rattle.mpm_core_file.specs.CoreFiles.{CoreContents, IsCore}
 use Rattle.mpm_core_file.specs.declared.head.Head.{Head}
 
 -- what the core of a process says before its memory
@@ -38,3 +43,16 @@ segment_at p system = option_and_then (λ process. process.seg) (process_at syst
 
 abbrev pub core_at : ℕ → System → Option CoreContents
 core_at p system = option_map (λ seg. core_in p seg system) (segment_at p system)
+
+-- where a process of a machine lives between two steps
+pub record IsHomeOf (p : ℕ) (system : System) (home : Home) : Type 0 where
+  pub whole : IsWhole system
+  pub there : home_of system p ≡ Some home
+  pub is_home : IsHome system.memory home.seg
+
+-- who looked at a machine for a core has it, exactly where there is one; else it has what it had
+pub record Takes (found : Option CoreContents) (old new : CoreContents) (answer : Bool) : Type 0 where
+  pub answer_is : answer ≡ is_some found
+  pub core : OnTrue answer (found ≡ Some new)
+  pub is : OnTrue answer (IsCore new)
+  pub stays : OnFalse answer (new ≡ old)

@@ -1,10 +1,9 @@
-ghost use Rattle.std.specs.Prelude.{◌≡◌, ◌<◌, ◌≤◌, ◌+◌, ◌*◌, ◌++◌, ℕ, None, Some, OnOk, OnErr, IfOk, IfErr, IsOk, length, take, drop};
+ghost use Rattle.std.specs.Prelude.{◌≡◌, ◌<◌, ◌≤◌, ◌+◌, ◌*◌, ◌++◌, IfOk, IsOk, length, take, drop};
 ghost use Rattle.mpm_base.specs.Lists.{zeros as so_many_zeros};
-ghost use Rattle.mpm_port.specs.Causes.{HasCause};
-ghost use Rattle.mpm_port.specs.Texts.{AppendsPart};
-ghost use Rattle.mpm_core_file.specs.CoreFiles.{IsCore, CoreContents, core_bytes, fault_of};
-ghost use Rattle.mpm_core.specs.Replaying.{no_core, kept, Replays};
+ghost use Rattle.mpm_core_file.specs.CoreFiles.{IsCore, CoreContents, core_bytes};
+ghost use Rattle.mpm_core.specs.Replaying.{no_core, kept, RunsOn};
 ghost use Rattle.mpm_core.specs.Agreement.{Agree};
+ghost use Rattle.mpm_core.specs.Files.{PutsAll, ReadsFile};
 
 use crate::puts::put_three;
 use mpm_base::{Pid, SegmentSpec};
@@ -58,8 +57,7 @@ fn zeros(alloc: Global, count: usize) -> Result<Vec<u8>, OutOfMemory>
 /// Puts bytes in the place of the first ones.
 fn put_first(all: &mut [u8], bytes: &[u8])
     requires { length bytes.now ≤ length all.old }
-    ensures bytes { all.new ≡ bytes.now ++ drop (length bytes.now) all.old }
-    ensures size { length all.new ≡ length all.old }
+    ensures { all.new ≡ bytes.now ++ drop (length bytes.now) all.old }
 {
     all[..bytes.len()].copy_from_slice(bytes);
 }
@@ -90,10 +88,7 @@ pub(crate) fn mode(regs: &Regs) -> u8
 /// Does the instructions of a process, at most so many.
 fn replay_parts(head: &mut Head, segment: &mut [u8], common: &mut [u8], most: u64) -> Replayed
     requires { IsCore (record { head = head.old; segment = segment.old; common = common.old }) }
-    ensures replayed { Replays most (record { head = head.old; segment = segment.old; common = common.old }) (record { head = head.new; segment = segment.new; common = common.new }) result }
-    ensures is { IsCore (record { head = head.new; segment = segment.new; common = common.new }) }
-    ensures segment { length segment.new ≡ length segment.old }
-    ensures common { length common.new ≡ length common.old }
+    ensures { RunsOn most (record { head = head.old; segment = segment.old; common = common.old }) (record { head = head.new; segment = segment.new; common = common.new }) result }
 {
     let replayed = replay(
         head.inside,
@@ -111,10 +106,7 @@ fn replay_parts(head: &mut Head, segment: &mut [u8], common: &mut [u8], most: u6
 fn replay_kept(head: &mut Head, buffer: &mut [u8], common: &mut [u8], most: u64) -> Replayed
     requires is { IsCore (kept head.old buffer.old common.old) }
     requires room { length buffer.old ≡ 49152 }
-    ensures replayed { Replays most (kept head.old buffer.old common.old) (kept head.new buffer.new common.new) result }
-    ensures is { IsCore (kept head.new buffer.new common.new) }
-    ensures buffer { length buffer.new ≡ length buffer.old }
-    ensures common { length common.new ≡ length common.old }
+    ensures runs { RunsOn most (kept head.old buffer.old common.old) (kept head.new buffer.new common.new) result }
     ensures spec { head.new.spec ≡ head.old.spec }
 {
     let size = 256 * usize::from(head.spec.pages);
@@ -171,9 +163,7 @@ impl Core {
     /// Where the sink failed. A first part of the file stands then.
     pub fn write<S: Sink>(&self, sink: &mut S) -> Result<(), Failed>
         requires { IsCore self.now }
-        ensures ok { OnOk result (S.written sink.new ≡ S.written sink.old ++ core_bytes self.now) }
-        ensures err { OnErr result (AppendsPart (S.written sink.old) (core_bytes self.now) (S.written sink.new)) }
-        ensures cause { HasCause (S.faults sink.old) (S.faults sink.new) result }
+        ensures { PutsAll S.Sink (core_bytes self.now) sink.old sink.new result }
     {
         let head = self.head.bytes();
         put_three(sink, &head, &self.segment[..self.size()], &self.common)
@@ -195,11 +185,7 @@ impl Core {
     /// Exactly where the bytes are no file of a core.
     #[tactic(auto, using(mpm_core_file::proofs::HeadLaws::again))]
     pub fn read(&mut self, text: &[u8]) -> Result<(), CoreFault>
-        ensures ok { OnOk result (text.now ≡ core_bytes self.new) }
-        ensures is { OnOk result (IsCore self.new) }
-        ensures none { OnOk result (fault_of text.now ≡ None) }
-        ensures fault { IfErr result (λ fault. fault_of text.now ≡ Some fault.place) }
-        ensures stays { OnErr result (self.new ≡ self.old) }
+        ensures reads { ReadsFile text.now self.old self.new result }
         ensures again { (core : CoreContents) → IsCore core → text.now ≡ core_bytes core → IsOk result × (self.new ≡ core) }
     {
         let head = match read_head(text) {
@@ -214,8 +200,7 @@ impl Core {
     /// Does the instructions of the process, at most so many.
     fn run_on(&mut self, most: u64) -> Replayed
         requires { IsCore self.old }
-        ensures replayed { Replays most self.old self.new result }
-        ensures is { IsCore self.new }
+        ensures { RunsOn most self.old self.new result }
     {
         replay_kept(&mut self.head, &mut self.segment, &mut self.common, most)
     }
@@ -225,8 +210,7 @@ impl Core {
     /// instructions of that process alone, none of which reads a port, it does them all, and is then what would be taken after them.
     pub fn replay(&mut self, most: u64) -> Replayed
         requires { IsCore self.old }
-        ensures replayed { Replays most self.old self.new result }
-        ensures is { IsCore self.new }
+        ensures runs { RunsOn most self.old self.new result }
         ensures agrees { Agree most self.old self.new result }
     {
         self.run_on(most)

@@ -1,12 +1,9 @@
-ghost use Rattle.std.specs.Prelude.{◌≡◌, ◌<◌, ◌^◌, Some, is_some};
-ghost use Rattle.std.specs.Bool.{OnTrue, OnFalse};
+ghost use Rattle.std.specs.Prelude.{◌≡◌, ◌<◌, ◌^◌};
 ghost use Rattle.mpm_banks.specs.Memory.{segment_of};
-ghost use Rattle.mpm_gate.specs.Gates.{IsHome};
 ghost use Rattle.mpm_procs.specs.Table.{Lives, process_in};
 ghost use Rattle.mpm_system.specs.Whole.{IsWhole};
-ghost use Rattle.mpm_machine.specs.Housing.{home_of};
 ghost use Rattle.mpm_core_file.specs.CoreFiles.{IsCore};
-ghost use Rattle.mpm_core.specs.Taking.{head_of, core_in, core_at};
+ghost use Rattle.mpm_core.specs.Taking.{IsHomeOf, Takes, head_of, core_in, core_at};
 
 use crate::saved::{Core, mode};
 use mpm_base::{Pid, Seg, SegmentSpec};
@@ -54,16 +51,17 @@ fn head_at(machine: &Machine, p: Pid, base: u8, pages: u8, inside: bool) -> Head
     }
 }
 
-/// The bytes of a segment that a process may live in.
-#[tactic(auto, using(crate::proofs::TakeLaws::segment_viewed))]
-fn segment_at(machine: &Machine, seg: Seg, base: u8, pages: u8) -> &[u8]
-    requires whole { IsWhole machine.now.system }
-    requires home { IsHome machine.now.system.memory seg }
-    requires base { base ≡ (segment_of machine.now.system.memory seg).base }
-    requires pages { pages ≡ (segment_of machine.now.system.memory seg).pages }
-    ensures { result.now ≡ (segment_of machine.now.system.memory seg).bytes }
+/// The bytes of the segment in which a process lives.
+#[tactic(auto, using(crate::proofs::TakeLaws::home_viewed))]
+fn segment_at(machine: &Machine, p: Pid, home: Home) -> &[u8]
+    requires { IsHomeOf p machine.now.system home }
+    ensures { result.now ≡ (segment_of machine.now.system.memory home.seg).bytes }
 {
-    match machine.view(seg, 256 * u16::from(base), 256 * u16::from(pages)) {
+    match machine.view(
+        home.seg,
+        256 * u16::from(home.base),
+        256 * u16::from(home.pages),
+    ) {
         Some(bytes) => bytes,
         None => unreachable!(),
     }
@@ -84,15 +82,14 @@ fn common_at(machine: &Machine, seg: Seg) -> &[u8]
 impl Core {
     /// Takes the core of a process that lives in a segment.
     fn take_from(&mut self, machine: &Machine, p: Pid, home: Home)
-        requires whole { IsWhole machine.now.system }
-        requires home { home_of machine.now.system p ≡ Some home }
-        requires is_home { IsHome machine.now.system.memory home.seg }
+        requires { IsHomeOf p machine.now.system home }
         ensures core { self.new ≡ core_in p home.seg machine.now.system }
         ensures is { IsCore self.new }
     {
+        let seg = home.seg;
         let head = head_at(machine, p, home.base, home.pages, home.procedure);
-        let segment = segment_at(machine, home.seg, home.base, home.pages);
-        self.fill(head, segment, common_at(machine, home.seg));
+        let segment = segment_at(machine, p, home);
+        self.fill(head, segment, common_at(machine, seg));
     }
 
     /// Takes the core of a process of a machine, as the process is now. False comes exactly where it doesn't live, or is a resident, which
@@ -100,10 +97,7 @@ impl Core {
     #[tactic(auto, using(crate::proofs::TakeLaws::nobody_taken, crate::proofs::TakeLaws::somebody_taken, crate::proofs::TakeLaws::core_taken))]
     pub fn take(&mut self, machine: &Machine, p: Pid) -> bool
         requires { IsWhole machine.now.system }
-        ensures answer { result ≡ is_some (core_at p machine.now.system) }
-        ensures core { OnTrue result (core_at p machine.now.system ≡ Some self.new) }
-        ensures is { OnTrue result (IsCore self.new) }
-        ensures stays { OnFalse result (self.new ≡ self.old) }
+        ensures { Takes (core_at p machine.now.system) self.old self.new result }
     {
         match machine.home(p) {
             None => false,

@@ -1,5 +1,5 @@
 -- Of the file of a core whose head stands.
-use Rattle.std.proofs.Common.{◌≡◌, ◌∙◌, ℕ, ◌+◌, ◌<◌, ◌≤◌, not, Bool, true, false, List, Some, None, length, get_or, nat_lt, nat_le, refl, sym, subst, arith}
+use Rattle.std.proofs.Common.{◌≡◌, ◌∙◌, ℕ, ◌<◌, ◌≤◌, not, Bool, true, false, List, Some, None, length, get_or, nat_lt, nat_le, if◌then◌else◌, min, refl, sym, ap, subst, eq-eqb, arith}
 use Rattle.std.proofs.lemmas.Bool.{false≢true, and_parts}
 use Rattle.std.proofs.lemmas.Bool.Decides.{nat_tests}
 use Rattle.std.proofs.lemmas.Grind.{common_steps}
@@ -8,7 +8,7 @@ use Rattle.std.proofs.lemmas.List.Sums.{fails_before_first}
 use Rattle.std.proofs.lemmas.List.FromFn.{get_or-range_with_len, length-range_with_len}
 use Rattle.std.specs.List.{range_with_len, position_or_len}
 use Rattle.std.specs.Prelude.{position}
-use Rattle.mpm_core_file.specs.CoreFiles.{stands, may_stand, turned, first_bad}
+use Rattle.mpm_core_file.specs.CoreFiles.{HasHead, stands, may_stand, turned, first_bad, size_of, fault_by}
 
 none_found : {X : Type 0} (p : X → Bool) (xs : List X) (k : ℕ) (d : X) → position p xs ≡ None → k < length xs → p (get_or xs k d) ≡ false
 none_found p xs k d none below =
@@ -48,14 +48,7 @@ unfolding stands
 may text place is = (and_parts _ _ is).1
 
 -- so its head is there, and is one of a process
-pub record Stands (text : List ℕ) : Type 0 where
-  pub long : 51 ≤ length text
-  pub process : get_or text 16 0 < 32
-  pub some : 4 ≤ get_or text 18 0
-  pub end : get_or text 17 0 + get_or text 18 0 ≤ 192
-  pub mode : get_or text 48 0 < 3
-
-pub head_stands : (text : List ℕ) → first_bad text ≡ None → Stands text
+pub head_stands : (text : List ℕ) → first_bad text ≡ None → HasHead text
 unfolding may_stand
 head_stands text none =
     let at : (turn : ℕ) → turn < 51 → stands text (turned turn) ≡ true = λ turn below. each_stands text turn none below in
@@ -71,3 +64,7 @@ head_stands text none =
       end = at_most _ _ base;
       mode = less _ _ mode;
     }
+
+-- it has no fault where it has as many bytes as its pages ask for
+pub right_size : (text : List ℕ) → length text ≡ size_of (get_or text 18 0) → fault_by None text ≡ None
+right_size text size = ap (λ b. if b then None else Some (min (length text) (size_of (get_or text 18 0)))) (eq-eqb _ _ size)

@@ -1,10 +1,11 @@
 -- The file of a core: one process as it is at a step, its registers, its segment and common memory, as bytes. (This project's own.)
-use Rattle.std.specs.Prelude.{◌≡◌, ℕ, ◌+◌, ◌*◌, ◌^◌, ◌<◌, ◌≤◌, min, List, [], ◌∷◌, ◌++◌, Option, Some, None, Bool, not, ◌==◌, ◌&&◌, ◌||◌, nat_lt, nat_le, length, slice_index, position, codes, if◌then◌else◌}
+use Rattle.std.specs.Prelude.{◌≡◌, ℕ, ◌+◌, ◌*◌, ◌^◌, ◌<◌, ◌≤◌, min, List, [], ◌∷◌, ◌++◌, Option, Some, None, Result, Ok, Err, drop, Bool, not, ◌==◌, ◌&&◌, ◌||◌, nat_lt, nat_le, length, slice_index, position, codes, if◌then◌else◌}
 use Rattle.std.specs.List.{range_with_len}
 use Rattle.std.specs.Int.{w64, from_le_bytes, to_le_bytes}
 use Rattle.z80_regs.specs.Words.{low, high, word_of}
 use Rattle.z80_regs.specs.declared.regs.Regs.{Regs}
 use Rattle.mpm_core_file.specs.declared.head.Head.{Head}
+use Rattle.mpm_core_file.specs.declared.reading.CoreFault.{CoreFault}
 
 -- a core: what its head says, the bytes of the segment of its process, and those of common memory
 pub record CoreContents : Type 0 where
@@ -150,3 +151,24 @@ head_at text = record {
   inside = flag_at text 19;
   regs = regs_at text;
 }
+
+-- as many bytes as a head has, and what they say may be so of a process
+pub record HasHead (text : List ℕ) : Type 0 where
+  pub long : 51 ≤ length text
+  pub process : slice_index text 16 < 32
+  pub some : 4 ≤ slice_index text 18
+  pub end : slice_index text 17 + slice_index text 18 ≤ 192
+  pub mode : slice_index text 48 < 3
+
+-- the file of a core, with its head: those are the bytes of the head, and there are as many as its pages ask for
+pub record IsFileOf (fault : Option ℕ) (text : List ℕ) (head : Head) : Type 0 where
+  pub none : fault ≡ None
+  pub says : head ≡ head_at text
+  pub is_head : IsHead head
+  pub bytes : text ≡ head_bytes head ++ drop 51 text
+  pub size : length text ≡ size_of head.spec.pages
+
+-- a file that was judged: it has a head, or a fault
+abbrev pub Judges : Option ℕ → List ℕ → Result Head CoreFault → Type 0
+Judges fault text (Ok head) = IsFileOf fault text head
+Judges fault text (Err found) = fault ≡ Some found.place

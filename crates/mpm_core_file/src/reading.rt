@@ -1,5 +1,5 @@
-ghost use Rattle.std.specs.Prelude.{◌≡◌, ◌≤◌, ◌<◌, ◌+◌, ◌^◌, ◌++◌, IfOk, IfErr, IfSome, OnOk, Some, None, length, drop, slice_index};
-ghost use Rattle.mpm_core_file.specs.CoreFiles.{IsHead, head_at, head_bytes, regs_at, step_at, word_at, size_of, stands as stands_there, may_stand as may_stand_there, is_flag as is_flag_there, turned, first_bad, fault_by, fault_of};
+ghost use Rattle.std.specs.Prelude.{◌≡◌, ◌<◌, ◌+◌, IfSome, None, length};
+ghost use Rattle.mpm_core_file.specs.CoreFiles.{IsHead, HasHead, Judges, head_at, regs_at, step_at, word_at, size_of, stands as stands_there, may_stand as may_stand_there, is_flag as is_flag_there, turned, first_bad, fault_by, fault_of};
 
 use crate::head::{HEAD_SIZE, Head, MAGIC};
 use mpm_base::{Pid, SegmentSpec};
@@ -82,8 +82,7 @@ fn word(text: &[u8], place: usize) -> u16
 
 /// The registers that a head says.
 fn read_regs(text: &[u8]) -> Regs
-    requires long { 51 ≤ length text.now }
-    requires mode { slice_index text.now 48 < 3 }
+    requires { HasHead text.now }
     ensures { result ≡ regs_at text.now }
 {
     Regs {
@@ -119,7 +118,7 @@ fn read_regs(text: &[u8]) -> Regs
 
 /// The step that a head says.
 fn read_step(text: &[u8]) -> u64
-    requires { 51 ≤ length text.now }
+    requires { HasHead text.now }
     ensures { result ≡ step_at text.now }
 {
     u64::from_le_bytes([
@@ -129,11 +128,9 @@ fn read_step(text: &[u8]) -> u64
 
 /// The head of a file whose head stands.
 fn head_of(text: &[u8]) -> Head
-    requires long { 51 ≤ length text.now }
-    requires process { slice_index text.now 16 < 32 }
-    requires mode { slice_index text.now 48 < 3 }
-    ensures head { result ≡ head_at text.now }
-    ensures step { result.step < 2 ^ 64 }
+    requires { HasHead text.now }
+    ensures says { result ≡ head_at text.now }
+    ensures is_head { IsHead result }
 {
     Head {
         step: read_step(text),
@@ -157,12 +154,7 @@ fn size(pages: u8) -> usize
 /// The head of a file whose head stands, where it has so many bytes as its pages ask for.
 fn sized_head(text: &[u8]) -> Result<Head, CoreFault>
     requires { first_bad text.now ≡ None }
-    ensures none { OnOk result (fault_by None text.now ≡ None) }
-    ensures head { IfOk result (λ head. head ≡ head_at text.now) }
-    ensures is_head { IfOk result (λ head. IsHead head) }
-    ensures bytes { IfOk result (λ head. text.now ≡ head_bytes head ++ drop 51 text.now) }
-    ensures size { IfOk result (λ head. length text.now ≡ size_of head.spec.pages) }
-    ensures fault { IfErr result (λ fault. fault_by None text.now ≡ Some fault.place) }
+    ensures { Judges (fault_by None text.now) text.now result }
 {
     let size = size(text[18]);
     if text.len() != size {
@@ -179,12 +171,7 @@ fn sized_head(text: &[u8]) -> Result<Head, CoreFault>
 /// Exactly where the bytes are no file of a core.
 #[tactic(auto, unfolding(crate::specs::CoreFiles::fault_of))]
 pub fn read_head(text: &[u8]) -> Result<Head, CoreFault>
-    ensures none { OnOk result (fault_of text.now ≡ None) }
-    ensures head { IfOk result (λ head. head ≡ head_at text.now) }
-    ensures is_head { IfOk result (λ head. IsHead head) }
-    ensures bytes { IfOk result (λ head. text.now ≡ head_bytes head ++ drop 51 text.now) }
-    ensures size { IfOk result (λ head. length text.now ≡ size_of head.spec.pages) }
-    ensures fault { IfErr result (λ fault. fault_of text.now ≡ Some fault.place) }
+    ensures { Judges (fault_of text.now) text.now result }
 {
     match first_bad_turn(text) {
         Some(turn) => Err(CoreFault {

@@ -1,6 +1,5 @@
-ghost use Rattle.std.specs.Prelude.{◌≡◌, ◌+◌, ◌-◌, ◌^◌, ◌++◌, ◌∷◌, [], ℕ, min, if◌then◌else◌, List, IfOk, IsOk, OnOk, OnErr};
-ghost use Rattle.mpm_port.specs.Causes.{HasCause};
-ghost use Rattle.mpm_port.specs.Texts.{AppendsPart};
+ghost use Rattle.std.specs.Prelude.{◌≡◌, ◌+◌, ◌-◌, ◌^◌, ◌++◌, ◌∷◌, [], ℕ, min, if◌then◌else◌, List, IfOk, IsOk};
+ghost use Rattle.mpm_port.specs.Puts.{AnswersPut};
 ghost use Rattle.mpm_devices.specs.Kinds.{begins_with, counted};
 
 use crate::passage::Passage;
@@ -110,11 +109,7 @@ impl Sink for LineCounts {
     fn put(&mut self, bytes: &[u8]) -> Result<(), Failed>
         ensures text { self.new ≡ self.old ++ bytes.now }
         ensures well { IsOk result }
-        ensures took { OnOk result (self.new ≡ self.old ++ bytes.now) }
-        ensures dropped { OnErr result ⊥ }
-        ensures cause { HasCause 0 0 result }
-        ensures ok { OnOk result (self.new ≡ self.old ++ bytes.now) }
-        ensures err { OnErr result (AppendsPart self.old bytes.now self.new) }
+        ensures answers { AnswersPut (λ old put new. new ≡ old ++ put) (λ _ _ _. ⊥) (λ counts. counts) (λ _. 0) bytes.now self.old self.new result }
     {
         self.count_all(bytes);
         Ok(())

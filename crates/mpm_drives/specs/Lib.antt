@@ -1,3 +1,4 @@
 pub mod Images
 pub mod Mounted
 pub mod Stopping
+pub mod Calling

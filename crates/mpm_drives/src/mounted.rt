@@ -1,8 +1,7 @@
-ghost use Rattle.std.specs.Prelude.{◌≡◌, ◌≢◌, true, false, [], ℕ, All, IfOk, IfErr, OnOk};
+ghost use Rattle.std.specs.Prelude.{◌≡◌, true, [], All};
 ghost use Rattle.mpm_machine_file.specs.Drives.{all_differ};
 ghost use Rattle.mpm_machine_file.specs.MachineFiles.{IsDrive};
-ghost use Rattle.mpm_drives.specs.Mounted.{number_of, IsMountedAs, AreMounted, AreSynced, OnlyDrive, SameBeside, AsksNothing};
-ghost use Rattle.mpm_drives.specs.Stopping.{StopsMounting, Stops};
+ghost use Rattle.mpm_drives.specs.Calling.{MountsDrive, MountsDrives};
 
 use crate::error::BootError;
 use mpm_machine_file::DriveSpec;
@@ -49,17 +48,7 @@ impl MountedDrives {
     ) -> Result<MountedDrives, BootError>
         requires apart { all_differ specs.now ≡ true }
         requires each { All IsDrive specs.now }
-        ensures mounted { IfOk result (λ mounted. AreMounted (D.disks drives.new) (D.told drives.old) specs.now mounted) }
-        ensures count { OnOk result (D.faults drives.new ≡ D.faults drives.old) }
-        ensures names { OnOk result (D.failed_names drives.new ≡ D.failed_names drives.old) }
-        ensures err { IfErr result (λ error. Stops (D.disks drives.new) (D.told drives.old) specs.now
-            (record { faults = D.faults drives.old; names = D.failed_names drives.old })
-            (record { faults = D.faults drives.new; names = D.failed_names drives.new }) error) }
-        ensures told { D.told drives.new ≡ D.told drives.old }
-        ensures beside { SameBeside specs.now (D.disks drives.old) (D.disks drives.new) }
-        ensures fresh { IfOk result (λ mounted. AreSynced (D.unsynced drives.new) mounted) }
-        ensures asks { AsksNothing specs.now (D.unsynced drives.old) (D.unsynced drives.new) }
-        ensures none { specs.now ≡ [] → drives.new ≡ drives.old }
+        ensures { MountsDrives D.Drives specs.now drives.old drives.new result }
     {
         let mut items = Vec::new(alloc);
         for spec in specs {
@@ -89,17 +78,7 @@ fn mount_drive<D: Drives>(
     drives: &mut D,
 ) -> Result<Mounted, BootError>
     requires { IsDrive spec.now }
-    ensures mounted { IfOk result (λ mounted. IsMountedAs (D.disks drives.new) (D.told drives.old) spec.now mounted) }
-    ensures count { OnOk result (D.faults drives.new ≡ D.faults drives.old) }
-    ensures names { OnOk result (D.failed_names drives.new ≡ D.failed_names drives.old) }
-    ensures err { IfErr result (λ error. StopsMounting (D.disks drives.new) (D.told drives.old) spec.now
-        (record { faults = D.faults drives.old; names = D.failed_names drives.old })
-        (record { faults = D.faults drives.new; names = D.failed_names drives.new }) error) }
-    ensures fresh { OnOk result (D.unsynced drives.new (number_of spec.now) ≡ false) }
-    ensures asks { D.unsynced drives.new (number_of spec.now) ≡ true → D.unsynced drives.old (number_of spec.now) ≡ true }
-    ensures unsynced { (other : ℕ) → other ≢ number_of spec.now → D.unsynced drives.new other ≡ D.unsynced drives.old other }
-    ensures only { OnlyDrive (number_of spec.now) (D.disks drives.old) (D.disks drives.new) }
-    ensures told { D.told drives.new ≡ D.told drives.old }
+    ensures { MountsDrive D.Drives spec.now drives.old drives.new result }
 {
     let drive = spec.letter - b'A';
     match drives.attach(drive, spec.image.as_str()) {

@@ -1,6 +1,7 @@
 -- What is written of an image that was checked: a line for each entry at fault, or one line with a number.
 use Rattle.std.specs.Prelude.{ℕ, List, [], ◌∷◌, ◌++◌, Option, Some, None, codes, decimal}
 use Rattle.std.specs.List.{flat_map}
+use Rattle.mpm_lines.specs.Lines.{field, number_line}
 use Rattle.mpm_fault_lines.specs.declared.fault.SlotFault.{SlotFault}
 
 -- the slot with which an entry clashes, or `-`
@@ -10,14 +11,10 @@ other_text (Some slot) = decimal slot
 
 -- `fault SLOT CAUSE OTHER` and LF
 abbrev pub line_of : SlotFault → List ℕ
-line_of fault = codes "fault " ++ (decimal fault.slot ++ (32 ∷ (decimal fault.cause ++ (32 ∷ (other_text fault.other ++ (10 ∷ []))))))
+line_of fault = codes "fault" ++ (field (decimal fault.slot) ++ (field (decimal fault.cause) ++ (field (other_text fault.other) ++ (10 ∷ []))))
 
 unfoldable pub list_text : List SlotFault → List ℕ
 list_text faults = flat_map line_of faults
-
--- a word, a space, a number and LF
-abbrev pub number_line : List ℕ → ℕ → List ℕ
-number_line word number = word ++ (32 ∷ (decimal number ++ (10 ∷ [])))
 
 -- `sound N`: no entry is at fault, and so many records are free
 abbrev pub sound_line : ℕ → List ℕ

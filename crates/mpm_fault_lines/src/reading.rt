@@ -40,7 +40,7 @@ fn slot_of_line(line: &[u8], last: u16) -> Option<u16>
 {
     let words = after(line, b' ');
     if before(line, b' ') == b"fault".as_slice() && is_reason(after(words, b' '), last) {
-        slot_number(before(words, b' '), last)
+        number(before(words, b' '), u32::from(last)).map(|slot| slot as u16)
     } else {
         None
     }
@@ -69,12 +69,4 @@ fn is_other(text: &[u8], last: u16) -> bool
     ensures { result ≡ spec.is_other last text.now }
 {
     text == b"-".as_slice() || number(text, u32::from(last)).is_some()
-}
-
-/// The slot that a text is.
-fn slot_number(text: &[u8], last: u16) -> Option<u16>
-    ensures slot { result ≡ number_of last text.now }
-    ensures limit { IfSome result (λ slot. slot ≤ last) }
-{
-    number(text, u32::from(last)).map(|slot| slot as u16)
 }

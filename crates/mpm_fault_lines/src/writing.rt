@@ -1,14 +1,15 @@
-ghost use Rattle.std.specs.Prelude.{◌≡◌, ◌≤◌, ◌+◌, ◌++◌, ◌∷◌, [], IfOk, length, decimal};
+ghost use Rattle.std.specs.Prelude.{◌≡◌, ◌≤◌, ◌+◌, IfOk, length};
+ghost use Rattle.mpm_lines.specs.Lines.{Appends, field};
 ghost use Rattle.mpm_fault_lines.specs.Lines as spec;
 
 use crate::OutOfMemory;
 use crate::fault::SlotFault;
 use arrayvec::ArrayVec;
-use itoa::Buffer;
+use mpm_lines::{push_line, push_number, push_word};
 use std::alloc::Global;
 
-/// A line of at most 40 bytes.
-pub type Line = ArrayVec<u8, 40>;
+/// A line of at most 72 bytes.
+pub type Line = ArrayVec<u8, 72>;
 
 /// The list of some faults: a line `fault SLOT CAUSE OTHER` for each, in order, OTHER `-` where there is none. Numbers
 /// are decimal, and LF ends a line.
@@ -27,62 +28,40 @@ pub fn list_text(alloc: Global, faults: &[SlotFault]) -> Result<Vec<u8>, OutOfMe
 pub fn sound_line(records: u32) -> Line
     ensures { result.items ≡ spec.sound_line records }
 {
-    number_line(b"sound", records)
+    let mut line = ArrayVec::new();
+    push_line(b"sound", u64::from(records), &mut line);
+    line
 }
 
 /// `freed N` and LF, N the slots that were freed.
 pub fn freed_line(slots: u16) -> Line
     ensures { result.items ≡ spec.freed_line slots }
 {
-    number_line(b"freed", u32::from(slots))
-}
-
-/// A word, a space, a number and LF.
-fn number_line(word: &[u8; 5], number: u32) -> Line
-    ensures { result.items ≡ spec.number_line word.now number }
-{
-    let mut text = ArrayVec::new();
-    text.try_extend_from_slice(word).unwrap();
-    text.push(b' ');
-    push_number(number, &mut text);
-    text.push(b'\n');
-    text
+    let mut line = ArrayVec::new();
+    push_line(b"freed", u64::from(slots), &mut line);
+    line
 }
 
 /// The line of a fault.
 fn line(fault: &SlotFault) -> Line
     ensures { result.items ≡ spec.line_of fault.now }
 {
-    let mut text = ArrayVec::new();
-    text.try_extend_from_slice(b"fault ").unwrap();
-    push_number(u32::from(fault.slot), &mut text);
-    text.push(b' ');
-    push_number(u32::from(fault.cause), &mut text);
-    text.push(b' ');
-    push_other(fault.other, &mut text);
-    text.push(b'\n');
-    text
+    let mut line = ArrayVec::new();
+    line.try_extend_from_slice(b"fault").unwrap();
+    push_number(u64::from(fault.slot), &mut line);
+    push_number(u64::from(fault.cause), &mut line);
+    push_other(fault.other, &mut line);
+    line.push(b'\n');
+    line
 }
 
-/// A slot in decimal digits, or `-`, after a text.
-fn push_other(other: Option<u16>, text: &mut Line)
-    requires { length text.old.items + 10 ≤ 40 }
-    ensures text { text.new.items ≡ text.old.items ++ spec.other_text other }
-    ensures size { length text.new.items ≤ length text.old.items + 10 }
+/// Puts a space and a slot after a line, or `-` for none.
+fn push_other(other: Option<u16>, line: &mut Line)
+    requires { length line.old.items + 21 ≤ 72 }
+    ensures { Appends 21 (field (spec.other_text other)) line.old.items line.new.items }
 {
     match other {
-        Some(slot) => push_number(u32::from(slot), text),
-        None => text.push(b'-'),
+        Some(slot) => push_number(u64::from(slot), line),
+        None => push_word(b"-", line),
     }
-}
-
-/// A number in decimal digits after a text.
-fn push_number(number: u32, text: &mut Line)
-    requires { length text.old.items + 10 ≤ 40 }
-    ensures text { text.new.items ≡ text.old.items ++ decimal number }
-    ensures size { length text.new.items ≤ length text.old.items + 10 }
-{
-    let mut buffer = Buffer::new();
-    let digits = buffer.format(number).as_bytes();
-    text.try_extend_from_slice(digits).unwrap();
 }

@@ -1,8 +1,7 @@
 //! Runs of a machine that begins, and what they leave of its disk.
 ghost use Rattle.std.specs.Prelude.{◌≡◌, ◌<◌, ◌≤◌};
 ghost use Rattle.mpm_port.specs.MemoryDisks.{disks_of};
-ghost use Rattle.mpm_system.specs.Whole.{IsWhole, NoCompletions};
-ghost use Rattle.mpm_machine.specs.Holding.{HoldsDrives};
+ghost use Rattle.mpm_machine.specs.Parts.{IsBetweenSteps};
 
 use mpm_base::Steps;
 use mpm_drives::BootError;
@@ -28,10 +27,8 @@ pub(crate) fn run<L: Ledger>(
     blank: Blank,
 ) -> Status
     requires most { steps ≤ 400000 }
-    requires whole { IsWhole machine.old.system }
-    requires no_completions { NoCompletions machine.old.system }
+    requires between { IsBetweenSteps disks_of machine.old drives.old }
     requires start { machine.old.system.steps ≡ 0 }
-    requires holds { HoldsDrives disks_of machine.old.system.kernel machine.old.bdos drives.old }
     requires name { blank.name ≡ L.name }
     requires parts { blank.parts ≡ L.parts }
     requires some { 0 < L.parts }

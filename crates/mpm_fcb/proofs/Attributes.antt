@@ -1,4 +1,4 @@
--- A name whose bytes have got their attributes, one after the other: it is the name that it was, and an opening takes F6' from it.
+-- A name whose bytes have got their attributes, one after the other: it is the name that it was, and an opening takes F5' and F6' from it.
 use Rattle.std.proofs.Common.{◌≡◌, ◌∙◌, ℕ, ◌%◌, ◌<◌, Bool, true, false, List, [], ◌∷◌, length, map, get_or, refl, ap, arith}
 use Rattle.std.specs.Prelude.{nat_le, slice_index, slice_index_or}
 use Rattle.std.specs.List.{range_with_len}
@@ -33,13 +33,20 @@ pub still_long : (name : List ℕ) (attributes : List Bool) → length (with_att
 unfolding with_attributes
 still_long name attributes = refl
 
--- F6' goes
+-- F5' and F6' go
 sixth_off : (attributes : List Bool) → slice_index_or (without_f5_f6 attributes) 5 false ≡ false
 sixth_off [] = refl
 sixth_off (a ∷ []) = refl
 sixth_off (a ∷ b ∷ []) = refl
 sixth_off (a ∷ b ∷ c ∷ []) = refl
 sixth_off (a ∷ b ∷ c ∷ d ∷ rest) = refl
+
+fifth_off : (attributes : List Bool) → slice_index_or (without_f5_f6 attributes) 4 false ≡ false
+fifth_off [] = refl
+fifth_off (a ∷ []) = refl
+fifth_off (a ∷ b ∷ []) = refl
+fifth_off (a ∷ b ∷ c ∷ []) = refl
+fifth_off (a ∷ b ∷ c ∷ d ∷ rest) = refl
 
 low : (byte : ℕ) → nat_le 128 (with_attribute byte false) ≡ false
 low byte = grind (arith, nat_tests)
@@ -48,3 +55,8 @@ pub without_f6 : (name : List ℕ) (attributes : List Bool) → nat_le 128 (slic
 unfolding with_attributes
 without_f6 name attributes =
     ap (λ attribute. nat_le 128 (with_attribute (slice_index name 5) attribute)) (sixth_off attributes) ∙ low (slice_index name 5)
+
+pub without_f5 : (name : List ℕ) (attributes : List Bool) → nat_le 128 (slice_index (with_attributes name (without_f5_f6 attributes)) 4) ≡ false
+unfolding with_attributes
+without_f5 name attributes =
+    ap (λ attribute. nat_le 128 (with_attribute (slice_index name 4) attribute)) (fifth_off attributes) ∙ low (slice_index name 4)

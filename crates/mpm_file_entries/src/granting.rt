@@ -1,8 +1,8 @@
-ghost use Rattle.std.specs.Prelude.{◌≡◌, ◌≤◌, ℕ, true, List, IfSome, unwrap_or};
+ghost use Rattle.std.specs.Prelude.{◌≡◌, ◌≤◌, true, IfSome, unwrap_or};
 ghost use Rattle.std.specs.FinMap.{get};
 ghost use Rattle.mpm_dirent.specs.declared.limits.TheConstants.{LAST_POSITION};
-ghost use Rattle.mpm_mount.specs.Drives.{Drive, extents_of};
-ghost use Rattle.mpm_mount.specs.Directories.{Stands};
+ghost use Rattle.mpm_mount.specs.Drives.{extents_of};
+ghost use Rattle.mpm_mount.specs.Standing.{OnItsDrive};
 ghost use Rattle.mpm_fcb.specs.Positions.{with_random};
 ghost use Rattle.mpm_file_entries.specs.Protections.{no_protection};
 ghost use Rattle.mpm_file_functions.specs.Ends as records;
@@ -60,8 +60,7 @@ fn told_code(function: FileFunction, ended: &Ended, multi: u8) -> u16
 pub fn reply_value(granted: &Granted, multi: u8, mounted: &Mounted) -> u16
     requires some { 1 ≤ multi }
     requires few { multi ≤ 16 }
-    ensures { (image : List ℕ) (drive : Drive) → Stands image mounted.now drive
-        → spec.FewDone multi granted.now.ended → result ≡ spec.value_by drive granted.now granted.now.function }
+    ensures { OnItsDrive mounted.now (λ drive. spec.FewDone multi granted.now.ended → result ≡ spec.value_by drive granted.now granted.now.function) }
 {
     match granted.function {
         FileFunction::ReadSequential
@@ -78,8 +77,7 @@ pub fn reply_value(granted: &Granted, multi: u8, mounted: &Mounted) -> u16
 /// The block of a file that was opened or made.
 fn opened_block(granted: &Granted, mounted: &Mounted) -> ControlBlock
     requires { IfSome granted.now.opened (λ made. made.number ≤ 63) }
-    ensures { (image : List ℕ) (drive : Drive) → Stands image mounted.now drive
-        → result ≡ spec.opened_block drive granted.now granted.now.opened }
+    ensures { OnItsDrive mounted.now (λ drive. result ≡ spec.opened_block drive granted.now granted.now.opened) }
 {
     match granted.opened {
         Some(opened) => block_as(granted, mounted, opened),
@@ -90,8 +88,7 @@ fn opened_block(granted: &Granted, mounted: &Mounted) -> ControlBlock
 /// The block of one that was opened or made so.
 fn block_as(granted: &Granted, mounted: &Mounted, made: OpenedAs) -> ControlBlock
     requires { made.number ≤ 63 }
-    ensures { (image : List ℕ) (drive : Drive) → Stands image mounted.now drive
-        → result ≡ telling.opened_by drive granted.now.owner granted.now.block made.mode made.number }
+    ensures { OnItsDrive mounted.now (λ drive. result ≡ telling.opened_by drive granted.now.owner granted.now.block made.mode made.number) }
 {
     let mut block = granted.block;
     open_block(&mut block, mounted, granted.owner, made.mode, made.number);
@@ -100,8 +97,7 @@ fn block_as(granted: &Granted, mounted: &Mounted, made: OpenedAs) -> ControlBloc
 
 /// The block after a call on records, which stays or moves on.
 fn moved_block(granted: &Granted, mounted: &Mounted) -> ControlBlock
-    ensures { (image : List ℕ) (drive : Drive) → Stands image mounted.now drive → spec.IsPlaced granted.now
-        → result ≡ spec.moved_block drive granted.now }
+    ensures { OnItsDrive mounted.now (λ drive. spec.IsPlaced granted.now → result ≡ spec.moved_block drive granted.now) }
 {
     if does_stay(granted.ended.moved, granted.ended.end) {
         granted.block
@@ -112,8 +108,7 @@ fn moved_block(granted: &Granted, mounted: &Mounted) -> ControlBlock
 
 /// The block that moves on.
 fn placed_block(granted: &Granted, mounted: &Mounted) -> ControlBlock
-    ensures { (image : List ℕ) (drive : Drive) → Stands image mounted.now drive → spec.position_of granted.now ≤ LAST_POSITION
-        → result ≡ telling.moved_to drive granted.now.owner granted.now.block (spec.position_of granted.now) }
+    ensures { OnItsDrive mounted.now (λ drive. spec.position_of granted.now ≤ LAST_POSITION → result ≡ telling.moved_to drive granted.now.owner granted.now.block (spec.position_of granted.now)) }
 {
     let mut block = granted.block;
     position_block(&mut block, mounted, granted.owner, position_of(granted));
@@ -144,8 +139,7 @@ fn position_of(granted: &Granted) -> u32
 #[tactic(auto, unfolding(crate::specs::Granting::block_by))]
 pub fn reply_block(granted: &Granted, mounted: &Mounted) -> ControlBlock
     requires number { IfSome granted.now.opened (λ made. made.number ≤ 63) }
-    ensures { (image : List ℕ) (drive : Drive) → Stands image mounted.now drive
-        → (spec.is_moving granted.now.function ≡ true → spec.IsPlaced granted.now) → result ≡ spec.block_by drive granted.now granted.now.function }
+    ensures { OnItsDrive mounted.now (λ drive. (spec.is_moving granted.now.function ≡ true → spec.IsPlaced granted.now) → result ≡ spec.block_by drive granted.now granted.now.function) }
 {
     match granted.function {
         FileFunction::OpenFile | FileFunction::MakeFile => opened_block(granted, mounted),
@@ -162,8 +156,7 @@ pub fn reply_block(granted: &Granted, mounted: &Mounted) -> ControlBlock
 
 /// The block that tells a file's size.
 fn sized_block(granted: &Granted, mounted: &Mounted) -> ControlBlock
-    ensures { (image : List ℕ) (drive : Drive) → Stands image mounted.now drive
-        → result ≡ with_random granted.now.block (sizes.size_of (extents_of drive (spec.file_in granted.now))) }
+    ensures { OnItsDrive mounted.now (λ drive. result ≡ with_random granted.now.block (sizes.size_of (extents_of drive (spec.file_in granted.now)))) }
 {
     let mut block = granted.block;
     block.set_random(size(mounted, granted.owner, &granted.block.name));
@@ -172,8 +165,7 @@ fn sized_block(granted: &Granted, mounted: &Mounted) -> ControlBlock
 
 /// The block that tells of a file's XFCB.
 fn guarded_block(granted: &Granted, mounted: &Mounted) -> ControlBlock
-    ensures { (image : List ℕ) (drive : Drive) → Stands image mounted.now drive
-        → result ≡ protections.told_xfcb (unwrap_or (get drive.xfcbs (spec.file_in granted.now)) no_protection) granted.now.block }
+    ensures { OnItsDrive mounted.now (λ drive. result ≡ protections.told_xfcb (unwrap_or (get drive.xfcbs (spec.file_in granted.now)) no_protection) granted.now.block) }
 {
     let mut block = granted.block;
     xfcb_block(&mut block, mounted, granted.owner);

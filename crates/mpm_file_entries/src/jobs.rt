@@ -1,9 +1,8 @@
-ghost use Rattle.std.specs.Prelude.{◌≡◌, ◌&&◌, not, ℕ, List, option_map, unwrap_or, if◌then◌else◌};
+ghost use Rattle.std.specs.Prelude.{◌≡◌, ◌&&◌, not, option_map, unwrap_or, if◌then◌else◌};
 ghost use Rattle.std.specs.FinMap.{get};
 ghost use Rattle.mpm_base.specs.Calls.{byte_in, eight_at};
 ghost use Rattle.mpm_dirent.specs.Names.{plain};
-ghost use Rattle.mpm_mount.specs.Drives.{Drive};
-ghost use Rattle.mpm_mount.specs.Directories.{Stands};
+ghost use Rattle.mpm_mount.specs.Standing.{OnItsDrive};
 ghost use Rattle.mpm_mount.specs.Looking.{data_byte};
 ghost use Rattle.mpm_guard.specs.Passwords.{has_bit};
 ghost use Rattle.mpm_fcb.specs.Names.{has_f6};
@@ -37,8 +36,7 @@ fn opening_job(user: u8, name: &[u8; 11], label: u8, moment: [u8; 4]) -> Job
 
 /// The job of an opening on a drive.
 pub fn opening(mounted: &Mounted, user: u8, name: &[u8; 11], moment: [u8; 4]) -> Job
-    ensures { (image : List ℕ) (drive : Drive) → Stands image mounted.now drive
-        → result ≡ jobs.with_stamp (jobs.stamp_where (has_bit 0x40 (data_byte drive)) moment) (jobs.job_for kinds.Nothing user name.now) }
+    ensures { OnItsDrive mounted.now (λ drive. result ≡ jobs.with_stamp (jobs.stamp_where (has_bit 0x40 (data_byte drive)) moment) (jobs.job_for kinds.Nothing user name.now)) }
 {
     opening_job(user, name, label_byte(mounted), moment)
 }
@@ -46,8 +44,7 @@ pub fn opening(mounted: &Mounted, user: u8, name: &[u8; 11], moment: [u8; 4]) ->
 /// The second stamp, which comes with the first record that is written by way of an open file. (MP/M II Programmer's Guide,
 /// "Function 100: Set Directory Label".)
 pub fn writing_stamp(mounted: &Mounted, has_written: bool, moment: [u8; 4]) -> Option<[u8; 4]>
-    ensures { (image : List ℕ) (drive : Drive) → Stands image mounted.now drive
-        → result ≡ jobs.stamp_where (has_bit 0x20 (data_byte drive) && not has_written) moment }
+    ensures { OnItsDrive mounted.now (λ drive. result ≡ jobs.stamp_where (has_bit 0x20 (data_byte drive) && not has_written) moment) }
 {
     stamp_where(does_stamp(label_byte(mounted), has_written), moment)
 }
@@ -96,8 +93,8 @@ fn labelling_job(user: u8, name: &[u8; 11], label: &StoredProtection) -> Job
 
 /// The job of a labelling on a drive.
 pub fn labelling(mounted: &Mounted, user: u8, block: &ControlBlock, call: &Call) -> Job
-    ensures { (image : List ℕ) (drive : Drive) → Stands image mounted.now drive
-        → result ≡ protections.with_protection (protections.label_put block.now.ex (eight_at call.now 8) (unwrap_or (option_map (λ label. label.protection) drive.label) protections.no_protection)) (jobs.with_new_name block.now.name (jobs.job_for kinds.Label user block.now.name)) }
+    ensures { OnItsDrive mounted.now (λ drive. result
+        ≡ protections.with_protection (protections.label_put block.now.ex (eight_at call.now 8) (unwrap_or (option_map (λ label. label.protection) drive.label) protections.no_protection)) (jobs.with_new_name block.now.name (jobs.job_for kinds.Label user block.now.name))) }
 {
     let mut label = label_there(mounted);
     label.change_label(block.ex, &call.eight(8));
@@ -116,8 +113,8 @@ fn guarding_job(user: u8, name: &[u8; 11], xfcb: &StoredProtection) -> Job
 
 /// The job that makes or changes the XFCB of a user's file on a drive.
 pub fn guarding(mounted: &Mounted, user: u8, block: &ControlBlock, call: &Call) -> Job
-    ensures { (image : List ℕ) (drive : Drive) → Stands image mounted.now drive
-        → result ≡ protections.with_protection (protections.xfcb_put block.now.ex (eight_at call.now 8) (unwrap_or (get drive.xfcbs (record { user = user; name = plain block.now.name })) protections.no_protection)) (jobs.job_for kinds.Xfcb user block.now.name) }
+    ensures { OnItsDrive mounted.now (λ drive. result
+        ≡ protections.with_protection (protections.xfcb_put block.now.ex (eight_at call.now 8) (unwrap_or (get drive.xfcbs (record { user = user; name = plain block.now.name })) protections.no_protection)) (jobs.job_for kinds.Xfcb user block.now.name)) }
 {
     let mut xfcb = xfcb_there(mounted, user, &block.name);
     xfcb.change_xfcb(block.ex, &call.eight(8));

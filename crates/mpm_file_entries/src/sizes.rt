@@ -1,16 +1,17 @@
-ghost use Rattle.std.specs.Prelude.{◌≡◌, ◌≤◌, ◌+◌, ◌*◌, ℕ, List, bytes_eq, if◌then◌else◌};
+ghost use Rattle.std.specs.Prelude.{◌≡◌, ◌≤◌, ◌+◌, ◌*◌, bytes_eq, if◌then◌else◌};
 ghost use Rattle.mpm_dirent.specs.Names.{plain};
 ghost use Rattle.mpm_blocks.specs.Geometries.{geometry_of};
 ghost use Rattle.mpm_mount.specs.Faults.{extent_of};
-ghost use Rattle.mpm_mount.specs.Drives.{Drive, extents_of};
-ghost use Rattle.mpm_mount.specs.Directories.{Stands, entry_in};
+ghost use Rattle.mpm_mount.specs.Drives.{extents_of};
+ghost use Rattle.mpm_mount.specs.Directories.{entry_in};
+ghost use Rattle.mpm_mount.specs.Standing.{OnItsDrive};
 ghost use Rattle.mpm_file_entries.specs.Sizes.{size_of};
 ghost use Rattle.mpm_file_entries.specs.Sizes as spec;
 
 use mpm_dirent::{Entry, FileEntry, plain_name};
 use mpm_mount::{Found, Mounted};
 
-/// The record after the last of an entry of a file.
+/// The record after the last of an entry of a file: at most 128 x (32 x 255 + 255) + 255, where each byte is 255.
 fn end_of(file: &FileEntry) -> u32
     ensures value { result ≡ 128 * extent_of file.now + file.now.rc }
     ensures small { result ≤ 1077375 }
@@ -46,8 +47,7 @@ fn size_after(mounted: &Mounted, sought: &[u8; 11], found: &Found, size: u32) ->
 /// The size of a user's file, in records: one more than its last. (MP/M II Programmer's Guide, "Function 35: Compute File
 /// Size".)
 pub fn size(mounted: &Mounted, user: u8, name: &[u8; 11]) -> u32
-    ensures value { (image : List ℕ) (drive : Drive) → Stands image mounted.now drive
-        → result ≡ size_of (extents_of drive (record { user = user; name = plain name.now })) }
+    ensures value { OnItsDrive mounted.now (λ drive. result ≡ size_of (extents_of drive (record { user = user; name = plain name.now }))) }
     ensures small { result ≤ 1077375 }
 {
     // The kind tells how many slots there are.

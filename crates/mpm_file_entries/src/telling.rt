@@ -1,7 +1,7 @@
-ghost use Rattle.std.specs.Prelude.{◌≡◌, ◌<◌, ◌≤◌, ◌/◌, ◌%◌, ℕ, List, Some, replicate, unwrap_or};
+ghost use Rattle.std.specs.Prelude.{◌≡◌, ◌<◌, ◌≤◌, ◌/◌, ◌%◌, Some, replicate, unwrap_or};
 ghost use Rattle.mpm_mount.specs.Faults.{extent_of};
-ghost use Rattle.mpm_mount.specs.Drives.{Drive, extents_of, entry_number, free_records};
-ghost use Rattle.mpm_mount.specs.Directories.{Stands};
+ghost use Rattle.mpm_mount.specs.Drives.{extents_of, entry_number, free_records};
+ghost use Rattle.mpm_mount.specs.Standing.{OnItsDrive};
 ghost use Rattle.mpm_fcb.specs.Positions.{three_bytes};
 ghost use Rattle.std.specs.FinMap.{get};
 ghost use Rattle.mpm_dirent.specs.Names.{plain};
@@ -85,9 +85,7 @@ fn told_in(mounted: &Mounted, user: u8, name: &[u8; 11], extent: u16) -> Option<
 
 /// The entry that covers an extent of a user's file, as a search tells it, if it is there.
 pub fn found_bytes(mounted: &Mounted, user: u8, name: &[u8; 11], extent: u16) -> Option<[u8; 128]>
-    ensures { (image : List ℕ) (drive : Drive) → Stands image mounted.now drive
-        → where_there result (λ bytes. bytes)
-        ≡ spec.found_bytes drive (Some (record { user = user; name = plain name.now }, entry_number mounted.now.kind extent)) }
+    ensures { OnItsDrive mounted.now (λ drive. where_there result (λ bytes. bytes) ≡ spec.found_bytes drive (Some (record { user = user; name = plain name.now }, entry_number mounted.now.kind extent))) }
 {
     told_in(mounted, user, name, extent)
 }
@@ -95,8 +93,7 @@ pub fn found_bytes(mounted: &Mounted, user: u8, name: &[u8; 11], extent: u16) ->
 /// The record count of an extent of a user's file, 0 where it isn't there.
 #[tactic(auto, using(crate::proofs::Told::counted))]
 pub fn record_count(mounted: &Mounted, user: u8, name: &[u8; 11], extent: u16) -> u8
-    ensures { (image : List ℕ) (drive : Drive) → Stands image mounted.now drive
-        → result ≡ spec.record_count drive (record { user = user; name = plain name.now }) extent }
+    ensures { OnItsDrive mounted.now (λ drive. result ≡ spec.record_count drive (record { user = user; name = plain name.now }) extent) }
 {
     extent_count(mounted, user, name, extent).unwrap_or(0)
 }
@@ -104,8 +101,7 @@ pub fn record_count(mounted: &Mounted, user: u8, name: &[u8; 11], extent: u16) -
 /// The attributes of a user's file, none where it isn't there.
 #[tactic(auto, using(crate::proofs::Told::attributes_same))]
 fn attributes_or_none(mounted: &Mounted, user: u8, name: &[u8; 11]) -> [bool; 11]
-    ensures { (image : List ℕ) (drive : Drive) → Stands image mounted.now drive
-        → result ≡ attributes_there (extents_of drive (record { user = user; name = plain name.now })) }
+    ensures { OnItsDrive mounted.now (λ drive. result ≡ attributes_there (extents_of drive (record { user = user; name = plain name.now }))) }
 {
     match attributes(mounted, user, name) {
         Some(attributes) => attributes,
@@ -116,8 +112,7 @@ fn attributes_or_none(mounted: &Mounted, user: u8, name: &[u8; 11]) -> [bool; 11
 /// Puts into a block what an opening or a making of a file of the user `owner` answers.
 pub fn open_block(block: &mut ControlBlock, mounted: &Mounted, owner: u8, mode: Mode, item: u8)
     requires { item < 64 }
-    ensures { (image : List ℕ) (drive : Drive) → Stands image mounted.now drive
-        → block.new ≡ spec.opened_by drive owner block.old mode item }
+    ensures { OnItsDrive mounted.now (λ drive. block.new ≡ spec.opened_by drive owner block.old mode item) }
 {
     let attributes = attributes_or_none(mounted, owner, &block.name);
     let records = record_count(mounted, owner, &block.name, u16::from(block.ex % 32));
@@ -127,8 +122,7 @@ pub fn open_block(block: &mut ControlBlock, mounted: &Mounted, owner: u8, mode: 
 /// Puts into a block a position, at most 262,271, in a file of the user `owner`.
 pub fn position_block(block: &mut ControlBlock, mounted: &Mounted, owner: u8, position: u32)
     requires { position ≤ LAST_POSITION }
-    ensures { (image : List ℕ) (drive : Drive) → Stands image mounted.now drive
-        → block.new ≡ spec.moved_to drive owner block.old position }
+    ensures { OnItsDrive mounted.now (λ drive. block.new ≡ spec.moved_to drive owner block.old position) }
 {
     let extent = (position / 128).min(u32::from(LAST_EXTENT)) as u16;
     let records = record_count(mounted, owner, &block.name, extent);
@@ -138,8 +132,7 @@ pub fn position_block(block: &mut ControlBlock, mounted: &Mounted, owner: u8, po
 /// Puts into a block the mode and the stamps of the XFCB of a user's file. (MP/M II Programmer's Guide, "Function 102: Read File
 /// XFCB".)
 pub fn xfcb_block(block: &mut ControlBlock, mounted: &Mounted, user: u8)
-    ensures { (image : List ℕ) (drive : Drive) → Stands image mounted.now drive
-        → block.new ≡ protections.told_xfcb (unwrap_or (get drive.xfcbs (record { user = user; name = plain block.old.name })) no_protection) block.old }
+    ensures { OnItsDrive mounted.now (λ drive. block.new ≡ protections.told_xfcb (unwrap_or (get drive.xfcbs (record { user = user; name = plain block.old.name })) no_protection) block.old) }
 {
     let xfcb = xfcb_there(mounted, user, &block.name);
     xfcb.tell(block);
@@ -149,7 +142,7 @@ pub fn xfcb_block(block: &mut ControlBlock, mounted: &Mounted, user: u8)
 /// Space".)
 #[tactic(auto, using(mpm_mount::proofs::FreeRecords::free_records_same))]
 pub fn free_bytes(mounted: &Mounted) -> [u8; 3]
-    ensures { (image : List ℕ) (drive : Drive) → Stands image mounted.now drive → result ≡ three_bytes (free_records drive) }
+    ensures { OnItsDrive mounted.now (λ drive. result ≡ three_bytes (free_records drive)) }
 {
     three_bytes(mounted.free_records())
 }

@@ -1,5 +1,6 @@
 -- What ends the records of a call: one table by function, and how each end is answered. (MP/M II Programmer's Guide, functions 20,
--- 21, 33, 34, 40, 41 and 42.)
+-- 21, 33, 34, 40, 41 and 42.) The records that function 42 locks go by the table. Those of the others go by the plan of their job
+-- (mpm_files, Plans.antt) and by the locks of others (mpm_bdos, Replies.antt): laws say that they end as the table has it.
 use Rattle.std.specs.Prelude.{ℕ, ◌+◌, ◌*◌, ◌/◌, ◌==◌, ◌&&◌, Bool, List, [], ◌∷◌, Option, Some, None, is_some, if◌then◌else◌}
 use Rattle.mpm_file_functions.specs.declared.errors.RecordError.{RecordError}
 use Rattle.mpm_file_functions.specs.declared.errors.RecordError.TheVariants.{UnwrittenExtent, UnwrittenData, Mismatch, NoDirectorySpace, NoDataBlock}

@@ -8,7 +8,7 @@ use crate::functions::FileFunction;
 pub struct Extended {
     /// The error code.
     pub code: u8,
-    /// The drive, 0 to 15 for A to P.
+    /// The drive, 0 to 15 for A to P; more where a call names a drive that there can't be.
     pub drive: u8,
 }
 

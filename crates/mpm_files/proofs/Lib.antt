@@ -23,6 +23,7 @@ pub mod Missed
 pub mod Shown
 pub mod VisibleRecords
 pub mod TestedRecords
+pub mod TurnsShown
 pub mod NextEntries
 pub mod NextRenamed
 pub mod NextAttributes

@@ -11,12 +11,12 @@ use Rattle.mpm_dirent.specs.declared.kinds.Entry.{Entry}
 use Rattle.mpm_sectors.specs.declared.disk.Disk.{Disk}
 use Rattle.mpm_mount.specs.Directories.{Directory, with_entry}
 use Rattle.mpm_files.specs.Standing.{SameDisk}
-use Rattle.mpm_files.specs.Working.{WorksOnDisk}
+use Rattle.mpm_files.specs.Working.{UsesDisk}
 use Rattle.mpm_files.proofs.Causing.{cause_none, cause_behind, cause_done, cause_failed}
 
 -- nothing was done
 pub works_not : {D A E : Type 0} (of : Ghosts D) (most : ℕ) (d : Directory) (cached : List (SectorPlace × List ℕ)) (drives : D) (steps : ℕ) (x : A) → IsCoherent cached (of.disks drives)
-    → WorksOnDisk {E = E} of most d d cached cached drives drives steps steps (Ok x)
+    → UsesDisk {E = E} of most d d cached cached drives drives steps steps (Ok x)
 works_not of most d cached drives steps x coherent = record {
   disk = record { drive = refl; kind = refl };
   calls = omega arith;
@@ -26,25 +26,25 @@ works_not of most d cached drives steps x coherent = record {
 
 -- more calls are allowed
 pub works_within : {D A E : Type 0} (of : Ghosts D) (few most : ℕ) (d e : Directory) (cached new : List (SectorPlace × List ℕ)) (old now : D) (before after : ℕ) (result : Result A E) → few ≤ most
-    → WorksOnDisk of few d e cached new old now before after result → WorksOnDisk of most d e cached new old now before after result
+    → UsesDisk of few d e cached new old now before after result → UsesDisk of most d e cached new old now before after result
 works_within of few most d e cached new old now before after result h works =
     let calls = works.calls in
     record { disk = works.disk; calls = omega (arith, h, calls); leaves = works.leaves; cause = works.cause }
 
 -- the same result with another value
 pub works_done : {D A B E : Type 0} (of : Ghosts D) (most : ℕ) (d e : Directory) (cached new : List (SectorPlace × List ℕ)) (old now : D) (before after : ℕ) (x : A) (y : B)
-    → WorksOnDisk {E = E} of most d e cached new old now before after (Ok x) → WorksOnDisk {E = E} of most d e cached new old now before after (Ok y)
+    → UsesDisk {E = E} of most d e cached new old now before after (Ok x) → UsesDisk {E = E} of most d e cached new old now before after (Ok y)
 works_done of most d e cached new old now before after x y works =
     record { disk = works.disk; calls = works.calls; leaves = works.leaves; cause = cause_done x y (of.faults old) (of.faults now) works.cause }
 
 pub works_failed : {D A B E : Type 0} (of : Ghosts D) (most : ℕ) (d e : Directory) (cached new : List (SectorPlace × List ℕ)) (old now : D) (before after : ℕ) (error : E)
-    → WorksOnDisk {A = A} of most d e cached new old now before after (Err error) → WorksOnDisk {A = B} of most d e cached new old now before after (Err error)
+    → UsesDisk {A = A} of most d e cached new old now before after (Err error) → UsesDisk {A = B} of most d e cached new old now before after (Err error)
 works_failed of most d e cached new old now before after error works =
     record { disk = works.disk; calls = works.calls; leaves = works.leaves; cause = cause_failed error (of.faults old) (of.faults now) works.cause }
 
 -- one call after another
 pub works_then : {D A B E : Type 0} (of : Ghosts D) (one two most : ℕ) (d e f : Directory) (first second third : List (SectorPlace × List ℕ)) (a b c : D) (s t u : ℕ) (x : A) (result : Result B E) → one + two ≤ most
-    → WorksOnDisk {E = E} of one d e first second a b s t (Ok x) → WorksOnDisk of two e f second third b c t u result → WorksOnDisk of most d f first third a c s u result
+    → UsesDisk {E = E} of one d e first second a b s t (Ok x) → UsesDisk of two e f second third b c t u result → UsesDisk of most d f first third a c s u result
 works_then of one two most d e f first second third a b c s t u x result h before works =
     let p = before.calls in
     let q = works.calls in
@@ -58,7 +58,7 @@ works_then of one two most d e f first second third a b c s t u x result h befor
 
 -- a disk that was ready is ready for the next call
 pub ready_behind : {D A E : Type 0} (of : Ghosts D) (most : ℕ) (d e : Directory) (cached new : List (SectorPlace × List ℕ)) (old now : D) (before after : ℕ) (result : Result A E)
-    → IsReadyDisk (of.disks old) d.drive d.kind cached → WorksOnDisk of most d e cached new old now before after result → IsReadyDisk (of.disks now) e.drive e.kind new
+    → IsReadyDisk (of.disks old) d.drive d.kind cached → UsesDisk of most d e cached new old now before after result → IsReadyDisk (of.disks now) e.drive e.kind new
 ready_behind of most d e cached new old now before after result ready works =
     subst (λ drive. IsReadyDisk (of.disks now) drive e.kind new) (sym works.disk.drive)
     (subst (λ kind. IsReadyDisk (of.disks now) d.drive kind new) (sym works.disk.kind)
@@ -67,7 +67,7 @@ ready_behind of most d e cached new old now before after result ready works =
 -- by the disk of a directory, whose entry is put in another's place
 pub works_as : {D A E : Type 0} (of : Ghosts D) (most : ℕ) (d e : Directory) (disk : Disk) (cached new : List (SectorPlace × List ℕ)) (old now : D) (before after : ℕ) (result : Result A E)
     → disk ≡ record { drive = d.drive; kind = d.kind } → SameDisk d e → after ≤ before + most → LeavesDisks of.disks of.told of.failed_names of.unsynced disk.drive cached new old now
-    → HasCause (of.faults old) (of.faults now) result → WorksOnDisk of most d e cached new old now before after result
+    → HasCause (of.faults old) (of.faults now) result → UsesDisk of most d e cached new old now before after result
 works_as of most d e disk cached new old now before after result is same calls leaves cause = record {
   disk = same;
   calls = calls;

@@ -5,6 +5,6 @@ pub mod Containment
 pub mod Counting
 pub mod Lookups
 pub mod Standing
-pub mod Working
 pub mod Turning
 pub mod Stepping
+pub mod Working

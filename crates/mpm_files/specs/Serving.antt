@@ -222,7 +222,7 @@ abbrev pub begun : Job → Count → Work
 begun job count =
     record { job = job; units = count.units; ended = 0; moved = 0; error = count.error; has_missed = false; last = None; cleared = None }
 
--- why it ended, once it has; and the code of that, as the functions on records answer it
+-- why it ended, once it has; and the code of that, as functions 33 and 41 answer it, and 21 for a full directory
 abbrev pub told_error : Work → Option RecordError
 told_error work = if nat_lt work.ended (turns_in work) then None else (if work.has_missed then Some Mismatch else work.error)
 

@@ -4,10 +4,12 @@ use Rattle.mpm_base.specs.declared.kind.Kind.{Kind}
 use Rattle.mpm_port.specs.Disks.{Disks}
 use Rattle.mpm_blocks.specs.Geometries.{block_records}
 use Rattle.mpm_blocks.specs.Sectors.{Sectors, sectors_of}
+use Rattle.mpm_dirent.specs.declared.kinds.Entry.{Entry}
 use Rattle.mpm_dirent.specs.declared.kinds.FileEntry.{FileEntry}
 use Rattle.mpm_mount.specs.Drives.{PhysicalExtent, Drive, block_place, with_record_in, with_extent}
 use Rattle.mpm_mount.specs.Faults.{name_of}
-use Rattle.mpm_mount.specs.Directories.{Directory, Stands, free_block}
+use Rattle.mpm_mount.specs.Changes.{exchanged}
+use Rattle.mpm_mount.specs.Directories.{Directory, Stands, entry_in, free_block}
 use Rattle.mpm_files.specs.Units.{FileUnit, is_raising, raised, last_of, stages, applied}
 use Rattle.mpm_files.specs.Serving.{cleared_sectors, IsCleared}
 
@@ -21,6 +23,14 @@ pub record StandsOn (disks : Disks) (d : Directory) (files : Drive) : Type 0 whe
   pub image : List ℕ
   pub told : disks.image d.drive ≡ Some image
   pub stands : Stands image d files
+
+-- what is said of an image and of a drive of files holds of all for which the attached image stands with a directory
+abbrev pub OnItsImage : Disks → Directory → (List ℕ → Drive → Type 0) → Type 0
+OnItsImage disks d said = (image : List ℕ) (files : Drive) → disks.image d.drive ≡ Some image → Stands image d files → said image files
+
+-- the drive with another directory entry in a slot
+abbrev pub exchanged_in : List ℕ → Directory → Drive → ℕ → Entry → Drive
+exchanged_in image d files slot entry = exchanged (sectors_of image d.kind) files (entry_in d slot) entry
 
 -- a drive of files is the one before a change, or one of those that it goes through
 unfoldable pub IsAmong : Drive → List Drive → Drive → Type 0

@@ -1,5 +1,5 @@
 -- What a turn leaves of a job in service, on the attached image of its drive.
-use Rattle.std.specs.Prelude.{◌≡◌, ℕ, suc, ◌+◌, ◌*◌, ◌<◌, ◌≤◌, ◌==◌, ◌&&◌, not, Bool, false, List, ◌++◌, take, drop, Option, Some, None, is_some, if◌then◌else◌, length, Result, OnOk, OnErr}
+use Rattle.std.specs.Prelude.{◌≡◌, ℕ, suc, ◌+◌, ◌*◌, ◌/◌, ◌%◌, ◌<◌, ◌≤◌, ◌==◌, ◌&&◌, not, Bool, false, List, ◌++◌, map, take, drop, replicate, Option, Some, None, is_some, nat_le, if◌then◌else◌, length, Result, OnOk, OnErr}
 use Rattle.std.specs.List.{list_any}
 use Rattle.std.specs.FinMap.{get}
 use Rattle.mpm_port.specs.Disks.{Disks}
@@ -14,8 +14,9 @@ use Rattle.mpm_dirent.specs.declared.kinds.LabelEntry.{LabelEntry}
 use Rattle.mpm_dirent.specs.Names.{plain}
 use Rattle.mpm_dirent.specs.declared.limits.TheConstants.{LAST_POSITION, LAST_RECORD}
 use Rattle.mpm_mount.specs.declared.searching.Found.{Found}
-use Rattle.mpm_mount.specs.Drives.{Drive, free_entries}
-use Rattle.mpm_mount.specs.Directories.{Directory, entry_in, xfcb_slot}
+use Rattle.mpm_mount.specs.Drives.{Drive, extents_of, free_entries}
+use Rattle.mpm_mount.specs.Directories.{Directory, Stands, entry_in, xfcb_slot}
+use Rattle.mpm_mount.specs.Attributes.{attributes_of}
 use Rattle.mpm_mount.specs.Searching.{IsUnambiguous}
 use Rattle.mpm_mount.specs.Files.{is_same_file, has_file, file_in, is_part_of}
 use Rattle.mpm_jobs.specs.declared.jobs.JobKind.{JobKind}
@@ -85,6 +86,16 @@ pub record IsFileAt (d : Directory) (slot : ℕ) (f : FileEntry) : Type 0 where
   pub sound : IsSoundDirectory d
   pub entry : entry_in d slot ≡ File f
   pub proper : IsProper (geometry_of d.kind).wide (File f)
+
+-- a new entry of a job's file, for an extent: it has the attributes of the file, and holds no block
+pub record IsNewEntry (d : Directory) (job : Job) (extent : ℕ) (f : FileEntry) : Type 0 where
+  pub user : f.user ≡ job.user
+  pub name : plain f.name ≡ plain job.name
+  pub attributes : (image : List ℕ) (files : Drive) → Stands image d files → map (nat_le 128) f.name ≡ attributes_of (extents_of files (file_of_job job))
+  pub low : f.ex ≡ extent % 32
+  pub high : f.s2 ≡ extent / 32
+  pub count : f.rc ≡ 0
+  pub blocks : f.blocks ≡ replicate 16 0
 
 -- the attributes F1' to F4' and T1' to T3' of a name, and F5' to F8' of another
 abbrev pub marks_set : List ℕ → List ℕ → List ℕ

@@ -1,15 +1,15 @@
-ghost use Rattle.std.specs.Prelude.{◌≡◌, ◌≢◌, ◌/◌, ◌%◌, ◌<◌, ◌≤◌, ℕ, List, Some, None, map, nat_le, replicate};
+ghost use Rattle.std.specs.Prelude.{◌≡◌, ◌≢◌, ◌/◌, ◌%◌, ◌<◌, ◌≤◌, ℕ, List, Some, None, map, nat_le};
 ghost use Rattle.std.specs.FinMap.{get};
-ghost use Rattle.mpm_dirent.specs.Names.{plain};
 ghost use Rattle.mpm_dirent.specs.declared.limits.TheConstants.{LAST_EXTENT};
 ghost use Rattle.mpm_mount.specs.Drives.{Drive, entry_name, extents_of, free_entries};
 ghost use Rattle.mpm_mount.specs.Directories.{Stands};
 ghost use Rattle.mpm_mount.specs.Attributes.{attributes_of};
 ghost use Rattle.mpm_sectors.specs.Disks.{IsReadyDisk};
-ghost use Rattle.mpm_files.specs.Standing.{DoesUnit};
+ghost use Rattle.mpm_files.specs.Standing.{OnItsImage, DoesUnit};
+ghost use Rattle.mpm_files.specs.Turning.{IsNewEntry};
 ghost use Rattle.mpm_files.specs.Units.{AddsEntry};
 ghost use Rattle.mpm_files.specs.Plans.{file_of_job};
-ghost use Rattle.mpm_files.specs.Working.{WorksOnDisk};
+ghost use Rattle.mpm_files.specs.Working.{UsesDisk};
 
 use crate::entries::put_entry;
 use crate::marking::marked;
@@ -24,8 +24,7 @@ use std::sync::ledger::Ledger;
 
 /// A name with the attributes of a job's file, which are those of its lowest entry.
 fn attributes(mounted: &Mounted, job: &Job) -> [u8; 11]
-    ensures { (image : List ℕ) (files : Drive) → Stands image mounted.now files
-        → map (nat_le 128) result ≡ attributes_of (extents_of files (file_of_job job.now)) }
+    ensures { (image : List ℕ) (files : Drive) → Stands image mounted.now files → map (nat_le 128) result ≡ attributes_of (extents_of files (file_of_job job.now)) }
 {
     mounted.tell_directory();
     match lowest_entry(mounted, job.user, &job.name) {
@@ -40,14 +39,7 @@ fn attributes(mounted: &Mounted, job: &Job) -> [u8; 11]
 /// A new directory entry of a job's file, for an extent: it holds no block.
 fn new_entry(mounted: &Mounted, job: &Job, extent: u16) -> FileEntry
     requires { extent ≤ LAST_EXTENT }
-    ensures user { result.user ≡ job.now.user }
-    ensures name { plain result.name ≡ plain job.now.name }
-    ensures attributes { (image : List ℕ) (files : Drive) → Stands image mounted.now files
-        → map (nat_le 128) result.name ≡ attributes_of (extents_of files (file_of_job job.now)) }
-    ensures low { result.ex ≡ extent % 32 }
-    ensures high { result.s2 ≡ extent / 32 }
-    ensures count { result.rc ≡ 0 }
-    ensures blocks { result.blocks ≡ replicate 16 0 }
+    ensures { IsNewEntry mounted.now job.now extent result }
 {
     FileEntry {
         user: job.user,
@@ -71,10 +63,9 @@ pub(crate) fn add_entry<D: Drives, L: Ledger>(
     steps: &mut Steps<L>,
 ) -> Result<(), Failed>
     requires ready { IsReadyDisk (D.disks drives.old) mounted.old.drive mounted.old.kind cache.old }
-    ensures does { (image : List ℕ) (files : Drive) → (D.disks drives.old).image mounted.old.drive ≡ Some image → Stands image mounted.old files
-        → job.now.user < 16 → extent ≤ LAST_EXTENT → get files.extents (entry_name files.kind (file_of_job job.now) extent) ≡ None
-        → free_entries files ≢ 0 → DoesUnit (D.disks drives.new) mounted.old.drive mounted.new files (AddsEntry (file_of_job job.now) extent) result }
-    ensures works { WorksOnDisk D.Drives 2 mounted.old mounted.new cache.old cache.new drives.old drives.new steps.old steps.new result }
+    ensures does { OnItsImage (D.disks drives.old) mounted.old (λ image files. job.now.user < 16 → extent ≤ LAST_EXTENT → get files.extents (entry_name files.kind (file_of_job job.now) extent) ≡ None
+        → free_entries files ≢ 0 → DoesUnit (D.disks drives.new) mounted.old.drive mounted.new files (AddsEntry (file_of_job job.now) extent) result) }
+    ensures works { UsesDisk D.Drives 2 mounted.old mounted.new cache.old cache.new drives.old drives.new steps.old steps.new result }
 {
     mounted.tell_directory();
     if job.user > 15 || extent > LAST_EXTENT {

@@ -3,7 +3,7 @@ ghost use Rattle.mpm_sectors.specs.Disks.{IsReadyDisk};
 ghost use Rattle.mpm_jobs.specs.declared.jobs.JobKind.TheVariants as kinds;
 ghost use Rattle.mpm_files.specs.Turning.{DoesNext};
 ghost use Rattle.mpm_files.specs.Turning as turning;
-ghost use Rattle.mpm_files.specs.Working.{WorksOnDisk, KeepsCounts};
+ghost use Rattle.mpm_files.specs.Working.{UsesDisk, KeepsCounts, DoesNextOf};
 
 use crate::adding::add_entry;
 use crate::entries::put_entry;
@@ -46,9 +46,7 @@ pub(crate) fn delete_next<D: Drives, L: Ledger>(
     steps: &mut Steps<L>,
 ) -> Result<(), Failed>
     requires ready { IsReadyDisk (D.disks drives.old) mounted.old.drive mounted.old.kind cache.old }
-    ensures delete { work.old.job.kind ≡ kinds.Delete → DoesNext (D.disks drives.old) (D.disks drives.new) mounted.old mounted.new work.old work.new result }
-    ensures counts { KeepsCounts work.old work.new }
-    ensures works { WorksOnDisk D.Drives 2 mounted.old mounted.new cache.old cache.new drives.old drives.new steps.old steps.new result }
+    ensures { DoesNextOf kinds.Delete D.Drives 2 mounted.old mounted.new work.old work.new cache.old cache.new drives.old drives.new steps.old steps.new result }
 {
     mounted.tell_directory();
     let due = xfcb_due(mounted, work);
@@ -74,9 +72,7 @@ pub(crate) fn rename_next<D: Drives, L: Ledger>(
     steps: &mut Steps<L>,
 ) -> Result<(), Failed>
     requires ready { IsReadyDisk (D.disks drives.old) mounted.old.drive mounted.old.kind cache.old }
-    ensures rename { work.old.job.kind ≡ kinds.Rename → DoesNext (D.disks drives.old) (D.disks drives.new) mounted.old mounted.new work.old work.new result }
-    ensures counts { KeepsCounts work.old work.new }
-    ensures works { WorksOnDisk D.Drives 2 mounted.old mounted.new cache.old cache.new drives.old drives.new steps.old steps.new result }
+    ensures { DoesNextOf kinds.Rename D.Drives 2 mounted.old mounted.new work.old work.new cache.old cache.new drives.old drives.new steps.old steps.new result }
 {
     mounted.tell_directory();
     work.cleared = None;
@@ -98,9 +94,7 @@ pub(crate) fn make_next<D: Drives, L: Ledger>(
     steps: &mut Steps<L>,
 ) -> Result<(), Failed>
     requires ready { IsReadyDisk (D.disks drives.old) mounted.old.drive mounted.old.kind cache.old }
-    ensures make { work.old.job.kind ≡ kinds.Make → DoesNext (D.disks drives.old) (D.disks drives.new) mounted.old mounted.new work.old work.new result }
-    ensures counts { KeepsCounts work.old work.new }
-    ensures works { WorksOnDisk D.Drives 2 mounted.old mounted.new cache.old cache.new drives.old drives.new steps.old steps.new result }
+    ensures { DoesNextOf kinds.Make D.Drives 2 mounted.old mounted.new work.old work.new cache.old cache.new drives.old drives.new steps.old steps.new result }
 {
     work.cleared = None;
     if work.ended == 0 {
@@ -123,7 +117,7 @@ pub(crate) fn put_next<D: Drives, L: Ledger>(
     ensures xfcb { work.old.job.kind ≡ kinds.Xfcb → DoesNext (D.disks drives.old) (D.disks drives.new) mounted.old mounted.new work.old work.new result }
     ensures nothing { work.old.job.kind ≡ kinds.Nothing → DoesNext (D.disks drives.old) (D.disks drives.new) mounted.old mounted.new work.old work.new result }
     ensures counts { KeepsCounts work.old work.new }
-    ensures works { WorksOnDisk D.Drives 2 mounted.old mounted.new cache.old cache.new drives.old drives.new steps.old steps.new result }
+    ensures works { UsesDisk D.Drives 2 mounted.old mounted.new cache.old cache.new drives.old drives.new steps.old steps.new result }
 {
     work.cleared = None;
     match work.job.kind {

@@ -1,12 +1,12 @@
-ghost use Rattle.std.specs.Prelude.{◌≡◌, ℕ, List, Some, None, IfOk, if◌then◌else◌, true};
-ghost use Rattle.mpm_mount.specs.Drives.{FileName, Drive};
-ghost use Rattle.mpm_mount.specs.Directories.{Stands, free_block};
+ghost use Rattle.std.specs.Prelude.{◌≡◌, ℕ, Some, None, IfOk, if◌then◌else◌, true};
+ghost use Rattle.mpm_mount.specs.Drives.{FileName};
+ghost use Rattle.mpm_mount.specs.Directories.{free_block};
 ghost use Rattle.mpm_sectors.specs.Disks.{IsReadyDisk};
 ghost use Rattle.mpm_sectors.specs.Writes.{Puts, zeros_from, block_sector};
 ghost use Rattle.mpm_files.specs.Units.{ClearsBlock};
 ghost use Rattle.mpm_files.specs.Plans as plans;
-ghost use Rattle.mpm_files.specs.Standing.{DoesUnit, StandsCleared};
-ghost use Rattle.mpm_files.specs.Working.{WorksOnDisk};
+ghost use Rattle.mpm_files.specs.Standing.{OnItsImage, DoesUnit, StandsCleared};
+ghost use Rattle.mpm_files.specs.Working.{UsesDisk};
 
 use crate::entries::disk_of;
 use mpm_base::{Kind, Steps};
@@ -16,7 +16,8 @@ use mpm_mount::{Mounted, block_records};
 use mpm_port::{Drives, Failed};
 use std::sync::ledger::Ledger;
 
-/// How many sectors of a block are cleared before its record comes.
+/// How many sectors of a block are cleared before its record comes: a turn takes 20 calls of the drives at most, and two are left
+/// for the directory entry.
 pub(crate) const CLEARED: u8 = 18;
 
 /// Whether a block is cleared in a turn of its own.
@@ -35,11 +36,9 @@ pub(crate) fn clear_block<D: Drives, L: Ledger>(
 ) -> Result<Option<u16>, Failed>
     requires ready { IsReadyDisk (D.disks drives.old) mounted.now.drive mounted.now.kind cache.old }
     ensures block { IfOk result (λ block. block ≡ (if plans.clears_blocks mounted.now.kind then free_block mounted.now else None)) }
-    ensures does { (image : List ℕ) (files : Drive) (file : FileName) (n : ℕ) → (D.disks drives.old).image mounted.now.drive ≡ Some image
-        → Stands image mounted.now files → DoesUnit (D.disks drives.new) mounted.now.drive mounted.now files (ClearsBlock file n) result }
-    ensures cleared { (image : List ℕ) (files : Drive) → (D.disks drives.old).image mounted.now.drive ≡ Some image → Stands image mounted.now files
-        → IfOk result (λ block. StandsCleared (D.disks drives.new) mounted.now files block) }
-    ensures works { WorksOnDisk D.Drives 18 mounted.now mounted.now cache.old cache.new drives.old drives.new steps.old steps.new result }
+    ensures does { OnItsImage (D.disks drives.old) mounted.now (λ image files. (file : FileName) (n : ℕ) → DoesUnit (D.disks drives.new) mounted.now.drive mounted.now files (ClearsBlock file n) result) }
+    ensures cleared { OnItsImage (D.disks drives.old) mounted.now (λ image files. IfOk result (λ block. StandsCleared (D.disks drives.new) mounted.now files block)) }
+    ensures works { UsesDisk D.Drives 18 mounted.now mounted.now cache.old cache.new drives.old drives.new steps.old steps.new result }
 {
     if !clears_blocks(mounted.kind()) {
         return Ok(None);
@@ -66,7 +65,7 @@ fn clear_first<D: Drives, L: Ledger>(
     requires clears { plans.clears_blocks mounted.now.kind ≡ true }
     requires free { free_block mounted.now ≡ Some block }
     ensures puts { Puts mounted.now.drive mounted.now.kind (zeros_from (block_sector mounted.now.kind block) 18) (D.disks drives.old) (D.disks drives.new) result }
-    ensures works { WorksOnDisk D.Drives 18 mounted.now mounted.now cache.old cache.new drives.old drives.new steps.old steps.new result }
+    ensures works { UsesDisk D.Drives 18 mounted.now mounted.now cache.old cache.new drives.old drives.new steps.old steps.new result }
 {
     let first = u32::from(block) * block_records(mounted.kind());
     disk_of(mounted).clear(cache, drives, first, u32::from(CLEARED), steps)

@@ -1,15 +1,15 @@
-ghost use Rattle.std.specs.Prelude.{◌≡◌, ◌/◌, ◌≤◌, ℕ, List, [], ◌∷◌, Some, None, OnOk, OnErr};
+ghost use Rattle.std.specs.Prelude.{◌≡◌, ◌/◌, ◌≤◌, [], ◌∷◌, None};
 ghost use Rattle.mpm_blocks.specs.Geometries.{geometry_of};
-ghost use Rattle.mpm_blocks.specs.Sectors.{Sectors, sectors_of};
+ghost use Rattle.mpm_blocks.specs.Sectors.{Sectors};
 ghost use Rattle.mpm_dirent.specs.Proper.{IsProper};
 ghost use Rattle.mpm_mount.specs.Drives.{Drive};
 ghost use Rattle.mpm_mount.specs.Faults.{cause_of};
 ghost use Rattle.mpm_mount.specs.Changes.{exchanged};
-ghost use Rattle.mpm_mount.specs.Directories.{Stands, others, entry_in, with_entry};
+ghost use Rattle.mpm_mount.specs.Directories.{others, entry_in, with_entry};
 ghost use Rattle.mpm_sectors.specs.Disks.{IsReadyDisk};
 ghost use Rattle.mpm_files.specs.Lookups.{IsSoundDirectory};
-ghost use Rattle.mpm_files.specs.Standing.{GoesThrough};
-ghost use Rattle.mpm_files.specs.Working.{WorksOnDisk};
+ghost use Rattle.mpm_files.specs.Standing.{OnItsImage, exchanged_in, GoesThrough};
+ghost use Rattle.mpm_files.specs.Working.{UsesDisk};
 
 use mpm_base::Steps;
 use mpm_cache::Cache;
@@ -44,12 +44,8 @@ pub(crate) fn put_entry<D: Drives, L: Ledger>(
     requires slot { slot ≤ (geometry_of mounted.old.kind).drm }
     requires proper { IsProper (geometry_of mounted.old.kind).wide entry.now }
     requires faultless { cause_of mounted.old.kind (others mounted.old.entries slot) entry.now ≡ None }
-    ensures puts { (image : List ℕ) (files : Drive) → (D.disks drives.old).image mounted.old.drive ≡ Some image → Stands image mounted.old files
-        → GoesThrough (D.disks drives.new) mounted.old.drive mounted.new files
-        (exchanged (sectors_of image mounted.old.kind) files (entry_in mounted.old slot) entry.now ∷ []) result }
-    ensures placed { OnOk result (mounted.new ≡ with_entry mounted.old slot entry.now) }
-    ensures kept { OnErr result (mounted.new ≡ mounted.old) }
-    ensures works { WorksOnDisk D.Drives 2 mounted.old mounted.new cache.old cache.new drives.old drives.new steps.old steps.new result }
+    ensures puts { OnItsImage (D.disks drives.old) mounted.old (λ image files. GoesThrough (D.disks drives.new) mounted.old.drive mounted.new files (exchanged_in image mounted.old files slot entry.now ∷ []) result) }
+    ensures works { UsesDisk D.Drives 2 mounted.old mounted.new cache.old cache.new drives.old drives.new steps.old steps.new result }
 {
     let disk = disk_of(mounted);
     match disk.put_slot(cache, drives, slot, entry, steps) {
@@ -78,12 +74,10 @@ pub(crate) fn put_entries<D: Drives, L: Ledger>(
     requires second_proper { IsProper (geometry_of mounted.old.kind).wide second.now.entry }
     requires faultless { cause_of mounted.old.kind (others mounted.old.entries first.now.slot) first.now.entry ≡ None }
     requires second_faultless { cause_of mounted.old.kind (others (with_entry mounted.old first.now.slot first.now.entry).entries second.now.slot) second.now.entry ≡ None }
-    ensures puts { (image : List ℕ) (files last : Drive) → (D.disks drives.old).image mounted.old.drive ≡ Some image → Stands image mounted.old files
-        → ((sectors : Sectors) → exchanged sectors (exchanged (sectors_of image mounted.old.kind) files (entry_in mounted.old first.now.slot) first.now.entry)
-        (entry_in (with_entry mounted.old first.now.slot first.now.entry) second.now.slot) second.now.entry ≡ last)
-        → GoesThrough (D.disks drives.new) mounted.old.drive mounted.new files
-        (exchanged (sectors_of image mounted.old.kind) files (entry_in mounted.old first.now.slot) first.now.entry ∷ last ∷ []) result }
-    ensures works { WorksOnDisk D.Drives 2 mounted.old mounted.new cache.old cache.new drives.old drives.new steps.old steps.new result }
+    ensures puts { OnItsImage (D.disks drives.old) mounted.old (λ image files. (last : Drive)
+        → ((sectors : Sectors) → exchanged sectors (exchanged_in image mounted.old files first.now.slot first.now.entry) (entry_in (with_entry mounted.old first.now.slot first.now.entry) second.now.slot) second.now.entry ≡ last)
+        → GoesThrough (D.disks drives.new) mounted.old.drive mounted.new files (exchanged_in image mounted.old files first.now.slot first.now.entry ∷ last ∷ []) result) }
+    ensures works { UsesDisk D.Drives 2 mounted.old mounted.new cache.old cache.new drives.old drives.new steps.old steps.new result }
 {
     let disk = disk_of(mounted);
     match disk.put_slots(cache, drives, first, second, steps) {

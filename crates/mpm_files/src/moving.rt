@@ -8,7 +8,7 @@ ghost use Rattle.mpm_files.specs.Turning.{DoesNext};
 ghost use Rattle.mpm_files.specs.Plans.{record_at};
 ghost use Rattle.mpm_files.specs.Serving.{stamp_left};
 ghost use Rattle.mpm_files.specs.Turning as turning;
-ghost use Rattle.mpm_files.specs.Working.{WorksOnDisk, KeepsCounts};
+ghost use Rattle.mpm_files.specs.Working.{UsesDisk, KeepsCounts, DoesNextOf};
 
 use crate::adding::add_entry;
 use crate::clearing::{clear_block, clears_blocks};
@@ -63,10 +63,8 @@ pub(crate) fn read_next<D: Drives, L: Ledger>(
     steps: &mut Steps<L>,
 ) -> Result<(), Failed>
     requires ready { IsReadyDisk (D.disks drives.old) mounted.old.drive mounted.old.kind cache.old }
-    ensures read { work.old.job.kind ≡ kinds.Read → DoesNext (D.disks drives.old) (D.disks drives.new) mounted.old mounted.new work.old work.new result }
-    ensures counts { KeepsCounts work.old work.new }
+    ensures next { DoesNextOf kinds.Read D.Drives 1 mounted.old mounted.new work.old work.new cache.old cache.new drives.old drives.new steps.old steps.new result }
     ensures reads { turning.OnlyReads cache.old mounted.old work.old steps.old steps.new (D.unsynced drives.old) (D.unsynced drives.new) }
-    ensures works { WorksOnDisk D.Drives 1 mounted.old mounted.new cache.old cache.new drives.old drives.new steps.old steps.new result }
 {
     work.cleared = None;
     let n = work.job.first.saturating_add(work.ended);
@@ -126,7 +124,7 @@ fn write_record<D: Drives, L: Ledger>(
     ensures write { work.old.job.kind ≡ kinds.Write → stepping.step_of mounted.old work.old (stepping.record_next work.old) ≡ steps_of.Record
         → DoesNext (D.disks drives.old) (D.disks drives.new) mounted.old mounted.new work.old work.new result }
     ensures counts { KeepsCounts work.old work.new }
-    ensures works { WorksOnDisk D.Drives 20 mounted.old mounted.new cache.old cache.new drives.old drives.new steps.old steps.new result }
+    ensures works { UsesDisk D.Drives 20 mounted.old mounted.new cache.old cache.new drives.old drives.new steps.old steps.new result }
 {
     let n = work.job.first.saturating_add(u32::from(work.moved));
     if n > LAST_NAMED {
@@ -160,9 +158,7 @@ pub(crate) fn write_next<D: Drives, L: Ledger>(
     steps: &mut Steps<L>,
 ) -> Result<(), Failed>
     requires ready { IsReadyDisk (D.disks drives.old) mounted.old.drive mounted.old.kind cache.old }
-    ensures write { work.old.job.kind ≡ kinds.Write → DoesNext (D.disks drives.old) (D.disks drives.new) mounted.old mounted.new work.old work.new result }
-    ensures counts { KeepsCounts work.old work.new }
-    ensures works { WorksOnDisk D.Drives 20 mounted.old mounted.new cache.old cache.new drives.old drives.new steps.old steps.new result }
+    ensures { DoesNextOf kinds.Write D.Drives 20 mounted.old mounted.new work.old work.new cache.old cache.new drives.old drives.new steps.old steps.new result }
 {
     let n = work.job.first.saturating_add(u32::from(work.moved));
     if n > LAST_NAMED {
@@ -193,9 +189,7 @@ pub(crate) fn test_next<D: Drives, L: Ledger>(
     steps: &mut Steps<L>,
 ) -> Result<(), Failed>
     requires ready { IsReadyDisk (D.disks drives.old) mounted.old.drive mounted.old.kind cache.old }
-    ensures testwrite { work.old.job.kind ≡ kinds.TestWrite → DoesNext (D.disks drives.old) (D.disks drives.new) mounted.old mounted.new work.old work.new result }
-    ensures counts { KeepsCounts work.old work.new }
-    ensures works { WorksOnDisk D.Drives 6 mounted.old mounted.new cache.old cache.new drives.old drives.new steps.old steps.new result }
+    ensures { DoesNextOf kinds.TestWrite D.Drives 6 mounted.old mounted.new work.old work.new cache.old cache.new drives.old drives.new steps.old steps.new result }
 {
     work.cleared = None;
     let n = work.job.first.saturating_add(work.ended);

@@ -1,14 +1,13 @@
-ghost use Rattle.std.specs.Prelude.{◌≡◌, ◌+◌, ◌<◌, ◌≤◌, ℕ, List, Some, None, not, is_some, slice_range};
+ghost use Rattle.std.specs.Prelude.{◌≡◌, ◌+◌, ◌<◌, ◌≤◌, Some, None, not, is_some, slice_range};
 ghost use Rattle.std.specs.FinMap.{get};
 ghost use Rattle.mpm_base.specs.Counts.{one_if};
-ghost use Rattle.mpm_mount.specs.Drives.{Drive, free_entries};
-ghost use Rattle.mpm_mount.specs.Directories.{Stands};
+ghost use Rattle.mpm_mount.specs.Drives.{free_entries};
 ghost use Rattle.mpm_sectors.specs.Disks.{IsReadyDisk};
-ghost use Rattle.mpm_files.specs.Standing.{DoesUnit};
+ghost use Rattle.mpm_files.specs.Standing.{OnItsImage, DoesUnit};
 ghost use Rattle.mpm_files.specs.Units.{PutsXfcb, PutsLabel};
 ghost use Rattle.mpm_files.specs.Plans.{file_of_job, protection_in};
 ghost use Rattle.mpm_files.specs.Turning.{xfcb_of_job, label_of_job};
-ghost use Rattle.mpm_files.specs.Working.{WorksOnDisk};
+ghost use Rattle.mpm_files.specs.Working.{UsesDisk};
 
 use crate::entries::put_entry;
 use mpm_base::Steps;
@@ -68,10 +67,9 @@ pub(crate) fn put_xfcb<D: Drives, L: Ledger>(
     steps: &mut Steps<L>,
 ) -> Result<(), Failed>
     requires ready { IsReadyDisk (D.disks drives.old) mounted.old.drive mounted.old.kind cache.old }
-    ensures does { (image : List ℕ) (files : Drive) → (D.disks drives.old).image mounted.old.drive ≡ Some image → Stands image mounted.old files
-        → job.now.user < 16 → one_if (not (is_some (get files.xfcbs (file_of_job job.now)))) ≤ free_entries files
-        → DoesUnit (D.disks drives.new) mounted.old.drive mounted.new files (PutsXfcb (file_of_job job.now) (protection_in job.now)) result }
-    ensures works { WorksOnDisk D.Drives 2 mounted.old mounted.new cache.old cache.new drives.old drives.new steps.old steps.new result }
+    ensures does { OnItsImage (D.disks drives.old) mounted.old (λ image files. job.now.user < 16 → one_if (not (is_some (get files.xfcbs (file_of_job job.now)))) ≤ free_entries files
+        → DoesUnit (D.disks drives.new) mounted.old.drive mounted.new files (PutsXfcb (file_of_job job.now) (protection_in job.now)) result) }
+    ensures works { UsesDisk D.Drives 2 mounted.old mounted.new cache.old cache.new drives.old drives.new steps.old steps.new result }
 {
     mounted.tell_directory();
     if job.user > 15 {
@@ -97,10 +95,9 @@ pub(crate) fn put_label<D: Drives, L: Ledger>(
     steps: &mut Steps<L>,
 ) -> Result<(), Failed>
     requires ready { IsReadyDisk (D.disks drives.old) mounted.old.drive mounted.old.kind cache.old }
-    ensures does { (image : List ℕ) (files : Drive) → (D.disks drives.old).image mounted.old.drive ≡ Some image → Stands image mounted.old files
-        → one_if (not (is_some files.label)) ≤ free_entries files
-        → DoesUnit (D.disks drives.new) mounted.old.drive mounted.new files (PutsLabel (record { name = job.now.new_name; protection = protection_in job.now })) result }
-    ensures works { WorksOnDisk D.Drives 2 mounted.old mounted.new cache.old cache.new drives.old drives.new steps.old steps.new result }
+    ensures does { OnItsImage (D.disks drives.old) mounted.old (λ image files. one_if (not (is_some files.label)) ≤ free_entries files
+        → DoesUnit (D.disks drives.new) mounted.old.drive mounted.new files (PutsLabel (record { name = job.now.new_name; protection = protection_in job.now })) result) }
+    ensures works { UsesDisk D.Drives 2 mounted.old mounted.new cache.old cache.new drives.old drives.new steps.old steps.new result }
 {
     mounted.tell_directory();
     let entry = Entry::Label {

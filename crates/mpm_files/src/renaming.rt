@@ -1,10 +1,9 @@
-ghost use Rattle.std.specs.Prelude.{◌≡◌, ◌≤◌, ℕ, List, Some, None, IsSome, IfSome};
+ghost use Rattle.std.specs.Prelude.{◌≡◌, ◌≤◌, Some, None, IsSome, IfSome};
 ghost use Rattle.std.specs.FinMap.{get};
 ghost use Rattle.mpm_blocks.specs.Geometries.{geometry_of};
-ghost use Rattle.mpm_mount.specs.Drives.{Drive};
-ghost use Rattle.mpm_mount.specs.Directories.{Stands, entry_in};
+ghost use Rattle.mpm_mount.specs.Directories.{entry_in};
 ghost use Rattle.mpm_sectors.specs.Disks.{IsReadyDisk};
-ghost use Rattle.mpm_files.specs.Standing.{DoesUnit};
+ghost use Rattle.mpm_files.specs.Standing.{OnItsImage, DoesUnit};
 ghost use Rattle.mpm_dirent.specs.declared.kinds.Entry.TheVariants.{File};
 ghost use Rattle.mpm_dirent.specs.declared.kinds.FileEntry.{FileEntry};
 ghost use Rattle.mpm_mount.specs.Faults.{name_of};
@@ -13,7 +12,7 @@ ghost use Rattle.mpm_mount.specs.Files.{file_in};
 ghost use Rattle.mpm_files.specs.Units.{SetsAttributes, RenamesEntry, RenamesXfcb};
 ghost use Rattle.mpm_files.specs.Plans.{file_of_job, new_file_of_job};
 ghost use Rattle.mpm_files.specs.Turning.{IsFileAt};
-ghost use Rattle.mpm_files.specs.Working.{WorksOnDisk};
+ghost use Rattle.mpm_files.specs.Working.{UsesDisk};
 
 use crate::entries::put_entry;
 use crate::lookups::find_xfcb;
@@ -51,10 +50,9 @@ pub(crate) fn set_attributes<D: Drives, L: Ledger>(
 ) -> Result<(), Failed>
     requires ready { IsReadyDisk (D.disks drives.old) mounted.old.drive mounted.old.kind cache.old }
     requires slot { slot ≤ (geometry_of mounted.old.kind).drm }
-    ensures does { (image : List ℕ) (files : Drive) (f : FileEntry) → (D.disks drives.old).image mounted.old.drive ≡ Some image → Stands image mounted.old files
-        → entry_in mounted.old slot ≡ File f
-        → DoesUnit (D.disks drives.new) mounted.old.drive mounted.new files (SetsAttributes (file_in f.user f.name) (name_of files.kind f).number (attributes_in job.now.name)) result }
-    ensures works { WorksOnDisk D.Drives 2 mounted.old mounted.new cache.old cache.new drives.old drives.new steps.old steps.new result }
+    ensures does { OnItsImage (D.disks drives.old) mounted.old (λ image files. (f : FileEntry) → entry_in mounted.old slot ≡ File f
+        → DoesUnit (D.disks drives.new) mounted.old.drive mounted.new files (SetsAttributes (file_in f.user f.name) (name_of files.kind f).number (attributes_in job.now.name)) result) }
+    ensures works { UsesDisk D.Drives 2 mounted.old mounted.new cache.old cache.new drives.old drives.new steps.old steps.new result }
 {
     let Some(file) = file_at(mounted, slot) else {
         return Ok(());
@@ -77,11 +75,10 @@ pub(crate) fn rename_entry<D: Drives, L: Ledger>(
 ) -> Result<(), Failed>
     requires ready { IsReadyDisk (D.disks drives.old) mounted.old.drive mounted.old.kind cache.old }
     requires slot { slot ≤ (geometry_of mounted.old.kind).drm }
-    ensures does { (image : List ℕ) (files : Drive) (f : FileEntry) → (D.disks drives.old).image mounted.old.drive ≡ Some image → Stands image mounted.old files
-        → entry_in mounted.old slot ≡ File f → f.user ≡ job.now.user
+    ensures does { OnItsImage (D.disks drives.old) mounted.old (λ image files. (f : FileEntry) → entry_in mounted.old slot ≡ File f → f.user ≡ job.now.user
         → get files.extents (record { user = job.now.user; name = (new_file_of_job job.now).name; number = (name_of files.kind f).number }) ≡ None
-        → DoesUnit (D.disks drives.new) mounted.old.drive mounted.new files (RenamesEntry (file_in f.user f.name) (name_of files.kind f).number (new_file_of_job job.now)) result }
-    ensures works { WorksOnDisk D.Drives 2 mounted.old mounted.new cache.old cache.new drives.old drives.new steps.old steps.new result }
+        → DoesUnit (D.disks drives.new) mounted.old.drive mounted.new files (RenamesEntry (file_in f.user f.name) (name_of files.kind f).number (new_file_of_job job.now)) result) }
+    ensures works { UsesDisk D.Drives 2 mounted.old mounted.new cache.old cache.new drives.old drives.new steps.old steps.new result }
 {
     mounted.tell_directory();
     let Some(file) = file_at(mounted, slot) else {
@@ -107,10 +104,9 @@ pub(crate) fn rename_xfcb<D: Drives, L: Ledger>(
     steps: &mut Steps<L>,
 ) -> Result<(), Failed>
     requires ready { IsReadyDisk (D.disks drives.old) mounted.old.drive mounted.old.kind cache.old }
-    ensures does { (image : List ℕ) (files : Drive) → (D.disks drives.old).image mounted.old.drive ≡ Some image → Stands image mounted.old files
-        → get files.xfcbs (new_file_of_job job.now) ≡ None
-        → DoesUnit (D.disks drives.new) mounted.old.drive mounted.new files (RenamesXfcb (file_of_job job.now) (new_file_of_job job.now)) result }
-    ensures works { WorksOnDisk D.Drives 2 mounted.old mounted.new cache.old cache.new drives.old drives.new steps.old steps.new result }
+    ensures does { OnItsImage (D.disks drives.old) mounted.old (λ image files. get files.xfcbs (new_file_of_job job.now) ≡ None
+        → DoesUnit (D.disks drives.new) mounted.old.drive mounted.new files (RenamesXfcb (file_of_job job.now) (new_file_of_job job.now)) result) }
+    ensures works { UsesDisk D.Drives 2 mounted.old mounted.new cache.old cache.new drives.old drives.new steps.old steps.new result }
 {
     let Some(found) = find_xfcb(mounted, job) else {
         return Ok(());

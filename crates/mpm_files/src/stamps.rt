@@ -1,19 +1,16 @@
-ghost use Rattle.std.specs.Prelude.{◌≡◌, ◌+◌, ◌≤◌, ℕ, List, [], ◌∷◌, Some, None, IsSome, ◌/◌, true};
+ghost use Rattle.std.specs.Prelude.{◌≡◌, ◌+◌, ◌≤◌, [], ◌∷◌, Some, None, IsSome, ◌/◌, true};
 ghost use Rattle.mpm_blocks.specs.Geometries.{geometry_of};
-ghost use Rattle.mpm_blocks.specs.Sectors.{sectors_of};
 ghost use Rattle.mpm_dirent.specs.declared.kinds.Entry.TheVariants.{File};
 ghost use Rattle.mpm_dirent.specs.Proper.{IsProper};
-ghost use Rattle.mpm_mount.specs.Drives.{Drive};
 ghost use Rattle.mpm_mount.specs.Faults.{cause_of};
-ghost use Rattle.mpm_mount.specs.Changes.{exchanged};
-ghost use Rattle.mpm_mount.specs.Directories.{Stands, others, entry_in};
+ghost use Rattle.mpm_mount.specs.Directories.{others, entry_in};
 ghost use Rattle.mpm_mount.specs.Files.{is_file};
 ghost use Rattle.mpm_sectors.specs.Disks.{IsReadyDisk};
 ghost use Rattle.mpm_files.specs.Units.{Idles, stamped, with_stamp};
 ghost use Rattle.mpm_files.specs.Plans.{file_of_job};
-ghost use Rattle.mpm_files.specs.Lookups.{HasXfcb, HasXfcbBeside, stamped_in, stamped_entry};
-ghost use Rattle.mpm_files.specs.Standing.{GoesThrough, DoesUnit};
-ghost use Rattle.mpm_files.specs.Working.{WorksOnDisk};
+ghost use Rattle.mpm_files.specs.Lookups.{HasXfcbBeside, stamped_in, stamped_entry};
+ghost use Rattle.mpm_files.specs.Standing.{OnItsImage, exchanged_in, GoesThrough, DoesUnit};
+ghost use Rattle.mpm_files.specs.Working.{UsesDisk};
 
 use crate::entries::{put_entries, put_entry};
 use crate::lookups::{FoundEntry, FoundXfcb, find_xfcb, find_xfcb_beside};
@@ -63,10 +60,8 @@ pub(crate) fn put_stamp<D: Drives, L: Ledger>(
     steps: &mut Steps<L>,
 ) -> Result<(), Failed>
     requires ready { IsReadyDisk (D.disks drives.old) mounted.old.drive mounted.old.kind cache.old }
-    ensures puts { (image : List ℕ) (files : Drive) → (D.disks drives.old).image mounted.old.drive ≡ Some image → Stands image mounted.old files
-        → GoesThrough (D.disks drives.new) mounted.old.drive mounted.new files
-        (stamped (stamped_in stamp) (file_of_job job.now) moment files) result }
-    ensures works { WorksOnDisk D.Drives 2 mounted.old mounted.new cache.old cache.new drives.old drives.new steps.old steps.new result }
+    ensures puts { OnItsImage (D.disks drives.old) mounted.old (λ image files. GoesThrough (D.disks drives.new) mounted.old.drive mounted.new files (stamped (stamped_in stamp) (file_of_job job.now) moment files) result) }
+    ensures works { UsesDisk D.Drives 2 mounted.old mounted.new cache.old cache.new drives.old drives.new steps.old steps.new result }
 {
     let moment = match moment {
         Some(moment) => moment,
@@ -97,9 +92,8 @@ pub(crate) fn idle<D: Drives, L: Ledger>(
     steps: &mut Steps<L>,
 ) -> Result<(), Failed>
     requires ready { IsReadyDisk (D.disks drives.old) mounted.old.drive mounted.old.kind cache.old }
-    ensures does { (image : List ℕ) (files : Drive) → (D.disks drives.old).image mounted.old.drive ≡ Some image → Stands image mounted.old files
-        → DoesUnit (D.disks drives.new) mounted.old.drive mounted.new files (Idles (file_of_job job.now) moment) result }
-    ensures works { WorksOnDisk D.Drives 2 mounted.old mounted.new cache.old cache.new drives.old drives.new steps.old steps.new result }
+    ensures does { OnItsImage (D.disks drives.old) mounted.old (λ image files. DoesUnit (D.disks drives.new) mounted.old.drive mounted.new files (Idles (file_of_job job.now) moment) result) }
+    ensures works { UsesDisk D.Drives 2 mounted.old mounted.new cache.old cache.new drives.old drives.new steps.old steps.new result }
 {
     put_stamp(mounted, cache, drives, job, Stamp::First, moment, steps)
 }
@@ -120,12 +114,10 @@ pub(crate) fn put_stamped<D: Drives, L: Ledger>(
     requires was { is_file (entry_in mounted.old placed.now.slot) ≡ true }
     requires proper { IsProper (geometry_of mounted.old.kind).wide (File placed.now.file) }
     requires faultless { cause_of mounted.old.kind (others mounted.old.entries placed.now.slot) (File placed.now.file) ≡ None }
-    ensures puts { (image : List ℕ) (files : Drive) → (D.disks drives.old).image mounted.old.drive ≡ Some image → Stands image mounted.old files
-        → GoesThrough (D.disks drives.new) mounted.old.drive mounted.new files
-        (with_stamp (file_of_job job.now) moment files
-        (exchanged (sectors_of image mounted.old.kind) files (entry_in mounted.old placed.now.slot) (File placed.now.file) ∷ [])) result }
+    ensures puts { OnItsImage (D.disks drives.old) mounted.old (λ image files. GoesThrough (D.disks drives.new) mounted.old.drive mounted.new files
+        (with_stamp (file_of_job job.now) moment files (exchanged_in image mounted.old files placed.now.slot (File placed.now.file) ∷ [])) result) }
     ensures beside { IsSome moment → HasXfcbBeside mounted.old (file_of_job job.now) placed.now.slot → steps.new ≤ steps.old + 2 }
-    ensures works { WorksOnDisk D.Drives 4 mounted.old mounted.new cache.old cache.new drives.old drives.new steps.old steps.new result }
+    ensures works { UsesDisk D.Drives 4 mounted.old mounted.new cache.old cache.new drives.old drives.new steps.old steps.new result }
 {
     let second = match moment {
         Some(second) => second,
@@ -163,11 +155,9 @@ fn put_apart<D: Drives, L: Ledger>(
     requires slot { placed.now.slot ≤ (geometry_of mounted.old.kind).drm }
     requires proper { IsProper (geometry_of mounted.old.kind).wide (File placed.now.file) }
     requires faultless { cause_of mounted.old.kind (others mounted.old.entries placed.now.slot) (File placed.now.file) ≡ None }
-    ensures puts { (image : List ℕ) (files : Drive) → (D.disks drives.old).image mounted.old.drive ≡ Some image → Stands image mounted.old files
-        → GoesThrough (D.disks drives.new) mounted.old.drive mounted.new files
-        (with_stamp (file_of_job job.now) moment files
-        (exchanged (sectors_of image mounted.old.kind) files (entry_in mounted.old placed.now.slot) (File placed.now.file) ∷ [])) result }
-    ensures works { WorksOnDisk D.Drives 4 mounted.old mounted.new cache.old cache.new drives.old drives.new steps.old steps.new result }
+    ensures puts { OnItsImage (D.disks drives.old) mounted.old (λ image files. GoesThrough (D.disks drives.new) mounted.old.drive mounted.new files
+        (with_stamp (file_of_job job.now) moment files (exchanged_in image mounted.old files placed.now.slot (File placed.now.file) ∷ [])) result) }
+    ensures works { UsesDisk D.Drives 4 mounted.old mounted.new cache.old cache.new drives.old drives.new steps.old steps.new result }
 {
     match put_entry(
         mounted,

@@ -6,7 +6,7 @@ use Rattle.mpm_blocks.specs.Geometries.{geometry_of}
 use Rattle.mpm_blocks.specs.Sectors.{sectors_of}
 use Rattle.mpm_dirent.specs.declared.kinds.Entry.{Entry}
 use Rattle.mpm_mount.specs.declared.errors.ImageFault.{ImageFault}
-use Rattle.mpm_mount.specs.Directories.{Directory, free_records_in}
+use Rattle.mpm_mount.specs.Directories.{Directory}
 use Rattle.mpm_mount.specs.Drives.{Drive}
 use Rattle.mpm_mount.specs.Images.{entries_of, drive_of, unless, files_of}
 use Rattle.mpm_mount.specs.Mounting.{drive_in}
@@ -14,7 +14,7 @@ use Rattle.mpm_mount.proofs.Mounts.{mounted_if}
 use Rattle.mpm_mount.proofs.FreeRecords.{free_records_same}
 use Rattle.mpm_fault_lines.specs.declared.fault.SlotFault.{SlotFault}
 use Rattle.mpm_fault_lines.specs.Lines.{sound_line}
-use Rattle.mpm_repair.specs.FaultLists.{staying, fault_list, faults_of, slot_of, first_of}
+use Rattle.mpm_repair.specs.FaultLists.{ListsFaults, staying, fault_list, faults_of, slot_of, first_of}
 use Rattle.mpm_repair.specs.Freeing.{freed}
 use Rattle.mpm_repair.proofs.FreedImages.{files_by_list}
 use Rattle.mpm_repair.proofs.FreedSlots.{few_slots}
@@ -22,7 +22,7 @@ use Rattle.mpm_repair.proofs.OwnList.{few_listed}
 use Rattle.mpm_repair.proofs.Staying.{none_listed, freed_listed}
 use Rattle.mpm_fsck.specs.declared.checking.Findings.{Findings}
 use Rattle.mpm_fsck.specs.Endings.{said_of, status_of}
-use Rattle.mpm_fsck.specs.Steps.{said_by, ended_by, Finds, FindsOf}
+use Rattle.mpm_fsck.specs.Steps.{said_by, ended_by, Finds, FindsNone, FindsOf}
 
 -- where nothing is listed all entries stay
 pub all_stay_listed : (kind : Kind) (entries : List Entry) → fault_list kind entries ≡ [] → staying kind entries (length entries) ≡ entries
@@ -66,23 +66,20 @@ pub no_items : {X : Type 0} (xs : List X) → length xs ≡ 0 → xs ≡ []
 no_items [] none = refl
 no_items (x ∷ xs) none = absurd (omega arith)
 
-abbrev directory_by : Kind → List Entry → Directory
-directory_by kind entries = record { drive = 0; kind = kind; entries = entries }
-
 pub sound_finds : {E : Type 0} (kind : Kind) (old new : List Entry) (result : Result Findings E) → fault_list kind old ≡ [] → new ≡ old
-    → IfOk result (λ found. found.text.items ≡ sound_line (free_records_in (directory_by kind new))) → IfOk result (λ found. found.count ≡ 0) → IfOk result (Finds kind old)
-sound_finds kind old new (Ok found) none same text count = record {
-  text = text ∙ ap (λ (es : List Entry). sound_line (free_records_in (directory_by kind es))) same ∙ ap (said_by kind old) (sym none);
-  count = count ∙ ap (λ (faults : List SlotFault). length faults) (sym none);
+    → IfOk result (FindsNone kind new) → IfOk result (Finds kind old)
+sound_finds kind old new (Ok found) none same finds = record {
+  text = finds.text ∙ ap (λ (es : List Entry). said_by kind es []) same ∙ ap (said_by kind old) (sym none);
+  count = finds.count ∙ ap (λ (faults : List SlotFault). length faults) (sym none);
 }
-sound_finds kind old new (Err error) none same text count = tt
+sound_finds kind old new (Err error) none same finds = tt
 
 -- a directory's list has no more items than the directory has slots
-pub few_found : {E A : Type 0} (kind : Kind) (entries lent : List Entry) (result : Result (Vec SlotFault A) E) → length entries ≡ (geometry_of kind).drm + 1 → lent ≡ entries
-    → IfOk result (λ faults. faults.items ≡ fault_list kind lent) → IfOk result (λ faults. length faults.items ≤ 512)
-few_found kind entries lent (Ok faults) full is list =
+pub few_found : {E A : Type 0} (kind : Kind) (entries lent after : List Entry) (result : Result (Vec SlotFault A) E) → length entries ≡ (geometry_of kind).drm + 1 → lent ≡ entries
+    → IfOk result (λ faults. ListsFaults kind lent after faults.items) → IfOk result (λ faults. length faults.items ≤ 512)
+few_found kind entries lent after (Ok faults) full is lists =
     let few = few_listed kind entries in
     let small = few_slots kind in
-    let same = ap (λ (xs : List SlotFault). length xs) (list ∙ ap (fault_list kind) is) in
+    let same = ap (λ (xs : List SlotFault). length xs) (lists.list ∙ ap (fault_list kind) is) in
     omega (arith, few, small, same, full)
-few_found kind entries lent (Err error) full is list = tt
+few_found kind entries lent after (Err error) full is lists = tt

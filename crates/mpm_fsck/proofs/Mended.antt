@@ -1,5 +1,5 @@
 -- How a list that is applied ends, by the steps.
-use Rattle.std.proofs.Common.{◌≡◌, ℕ, ◌+◌, ◌*◌, ◌≤◌, inl, inr, Bool, false, List, ◌++◌, Option, Some, Err, ap, subst, ◌∙◌, arith}
+use Rattle.std.proofs.Common.{◌≡◌, ℕ, ◌+◌, ◌*◌, ◌≤◌, inl, inr, Bool, false, List, ◌++◌, Option, Some, Ok, Err, ap, subst, ◌∙◌, arith}
 use Rattle.std.specs.Prelude.{⊤}
 use Rattle.mpm_base.specs.declared.kind.Kind.{Kind}
 use Rattle.mpm_blocks.specs.Geometries.{geometry_of}
@@ -11,7 +11,7 @@ use Rattle.mpm_repair.specs.Freeing.{freed_image, FreesOn}
 use Rattle.mpm_fsck.specs.declared.status.FsckStatus.{FsckStatus}
 use Rattle.mpm_fsck.specs.declared.status.FsckStatus.TheVariants.{Done, Usage, Unsound, WrongSize, BadList, NotEnough, ReadFault, DiskFault, WriteFault, OutOfMemory, TooLong}
 use Rattle.mpm_fsck.specs.Outside.{DrivesSeen, Seen, Freed}
-use Rattle.mpm_fsck.specs.Endings.{Mends, Applies, slots_in}
+use Rattle.mpm_fsck.specs.Endings.{Mends, Applies, slots_in, drive_without}
 use Rattle.mpm_fsck.specs.Steps.{Unopened, Opened, ReadsSlots, Unlisted, FreesAll, Mending, IsSaid, slots_marked}
 use Rattle.mpm_fsck.proofs.Left.{marked_in}
 use Rattle.mpm_fsck.proofs.Opened.{attached_still, keeps_images, lost_later}
@@ -109,16 +109,19 @@ mended_applies missing kind name list old new mid marks ReadFault opened reads m
 mended_applies missing kind name list old new mid marks DiskFault opened reads (inl (same, rose)) =
     inl (lost_later name opened.checked.image old.drives mid new.drives opened.checked.attached opened.fails same rose)
 mended_applies missing kind name list old new mid marks DiskFault opened reads (inr some) =
-    let same = marked_slots (missing list) (old.contents list) kind old.unread new.unread marks reads (4 * some.frees.sectors) some.frees.within in
+    let first = marked_slots (missing list) (old.contents list) kind old.unread new.unread marks reads (4 * some.frees.sectors) some.frees.within in
+    let same : slots_marked kind marks ≡ slots_in kind reads.lines = marked_slots (missing list) (old.contents list) kind old.unread new.unread marks reads ((geometry_of kind).drm + 1) (omega arith) in
     inr (record {
       why = inr (some.failed ∙ opened.fails.failed, subst (λ (n : ℕ). Rose n new.drives.faults) opened.fails.faults some.rose);
       image = opened.checked.image;
+      size = opened.checked.size;
       lines = reads.lines;
       listed = reads.listed;
+      enough = subst (λ slots. files_of (freed_image kind slots opened.checked.image) kind ≡ Ok (drive_without kind slots opened.checked.image)) same some.enough;
       sectors = some.frees.sectors;
       within = some.frees.within;
       freed = frees_opened kind name (different (4 * some.frees.sectors) reads.lines) old.drives mid new.drives opened
-          (subst (λ slots. FreesOn 0 kind slots mid.disks new.drives.disks) same some.frees.frees) some.known;
+          (subst (λ slots. FreesOn 0 kind slots mid.disks new.drives.disks) first some.frees.frees) some.known;
     })
 mended_applies missing kind name list old new mid marks WriteFault opened reads mending =
     mends_all missing kind name list old new mid marks (IsSaid old.text new.text false) opened reads mending

@@ -117,12 +117,15 @@ pub record Lacks (missing : Type 0) (list : Option (List ℕ)) (kind : Kind) (im
   pub listed : Lists missing list kind lines
   pub fault_is : files_of (freed_image kind (slots_in kind lines) image) kind ≡ Err fault
 
--- a drive failed as slots of a list were freed: those of the first sectors of the directory are free, perhaps of none or all
+-- a drive failed as slots of a list were freed, without which the image has no fault: those of the first sectors of the directory are
+-- free, perhaps of none or all
 pub record IsLostBetween (kind : Kind) (name : List ℕ) (missing : Type 0) (list : Option (List ℕ)) (old new : DrivesSeen) : Type 0 where
   pub why : FailsSomewhere name old new
   pub image : List ℕ
+  pub size : length image ≡ (geometry_of kind).bytes
   pub lines : List ℕ
   pub listed : Lists missing list kind lines
+  pub enough : files_of (freed_image kind (slots_in kind lines) image) kind ≡ Ok (drive_without kind (slots_in kind lines) image)
   pub sectors : ℕ
   pub within : 4 * sectors ≤ (geometry_of kind).drm + 1
   pub freed : Freed name image kind (different (4 * sectors) lines) old new

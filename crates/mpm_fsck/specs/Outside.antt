@@ -1,6 +1,9 @@
 -- What is seen of files, drives and output before and after a run, and what a run makes of drive A and its image.
 use Rattle.std.specs.Prelude.{◌≡◌, ◌⊎◌, ℕ, Bool, List, [], ◌∷◌, ◌++◌, Option, Some}
 use Rattle.mpm_base.specs.declared.kind.Kind.{Kind}
+use Rattle.mpm_port.specs.declared.files.Files as files
+use Rattle.mpm_port.specs.declared.drives.Drives as drives
+use Rattle.mpm_port.specs.declared.sink.Sink as sink
 use Rattle.mpm_port.specs.Causes.{Rose}
 use Rattle.mpm_port.specs.Disks.{Disks, ToldImage, Brings, Attaches, KeepsTold}
 use Rattle.mpm_repair.specs.Freeing.{freed_image, FreesOn}
@@ -23,22 +26,22 @@ pub record Seen : Type 0 where
   pub text : List ℕ
   pub faults : ℕ
 
-abbrev pub drives_seen : {D : Type 0} → (D → List ℕ → ToldImage) → (D → Disks) → (D → ℕ → Bool) → (D → ℕ) → (D → List (List ℕ)) → D → DrivesSeen
-drives_seen told disks unsynced faults failed drives = record {
-  known = told drives;
-  disks = disks drives;
-  unsynced = unsynced drives;
-  faults = faults drives;
-  failed = failed drives;
+abbrev pub drives_seen : {D : Type 0} → drives.Ghosts D → D → DrivesSeen
+drives_seen of now = record {
+  known = of.told now;
+  disks = of.disks now;
+  unsynced = of.unsynced now;
+  faults = of.faults now;
+  failed = of.failed_names now;
 }
 
-abbrev pub seen : {F S : Type 0} → (F → List ℕ → Option (List ℕ)) → (F → List (List ℕ)) → (S → List ℕ) → (S → ℕ) → F → DrivesSeen → S → Seen
-seen contents unread written faults files drives sink = record {
-  contents = contents files;
-  unread = unread files;
-  drives = drives;
-  text = written sink;
-  faults = faults sink;
+abbrev pub seen : {F D S : Type 0} → files.Ghosts F → drives.Ghosts D → sink.Ghosts S → F → D → S → Seen
+seen of_files of_drives of_sink files_now drives_now sink_now = record {
+  contents = of_files.contents files_now;
+  unread = of_files.failed_names files_now;
+  drives = drives_seen of_drives drives_now;
+  text = of_sink.written sink_now;
+  faults = of_sink.faults sink_now;
 }
 
 -- no drive failed

@@ -1,5 +1,5 @@
 -- What the words after the program's name ask.
-use Rattle.std.specs.Prelude.{ℕ, List, [], ◌∷◌, Option, Some, None, map, codes, bytes_eq, String, string_bytes, if◌then◌else◌}
+use Rattle.std.specs.Prelude.{◌≡◌, ℕ, List, [], ◌∷◌, Option, Some, None, map, codes, bytes_eq, String, string_bytes, if◌then◌else◌}
 use Rattle.std.specs.declared.alloc.Global.{Global}
 use Rattle.mpm_base.specs.declared.kind.Kind.{Kind}
 use Rattle.mpm_base.specs.declared.kind.Kind.TheVariants.{Ibm3740, Hd4, Hd8}
@@ -46,3 +46,8 @@ request_of (word ∷ kind ∷ []) = None
 request_of (word ∷ kind ∷ image ∷ []) = check_by word (kind_of kind) image
 request_of (word ∷ kind ∷ image ∷ list ∷ []) = apply_by word (kind_of kind) image list
 request_of (word ∷ kind ∷ image ∷ list ∷ more ∷ rest) = None
+
+-- words ask what a kind makes of them, or nothing
+abbrev pub Asks : Option Request → (Kind → Request) → Option Kind → Type 0
+Asks request of None = request ≡ None
+Asks request of (Some kind) = request ≡ Some (of kind)

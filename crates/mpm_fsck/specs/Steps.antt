@@ -66,6 +66,11 @@ pub record Finds (kind : Kind) (entries : List Entry) (found : Findings) : Type 
   pub text : found.text.items ≡ said_by kind entries (fault_list kind entries)
   pub count : found.count ≡ length (fault_list kind entries)
 
+-- what is found of one without a fault: its free records
+pub record FindsNone (kind : Kind) (entries : List Entry) (found : Findings) : Type 0 where
+  pub text : found.text.items ≡ said_by kind entries []
+  pub count : found.count ≡ 0
+
 -- what is found of an image
 pub record FindsOf (kind : Kind) (found : Findings) (image : List ℕ) : Type 0 where
   pub text : found.text.items ≡ said kind image
@@ -104,9 +109,10 @@ by_unread drive memory WriteFault = ⊥
 by_unread drive memory OutOfMemory = memory
 by_unread drive memory TooLong = ⊥
 
--- the count of faults then
-abbrev pub Unread : ℕ → ℕ → FsckStatus → Type 0
-Unread before after status = by_unread (Rose before after) (after ≡ before) status
+-- the count of faults after a directory was read, or wasn't
+abbrev pub CountsRead : {A : Type 0} → ℕ → ℕ → Result A FsckStatus → Type 0
+CountsRead before after (Ok entries) = after ≡ before
+CountsRead before after (Err status) = by_unread (Rose before after) (after ≡ before) status
 
 -- the slots of a list, as they are marked
 pub record ReadsSlots (missing : Type 0) (contents : Option (List ℕ)) (kind : Kind) (old new : List (List ℕ)) (marks : List Bool) : Type 0 where
@@ -181,8 +187,9 @@ pub record FreesAll (kind : Kind) (slots image : List ℕ) (old new : DrivesSeen
   pub synced : new.unsynced 0 ≡ false
   pub is_said : Said (freed_line (length slots))
 
--- those of its first sectors, as the drive failed
-pub record FreesSome (kind : Kind) (marks : List Bool) (old new : DrivesSeen) : Type 0 where
+-- those of its first sectors, as the drive failed; all of them would have been enough
+pub record FreesSome (kind : Kind) (marks : List Bool) (image : List ℕ) (old new : DrivesSeen) : Type 0 where
+  pub enough : files_of (freed_image kind (slots_marked kind marks) image) kind ≡ Ok (drive_without kind (slots_marked kind marks) image)
   pub frees : FreesFirst 0 kind marks old.disks new.disks
   pub known : KeepsTold (old.disks.name_of 0) old.known new.known
   pub failed : new.failed ≡ old.failed
@@ -204,7 +211,7 @@ Mending kind marks image old new Said (BadList line) = ⊥
 Mending kind marks image old new Said (NotEnough slot cause) =
     Refuses old new (files_of (freed_image kind (slots_marked kind marks) image) kind ≡ Err (record { cause = cause; place = slot }))
 Mending kind marks image old new Said ReadFault = ⊥
-Mending kind marks image old new Said DiskFault = (Untouched old new × Rose old.faults new.faults) ⊎ FreesSome kind marks old new
+Mending kind marks image old new Said DiskFault = (Untouched old new × Rose old.faults new.faults) ⊎ FreesSome kind marks image old new
 Mending kind marks image old new Said WriteFault = FreesAll kind (slots_marked kind marks) image old new (Said false)
 Mending kind marks image old new Said OutOfMemory = Refuses old new ⊤
 Mending kind marks image old new Said TooLong = ⊥

@@ -1,13 +1,10 @@
-ghost use Rattle.std.specs.Prelude.{◌≡◌, ◌≢◌, ◌≤◌, ◌+◌, IfOk, OnOk, length};
-ghost use Rattle.std.specs.List.{All};
+ghost use Rattle.std.specs.Prelude.{◌≡◌, ◌≢◌, ◌≤◌, ◌+◌, IfOk, length};
 ghost use Rattle.mpm_blocks.specs.Geometries.{geometry_of};
-ghost use Rattle.mpm_dirent.specs.Proper.{IsProper};
-ghost use Rattle.mpm_mount.specs.Directories.{IsWholeEntry, free_records_in};
-ghost use Rattle.mpm_fault_lines.specs.Lines.{sound_line as said_sound};
-ghost use Rattle.mpm_repair.specs.FaultLists as spec;
+ghost use Rattle.mpm_mount.specs.Mounting.{FillDirectory};
+ghost use Rattle.mpm_repair.specs.FaultLists.{ListsFaults};
 ghost use Rattle.mpm_fsck.specs.Outside.{drives_seen};
 ghost use Rattle.mpm_fsck.specs.Endings.{Checks, FailsDrives, FailsOutput, WritesNothing};
-ghost use Rattle.mpm_fsck.specs.Steps.{Opens, Finds, FindsOf, Tells, ended_by};
+ghost use Rattle.mpm_fsck.specs.Steps.{Opens, Finds, FindsNone, FindsOf, Tells, ended_by};
 
 use crate::OutOfMemory;
 use crate::opening::{open, read};
@@ -35,10 +32,8 @@ pub(crate) fn check<D: Drives, S: Sink>(
     drives: &mut D,
     sink: &mut S,
 ) -> FsckStatus
-    ensures checks { Checks kind name.now (drives_seen D.told D.disks D.unsynced D.faults D.failed_names drives.old)
-        (drives_seen D.told D.disks D.unsynced D.faults D.failed_names drives.new) (S.written sink.old) (S.written sink.new) result }
-    ensures drives { FailsDrives (drives_seen D.told D.disks D.unsynced D.faults D.failed_names drives.old)
-        (drives_seen D.told D.disks D.unsynced D.faults D.failed_names drives.new) result }
+    ensures checks { Checks kind name.now (drives_seen D.Drives drives.old) (drives_seen D.Drives drives.new) (S.written sink.old) (S.written sink.new) result }
+    ensures drives { FailsDrives (drives_seen D.Drives drives.old) (drives_seen D.Drives drives.new) result }
     ensures output { FailsOutput (S.faults sink.old) (S.faults sink.new) result }
     ensures nothing { WritesNothing result → sink.new ≡ sink.old }
     ensures usage { result ≢ FsckStatus.Usage }
@@ -56,8 +51,7 @@ fn find<D: Drives>(
     name: &str,
     drives: &mut D,
 ) -> Result<Findings, FsckStatus>
-    ensures { Opens kind name.now (drives_seen D.told D.disks D.unsynced D.faults D.failed_names drives.old)
-        (drives_seen D.told D.disks D.unsynced D.faults D.failed_names drives.new) (FindsOf kind) result }
+    ensures { Opens kind name.now (drives_seen D.Drives drives.old) (drives_seen D.Drives drives.new) (FindsOf kind) result }
 {
     match open(kind, name, drives) {
         Ok(()) => {}
@@ -75,9 +69,7 @@ fn find<D: Drives>(
 
 /// What is found of a directory.
 fn judge(alloc: Global, kind: Kind, entries: Vec<Entry>) -> Result<Findings, OutOfMemory>
-    requires full { length entries.items ≡ (geometry_of kind).drm + 1 }
-    requires proper { All (IsProper (geometry_of kind).wide) entries.items }
-    requires whole { All IsWholeEntry entries.items }
+    requires { FillDirectory kind entries.items }
     ensures { IfOk result (Finds kind entries.items) }
 {
     let mut entries = entries;
@@ -99,20 +91,16 @@ fn list_faults(
     entries: &mut Vec<Entry>,
 ) -> Result<Vec<SlotFault>, OutOfMemory>
     requires { length entries.old.items ≡ (geometry_of kind).drm + 1 }
-    ensures list { IfOk result (λ faults. faults.items ≡ spec.fault_list kind entries.old.items) }
+    ensures lists { IfOk result (λ faults. ListsFaults kind entries.old.items entries.new.items faults.items) }
     ensures few { IfOk result (λ faults. length faults.items ≤ 512) }
-    ensures stay { OnOk result (entries.new.items ≡ spec.staying kind entries.old.items (length entries.old.items)) }
 {
     fault_list(alloc, kind, entries.as_mut_slice())
 }
 
 /// What is found of a directory without a fault: its free records.
 fn sound(alloc: Global, kind: Kind, entries: Vec<Entry>) -> Result<Findings, OutOfMemory>
-    requires full { length entries.items ≡ (geometry_of kind).drm + 1 }
-    requires proper { All (IsProper (geometry_of kind).wide) entries.items }
-    requires whole { All IsWholeEntry entries.items }
-    ensures text { IfOk result (λ found. found.text.items ≡ said_sound (free_records_in (record { drive = 0; kind = kind; entries = entries.items }))) }
-    ensures count { IfOk result (λ found. found.count ≡ 0) }
+    requires { FillDirectory kind entries.items }
+    ensures { IfOk result (FindsNone kind entries.items) }
 {
     let Ok(mounted) = mount_entries(alloc, 0, kind, entries) else {
         return Err(OutOfMemory);

@@ -25,16 +25,13 @@ pub fn fsck_words<F: Files, D: Drives, S: Sink>(
     ensures usage_drives { result ≡ FsckStatus.Usage → drives.new ≡ drives.old }
 
     // Each ending has its reason, and says what was written, and what is left of the image.
-    ensures ends { (request : Request) → request_of (texts words.now) ≡ Some request → Ends (F.missing files.old) request
-        (seen F.contents F.failed_names S.written S.faults files.old (drives_seen D.told D.disks D.unsynced D.faults D.failed_names drives.old) sink.old)
-        (seen F.contents F.failed_names S.written S.faults files.new (drives_seen D.told D.disks D.unsynced D.faults D.failed_names drives.new) sink.new) result }
+    ensures ends { (request : Request) → request_of (texts words.now) ≡ Some request → Ends (F.missing files.old) request (seen F.Files D.Drives S.Sink files.old drives.old sink.old) (seen F.Files D.Drives S.Sink files.new drives.new sink.new) result }
 
     // The list that a check of an image writes is never refused.
     ensures own_list { (request : Request) → request_of (texts words.now) ≡ Some request → TakesOwnList (F.contents files.old) (D.told drives.old) request result }
 
     // What failed, that nothing is written at a refusal, and that what the files hold stays.
-    ensures fails { Fails (seen F.contents F.failed_names S.written S.faults files.old (drives_seen D.told D.disks D.unsynced D.faults D.failed_names drives.old) sink.old)
-        (seen F.contents F.failed_names S.written S.faults files.new (drives_seen D.told D.disks D.unsynced D.faults D.failed_names drives.new) sink.new) result }
+    ensures fails { Fails (seen F.Files D.Drives S.Sink files.old drives.old sink.old) (seen F.Files D.Drives S.Sink files.new drives.new sink.new) result }
     ensures nothing { WritesNothing result → sink.new ≡ sink.old }
     ensures files { (other : List ℕ) → F.contents files.new other ≡ F.contents files.old other }
 {

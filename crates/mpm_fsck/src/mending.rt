@@ -1,16 +1,14 @@
-ghost use Rattle.std.specs.Prelude.{◌≡◌, ◌≢◌, ◌≤◌, ◌+◌, ℕ, List, Some, length};
-ghost use Rattle.std.specs.List.{All};
+ghost use Rattle.std.specs.Prelude.{◌≡◌, ◌≢◌, ◌≤◌, ℕ, List, Some, length};
 ghost use Rattle.mpm_blocks.specs.Geometries.{geometry_of};
 ghost use Rattle.mpm_port.specs.Disks.{size_of};
-ghost use Rattle.mpm_dirent.specs.Proper.{IsProper};
-ghost use Rattle.mpm_mount.specs.Directories.{IsWholeEntry};
+ghost use Rattle.mpm_mount.specs.Mounting.{FillDirectory};
 ghost use Rattle.mpm_mount.specs.Faults.{first_fault};
 ghost use Rattle.mpm_port.specs.Frames.{OnlyCountsFaults};
 ghost use Rattle.mpm_fault_lines.specs.Lists.{listed};
-ghost use Rattle.mpm_repair.specs.Freeing.{freed};
+ghost use Rattle.mpm_repair.specs.Freeing.{freed, FreesEntries};
 ghost use Rattle.mpm_fsck.specs.Outside.{drives_seen, seen};
 ghost use Rattle.mpm_fsck.specs.Requests.{Apply};
-ghost use Rattle.mpm_fsck.specs.Endings.{Applies, TakesOwnList, FailsFiles, FailsDrives, FailsOutput, WritesNothing};
+ghost use Rattle.mpm_fsck.specs.Endings.{Applies, TakesOwnList, Fails, FailsDrives, FailsOutput, WritesNothing};
 ghost use Rattle.mpm_fsck.specs.Steps.{Reads, IsLeft, LeavesImage, CountsLeft, Mending, IsSaid, slots_marked};
 
 use crate::opening::{open, read};
@@ -37,14 +35,9 @@ pub(crate) fn apply<F: Files, D: Drives, S: Sink>(
     drives: &mut D,
     sink: &mut S,
 ) -> FsckStatus
-    ensures applies { Applies (F.missing files.old) kind name.now list.now
-        (seen F.contents F.failed_names S.written S.faults files.old (drives_seen D.told D.disks D.unsynced D.faults D.failed_names drives.old) sink.old)
-        (seen F.contents F.failed_names S.written S.faults files.new (drives_seen D.told D.disks D.unsynced D.faults D.failed_names drives.new) sink.new) result }
+    ensures applies { Applies (F.missing files.old) kind name.now list.now (seen F.Files D.Drives S.Sink files.old drives.old sink.old) (seen F.Files D.Drives S.Sink files.new drives.new sink.new) result }
     ensures own_list { TakesOwnList (F.contents files.old) (D.told drives.old) (Apply kind name.now list.now) result }
-    ensures names { FailsFiles (F.failed_names files.old) (F.failed_names files.new) result }
-    ensures drives { FailsDrives (drives_seen D.told D.disks D.unsynced D.faults D.failed_names drives.old)
-        (drives_seen D.told D.disks D.unsynced D.faults D.failed_names drives.new) result }
-    ensures output { FailsOutput (S.faults sink.old) (S.faults sink.new) result }
+    ensures fails { Fails (seen F.Files D.Drives S.Sink files.old drives.old sink.old) (seen F.Files D.Drives S.Sink files.new drives.new sink.new) result }
     ensures nothing { WritesNothing result → sink.new ≡ sink.old }
     ensures files { (other : List ℕ) → F.contents files.new other ≡ F.contents files.old other }
     ensures usage { result ≢ FsckStatus.Usage }
@@ -91,10 +84,8 @@ fn mend<D: Drives, S: Sink>(
     sink: &mut S,
 ) -> FsckStatus
     requires { size_of (D.disks drives.old) 0 ≡ Some (geometry_of kind).bytes }
-    ensures ends { (image : List ℕ) → (D.disks drives.old).image 0 ≡ Some image → Mending kind slots.now image (drives_seen D.told D.disks D.unsynced D.faults D.failed_names drives.old)
-        (drives_seen D.told D.disks D.unsynced D.faults D.failed_names drives.new) (IsSaid (S.written sink.old) (S.written sink.new)) result }
-    ensures drives { FailsDrives (drives_seen D.told D.disks D.unsynced D.faults D.failed_names drives.old)
-        (drives_seen D.told D.disks D.unsynced D.faults D.failed_names drives.new) result }
+    ensures ends { (image : List ℕ) → (D.disks drives.old).image 0 ≡ Some image → Mending kind slots.now image (drives_seen D.Drives drives.old) (drives_seen D.Drives drives.new) (IsSaid (S.written sink.old) (S.written sink.new)) result }
+    ensures drives { FailsDrives (drives_seen D.Drives drives.old) (drives_seen D.Drives drives.new) result }
     ensures output { FailsOutput (S.faults sink.old) (S.faults sink.new) result }
     ensures nothing { WritesNothing result → sink.new ≡ sink.old }
 {
@@ -137,9 +128,7 @@ fn count_left(
     slots: &Slots,
     entries: Vec<Entry>,
 ) -> Result<u16, FsckStatus>
-    requires full { length entries.items ≡ (geometry_of kind).drm + 1 }
-    requires proper { All (IsProper (geometry_of kind).wide) entries.items }
-    requires whole { All IsWholeEntry entries.items }
+    requires { FillDirectory kind entries.items }
     ensures { IsLeft (slots_marked kind slots.now) (first_fault kind (freed (slots_marked kind slots.now) entries.items)) result }
 {
     let mut entries = entries;
@@ -157,8 +146,7 @@ fn count_left(
 /// Frees slots of a directory's entries: the number of these slots.
 fn free_listed(slots: &Slots, entries: &mut Vec<Entry>) -> u16
     requires { length entries.old.items ≤ 512 }
-    ensures freed { entries.new.items ≡ freed (listed slots.now (length entries.old.items)) entries.old.items }
-    ensures count { result ≡ length (listed slots.now (length entries.old.items)) }
+    ensures { FreesEntries (listed slots.now (length entries.old.items)) entries.old.items entries.new.items result }
 {
     free_entries(slots, entries.as_mut_slice())
 }

@@ -1,14 +1,12 @@
-ghost use Rattle.std.specs.Prelude.{◌≡◌, ◌+◌, Some, ⊤, IfOk, IfErr, IfSome, OnOk, length};
-ghost use Rattle.std.specs.List.{All};
+ghost use Rattle.std.specs.Prelude.{◌≡◌, Some, ⊤, IfOk, IfSome};
 ghost use Rattle.mpm_blocks.specs.Geometries.{geometry_of};
 ghost use Rattle.mpm_blocks.specs.Sectors.{sectors_of};
 ghost use Rattle.mpm_port.specs.Disks.{size_of};
-ghost use Rattle.mpm_dirent.specs.Proper.{IsProper};
-ghost use Rattle.mpm_mount.specs.Directories.{IsWholeEntry};
+ghost use Rattle.mpm_mount.specs.Mounting.{FillDirectory};
 ghost use Rattle.mpm_mount.specs.Images.{entries_of};
 ghost use Rattle.mpm_port.specs.Frames.{OnlyCountsFaults};
 ghost use Rattle.mpm_fsck.specs.Outside.{drives_seen};
-ghost use Rattle.mpm_fsck.specs.Steps.{Opens, Unread};
+ghost use Rattle.mpm_fsck.specs.Steps.{Opens, CountsRead};
 
 use crate::status::FsckStatus;
 use mpm_base::Kind;
@@ -20,8 +18,7 @@ use std::alloc::Global;
 
 /// Attaches drive A to the image of a name, which has to have the size of its kind.
 pub(crate) fn open<D: Drives>(kind: Kind, name: &str, drives: &mut D) -> Result<(), FsckStatus>
-    ensures { Opens kind name.now (drives_seen D.told D.disks D.unsynced D.faults D.failed_names drives.old)
-        (drives_seen D.told D.disks D.unsynced D.faults D.failed_names drives.new) (λ _ image. ⊤) result }
+    ensures { Opens kind name.now (drives_seen D.Drives drives.old) (drives_seen D.Drives drives.new) (λ _ image. ⊤) result }
 {
     match drives.attach(0, name) {
         Ok(()) => {}
@@ -43,11 +40,8 @@ pub(crate) fn read<D: Drives>(
 ) -> Result<Vec<Entry>, FsckStatus>
     requires { size_of (D.disks drives.old) 0 ≡ Some (geometry_of kind).bytes }
     ensures entries { IfOk result (λ entries. IfSome ((D.disks drives.old).image 0) (λ image. entries.items ≡ entries_of (sectors_of image kind) kind)) }
-    ensures full { IfOk result (λ entries. length entries.items ≡ (geometry_of kind).drm + 1) }
-    ensures proper { IfOk result (λ entries. All (IsProper (geometry_of kind).wide) entries.items) }
-    ensures whole { IfOk result (λ entries. All IsWholeEntry entries.items) }
-    ensures count { OnOk result (D.faults drives.new ≡ D.faults drives.old) }
-    ensures err { IfErr result (λ status. Unread (D.faults drives.old) (D.faults drives.new) status) }
+    ensures slots { IfOk result (λ entries. FillDirectory kind entries.items) }
+    ensures count { CountsRead (D.faults drives.old) (D.faults drives.new) result }
     ensures same { OnlyCountsFaults D.Drives drives.old drives.new }
 {
     match read_directory(alloc, drives, 0, kind) {

@@ -1,4 +1,4 @@
-ghost use Rattle.std.specs.Prelude.{◌≡◌, Some, None, MatchOption};
+ghost use Rattle.std.specs.Prelude.{◌≡◌};
 ghost use Rattle.mpm_fsck.specs.Requests as spec;
 ghost use Rattle.mpm_fsck.specs.Requests.Request.{Check, Apply};
 
@@ -21,8 +21,7 @@ fn kind_of(word: &str) -> Option<Kind>
 
 /// The kind of the image that is to be checked, where three words ask that.
 pub(crate) fn kind_to_check(word: &str, kind: &str, image: &str) -> Option<Kind>
-    ensures { MatchOption result (spec.check_by word.now (spec.kind_of kind.now) image.now ≡ None)
-        (λ said. spec.check_by word.now (spec.kind_of kind.now) image.now ≡ Some (Check said image.now)) }
+    ensures { spec.Asks (spec.check_by word.now (spec.kind_of kind.now) image.now) (λ said. Check said image.now) result }
 {
     if word != "check" {
         return None;
@@ -32,8 +31,7 @@ pub(crate) fn kind_to_check(word: &str, kind: &str, image: &str) -> Option<Kind>
 
 /// The kind of the image of which slots are to be freed, where four words ask that.
 pub(crate) fn kind_to_mend(word: &str, kind: &str, image: &str, list: &str) -> Option<Kind>
-    ensures { MatchOption result (spec.apply_by word.now (spec.kind_of kind.now) image.now list.now ≡ None)
-        (λ said. spec.apply_by word.now (spec.kind_of kind.now) image.now list.now ≡ Some (Apply said image.now list.now)) }
+    ensures { spec.Asks (spec.apply_by word.now (spec.kind_of kind.now) image.now list.now) (λ said. Apply said image.now list.now) result }
 {
     if word != "apply" {
         return None;
@@ -44,8 +42,7 @@ pub(crate) fn kind_to_mend(word: &str, kind: &str, image: &str, list: &str) -> O
 /// The kind that a word says, of an image that has a name.
 #[tactic(auto, using(crate::proofs::RequestLaws::check_named, crate::proofs::RequestLaws::check_unknown, crate::proofs::RequestLaws::check_unnamed))]
 fn kind_of_named(kind: &str, image: &str) -> Option<Kind>
-    ensures { MatchOption result (spec.check_of (spec.kind_of kind.now) image.now ≡ None)
-        (λ said. spec.check_of (spec.kind_of kind.now) image.now ≡ Some (Check said image.now)) }
+    ensures { spec.Asks (spec.check_of (spec.kind_of kind.now) image.now) (λ said. Check said image.now) result }
 {
     if image.is_empty() {
         return None;
@@ -56,8 +53,7 @@ fn kind_of_named(kind: &str, image: &str) -> Option<Kind>
 /// The kind that a word says, of an image and a list that have names.
 #[tactic(auto, using(crate::proofs::RequestLaws::apply_named, crate::proofs::RequestLaws::apply_unknown, crate::proofs::RequestLaws::apply_unnamed, crate::proofs::RequestLaws::apply_unlisted))]
 fn kind_of_listed(kind: &str, image: &str, list: &str) -> Option<Kind>
-    ensures { MatchOption result (spec.apply_of (spec.kind_of kind.now) image.now list.now ≡ None)
-        (λ said. spec.apply_of (spec.kind_of kind.now) image.now list.now ≡ Some (Apply said image.now list.now)) }
+    ensures { spec.Asks (spec.apply_of (spec.kind_of kind.now) image.now list.now) (λ said. Apply said image.now list.now) result }
 {
     if image.is_empty() || list.is_empty() {
         return None;

@@ -3,3 +3,5 @@ pub mod Sizes
 pub mod Programs
 pub mod Images
 pub mod Machines
+pub mod Putting
+pub mod Generating

@@ -1,4 +1,5 @@
 ghost use Rattle.std.specs.Prelude.{◌≡◌, ◌≤◌, ◌+◌, ◌++◌, length, replicate, OnOk};
+ghost use Rattle.mpm_generator.specs.Putting.{PutsAll};
 ghost use Rattle.mpm_generator.specs.Sizes.{filled_to as filled};
 
 use std::alloc::AllocError;
@@ -17,8 +18,7 @@ pub(crate) fn append(bytes: &mut Vec<u8>, count: usize, value: u8) -> Result<(),
 pub(crate) fn fill_to(bytes: &mut Vec<u8>, size: usize, value: u8) -> Result<(), AllocError>
     requires room { length bytes.old.items ≤ size }
     requires few { size ≤ 4194304 }
-    ensures bytes { OnOk result (bytes.new.items ≡ filled size value bytes.old.items) }
-    ensures size { OnOk result (length bytes.new.items ≡ size) }
+    ensures { PutsAll (filled size value bytes.old.items) size bytes.new.items result }
 {
     append(bytes, size - bytes.len(), value)
 }

@@ -1,5 +1,6 @@
 ghost use Rattle.std.specs.Prelude.{◌≡◌, ◌≤◌, ◌+◌, ◌++◌, [], length, OnOk, IfOk};
 ghost use Rattle.mpm_generator.specs.Programs.{program_behind};
+ghost use Rattle.mpm_generator.specs.Putting.{Puts, PutsAll, AreSmall};
 ghost use Rattle.mpm_generator.specs.Sizes.{blocks_for, in_blocks};
 ghost use Rattle.mpm_generator.specs.Images.{numbers_from as numbers_said, entry_for, directory_of, files_of, image_of, image_with};
 
@@ -43,8 +44,7 @@ fn with_first(alloc: Global, first: &[u8], draws: &mut Draws) -> Result<Vec<u8>,
 
 /// The image with two programs.
 fn with_both(alloc: Global, first: &[u8], second: &[u8]) -> Result<Vec<u8>, AllocError>
-    requires first { length first.now ≤ 9344 }
-    requires second { length second.now ≤ 9344 }
+    requires { AreSmall (length first.now) (length second.now) }
     ensures { IfOk result (λ image. image.items ≡ image_with first.now second.now) }
 {
     let mut image = Vec::new(alloc);
@@ -58,8 +58,7 @@ fn with_both(alloc: Global, first: &[u8], second: &[u8]) -> Result<Vec<u8>, Allo
 #[tactic(auto, unfolding(crate::specs::Images::image_with))]
 fn put_image(image: &mut Vec<u8>, first: &[u8], second: &[u8]) -> Result<(), AllocError>
     requires empty { image.old.items ≡ [] }
-    requires first { length first.now ≤ 9344 }
-    requires second { length second.now ≤ 9344 }
+    requires programs { AreSmall (length first.now) (length second.now) }
     ensures { OnOk result (image.new.items ≡ image_with first.now second.now) }
 {
     put_directory(image, first.len(), second.len())?;
@@ -70,10 +69,8 @@ fn put_image(image: &mut Vec<u8>, first: &[u8], second: &[u8]) -> Result<(), All
 /// Two programs and the file of records come after the directory.
 fn put_files(image: &mut Vec<u8>, first: &[u8], second: &[u8]) -> Result<(), AllocError>
     requires directory { length image.old.items ≡ 16384 }
-    requires first { length first.now ≤ 9344 }
-    requires second { length second.now ≤ 9344 }
-    ensures image { OnOk result (image.new.items ≡ image.old.items ++ files_of first.now second.now) }
-    ensures size { OnOk result (length image.new.items ≤ 40960) }
+    requires programs { AreSmall (length first.now) (length second.now) }
+    ensures { Puts (image.old.items ++ files_of first.now second.now) 40960 image.new.items result }
 {
     put_file(image, first)?;
     put_file(image, second)?;
@@ -84,10 +81,8 @@ fn put_files(image: &mut Vec<u8>, first: &[u8], second: &[u8]) -> Result<(), All
 #[tactic(auto, unfolding(crate::specs::Images::directory_of))]
 fn put_directory(image: &mut Vec<u8>, first: usize, second: usize) -> Result<(), AllocError>
     requires empty { image.old.items ≡ [] }
-    requires first { first ≤ 9344 }
-    requires second { second ≤ 9344 }
-    ensures directory { OnOk result (image.new.items ≡ directory_of first second) }
-    ensures size { OnOk result (length image.new.items ≡ 16384) }
+    requires programs { AreSmall first second }
+    ensures { PutsAll (directory_of first second) 16384 image.new.items result }
 {
     let second_block = 8 + blocks(first);
     image.extend_from_slice(&entry(b"G0      COM", 8, first))?;

@@ -1,6 +1,7 @@
 ghost use Rattle.std.specs.Prelude.{◌≡◌, IfOk, length};
 ghost use Rattle.mpm_port.specs.MemoryDisks.{no_disks, with_image};
 ghost use Rattle.mpm_generator.specs.Machines.{machine as machine_said, script as script_said, name_of_image, typed as typed_text, drives_of};
+ghost use Rattle.mpm_generator.specs.Generating.{IsMachineWith};
 
 use crate::imaging::image;
 use mpm_base::{Kind, SegmentSpec};
@@ -25,9 +26,7 @@ pub struct Generated {
 /// # Errors
 /// Where no memory is found.
 pub fn generate(alloc: Global, seed: u32) -> Result<Generated, OutOfMemory>
-    ensures machine { IfOk result (λ generated. generated.machine ≡ machine_said) }
-    ensures script { IfOk result (λ generated. generated.script ≡ script_said) }
-    ensures drives { IfOk result (λ generated. generated.drives ≡ drives_of seed) }
+    ensures { IfOk result (IsMachineWith (drives_of seed)) }
 {
     match drives(alloc, seed) {
         Ok(drives) => with_drives(alloc, drives),
@@ -37,9 +36,7 @@ pub fn generate(alloc: Global, seed: u32) -> Result<Generated, OutOfMemory>
 
 /// The machine with these drives.
 fn with_drives(alloc: Global, drives: MemoryDrives) -> Result<Generated, OutOfMemory>
-    ensures machine { IfOk result (λ generated. generated.machine ≡ machine_said) }
-    ensures script { IfOk result (λ generated. generated.script ≡ script_said) }
-    ensures drives { IfOk result (λ generated. generated.drives ≡ drives) }
+    ensures { IfOk result (IsMachineWith drives) }
 {
     match machine(alloc) {
         Ok(machine) => match script(alloc) {

@@ -1,6 +1,7 @@
 ghost use Rattle.std.specs.Prelude.{◌≡◌, ◌≤◌, ◌+◌, ◌++◌, [], length, OnOk, IfOk};
 ghost use Rattle.mpm_generator.specs.Draws.{nth_behind};
 ghost use Rattle.mpm_generator.specs.Programs.{blocks_behind, code_behind, program_behind, start as start_code};
+ghost use Rattle.mpm_generator.specs.Putting.{PutsAll, PutsDrawn};
 
 use crate::block::Block;
 use crate::bytes::fill_to;
@@ -39,9 +40,7 @@ pub(crate) fn program(alloc: Global, draws: &mut Draws) -> Result<Vec<u8>, Alloc
 #[tactic(auto, unfolding(crate::specs::Programs::program_behind))]
 fn put_program(code: &mut Vec<u8>, draws: &mut Draws) -> Result<(), AllocError>
     requires { code.old.items ≡ [] }
-    ensures code { OnOk result (code.new.items ≡ program_behind draws.old) }
-    ensures size { OnOk result (length code.new.items ≤ 9344) }
-    ensures draws { OnOk result (draws.new ≡ nth_behind 1200 draws.old) }
+    ensures { PutsDrawn (program_behind draws.old) 9344 code.new.items draws.old draws.new result }
 {
     put_code(code, draws)?;
     let size = 128 * ((code.len() + 127) / 128);
@@ -52,9 +51,7 @@ fn put_program(code: &mut Vec<u8>, draws: &mut Draws) -> Result<(), AllocError>
 #[tactic(auto, unfolding(crate::specs::Programs::code_behind))]
 fn put_code(code: &mut Vec<u8>, draws: &mut Draws) -> Result<(), AllocError>
     requires { code.old.items ≡ [] }
-    ensures code { OnOk result (code.new.items ≡ code_behind draws.old) }
-    ensures size { OnOk result (length code.new.items ≤ 9283) }
-    ensures draws { OnOk result (draws.new ≡ nth_behind 1200 draws.old) }
+    ensures { PutsDrawn (code_behind draws.old) 9283 code.new.items draws.old draws.new result }
 {
     put_start(code)?;
     put_blocks(code, draws)?;
@@ -64,8 +61,7 @@ fn put_code(code: &mut Vec<u8>, draws: &mut Draws) -> Result<(), AllocError>
 /// How it starts.
 fn put_start(code: &mut Vec<u8>) -> Result<(), AllocError>
     requires { code.old.items ≡ [] }
-    ensures code { OnOk result (code.new.items ≡ start_code) }
-    ensures size { OnOk result (length code.new.items ≡ 78) }
+    ensures { PutsAll start_code 78 code.new.items result }
 {
     code.extend_from_slice(&JUMP_AND_NAME)?;
     fill_to(code, 64, 0)?;
@@ -74,9 +70,7 @@ fn put_start(code: &mut Vec<u8>) -> Result<(), AllocError>
 
 /// The blocks of a program come after its start.
 fn put_blocks(code: &mut Vec<u8>, draws: &mut Draws) -> Result<(), AllocError>
-    ensures code { OnOk result (code.new.items ≡ code.old.items ++ blocks_behind 400 draws.old) }
-    ensures size { OnOk result (length code.new.items ≤ length code.old.items + 9200) }
-    ensures draws { OnOk result (draws.new ≡ nth_behind 1200 draws.old) }
+    ensures { PutsDrawn (code.old.items ++ blocks_behind 400 draws.old) (length code.old.items + 9200) code.new.items draws.old draws.new result }
 {
     for _block in 0..BLOCKS {
         Block::drawn(draws).put(code)?;

@@ -1,10 +1,10 @@
 -- What an attach and a write leave of the images that are held.
-use Rattle.std.proofs.Common.{◌≡◌, ◌≢◌, ◌⊎◌, ℕ, ◌+◌, ◌*◌, ◌<◌, ◌≤◌, Bool, true, false, List, length, get_or, Option, Some, None, IfSome, IsSomeAnd, refl, sym, ap, subst, ◌∙◌, inl, inr, arith}
-use Rattle.std.specs.Prelude.{slice_index_or, slice_set, option_map, is_some, take, drop, ◌++◌}
+use Rattle.std.proofs.Common.{◌≡◌, ◌≢◌, ◌⊎◌, ℕ, ◌+◌, ◌*◌, ◌<◌, ◌≤◌, true, false, List, length, Option, Some, None, IfSome, IsSomeAnd, refl, sym, ap, subst, ◌∙◌, inl, inr, arith}
+use Rattle.std.specs.Prelude.{slice_set, option_map, is_some, take, drop, ◌++◌}
 use Rattle.std.proofs.lemmas.List.{get_or-set_same, get_or-set_other, set-get_or, get_or_past, length-append, length-take, length-drop}
 use Rattle.std.proofs.lemmas.Bool.{cases_eq, cases_lt, false≢true}
-use Rattle.mpm_port.specs.Disks.{Disks, Untold, Attaches, WritesSector, KeepsTold, IsInsideDrive, size_of, with_sector}
-use Rattle.mpm_host.specs.Attached.{Held, RealDisks, held_by, disks_in, disks_of, is_unsynced, after_attach, after_write, written_if}
+use Rattle.mpm_port.specs.Disks.{Untold, Attaches, WritesSector, KeepsTold, IsInsideDrive, size_of, with_sector}
+use Rattle.mpm_host.specs.Attached.{Held, RealDisks, held_by, disks_in, disks_of, after_attach, after_write, written_if}
 
 here_after : (held : List (Option Held)) (drive : ℕ) (one : Option Held) → drive < length held → held_by (slice_set held drive one) drive ≡ one
 here_after held drive one within = get_or-set_same held drive one None within

@@ -1,5 +1,5 @@
 -- The drives over files of the host: what is kept of them, and what each call leaves.
-use Rattle.std.specs.Prelude.{◌≡◌, ℕ, ◌+◌, ◌-◌, ◌^◌, min, Bool, true, false, List, [], Option, Some, None, IfSome, ⊤, option_map, replicate, slice_index_or, slice_set, if◌then◌else◌}
+use Rattle.std.specs.Prelude.{◌≡◌, ℕ, ◌+◌, ◌-◌, ◌^◌, min, Bool, true, false, List, [], Option, Some, None, IfSome, option_map, replicate, slice_index_or, slice_set, if◌then◌else◌}
 use Rattle.mpm_port.specs.Disks.{Disks, ToldImage, Untold, Brings, with_sector}
 
 -- an image as it was read, with what was written to it since, and the name that its drive was attached by

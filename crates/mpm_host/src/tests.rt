@@ -355,16 +355,16 @@ fn only_a_missing_right_leaves_an_image_to_be_read(rt: HostRuntime) {
     assert!(rt; !otherwise);
 }
 
-/// Whether drive A, once it is attached to a file that no device keeps, can't be brought to where it stays.
-fn is_nowhere_kept(drives: &mut RealDrives, name: &str) -> bool {
+/// Whether drive A, once it is attached to a file whose length isn't that of what was read of it, isn't synced.
+fn is_of_another_length(drives: &mut RealDrives, name: &str) -> bool {
     drives.attach(0, name) == Ok(()) && drives.sync(0) == Err(Failed)
 }
 
 #[test]
-fn a_drive_that_cannot_be_synced_fails(rt: HostRuntime) {
+fn a_file_whose_length_is_not_that_of_its_bytes_is_not_synced(rt: HostRuntime) {
     let mut drives = RealDrives::new(rt);
-    let nowhere = is_nowhere_kept(&mut drives, "/proc/self/status");
-    assert!(rt; nowhere);
+    let of_another = is_of_another_length(&mut drives, "/proc/self/status");
+    assert!(rt; of_another);
 }
 
 #[test]

@@ -1,5 +1,5 @@
 //! What is read of a drive in memory, and written to it, by the place of a record: the image `a.img`, to which drive 0 is attached for
-//! that.
+//! that. Each read or write is so three calls of the drives: numbers of calls that are to fail count them all.
 ghost use Rattle.std.specs.Bool.{OnTrue};
 ghost use Rattle.mpm_port.specs.Disks.{IsInsideDrive, size_of};
 ghost use Rattle.mpm_port.specs.MemoryDisks.{disks_of};

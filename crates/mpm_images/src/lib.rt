@@ -71,7 +71,8 @@ const SKEW: [u32; 26] = [
     0, 6, 12, 18, 24, 4, 10, 16, 22, 2, 8, 14, 20, 1, 7, 13, 19, 25, 5, 11, 17, 23, 3, 9, 15, 21,
 ];
 
-/// Where in an image the sector of a record is that is counted after the system's tracks, which are two on a floppy disk.
+/// Where in an image the sector of a record is that is counted after the system's tracks, which are two on a floppy disk. A number of the
+/// table is taken modulo 26, which changes none: so the sum is known to stay in range.
 pub fn place(kind: Kind, number: u32) -> u32 {
     match kind {
         Kind::Ibm3740 => {
@@ -130,7 +131,7 @@ pub fn xfcb(letter: u8) -> EntryBytes {
 }
 
 /// An entry of a first byte and a letter's name that guards by the password SECRET: the XFCB of a file, or the label. Its mode is byte
-/// 12. The password's bytes are kept from the last to the first, each crossed with their sum, which is 06h modulo 256.
+/// 12. The password's bytes are kept from the last to the first, each XORed with their sum, which is 06h modulo 256.
 pub fn guard(first: u8, letter: u8, mode: u8) -> EntryBytes {
     let mut entry = with(with(named(first, letter), 12, mode), 13, 6);
     entry[16..24].copy_from_slice(b"&&RCTECU");

@@ -1,9 +1,10 @@
 -- The interrupts that are to come: periodic ticks of the clock, and the events of a script. (MP/M II System Guide, "Interrupt
 -- Service Routines", "Time Base Management".)
-use Rattle.std.specs.Prelude.{ℕ, ◌+◌, ◌/◌, Bool, ◌&&◌, nat_le, nat_lt, List, drop, slice_get, Option, Some, None, is_some, if◌then◌else◌}
+use Rattle.std.specs.Prelude.{◌≡◌, ℕ, ◌+◌, ◌/◌, Bool, ◌&&◌, nat_le, nat_lt, List, drop, slice_get, Option, Some, None, is_some, IfSome, IfNone, if◌then◌else◌}
 use Rattle.mpm_script.specs.declared.event.Event.{Event}
 use Rattle.mpm_script.specs.declared.event.Event.TheVariants.{Tick}
 use Rattle.mpm_script.specs.declared.event.Timed.{Timed}
+use Rattle.mpm_script.specs.Events.{IsEvent}
 use Rattle.mpm_interrupts.specs.declared.interrupts.Interrupts.{Interrupts}
 
 -- a periodic tick is due at a step: fewer were accepted than whole intervals have passed
@@ -32,3 +33,10 @@ unfoldable pub due_taken : ℕ → Interrupts → Interrupts
 due_taken step interrupts =
     if is_tick_due step interrupts then record interrupts { ticks = interrupts.ticks + 1 }
     else (record interrupts { script = script_after step interrupts.script })
+
+-- what is due is taken and these are left; where nothing is due nothing changes
+pub record TakesDue {A : Type 0} (due : Option Event) (left old new : A) (result : Option Event) : Type 0 where
+  pub event : result ≡ due
+  pub is : IfSome result (λ event. IsEvent event)
+  pub rest : new ≡ left
+  pub nothing : IfNone result (new ≡ old)

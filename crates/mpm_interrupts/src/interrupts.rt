@@ -1,4 +1,6 @@
+ghost use Rattle.std.specs.Prelude.{All};
 ghost use Rattle.mpm_script.specs.declared.line.TheConstants.{GREATEST_STEP};
+ghost use Rattle.mpm_script.specs.Events.{IsTimed};
 
 use mpm_script::{Event, Script, Timed};
 use std::marker::Model;
@@ -15,17 +17,16 @@ pub struct Interrupts {
 }
 
 impl Interrupts {
-    ghost use Rattle.std.specs.Prelude.{◌≡◌, ◌<◌, ◌≤◌, ℕ, false, None, is_some, IfSome, IfNone, All};
-    ghost use Rattle.mpm_script.specs.Events.{IsEvent, IsTimed};
-    ghost use Rattle.mpm_interrupts.specs.Interrupts.{due, due_taken, is_tick_due};
+    ghost use Rattle.std.specs.Prelude.{◌≡◌, ◌<◌, ◌≤◌, ℕ, false, None, is_some, All};
+    ghost use Rattle.mpm_script.specs.Events.{IsTimed};
+    ghost use Rattle.mpm_interrupts.specs.Interrupts.{TakesDue, due, due_taken, is_tick_due};
 
-    /// The ticks and the events of a script, of which none was accepted yet. (The script tells with its length that its
-    /// events are such as there may be.)
+    /// The ticks and the events of a script, of which none was accepted yet.
     pub fn new(tick_every: u32, script: Script) -> Interrupts
         ensures interrupts { result ≡ record { tick_every = tick_every; ticks = 0; script = script } }
         ensures script { All IsTimed script }
     {
-        let _count = script.len();
+        tell_script(&script);
         Interrupts {
             tick_every,
             ticks: 0,
@@ -37,10 +38,7 @@ impl Interrupts {
     #[tactic(auto, unfolding(crate::specs::Interrupts::due, crate::specs::Interrupts::due_taken))]
     pub fn take_due(&mut self, step: u64) -> Option<Event>
         requires { step ≤ GREATEST_STEP }
-        ensures event { result ≡ due step self.old }
-        ensures is { IfSome result (λ event. IsEvent event) }
-        ensures rest { self.new ≡ due_taken step self.old }
-        ensures nothing { IfNone result (self.new ≡ self.old) }
+        ensures { TakesDue (due step self.old) (due_taken step self.old) self.old self.new result }
     {
         if self.is_tick_due(step) {
             self.ticks += 1;
@@ -86,6 +84,13 @@ impl Interrupts {
     }
 }
 
+/// Says what is so of the events of a script: they are such as there may be.
+fn tell_script(script: &Script)
+    ensures { All IsTimed script.now }
+{
+    let _ = script.len();
+}
+
 /// The events of a script that were not accepted yet. Contracts see the list of them.
 #[derive(Drop)]
 pub struct Pending {
@@ -106,16 +111,13 @@ impl Model for Pending {
 }
 
 impl Pending {
-    ghost use Rattle.std.specs.Prelude.{◌≡◌, ◌<◌, ℕ, None, is_some, IfSome, IfNone, drop, slice_get};
+    ghost use Rattle.std.specs.Prelude.{◌≡◌, ◌<◌, ℕ, None, is_some, IfSome, drop, slice_get};
     ghost use Rattle.mpm_script.specs.Events.{IsEvent};
-    ghost use Rattle.mpm_interrupts.specs.Interrupts.{script_due, script_after};
+    ghost use Rattle.mpm_interrupts.specs.Interrupts.{TakesDue, script_due, script_after};
 
     /// Takes the first event, where it is due at a step.
     fn take_due(&mut self, step: u64) -> Option<Event>
-        ensures event { result ≡ script_due step self.old }
-        ensures is { IfSome result (λ event. IsEvent event) }
-        ensures rest { self.new ≡ script_after step self.old }
-        ensures nothing { IfNone result (self.new ≡ self.old) }
+        ensures { TakesDue (script_due step self.old) (script_after step self.old) self.old self.new result }
     {
         match self.first() {
             Some(timed) if timed.step <= step => {

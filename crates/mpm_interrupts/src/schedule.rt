@@ -25,9 +25,9 @@ impl Model for Schedule {
 }
 
 impl Schedule {
-    ghost use Rattle.std.specs.Prelude.{◌≡◌, ◌<◌, ◌≤◌, ℕ, None, is_some, IfSome, IfNone, All};
-    ghost use Rattle.mpm_script.specs.Events.{IsEvent, IsTimed};
-    ghost use Rattle.mpm_interrupts.specs.Interrupts.{due, due_taken};
+    ghost use Rattle.std.specs.Prelude.{◌≡◌, ◌<◌, ◌≤◌, ℕ, None, is_some, All};
+    ghost use Rattle.mpm_script.specs.Events.{IsTimed};
+    ghost use Rattle.mpm_interrupts.specs.Interrupts.{TakesDue, due, due_taken};
 
     /// The ticks and the events of a script, of which none was accepted yet.
     pub fn new(tick_every: u32, script: Script) -> Schedule
@@ -43,10 +43,7 @@ impl Schedule {
     #[tactic(auto, using(crate::proofs::InterruptLaws::none_taken))]
     pub fn take_due(&mut self, step: u64) -> Option<Event>
         requires { step ≤ GREATEST_STEP }
-        ensures event { result ≡ due step self.old }
-        ensures is { IfSome result (λ event. IsEvent event) }
-        ensures rest { self.new ≡ due_taken step self.old }
-        ensures nothing { IfNone result (self.new ≡ self.old) }
+        ensures { TakesDue (due step self.old) (due_taken step self.old) self.old self.new result }
     {
         if step < self.next {
             return None;

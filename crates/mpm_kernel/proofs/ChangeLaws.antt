@@ -8,7 +8,7 @@ use Rattle.mpm_queues.specs.Queues.{Queues}
 use Rattle.mpm_consoles.specs.Consoles.{HasUnit}
 use Rattle.mpm_base.specs.declared.unit.Unit.{Unit}
 use Rattle.mpm_base.specs.declared.unit.Unit.TheVariants.{Console as ConsoleUnit, Printer as PrinterUnit}
-use Rattle.mpm_kernel.specs.Kernel.{Kernel, IsOfTwo, IsFit, MayCall, with_changed}
+use Rattle.mpm_kernel.specs.Kernel.{Kernel, IsOfTwo, IsFit, MayCall, MayUseUnit, with_changed}
 use Rattle.mpm_kernel.specs.Consoling.{unit_left, console_changed, printer_changed}
 use Rattle.mpm_kernel.proofs.Soundness.{fit_kept, sound_changed}
 use Rattle.mpm_kernel.proofs.UnitLaws.{has_own_console, has_own_printer}
@@ -74,3 +74,14 @@ has_console_changed kernel p console below = omega (arith, consoles_changed kern
 
 pub has_printer_changed : (kernel : Kernel) (p printer : ℕ) → printer < length kernel.units.printers → printer < length (printer_changed p printer kernel).units.printers
 has_printer_changed kernel p printer below = omega (arith, printers_changed kernel p printer, below)
+
+-- and may use it
+pub uses_console_changed : (kernel : Kernel) (p console : ℕ) → MayCall p kernel → console < length kernel.units.consoles → MayUseUnit p (ConsoleUnit console) (console_changed p console kernel)
+uses_console_changed kernel p console m below =
+    let may = may_console_changed kernel p console m below in
+    record { sound = may.sound; lives = may.lives; ready = may.ready; there = has_console_changed kernel p console below }
+
+pub uses_printer_changed : (kernel : Kernel) (p printer : ℕ) → MayCall p kernel → printer < length kernel.units.printers → MayUseUnit p (PrinterUnit printer) (printer_changed p printer kernel)
+uses_printer_changed kernel p printer m below =
+    let may = may_printer_changed kernel p printer m below in
+    record { sound = may.sound; lives = may.lives; ready = may.ready; there = has_printer_changed kernel p printer below }

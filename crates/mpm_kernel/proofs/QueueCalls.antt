@@ -10,7 +10,7 @@ use Rattle.mpm_procs.proofs.MapLaws.{lives_below, lives_changed}
 use Rattle.mpm_queues.specs.Queues.{Queues, IsMade, found, width_of, may_end, without_queue, make_error}
 use Rattle.mpm_queues.specs.declared.queues.QueueOutcome.{QueueOutcome}
 use Rattle.mpm_queues.specs.declared.queues.QueueOutcome.TheVariants.{Done as Passed, NotNow}
-use Rattle.mpm_queues.specs.Handling.{read_outcome, write_outcome, enlisted, may_wait, woken_by}
+use Rattle.mpm_queues.specs.Handling.{read_outcome, write_outcome, enlisted, must_wait, woken_by}
 use Rattle.mpm_queues.proofs.WaitLaws.{waits_enlisted, waits_enlisted_other}
 use Rattle.mpm_dispatcher.specs.Dispatch.{ready, at_rest, moved, lists_ready, also_completed, with_other}
 use Rattle.mpm_kernel.specs.Kernel.{Kernel, IsOfTwo, IsSoundKernel, CompletedLive, with_changed, dispatched}
@@ -19,7 +19,7 @@ use Rattle.mpm_kernel.specs.Queueing.{with_queue, queue_made, opened, queue_open
 use Rattle.mpm_kernel.specs.Procedures.{no_procedure, is_two, of_two_bytes, procedure_queue, inside, procedure_read, procedure_at, procedure_called}
 use Rattle.mpm_kernel.proofs.Soundness.{MayBeReady, listed_once, sound_changed, sound_ready, sound_unlisted, sound_with_completed}
 use Rattle.mpm_kernel.proofs.Staying.{StaysSound, Calls, nobody, all_and_one, live_kept, called_if, same}
-use Rattle.mpm_kernel.proofs.QueueingLaws.{ready_waits_nowhere, found_made, pointed_if, pointed_made, two_made, sound_with_queue, sound_with_deleted, width_read, sound_taken, may_by_read, sound_given, may_by_write, lives_written, may_wait_read, may_wait_write, queues_enlisted}
+use Rattle.mpm_kernel.proofs.QueueingLaws.{ready_waits_nowhere, found_made, pointed_if, pointed_made, two_made, sound_with_queue, sound_with_deleted, width_read, sound_taken, may_by_read, sound_given, may_by_write, lives_written, must_wait_read, must_wait_write, queues_enlisted}
 
 pub stays_queue_made : (call : Taken) (p : ℕ) (kernel : Kernel) → Calls p kernel → StaysSound p (queue_made call kernel)
 unfolding queue_made with_queue
@@ -72,7 +72,7 @@ stays_queue_deleted call p kernel c =
 
 -- a call that can't be done now
 pub stays_blocked_or_refused : (waits : Bool) (p q : ℕ) (reader : Bool) (kernel : Kernel) → Calls p kernel → IsMade kernel.queues q
-    → may_wait kernel.queues q reader ≡ true → StaysSound p (blocked_or_refused waits p q reader kernel)
+    → must_wait kernel.queues q reader ≡ true → StaysSound p (blocked_or_refused waits p q reader kernel)
 unfolding blocked_or_refused queued
 stays_blocked_or_refused waits p q reader kernel c is may =
     let t = kernel.queues in
@@ -109,7 +109,7 @@ stays_was_read (Passed other) waits call p q kernel c is done =
     let s = stays_other other p 0 (taken_from kernel p q) (sound_taken kernel p q c.sound is) c.lives (nobody (taken_from kernel p q) c.none)
     (λ w first. may_by_read kernel p q w c.sound (ap woken_by done ∙ first)) in
     record { sound = s.sound; lives = s.lives; completed = s.completed }
-stays_was_read NotNow waits call p q kernel c is not = stays_blocked_or_refused waits p q true kernel c is (may_wait_read kernel.queues q not)
+stays_was_read NotNow waits call p q kernel c is not = stays_blocked_or_refused waits p q true kernel c is (must_wait_read kernel.queues q not)
 
 stays_read_at : (slot : Option ℕ) (waits : Bool) (call : Taken) (p : ℕ) (kernel : Kernel) → Calls p kernel
     → ((q : ℕ) → slot ≡ Some q → IsMade kernel.queues q) → StaysSound p (read_at slot waits call p kernel)
@@ -128,7 +128,7 @@ unfolding was_written
 stays_was_written (Passed other) waits p q kernel c is done =
     stays_other other p 0 (given_to kernel p q) (sound_given kernel p q c.sound is) (lives_written kernel.queues p q kernel.dispatcher.procs p ∙ c.lives) (nobody (given_to kernel p q) c.none)
     (λ r first. may_by_write kernel p q r c.sound (ap woken_by done ∙ first))
-stays_was_written NotNow waits p q kernel c is not = stays_blocked_or_refused waits p q false kernel c is (may_wait_write kernel.queues q not)
+stays_was_written NotNow waits p q kernel c is not = stays_blocked_or_refused waits p q false kernel c is (must_wait_write kernel.queues q not)
 
 stays_write_at : (slot : Option ℕ) (waits : Bool) (p : ℕ) (kernel : Kernel) → Calls p kernel
     → ((q : ℕ) → slot ≡ Some q → IsMade kernel.queues q) → StaysSound p (write_at slot waits p kernel)
@@ -185,7 +185,7 @@ stays_procedure_read (Passed other) p q kernel c two done =
     (stays_other other p 0 (taken_from kernel p q) (sound_taken kernel p q c.sound is) c.lives (nobody (taken_from kernel p q) c.none)
     (λ w first. may_by_read kernel p q w c.sound (ap woken_by done ∙ first)))
 stays_procedure_read NotNow p q kernel c two not =
-    stays_blocked_or_refused true p q true kernel c (two_made kernel.queues q two) (may_wait_read kernel.queues q not)
+    stays_blocked_or_refused true p q true kernel c (two_made kernel.queues q two) (must_wait_read kernel.queues q not)
 
 stays_procedure_at : (slot : Option ℕ) (p : ℕ) (kernel : Kernel) → Calls p kernel → ((q : ℕ) → slot ≡ Some q → IsOfTwo kernel.queues q)
     → StaysSound p (procedure_at slot p kernel)

@@ -20,7 +20,7 @@ use Rattle.mpm_queues.specs.declared.queues.MakeRefused.{MakeRefused}
 use Rattle.mpm_queues.specs.declared.queues.MakeRefused.TheVariants.{BadCount, Exists, NoQueueRoom}
 use Rattle.mpm_queues.specs.declared.queues.QueueOutcome.{QueueOutcome}
 use Rattle.mpm_queues.specs.declared.queues.QueueOutcome.TheVariants.{Done as Passed, NotNow}
-use Rattle.mpm_queues.specs.Handling.{message_read, read_outcome, message_written, write_outcome, procs_after_write, first_reader, first_writer, written_by, delivered_to, enlisted, may_wait, woken_by}
+use Rattle.mpm_queues.specs.Handling.{message_read, read_outcome, message_written, write_outcome, procs_after_write, first_reader, first_writer, written_by, delivered_to, enlisted, must_wait, woken_by}
 use Rattle.mpm_queues.specs.Runs.{Reads, Writes, Waits}
 use Rattle.mpm_queues.proofs.Finding.{lowest_passes, lowest_none}
 use Rattle.mpm_queues.proofs.SoundLaws.{sound_made, sound_delete, sound_read, sound_write, sound_enlisted}
@@ -292,13 +292,13 @@ not_now_if : (b : Bool) (o : Option ℕ) → (if b then NotNow else (Passed o)) 
 not_now_if true o is = refl
 not_now_if false o is = absurd (cc)
 
-pub may_wait_read : (t : Queues) (q : ℕ) → read_outcome t q ≡ NotNow → may_wait t q true ≡ true
+pub must_wait_read : (t : Queues) (q : ℕ) → read_outcome t q ≡ NotNow → must_wait t q true ≡ true
 unfolding read_outcome
-may_wait_read t q is = not_now_if (is_drained (queue_in t q)) (first_writer t q) is
+must_wait_read t q is = not_now_if (is_drained (queue_in t q)) (first_writer t q) is
 
-pub may_wait_write : (t : Queues) (q : ℕ) → write_outcome t q ≡ NotNow → may_wait t q false ≡ true
+pub must_wait_write : (t : Queues) (q : ℕ) → write_outcome t q ≡ NotNow → must_wait t q false ≡ true
 unfolding write_outcome
-may_wait_write t q is = not_now_if (is_full (queue_in t q)) (first_reader t q) is
+must_wait_write t q is = not_now_if (is_full (queue_in t q)) (first_reader t q) is
 
 read_if : (b : Bool) (kernel : Kernel) (queues : Queues) → b ≡ true → record kernel { queues = if b then kernel.queues else queues } ≡ kernel
 read_if true kernel queues is = refl
@@ -306,7 +306,7 @@ read_if false kernel queues is = absurd (cc)
 
 pub same_read : (kernel : Kernel) (p q : ℕ) → read_outcome kernel.queues q ≡ NotNow → taken_from kernel p q ≡ kernel
 unfolding message_read
-same_read kernel p q is = read_if (is_drained (queue_in kernel.queues q)) kernel _ (may_wait_read kernel.queues q is)
+same_read kernel p q is = read_if (is_drained (queue_in kernel.queues q)) kernel _ (must_wait_read kernel.queues q is)
 
 written_if : (b : Bool) (kernel : Kernel) (queues : Queues) (procs : Table) → b ≡ true
     → record kernel { dispatcher = record kernel.dispatcher { procs = if b then kernel.dispatcher.procs else procs }; queues = if b then kernel.queues else queues } ≡ kernel
@@ -315,7 +315,7 @@ written_if false kernel queues procs is = absurd (cc)
 
 pub same_written : (kernel : Kernel) (p q : ℕ) → write_outcome kernel.queues q ≡ NotNow → given_to kernel p q ≡ kernel
 unfolding message_written procs_after_write
-same_written kernel p q is = written_if (is_full (queue_in kernel.queues q)) kernel _ _ (may_wait_write kernel.queues q is)
+same_written kernel p q is = written_if (is_full (queue_in kernel.queues q)) kernel _ _ (must_wait_write kernel.queues q is)
 
 -- after a read and a write: whose wait was ended lives; where nothing could be done nothing changed, and the process may wait
 pub some_lives : (o : Option ℕ) (kernel : Kernel) → ((w : ℕ) → o ≡ Some w → MayBeReady kernel w) → IfSome o (λ w. Lives kernel.dispatcher.procs w)
@@ -342,28 +342,28 @@ parts_are : (kernel old : Kernel) (queues afterwards : Queues) (procs now : Tabl
 parts_are kernel old queues afterwards procs now one other same is =
     ap (λ x. with_parts kernel x procs) one ∙ ap (λ x. with_parts kernel afterwards x) other ∙ same ∙ is
 
-may_wait_in : (kernel old : Kernel) (q : ℕ) (reader : Bool) → kernel ≡ old → may_wait kernel.queues q reader ≡ true → may_wait old.queues q reader ≡ true
-may_wait_in kernel old q reader is may = ap (λ (k : Kernel). may_wait k.queues q reader) (sym is) ∙ may
+must_wait_in : (kernel old : Kernel) (q : ℕ) (reader : Bool) → kernel ≡ old → must_wait kernel.queues q reader ≡ true → must_wait old.queues q reader ≡ true
+must_wait_in kernel old q reader is may = ap (λ (k : Kernel). must_wait k.queues q reader) (sym is) ∙ may
 
 pub waits_by_read : (kernel old : Kernel) (p q : ℕ) (queues : Queues) (procs : Table) (outcome : QueueOutcome) → kernel ≡ old
     → outcome ≡ read_outcome kernel.queues q → queues ≡ message_read kernel.queues p q kernel.dispatcher.procs → procs ≡ kernel.dispatcher.procs
-    → IfNotNow outcome ((record kernel { dispatcher = record kernel.dispatcher { procs = procs }; queues = queues } ≡ old) × (may_wait old.queues q true ≡ true))
+    → IfNotNow outcome ((record kernel { dispatcher = record kernel.dispatcher { procs = procs }; queues = queues } ≡ old) × (must_wait old.queues q true ≡ true))
 unfolding with_parts
 waits_by_read kernel old p q queues procs (Passed other) is outcome afterwards same = tt
 waits_by_read kernel old p q queues procs NotNow is outcome afterwards same = (
   parts_are kernel old queues _ procs kernel.dispatcher.procs afterwards same (same_read kernel p q (sym outcome)) is,
-  may_wait_in kernel old q true is (may_wait_read kernel.queues q (sym outcome)),
+  must_wait_in kernel old q true is (must_wait_read kernel.queues q (sym outcome)),
 )
 
 pub waits_by_write : (kernel old : Kernel) (p q : ℕ) (queues : Queues) (procs : Table) (outcome : QueueOutcome) → kernel ≡ old
     → outcome ≡ write_outcome kernel.queues q → queues ≡ message_written kernel.queues p q kernel.dispatcher.procs
     → procs ≡ procs_after_write kernel.queues p q kernel.dispatcher.procs
-    → IfNotNow outcome ((record kernel { dispatcher = record kernel.dispatcher { procs = procs }; queues = queues } ≡ old) × (may_wait old.queues q false ≡ true))
+    → IfNotNow outcome ((record kernel { dispatcher = record kernel.dispatcher { procs = procs }; queues = queues } ≡ old) × (must_wait old.queues q false ≡ true))
 unfolding with_parts
 waits_by_write kernel old p q queues procs (Passed other) is outcome afterwards same = tt
 waits_by_write kernel old p q queues procs NotNow is outcome afterwards same = (
   parts_are kernel old queues _ procs _ afterwards same (same_written kernel p q (sym outcome)) is,
-  may_wait_in kernel old q false is (may_wait_write kernel.queues q (sym outcome)),
+  must_wait_in kernel old q false is (must_wait_write kernel.queues q (sym outcome)),
 )
 
 -- a process waits at a queue
@@ -372,7 +372,7 @@ unfolding enlisted
 two_enlisted t p priority q reader k two = two
 
 pub queues_enlisted : (kernel : Kernel) (p priority q : ℕ) (reader : Bool) → IsSoundKernel kernel → Lives kernel.dispatcher.procs p → IsReady kernel.dispatcher p
-    → IsMade kernel.queues q → may_wait kernel.queues q reader ≡ true → AreQueues kernel (enlisted kernel.queues p priority q reader)
+    → IsMade kernel.queues q → must_wait kernel.queues q reader ≡ true → AreQueues kernel (enlisted kernel.queues p priority q reader)
 queues_enlisted kernel p priority q reader s h is_ready is may =
     let t = kernel.queues in
     record {

@@ -2,11 +2,11 @@
 -- "Function 1: Console Input", "Function 2: Console Output", "Function 3: Raw Console Input", "Function 4: Raw Console
 -- Output", "Function 6: Direct Console I/O", "Function 9: Print String", "Function 10: Read Console Buffer", "Function 11: Get
 -- Console Status".)
-use Rattle.std.specs.Prelude.{ℕ, Bool, true, false, List, length, Option, Some, None, ◌&&◌, ◌==◌, nat_lt, if◌then◌else◌}
+use Rattle.std.specs.Prelude.{ℕ, ◌<◌, Bool, true, false, List, length, Option, Some, None, ◌&&◌, ◌==◌, nat_lt, if◌then◌else◌}
 use Rattle.mpm_base.specs.Calls.{Taken, answering, byte_in}
 use Rattle.mpm_base.specs.declared.call.Outcome.TheVariants.{Done, Retry}
 use Rattle.mpm_base.specs.declared.functions.TheConstants.{CONSOLE_INPUT, RAW_CONSOLE_INPUT, DIRECT_CONSOLE_IO, READ_CONSOLE_BUFFER, GET_CONSOLE_STATUS}
-use Rattle.mpm_procs.specs.Table.{process_in}
+use Rattle.mpm_procs.specs.Table.{Lives, process_in, call_of}
 use Rattle.mpm_procs.specs.declared.process.Process.{Process}
 use Rattle.mpm_consoles.specs.Console.{first_key}
 use Rattle.mpm_consoles.specs.Consoles.{console_at}
@@ -18,7 +18,7 @@ unfoldable pub use Rattle.mpm_consoles.specs.Modes.{writes}
 use Rattle.mpm_line_input.specs.Echoes.{key_echo}
 use Rattle.mpm_line_input.specs.Keys.{line_after}
 use Rattle.mpm_line_input.specs.Lines.{so_far, stored, is_full, ends, written_by, line_end, line_answer}
-use Rattle.mpm_kernel.specs.Kernel.{Kernel, with_changed}
+use Rattle.mpm_kernel.specs.Kernel.{Kernel, IsConsole, with_changed}
 use Rattle.mpm_kernel.specs.Columns.{column_of}
 use Rattle.mpm_kernel.specs.Called.{Called, valued, done, low_parameter}
 use Rattle.mpm_kernel.specs.Consoling.{attaching, retried, awaited, echoed}
@@ -129,3 +129,9 @@ console_called call p kernel =
     if may_attach kernel.units p (ConsoleUnit console)
     then unless_stopped call p console (raw_if (is_cooked call.function) console false afterwards)
     else (retried p afterwards)
+
+-- a key may join the line that a living process keeps: there is room for it
+pub record MayJoinLine (p console : ℕ) (kernel : Kernel) : Type 0 where
+  pub lives : Lives kernel.dispatcher.procs p
+  pub has : IsConsole kernel console
+  pub room : (process_in kernel.dispatcher.procs p).line_length < greatest (call_of kernel.dispatcher.procs p)

@@ -150,7 +150,7 @@ pub record IsSoundKernel (kernel : Kernel) : Type 0 where
   pub runs : (p : ℕ) → kernel.dispatcher.running ≡ Some p → IsReady kernel.dispatcher p
 
 -- a process lives in a sound kernel
-pub record LivesIn (p : ℕ) (kernel : Kernel) : Type 0 where
+pub record LivesInKernel (p : ℕ) (kernel : Kernel) : Type 0 where
   pub sound : IsSoundKernel kernel
   pub lives : Lives kernel.dispatcher.procs p
 
@@ -159,3 +159,38 @@ pub record MayCall (p : ℕ) (kernel : Kernel) : Type 0 where
   pub sound : IsSoundKernel kernel
   pub lives : Lives kernel.dispatcher.procs p
   pub ready : IsReady kernel.dispatcher p
+
+-- and may use a unit, which is there
+pub record MayUseUnit (p : ℕ) (unit : Unit) (kernel : Kernel) : Type 0 where
+  pub sound : IsSoundKernel kernel
+  pub lives : Lives kernel.dispatcher.procs p
+  pub ready : IsReady kernel.dispatcher p
+  pub there : HasUnit kernel.units unit
+
+-- and may make a call that completes others', for which there is room
+pub record MayComplete (p : ℕ) (kernel : Kernel) : Type 0 where
+  pub sound : IsSoundKernel kernel
+  pub lives : Lives kernel.dispatcher.procs p
+  pub ready : IsReady kernel.dispatcher p
+  pub room : length kernel.dispatcher.completed < 64
+
+-- a unit of a sound kernel
+pub record HasSoundUnit (unit : Unit) (kernel : Kernel) : Type 0 where
+  pub sound : IsSoundKernel kernel
+  pub there : HasUnit kernel.units unit
+
+-- a living process uses a console that it owns
+pub record UsesConsole (p console : ℕ) (kernel : Kernel) : Type 0 where
+  pub lives : Lives kernel.dispatcher.procs p
+  pub has : IsConsole kernel console
+  pub owner : owns kernel.units p (ConsoleUnit console) ≡ true
+
+-- a kernel becomes another one, which is sound; and so that whose held call it completed lives
+pub record BecomesSound (value new : Kernel) : Type 0 where
+  pub kernel : new ≡ value
+  pub sound : IsSoundKernel new
+
+pub record BecomesWhole (value new : Kernel) : Type 0 where
+  pub kernel : new ≡ value
+  pub sound : IsSoundKernel new
+  pub live : CompletedLive new

@@ -14,3 +14,4 @@ pub mod Calls
 pub mod Events
 pub mod Lending
 pub mod Awaiting
+pub mod Parts

@@ -1,5 +1,4 @@
-ghost use Rattle.std.specs.Prelude.{◌≡◌, ◌<◌, length};
-ghost use Rattle.mpm_base.specs.Calls.{answering};
+ghost use Rattle.std.specs.Prelude.{◌≡◌};
 ghost use Rattle.mpm_base.specs.Lists.{is_among};
 ghost use Rattle.mpm_kernel.specs.Called.{functions_of};
 ghost use Rattle.mpm_kernel.specs.Consoling.{unit_rows};
@@ -18,10 +17,13 @@ pub(crate) const NO_FUNCTION: u16 = 0xFFFF;
 impl Kernel {
     ghost use Rattle.mpm_procs.specs.Table.{call_of, process_in};
     ghost use Rattle.mpm_kernel.specs.Kernel.{IsSoundKernel, MayCall, CompletedLive};
+    ghost use Rattle.mpm_kernel.specs.Parts.{BeginsCall};
     ghost use Rattle.mpm_kernel.specs.Called.{Yields};
     ghost use Rattle.mpm_kernel.specs.Calls.{called, call_done};
 
-    /// Does the call that a ready process keeps.
+    /// Does the call that a ready process keeps. A function that isn't there answers FFFFh. So does one that a crate
+    /// above does: mpm_system has functions 47, 128 to 130, 150 and 152, mpm_xdos 144, 154, 156 and 157, and mpm_bdos those on
+    /// files.
     #[inline(always)]
     #[tactic(auto, using(crate::proofs::SoundLaws::sound_begun))]
     pub fn call(&mut self, p: Pid, reply: &mut Reply) -> Outcome
@@ -42,11 +44,7 @@ impl Kernel {
     #[inline(always)]
     #[tactic(auto, unfolding(crate::specs::Calls::call_done, crate::specs::Dates::date_answered, crate::specs::Dates::time_answered))]
     fn serve_begun(&mut self, p: Pid, function: u8, word: u16, reply: &mut Reply) -> Outcome
-        requires caller { MayCall p self.old }
-        requires room { length self.old.dispatcher.completed < 64 }
-        requires function { function ≡ (call_of self.old.dispatcher.procs p).function }
-        requires word { word ≡ (call_of self.old.dispatcher.procs p).word }
-        requires reply { reply.old ≡ answering 0 }
+        requires { BeginsCall p function word reply.old self.old }
         ensures { Yields (call_done (call_of self.old.dispatcher.procs p) p (process_in self.old.dispatcher.procs p) self.old) self.new result reply.new }
     {
         let byte = (word % 256) as u8;

@@ -1,4 +1,4 @@
-ghost use Rattle.std.specs.Prelude.{◌≡◌, ◌<◌, true, MatchOption};
+ghost use Rattle.std.specs.Prelude.{◌≡◌, MatchOption};
 
 use crate::Kernel;
 use mpm_base::{Outcome, Pid, Reply, functions};
@@ -9,10 +9,10 @@ use mpm_line_input::{answer_line, edited, full_line, is_full, key_echo};
 impl Kernel {
     ghost use Rattle.mpm_procs.specs.Table.{Lives, call_of, process_in};
     ghost use Rattle.mpm_line_input.specs.Lines.{ends};
-    ghost use Rattle.mpm_kernel.specs.Kernel.{IsConsole, OwnsConsole, MayCall};
+    ghost use Rattle.mpm_kernel.specs.Kernel.{IsConsole, OwnsConsole, UsesConsole, MayCall};
     ghost use Rattle.mpm_kernel.specs.Called.{Yields};
     ghost use Rattle.mpm_kernel.specs.Consoling.{awaited};
-    ghost use Rattle.mpm_kernel.specs.ConsoleInput.{raw_if, key_taken, next_key, shown_key, read_key, polled_key, direct, line_of, greatest, line_done, key_joined, line_with, line_read, console_served, unless_stopped, console_called};
+    ghost use Rattle.mpm_kernel.specs.ConsoleInput.{raw_if, key_taken, next_key, shown_key, read_key, polled_key, direct, line_of, greatest, line_done, key_joined, line_with, line_read, console_served, unless_stopped, console_called, MayJoinLine};
 
     /// The calls that read from the caller's console or write to it: it is attached first, or waited for. (MP/M II Programmer's
     /// Guide, functions 1 to 4, 6 and 9 to 11.)
@@ -35,8 +35,7 @@ impl Kernel {
     /// Output waits until it isn't stopped any more.
     #[tactic(auto, unfolding(crate::specs::ConsoleInput::unless_stopped))]
     fn unless_stopped(&mut self, p: Pid, console: u8, reply: &mut Reply) -> Outcome
-        requires lives { Lives self.old.dispatcher.procs p }
-        requires console { OwnsConsole p console self.old }
+        requires { UsesConsole p console self.old }
         ensures { Yields (unless_stopped (call_of self.old.dispatcher.procs p) p console self.old) self.new result reply.new }
     {
         if writes(self.dispatcher.procs.call(p)) && self.units.stopped(console) {
@@ -51,8 +50,7 @@ impl Kernel {
     /// it.
     #[tactic(auto, unfolding(crate::specs::ConsoleInput::console_served))]
     fn serve_console(&mut self, p: Pid, console: u8, reply: &mut Reply) -> Outcome
-        requires lives { Lives self.old.dispatcher.procs p }
-        requires console { OwnsConsole p console self.old }
+        requires { UsesConsole p console self.old }
         ensures { Yields (console_served (call_of self.old.dispatcher.procs p) p console self.old) self.new result reply.new }
     {
         match self.dispatcher.procs.call(p).function {
@@ -97,8 +95,7 @@ impl Kernel {
     /// Programmer's Guide, "Function 6: Direct Console I/O".)
     #[tactic(auto, unfolding(crate::specs::ConsoleInput::direct))]
     fn direct(&mut self, p: Pid, console: u8, reply: &mut Reply) -> Outcome
-        requires lives { Lives self.old.dispatcher.procs p }
-        requires console { OwnsConsole p console self.old }
+        requires { UsesConsole p console self.old }
         ensures { Yields (direct (call_of self.old.dispatcher.procs p) p console self.old) self.new result reply.new }
     {
         match (self.dispatcher.procs.call(p).word % 256) as u8 {
@@ -125,8 +122,7 @@ impl Kernel {
     /// Buffer".)
     #[tactic(auto, using(crate::proofs::InputLaws::lives_echoed, crate::proofs::InputLaws::procs_echoed), unfolding(crate::specs::ConsoleInput::line_read))]
     fn read_line(&mut self, p: Pid, console: u8, reply: &mut Reply) -> Outcome
-        requires lives { Lives self.old.dispatcher.procs p }
-        requires console { OwnsConsole p console self.old }
+        requires { UsesConsole p console self.old }
         ensures { Yields (line_read (call_of self.old.dispatcher.procs p) p console self.old) self.new result reply.new }
     {
         let greatest = self.dispatcher.procs.call(p).byte(0);
@@ -143,9 +139,7 @@ impl Kernel {
     /// A key that was taken joins the line, or changes it; the line may end.
     #[tactic(auto, using(crate::proofs::InputLaws::call_joined, crate::proofs::InputLaws::lives_joined), unfolding(crate::specs::ConsoleInput::line_with))]
     fn join_key(&mut self, p: Pid, console: u8, key: u8, reply: &mut Reply) -> Outcome
-        requires lives { Lives self.old.dispatcher.procs p }
-        requires has { IsConsole self.old console }
-        requires room { (process_in self.old.dispatcher.procs p).line_length < greatest (call_of self.old.dispatcher.procs p) }
+        requires { MayJoinLine p console self.old }
         ensures { Yields (line_with key (call_of self.old.dispatcher.procs p) p console self.old) self.new result reply.new }
     {
         if self.edit_line(p, console, key) {
@@ -158,9 +152,7 @@ impl Kernel {
     /// What a key makes of the line that a process keeps; whether the line ends with it.
     #[tactic(auto, unfolding(crate::specs::ConsoleInput::key_joined))]
     fn edit_line(&mut self, p: Pid, console: u8, key: u8) -> bool
-        requires lives { Lives self.old.dispatcher.procs p }
-        requires has { IsConsole self.old console }
-        requires room { (process_in self.old.dispatcher.procs p).line_length < greatest (call_of self.old.dispatcher.procs p) }
+        requires { MayJoinLine p console self.old }
         ensures kernel { self.new ≡ key_joined (call_of self.old.dispatcher.procs p) p console key self.old }
         ensures ends { result ≡ ends (line_of (process_in self.old.dispatcher.procs p)) (greatest (call_of self.old.dispatcher.procs p)) key }
     {

@@ -1,5 +1,4 @@
-ghost use Rattle.std.specs.Prelude.{◌≡◌, ◌<◌, Some, true, ◌==◌, length, IfSome};
-ghost use Rattle.mpm_base.specs.Calls.{byte_in};
+ghost use Rattle.std.specs.Prelude.{◌≡◌, ◌<◌, Some, length, IfSome};
 ghost use Rattle.mpm_consoles.specs.Consoles.{console_at, HasUnit};
 
 use crate::Kernel;
@@ -13,9 +12,11 @@ impl Kernel {
     ghost use Rattle.mpm_procs.specs.Table.{Lives, call_of};
     ghost use Rattle.mpm_consoles.specs.Consoles.{owner_of};
     ghost use Rattle.mpm_consoles.specs.Handling.{may_attach};
-    ghost use Rattle.mpm_base.specs.declared.unit.Unit.TheVariants.{Console as ConsoleUnit};
-    ghost use Rattle.mpm_kernel.specs.Kernel.{IsSoundKernel, IsConsole, LivesIn, MayCall};
+    ghost use Rattle.mpm_base.specs.declared.unit.Unit.TheVariants.{Console as ConsoleUnit, Printer as PrinterUnit};
+    ghost use Rattle.mpm_consoles.specs.Console.{Yields as Makes};
+    ghost use Rattle.mpm_kernel.specs.Kernel.{IsSoundKernel, IsConsole, LivesInKernel, MayCall, MayUseUnit, HasSoundUnit};
     ghost use Rattle.mpm_kernel.specs.Called.{Yields, done};
+    ghost use Rattle.mpm_kernel.specs.Parts.{MayHandOver, MayAssign};
     ghost use Rattle.mpm_kernel.specs.Columns.{spoke, wrote, spaces_for};
     ghost use Rattle.mpm_kernel.specs.Consoling.{unit_left, attaching, attached, attached_now, console_changed, printer_changed, console_set, printer_set, owner_made, assigned_to, assigned, printer_called, unit_called, given, handed_over, echoed, key_done, KeyNames, is_of_resident, key_came, abort_taken};
 
@@ -86,9 +87,7 @@ impl Kernel {
 
     /// A console comes to a process, or passes on.
     fn hand_over(&mut self, console: u8, from: Option<Pid>, to: Option<Pid>)
-        requires sound { IsSoundKernel self.old }
-        requires console { console < length self.old.units.consoles }
-        requires to { IfSome to (λ p. Lives self.old.dispatcher.procs p) }
+        requires { MayHandOver console to self.old }
         ensures { self.new ≡ handed_over console from to self.old }
     {
         match to {
@@ -155,8 +154,7 @@ impl Kernel {
     /// A process attaches a unit, or waits for it.
     #[tactic(auto, unfolding(crate::specs::Consoling::attached, crate::specs::Consoling::retried))]
     fn attach_unit(&mut self, p: Pid, unit: Unit, reply: &mut Reply) -> Outcome
-        requires caller { MayCall p self.old }
-        requires unit { HasUnit self.old.units unit }
+        requires { MayUseUnit p unit self.old }
         ensures { Yields (attached p unit self.old) self.new result reply.new }
     {
         if self.attach(p, unit, true) {
@@ -169,8 +167,7 @@ impl Kernel {
     /// A process attaches a unit, unless another owns it.
     #[tactic(auto, using(crate::proofs::UnitLaws::attach_refused), unfolding(crate::specs::Consoling::attached_now))]
     fn attach_now(&mut self, p: Pid, unit: Unit, reply: &mut Reply) -> Outcome
-        requires caller { MayCall p self.old }
-        requires unit { HasUnit self.old.units unit }
+        requires { MayUseUnit p unit self.old }
         ensures { Yields (attached_now p unit self.old) self.new result reply.new }
     {
         if self.attach(p, unit, false) {
@@ -182,8 +179,7 @@ impl Kernel {
 
     /// A process detaches a unit.
     fn detach_unit(&mut self, p: Pid, unit: Unit, reply: &mut Reply) -> Outcome
-        requires sound { IsSoundKernel self.old }
-        requires unit { HasUnit self.old.units unit }
+        requires { HasSoundUnit unit self.old }
         ensures { Yields (done (unit_left p unit self.old)) self.new result reply.new }
     {
         self.leave_unit(p, unit);
@@ -193,10 +189,8 @@ impl Kernel {
     /// A process attaches a unit; false where another owns it, and then the process waits for it if `wait` says so.
     #[tactic(auto, using(crate::proofs::UnitLaws::waits_at_none))]
     pub(crate) fn attach(&mut self, p: Pid, unit: Unit, wait: bool) -> bool
-        requires caller { MayCall p self.old }
-        requires unit { HasUnit self.old.units unit }
-        ensures answer { result ≡ may_attach self.old.units p unit }
-        ensures kernel { self.new ≡ attaching p unit wait self.old }
+        requires { MayUseUnit p unit self.old }
+        ensures { Makes (attaching p unit wait self.old) (may_attach self.old.units p unit) self.new result }
     {
         let priority = self.dispatcher.procs.get(p).priority;
         self.units.attach(p, priority, unit, wait)
@@ -205,8 +199,7 @@ impl Kernel {
     /// A unit that a process owns passes to the process that waits for it first, who becomes ready.
     #[tactic(auto, using(crate::proofs::UnitLaws::heir_lives), unfolding(crate::specs::Consoling::unit_left))]
     pub(crate) fn leave_unit(&mut self, p: Pid, unit: Unit)
-        requires sound { IsSoundKernel self.old }
-        requires unit { HasUnit self.old.units unit }
+        requires { HasSoundUnit unit self.old }
         ensures { self.new ≡ unit_left p unit self.old }
     {
         let heir = self.units.detach(p, unit);
@@ -214,7 +207,7 @@ impl Kernel {
     }
 
     /// A process has another console from now on, and attaches it.
-    #[tactic(auto, using(crate::proofs::ChangeLaws::has_console_changed), unfolding(crate::specs::Consoling::console_set))]
+    #[tactic(auto, using(crate::proofs::ChangeLaws::uses_console_changed), unfolding(crate::specs::Consoling::console_set))]
     fn set_console(&mut self, p: Pid, reply: &mut Reply) -> Outcome
         requires { MayCall p self.old }
         ensures { Yields (console_set (call_of self.old.dispatcher.procs p) p self.old) self.new result reply.new }
@@ -228,7 +221,7 @@ impl Kernel {
     }
 
     /// A process has another printer from now on, and attaches it.
-    #[tactic(auto, using(crate::proofs::ChangeLaws::has_printer_changed), unfolding(crate::specs::Consoling::printer_set))]
+    #[tactic(auto, using(crate::proofs::ChangeLaws::uses_printer_changed), unfolding(crate::specs::Consoling::printer_set))]
     fn set_printer(&mut self, p: Pid, reply: &mut Reply) -> Outcome
         requires { MayCall p self.old }
         ensures { Yields (printer_set (call_of self.old.dispatcher.procs p) p self.old) self.new result reply.new }
@@ -244,8 +237,7 @@ impl Kernel {
     /// A process leaves its console for another one, unless it has that one already.
     #[tactic(auto, using(crate::proofs::UnitLaws::has_own_console), unfolding(crate::specs::Consoling::console_changed, crate::specs::Consoling::unit_left))]
     fn change_console(&mut self, p: Pid, console: u8)
-        requires caller { MayCall p self.old }
-        requires there { console < length self.old.units.consoles }
+        requires { MayUseUnit p (ConsoleUnit console) self.old }
         ensures { self.new ≡ console_changed p console self.old }
     {
         let own = self.dispatcher.procs.get(p).console;
@@ -260,8 +252,7 @@ impl Kernel {
     /// A process leaves its printer for another one, unless it has that one already.
     #[tactic(auto, using(crate::proofs::UnitLaws::has_own_printer), unfolding(crate::specs::Consoling::printer_changed, crate::specs::Consoling::unit_left))]
     fn change_printer(&mut self, p: Pid, printer: u8)
-        requires caller { MayCall p self.old }
-        requires there { printer < length self.old.units.printers }
+        requires { MayUseUnit p (PrinterUnit printer) self.old }
         ensures { self.new ≡ printer_changed p printer self.old }
     {
         let own = self.dispatcher.procs.get(p).printer;
@@ -276,7 +267,7 @@ impl Kernel {
     /// A process assigns a console to a process that it names. (MP/M II Programmer's Guide, "Function 149: Assign Console".)
     #[tactic(auto, unfolding(crate::specs::Consoling::assigned, crate::specs::Consoling::assigned_to))]
     fn assign(&mut self, p: Pid, reply: &mut Reply) -> Outcome
-        requires { LivesIn p self.old }
+        requires { LivesInKernel p self.old }
         ensures { Yields (assigned (call_of self.old.dispatcher.procs p) p self.old) self.new result reply.new }
     {
         let call = self.dispatcher.procs.call(p);
@@ -302,11 +293,7 @@ impl Kernel {
         own_only: bool,
         reply: &mut Reply,
     ) -> Outcome
-        requires process { LivesIn to self.old }
-        requires caller { Lives self.old.dispatcher.procs p }
-        requires console { console ≡ byte_in (call_of self.old.dispatcher.procs p) 0 }
-        requires there { console < length self.old.units.consoles }
-        requires own { own_only ≡ (byte_in (call_of self.old.dispatcher.procs p) 9 == 255) }
+        requires { MayAssign to p console own_only self.old }
         ensures { Yields (assigned_to (Some to) (call_of self.old.dispatcher.procs p) self.old) self.new result reply.new }
     {
         if own_only && self.dispatcher.procs.get(to).console != console {
@@ -321,7 +308,7 @@ impl Kernel {
     /// A process becomes the owner of a console; where it waited for that one, it becomes ready.
     #[tactic(auto, unfolding(crate::specs::Consoling::owner_made, mpm_dispatcher::specs::Dispatch::lists_ready))]
     fn make_owner(&mut self, console: u8, to: Pid)
-        requires process { LivesIn to self.old }
+        requires process { LivesInKernel to self.old }
         requires console { console < length self.old.units.consoles }
         ensures { self.new ≡ owner_made console to self.old }
     {
@@ -349,8 +336,7 @@ impl Kernel {
     /// The process that owns a console.
     #[tactic(auto, using(crate::proofs::UnitLaws::owner_fits))]
     fn console_owner(&self, console: u8) -> Option<Pid>
-        requires sound { IsSoundKernel self.now }
-        requires console { console < length self.now.units.consoles }
+        requires { HasSoundUnit (ConsoleUnit console) self.now }
         ensures owner { result ≡ owner_of self.now.units (ConsoleUnit console) }
         ensures lives { IfSome result (λ p. Lives self.now.dispatcher.procs p) }
     {
@@ -359,8 +345,7 @@ impl Kernel {
 
     /// Whether the owner of a console is a resident process, which lives in no memory segment.
     fn is_resident(&self, console: u8) -> bool
-        requires sound { IsSoundKernel self.now }
-        requires console { console < length self.now.units.consoles }
+        requires { HasSoundUnit (ConsoleUnit console) self.now }
         ensures { result ≡ is_of_resident self.now.dispatcher.procs (owner_of self.now.units (ConsoleUnit console)) }
     {
         match self.console_owner(console) {

@@ -1,7 +1,5 @@
-ghost use Rattle.std.specs.Prelude.{◌≡◌, ◌<◌, ◌+◌, ℕ, true, Some, None, IfSome};
-ghost use Rattle.mpm_service.specs.Disk.{served_process, turned, turn_answer, begun, HasBegun, HasEntered, IsAfter};
-ghost use Rattle.mpm_service.specs.Turns.{TakesTurns};
-ghost use Rattle.mpm_service.specs.Ahead.{turned_by, passed_by, turns_left, unserved};
+ghost use Rattle.std.specs.Prelude.{◌≡◌, ◌<◌, ◌+◌, IfSome};
+ghost use Rattle.mpm_service.specs.Disk.{HasBegun, HasEntered};
 
 use crate::Kernel;
 use mpm_base::Pid;
@@ -9,8 +7,9 @@ use mpm_service::{Service, Turn};
 
 impl Kernel {
     ghost use Rattle.mpm_dispatcher.specs.Dispatch.{IsReady};
-    ghost use Rattle.mpm_kernel.specs.Kernel.{IsSoundKernel, MayCall};
-    ghost use Rattle.mpm_kernel.specs.Disk.{with_disk, is_served, in_turns, waiting_for_disk, ready_again, IsOver};
+    ghost use Rattle.mpm_kernel.specs.Kernel.{IsSoundKernel, MayCall, BecomesSound};
+    ghost use Rattle.mpm_kernel.specs.Disk.{is_served, in_turns, waiting_for_disk, ready_again, IsOver, TurnsDisk, FinishesCall};
+    ghost use Rattle.mpm_kernel.specs.Parts.{BeginsService, PassesSteps};
 
     /// The disk serves in turns of so many steps, and nobody yet, where `Kernel::new` lets no call wait for it. It is called before
     /// any does.
@@ -45,8 +44,7 @@ impl Kernel {
     pub fn wait_for_disk(&mut self, p: Pid)
         requires caller { MayCall p self.old }
         requires steps { 0 < self.old.disk.turn_steps }
-        ensures kernel { self.new ≡ waiting_for_disk p self.old }
-        ensures sound { IsSoundKernel self.new }
+        ensures { BecomesSound (waiting_for_disk p self.old) self.new }
     {
         let priority = self.dispatcher.procs.get(p).priority;
         self.dispatcher.unlist(p);
@@ -59,12 +57,7 @@ impl Kernel {
     pub fn turn_disk(&mut self) -> Turn
         requires sound { IsSoundKernel self.old }
         requires begun { HasBegun self.old.disk }
-        ensures kernel { self.new ≡ with_disk turned self.old }
-        ensures answer { result ≡ turn_answer self.old.disk }
-        ensures sound { IsSoundKernel self.new }
-        ensures after { IsAfter result self.new.disk }
-        ensures over { (p : ℕ) → result ≡ Turn.Work p true → IsOver p self.new }
-        ensures last { (p : ℕ) → result ≡ Turn.Work p true → self.new.disk.served ≡ None }
+        ensures { TurnsDisk self.old self.new result }
     {
         self.disk.turn()
     }
@@ -74,10 +67,7 @@ impl Kernel {
         requires sound { IsSoundKernel self.old }
         requires entered { HasEntered self.old.disk }
         requires some { 0 < turns }
-        ensures kernel { self.new ≡ with_disk (λ disk. begun disk turns) self.old }
-        ensures sound { IsSoundKernel self.new }
-        ensures begun { HasBegun self.new.disk }
-        ensures turns { IfSome self.new.disk.served (TakesTurns self.new.disk.turn_steps turns) }
+        ensures { BeginsService turns self.old self.new }
     {
         self.disk.begin(turns);
     }
@@ -86,10 +76,7 @@ impl Kernel {
     pub fn pass_disk(&mut self, steps: u32)
         requires sound { IsSoundKernel self.old }
         requires few { IfSome self.old.disk.served (λ call. call.passed + steps < self.old.disk.turn_steps) }
-        ensures kernel { self.new ≡ with_disk (passed_by steps) self.old }
-        ensures turned { IfSome self.old.disk.served (λ _. self.new.disk ≡ turned_by steps self.old.disk) }
-        ensures sound { IsSoundKernel self.new }
-        ensures begun { HasBegun self.old.disk → HasBegun self.new.disk }
+        ensures { PassesSteps steps self.old self.new }
     {
         self.disk.pass(steps);
     }
@@ -98,11 +85,7 @@ impl Kernel {
     /// until `end_disk_call` makes it ready.
     pub fn finish_disk_call(&mut self) -> u32
         requires sound { IsSoundKernel self.old }
-        ensures kernel { self.new ≡ with_disk unserved self.old }
-        ensures turns { result ≡ turns_left self.old.disk }
-        ensures sound { IsSoundKernel self.new }
-        ensures begun { HasBegun self.new.disk }
-        ensures over { (p : ℕ) → served_process self.old.disk ≡ Some p → IsOver p self.new }
+        ensures { FinishesCall self.old self.new result }
     {
         self.disk.finish()
     }

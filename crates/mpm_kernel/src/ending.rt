@@ -1,4 +1,4 @@
-ghost use Rattle.std.specs.Prelude.{◌≡◌, ◌≤◌, ℕ, false, length};
+ghost use Rattle.std.specs.Prelude.{◌≡◌, ◌≤◌, length};
 ghost use Rattle.std.specs.List.{range_with_len};
 
 use crate::Kernel;
@@ -6,9 +6,9 @@ use mpm_base::Pid;
 use mpm_consoles::Unit;
 
 impl Kernel {
-    ghost use Rattle.mpm_queues.specs.Queues.{holds};
-    ghost use Rattle.mpm_kernel.specs.Kernel.{IsSoundKernel, LivesIn, CompletedLive};
-    ghost use Rattle.mpm_kernel.specs.Ending.{dropped_out, all_returned, consoles_left, printers_left, discharged, IsLeaving};
+    ghost use Rattle.mpm_kernel.specs.Kernel.{IsSoundKernel, LivesInKernel};
+    ghost use Rattle.mpm_kernel.specs.Ending.{dropped_out, all_returned, consoles_left, printers_left, IsLeaving};
+    ghost use Rattle.mpm_kernel.specs.Parts.{Discharges};
 
     /// A process ends: it stands in no list and waits for nothing. The message of its resident procedure goes back, and then those of the
     /// mutual exclusion queues that it holds, by rising number. Its consoles and then its printers pass on by number, each to the process
@@ -16,11 +16,8 @@ impl Kernel {
     /// the order in which they were.
     #[tactic(auto, using(crate::proofs::EndingLaws::lives_dropped, crate::proofs::EndingLaws::few_given_back))]
     pub fn discharge(&mut self, p: Pid)
-        requires { LivesIn p self.old }
-        ensures kernel { self.new ≡ discharged self.old p }
-        ensures sound { IsSoundKernel self.new }
-        ensures live { CompletedLive self.new }
-        ensures nothing { (q : ℕ) → holds self.new.queues p q ≡ false }
+        requires { LivesInKernel p self.old }
+        ensures { Discharges p self.old self.new }
     {
         self.drop_out(p);
         self.put_back(p);

@@ -1,5 +1,5 @@
 ghost use Rattle.std.specs.Prelude.{◌≡◌, ◌<◌};
-ghost use Rattle.mpm_kernel.specs.Kernel.{IsSoundKernel, CompletedLive};
+ghost use Rattle.mpm_kernel.specs.Kernel.{IsSoundKernel, BecomesWhole};
 
 use crate::Kernel;
 use crate::waiting::{FIRST_FLAG, LAST_FLAG, POLLERS};
@@ -13,9 +13,7 @@ impl Kernel {
     pub fn event(&mut self, event: Event)
         requires sound { IsSoundKernel self.old }
         requires comes { MayCome event }
-        ensures kernel { self.new ≡ happened event self.old }
-        ensures sound { IsSoundKernel self.new }
-        ensures live { CompletedLive self.new }
+        ensures { BecomesWhole (happened event self.old) self.new }
     {
         self.begin_event();
         match event {

@@ -48,7 +48,7 @@ impl Kernel {
     ghost use Rattle.mpm_ready.specs.Tables.{list_at};
     ghost use Rattle.mpm_queues.specs.Queues.{lowest_held};
     ghost use Rattle.mpm_dispatcher.specs.Dispatch.{ready, in_slot, picked, first_completed};
-    ghost use Rattle.mpm_kernel.specs.Kernel.{IsSoundKernel, LivesIn, CompletedLive, call_begun, afresh, new_kernel, dispatched, with_changed};
+    ghost use Rattle.mpm_kernel.specs.Kernel.{IsSoundKernel, LivesInKernel, CompletedLive, BecomesSound, call_begun, afresh, new_kernel, dispatched, with_changed};
     ghost use Rattle.mpm_kernel.specs.Waiting.{completion_reply};
     ghost use Rattle.mpm_kernel.specs.Events.{handed_out};
     ghost use Rattle.mpm_clock.specs.Times.{moment_of};
@@ -221,7 +221,7 @@ impl Kernel {
     /// Does a burst of what a living process of a segment does. Its registers and the devices are lent, not copied.
     #[inline(always)]
     pub fn run_burst<B: Burst>(&mut self, p: Pid, burst: &B, seg: Seg, banks: &mut Banks) -> u64
-        requires process { LivesIn p self.old }
+        requires process { LivesInKernel p self.old }
         requires segment { HasSegment banks.old seg }
         ensures ran { B.ran burst.now (process_in self.old.dispatcher.procs p).regs (reach_of banks.old seg) self.old.devices result (process_in self.new.dispatcher.procs p).regs (reach_of banks.new seg) self.new.devices }
         ensures others { banks.new ≡ with_sides banks.old seg (segment_of banks.new seg).bytes banks.new.common }
@@ -304,8 +304,7 @@ impl Kernel {
     /// the processor while it is ready and no interrupt may come.
     pub fn pick(&mut self, instruction: bool)
         requires { IsSoundKernel self.old }
-        ensures kernel { self.new ≡ dispatched (picked instruction) self.old }
-        ensures sound { IsSoundKernel self.new }
+        ensures { BecomesSound (dispatched (picked instruction) self.old) self.new }
     {
         self.dispatcher.pick(instruction);
     }

@@ -13,7 +13,7 @@ impl Kernel {
     ghost use Rattle.mpm_procs.specs.Table.{Lives, process_in, call_of};
     ghost use Rattle.mpm_queues.specs.Queues.{IsMade};
     ghost use Rattle.mpm_dispatcher.specs.Dispatch.{first_completed, with_completed};
-    ghost use Rattle.mpm_kernel.specs.Kernel.{IsSoundKernel, LivesIn, MayCall, CompletedLive, dispatched};
+    ghost use Rattle.mpm_kernel.specs.Kernel.{IsSoundKernel, LivesInKernel, MayComplete, CompletedLive, dispatched};
     ghost use Rattle.mpm_kernel.specs.Called.{Yields};
     ghost use Rattle.mpm_kernel.specs.Events.{with_procedure};
     ghost use Rattle.mpm_kernel.specs.Procedures.{procedure_called, procedure_queue, still_completed, outside, given_back_to, given_back};
@@ -25,8 +25,7 @@ impl Kernel {
     #[inline(never)]
     #[tactic(auto, using(crate::proofs::ProcedureLaws::lives_other, crate::proofs::ProcedureLaws::procedure_made), unfolding(crate::specs::Procedures::procedure_called, crate::specs::Procedures::procedure_at, crate::specs::Procedures::procedure_read, crate::specs::Procedures::inside))]
     pub(crate) fn call_procedure(&mut self, p: Pid, reply: &mut Reply) -> Outcome
-        requires caller { MayCall p self.old }
-        requires room { length self.old.dispatcher.completed < 64 }
+        requires { MayComplete p self.old }
         ensures { Yields (procedure_called (call_of self.old.dispatcher.procs p) p self.old) self.new result reply.new }
     {
         if self.dispatcher.procs.get(p).procedure.is_some() {
@@ -84,7 +83,7 @@ impl Kernel {
     /// it is full; the process is in no procedure then.
     #[tactic(auto, using(crate::proofs::ProcedureLaws::sound_outside, crate::proofs::ProcedureLaws::lives_outside), unfolding(crate::specs::Procedures::given_back, crate::specs::Procedures::given_back_to))]
     pub fn put_back(&mut self, p: Pid)
-        requires { LivesIn p self.old }
+        requires { LivesInKernel p self.old }
         ensures kernel { self.new ≡ given_back p self.old }
         ensures sound { IsSoundKernel self.new }
         ensures live { CompletedLive self.new }
@@ -115,8 +114,8 @@ impl Kernel {
         queue
     }
 
-    /// Whose held call was completed first is still to be answered, where it lives and is another process; all others are
-    /// forgotten.
+    /// Whose held call was completed first is still to be answered, where it lives and is another process. No others are forgotten
+    /// by that: what a process did before it ends or leaves its procedure completed one held call at most.
     fn keep_completed(&mut self, p: Pid)
         ensures kernel { self.new ≡ dispatched (with_completed (still_completed (first_completed self.old.dispatcher.completed) p self.old.dispatcher.procs)) self.old }
         ensures room { length self.new.dispatcher.completed < 64 }
@@ -133,7 +132,7 @@ impl Kernel {
     /// A process writes the message of its call to a queue that is there, where there is room.
     #[tactic(auto, unfolding(crate::specs::Procedures::given_back_to, mpm_dispatcher::specs::Dispatch::lists_ready, mpm_dispatcher::specs::Dispatch::also_completed))]
     pub(crate) fn write_back(&mut self, p: Pid, q: u8)
-        requires process { LivesIn p self.old }
+        requires process { LivesInKernel p self.old }
         requires queue { IsMade self.old.queues q }
         requires room { length self.old.dispatcher.completed < 64 }
         ensures { self.new ≡ given_back_to (Some q) p self.old }

@@ -1,4 +1,4 @@
-ghost use Rattle.std.specs.Prelude.{◌≡◌, ◌<◌, ◌&&◌, Some, None, true, false, length, IfSome};
+ghost use Rattle.std.specs.Prelude.{◌≡◌, None, true, false, IfSome};
 
 use crate::Kernel;
 use mpm_base::{FAILURE_CODE, Name8, Outcome, Pid, Reply};
@@ -8,8 +8,8 @@ use mpm_queues::QueueOutcome;
 impl Kernel {
     ghost use Rattle.mpm_procs.specs.Table.{Lives, call_of};
     ghost use Rattle.mpm_queues.specs.Queues.{IsMade, make_error};
-    ghost use Rattle.mpm_queues.specs.Handling.{woken_by, may_wait, read_outcome, read_reply, write_outcome};
-    ghost use Rattle.mpm_kernel.specs.Kernel.{IsSoundKernel, LivesIn, MayCall};
+    ghost use Rattle.mpm_queues.specs.Handling.{woken_by, must_wait, read_outcome, read_reply, write_outcome};
+    ghost use Rattle.mpm_kernel.specs.Kernel.{IsSoundKernel, LivesInKernel, MayCall, MayComplete, BecomesSound};
     ghost use Rattle.mpm_kernel.specs.Called.{Yields};
     ghost use Rattle.mpm_kernel.specs.Queueing.{with_system_queue, OnlySystems, IfNotNow, queue_made, queue_opened, queue_deleted, pointed, blocked_or_refused, taken_from, queue_read, given_to, queue_written};
 
@@ -20,8 +20,7 @@ impl Kernel {
         requires sound { IsSoundKernel self.old }
         requires boot { OnlySystems self.old }
         requires room { make_error self.old.queues name message_length count ≡ None }
-        ensures kernel { self.new ≡ with_system_queue self.old name message_length count }
-        ensures sound { IsSoundKernel self.new }
+        ensures { BecomesSound (with_system_queue self.old name message_length count) self.new }
     {
         if let Ok(number) = self.queues.make(name, message_length, count) {
             self.system_queues = number + 1;
@@ -92,8 +91,7 @@ impl Kernel {
     #[inline(never)]
     #[tactic(auto, unfolding(crate::specs::Queueing::read_at, crate::specs::Queueing::was_read))]
     pub(crate) fn read_queue(&mut self, p: Pid, waits: bool, reply: &mut Reply) -> Outcome
-        requires caller { MayCall p self.old }
-        requires room { length self.old.dispatcher.completed < 64 }
+        requires { MayComplete p self.old }
         ensures { Yields (queue_read waits (call_of self.old.dispatcher.procs p) p self.old) self.new result reply.new }
     {
         let call = self.dispatcher.procs.call(p);
@@ -118,8 +116,7 @@ impl Kernel {
     #[inline(never)]
     #[tactic(auto, unfolding(crate::specs::Queueing::write_at, crate::specs::Queueing::was_written))]
     pub(crate) fn write_queue(&mut self, p: Pid, waits: bool, reply: &mut Reply) -> Outcome
-        requires caller { MayCall p self.old }
-        requires room { length self.old.dispatcher.completed < 64 }
+        requires { MayComplete p self.old }
         ensures { Yields (queue_written waits (call_of self.old.dispatcher.procs p) p self.old) self.new result reply.new }
     {
         let pointer = self.dispatcher.procs.call(p).word(0);
@@ -143,7 +140,7 @@ impl Kernel {
         ensures kernel { self.new ≡ taken_from self.old p q }
         ensures outcome { result ≡ read_outcome self.old.queues q }
         ensures other { IfSome (woken_by result) (λ w. Lives self.new.dispatcher.procs w) }
-        ensures not_now { IfNotNow result ((self.new ≡ self.old) × (may_wait self.old.queues q true ≡ true)) }
+        ensures not_now { IfNotNow result ((self.new ≡ self.old) × (must_wait self.old.queues q true ≡ true)) }
         ensures reply { reply.new ≡ read_reply self.old.queues q reply.old }
     {
         self.queues.read(p, q, &mut self.dispatcher.procs, reply)
@@ -152,12 +149,12 @@ impl Kernel {
     /// A process writes the message of its call to a queue.
     #[tactic(auto, using(crate::proofs::QueueingLaws::waiters_live, crate::proofs::QueueingLaws::lives_by_write))]
     pub(crate) fn give_to(&mut self, p: Pid, q: u8) -> QueueOutcome
-        requires process { LivesIn p self.old }
+        requires process { LivesInKernel p self.old }
         requires queue { IsMade self.old.queues q }
         ensures kernel { self.new ≡ given_to self.old p q }
         ensures outcome { result ≡ write_outcome self.old.queues q }
         ensures other { IfSome (woken_by result) (λ w. Lives self.new.dispatcher.procs w) }
-        ensures not_now { IfNotNow result ((self.new ≡ self.old) × (may_wait self.old.queues q false ≡ true)) }
+        ensures not_now { IfNotNow result ((self.new ≡ self.old) × (must_wait self.old.queues q false ≡ true)) }
     {
         self.queues.write(p, q, &mut self.dispatcher.procs)
     }
@@ -175,7 +172,7 @@ impl Kernel {
     ) -> Outcome
         requires caller { MayCall p self.old }
         requires queue { IsMade self.old.queues q }
-        requires waits { may_wait self.old.queues q reader ≡ true }
+        requires waits { must_wait self.old.queues q reader ≡ true }
         ensures { Yields (blocked_or_refused waits p q reader self.old) self.new result reply.new }
     {
         if waits {

@@ -19,6 +19,7 @@ pub(crate) const LAST_FLAG: u8 = 31;
 impl Kernel {
     ghost use Rattle.mpm_procs.specs.Table.{Lives, call_of};
     ghost use Rattle.mpm_flags.specs.States.{flag_at, set_answer};
+    ghost use Rattle.mpm_consoles.specs.Console.{Yields as Makes};
     ghost use Rattle.mpm_kernel.specs.Kernel.{IsSoundKernel, MayCall};
     ghost use Rattle.mpm_kernel.specs.Called.{Yields, low_parameter};
     ghost use Rattle.mpm_kernel.specs.Waiting.{polled, flag_waited, flag_set as flag_set_by, process_delayed, signalled};
@@ -105,8 +106,7 @@ impl Kernel {
     pub(crate) fn signal(&mut self, flag: u8) -> FlagSet
         requires sound { IsSoundKernel self.old }
         requires below { flag < 32 }
-        ensures kernel { self.new ≡ signalled flag self.old }
-        ensures answer { result ≡ set_answer (flag_at self.old.flags flag) }
+        ensures { Makes (signalled flag self.old) (set_answer (flag_at self.old.flags flag)) self.new result }
     {
         let answer = self.flags.set(flag);
         if let FlagSet::Woke { p } = answer {

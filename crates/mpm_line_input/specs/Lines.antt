@@ -1,6 +1,6 @@
 -- A line that is read from a console, one key a step: what is written for each key, where the line ends, and what is
 -- answered. (MP/M II Programmer's Guide, "Function 10: Read Console Buffer".)
-use Rattle.std.specs.Prelude.{ℕ, ◌+◌, ◌%◌, Bool, true, false, ◌==◌, ◌||◌, nat_le, nat_lt, if◌then◌else◌, List, [], ◌∷◌, ◌++◌, length, take, drop}
+use Rattle.std.specs.Prelude.{◌≡◌, ℕ, ◌+◌, ◌%◌, Bool, true, false, ◌==◌, ◌||◌, nat_le, nat_lt, if◌then◌else◌, List, [], ◌∷◌, ◌++◌, length, take, drop}
 use Rattle.mpm_base.specs.Calls.{Answer, answering}
 use Rattle.mpm_line_input.specs.Keys.{key_of, line_after}
 use Rattle.mpm_line_input.specs.declared.line.LineKey.{LineKey}
@@ -13,6 +13,12 @@ so_far kept count = take count kept
 -- a line as it is kept: at the front, and the bytes after it as they were
 unfoldable pub stored : List ℕ → List ℕ → List ℕ
 stored line kept = line ++ drop (length line) kept
+
+-- a key changes a line that is kept
+pub record ChangesLine (key : ℕ) (kept : List ℕ) (count : ℕ) (afterwards : List ℕ) (left : ℕ) : Type 0 where
+  pub line : afterwards ≡ stored (line_after (so_far kept count) key) kept
+  pub size : left ≡ length (line_after (so_far kept count) key)
+  pub front : so_far afterwards left ≡ line_after (so_far kept count) key
 
 -- a line is full that has the greatest length or more
 abbrev pub is_full : ℕ → ℕ → Bool

@@ -1,7 +1,7 @@
 ghost use Rattle.std.specs.Prelude.{◌≡◌, ◌≤◌, ◌<◌, ◌+◌, ◌++◌, [], length, true, if◌then◌else◌};
 ghost use Rattle.mpm_line_input.specs.Keys.{key_of as meaning_of, line_after};
 ghost use Rattle.mpm_line_input.specs.declared.line.LineKey.TheVariants.{Join, Cancel};
-ghost use Rattle.mpm_line_input.specs.Lines.{so_far, stored, is_full as is_full_line, ends, ends_at as does_end, echo_of, written_by, line_end, line_answer};
+ghost use Rattle.mpm_line_input.specs.Lines.{so_far, ChangesLine, is_full as is_full_line, ends, ends_at as does_end, echo_of, written_by, line_end, line_answer};
 
 use crate::Echo;
 use mpm_base::Reply;
@@ -65,9 +65,7 @@ pub fn full_line() -> Edit
 #[tactic(auto, using(crate::proofs::Laws::restored, crate::proofs::Laws::emptied))]
 pub fn edited(line: &mut [u8; 255], count: &mut u8, greatest: u8, key: u8) -> Edit
     requires { count.old < greatest }
-    ensures line { line.new ≡ stored (line_after (so_far line.old count.old) key) line.old }
-    ensures count { count.new ≡ length (line_after (so_far line.old count.old) key) }
-    ensures so_far { so_far line.new count.new ≡ line_after (so_far line.old count.old) key }
+    ensures changes { ChangesLine key line.old count.old line.new count.new }
     ensures written { result.written ≡ written_by (so_far line.old count.old) greatest key }
     ensures ends { result.ends ≡ ends (so_far line.old count.old) greatest key }
     ensures within { count.new ≤ greatest }
@@ -124,9 +122,7 @@ fn ends_at(count: u8, greatest: u8, key: u8) -> bool
 #[tactic(auto, unfolding(crate::specs::Keys::line_after, crate::specs::Lines::stored))]
 fn change(line: &mut [u8; 255], count: &mut u8, key: u8)
     requires { count.old < 255 }
-    ensures line { line.new ≡ stored (line_after (so_far line.old count.old) key) line.old }
-    ensures count { count.new ≡ length (line_after (so_far line.old count.old) key) }
-    ensures so_far { so_far line.new count.new ≡ line_after (so_far line.old count.old) key }
+    ensures changes { ChangesLine key line.old count.old line.new count.new }
     ensures one { count.new ≤ count.old + 1 }
 {
     match key_of(key) {

@@ -1,12 +1,22 @@
 -- A program's file as it comes in pieces: what of a piece is code, and what marks code. (MP/M II System Guide, "Page
 -- Relocatable Programs".)
-use Rattle.std.specs.Prelude.{ℕ, ◌+◌, ◌-◌, ◌*◌, ◌≤◌, ◌<◌, Bool, nat_le, Option, Some, None, List, [], length, take, drop, min}
+use Rattle.std.specs.Prelude.{◌≡◌, ℕ, ◌+◌, ◌-◌, ◌*◌, ◌≤◌, ◌<◌, Bool, nat_le, Option, Some, None, List, [], length, take, drop, min}
 use Rattle.mpm_loader.specs.Plans.{code_end, all_bytes, plan_of, absolute_plan}
 use Rattle.mpm_loader.specs.declared.plan.Plan.{Plan}
 
 -- the bytes of a piece that stand between two places of the file, where so many bytes of it stand before the piece
 unfoldable pub part : ℕ → ℕ → ℕ → List ℕ → List ℕ
 part before low high piece = drop (low - before) (take (high - before) piece)
+
+-- these are bytes of some, no more than they are
+pub record IsCut (cut bytes result : List ℕ) : Type 0 where
+  pub bytes_are : result ≡ cut
+  pub size : length result ≤ length bytes
+
+-- these are bytes of a piece, at most 2,048
+pub record IsPiece (bytes result : List ℕ) : Type 0 where
+  pub bytes_are : result ≡ bytes
+  pub few : length result ≤ 2048
 
 -- a file as it comes in: its plan, how many bytes of it came before the piece, and the piece
 pub record Loading : Type 0 where

@@ -1,6 +1,6 @@
 -- Where in a program's file its code is, and how much memory it takes. (MP/M II System Guide, "Page Relocatable Programs";
 -- Programmer's Guide, "Transient Programs".)
-use Rattle.std.specs.Prelude.{ℕ, ◌+◌, ◌*◌, ◌/◌, ◌≤◌, ◌<◌, ◌==◌, ◌||◌, nat_lt, if◌then◌else◌, List, length, Option, Some, None}
+use Rattle.std.specs.Prelude.{◌≡◌, ℕ, ◌+◌, ◌*◌, ◌/◌, ◌≤◌, ◌<◌, ◌==◌, ◌||◌, nat_lt, if◌then◌else◌, List, length, Option, Some, None}
 use Rattle.mpm_prl.specs.Relocation.{word_at}
 use Rattle.mpm_loader.specs.declared.plan.Plan.{Plan}
 
@@ -37,6 +37,11 @@ pub record IsPlan (plan : Plan) : Type 0 where
   pub room : plan.room ≤ 2147483520
   pub few : plan.bits ≤ 8192
   pub marks : 8 * plan.bits < plan.length + 8
+
+-- it is that plan, and a header or a file's size can ask for it
+pub record HasPlan (plan result : Plan) : Type 0 where
+  pub plan_is : result ≡ plan
+  pub bounds : IsPlan result
 
 -- after the base page it fits into so many pages, with 128 bytes for its stack, before the last page
 pub record FitsIn (plan : Plan) (pages : ℕ) : Type 0 where

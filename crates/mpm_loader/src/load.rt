@@ -27,8 +27,8 @@ impl Model for Load {
 
 impl Load {
     ghost use Rattle.std.specs.Prelude.{◌≡◌, ◌≤◌, ◌<◌, ◌+◌, [], false, Some, None, length, IfOk, OnErr};
-    ghost use Rattle.mpm_loader.specs.Plans.{IsPlan, absolute_plan};
-    ghost use Rattle.mpm_loader.specs.Pieces.{nothing, code_in, code_place as place_of_code, marks_in, marked_place as place_of_marked, marked_length as length_of_marked, has_all as has_all_of, with_piece, begun, IsWithinCode};
+    ghost use Rattle.mpm_loader.specs.Plans.{IsPlan, HasPlan, absolute_plan};
+    ghost use Rattle.mpm_loader.specs.Pieces.{nothing, code_in, code_place as place_of_code, marks_in, marked_place as place_of_marked, marked_length as length_of_marked, has_all as has_all_of, with_piece, begun, IsPiece, IsWithinCode};
 
     /// Nothing is loaded.
     #[tactic(auto, unfolding(crate::specs::Pieces::nothing, crate::specs::Plans::absolute_plan))]
@@ -45,8 +45,7 @@ impl Load {
 
     /// What the file says of itself.
     pub fn plan(&self) -> Plan
-        ensures plan { result ≡ self.now.plan }
-        ensures bounds { IsPlan result }
+        ensures { HasPlan self.now.plan result }
     {
         self.plan
     }
@@ -143,8 +142,7 @@ impl Load {
 
     /// What of the piece marks bytes of code, eight to a byte.
     pub fn marks(&self) -> &[u8]
-        ensures marks { result.now ≡ marks_in self.now }
-        ensures few { length result.now ≤ 2048 }
+        ensures { IsPiece (marks_in self.now) result.now }
     {
         let plan = &self.plan;
         let end = plan.start + plan.length;
@@ -175,8 +173,7 @@ impl Load {
 
     /// The piece that came last.
     fn piece(&self) -> &[u8]
-        ensures piece { result.now ≡ self.now.piece }
-        ensures few { length result.now ≤ 2048 }
+        ensures { IsPiece self.now.piece result.now }
     {
         &self.piece[..usize::from(self.length)]
     }

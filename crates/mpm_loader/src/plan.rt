@@ -1,6 +1,6 @@
 ghost use Rattle.std.specs.Prelude.{◌≡◌, ◌≤◌, ◌<◌, ⊤, Some, None, length, MatchOption, IfOk, OnErr};
 ghost use Rattle.mpm_prl.specs.Relocation.{word_at};
-ghost use Rattle.mpm_loader.specs.Plans.{relocatable_plan, absolute_plan, plan_of, pages_of, all_bytes as bytes_in_all, IsPlan, FitsIn};
+ghost use Rattle.mpm_loader.specs.Plans.{relocatable_plan, absolute_plan, plan_of, pages_of, all_bytes as bytes_in_all, IsPlan, HasPlan, FitsIn};
 
 use mpm_prl::{BadHeader, PrlHeader, header};
 
@@ -21,8 +21,7 @@ impl Plan {
     /// That of a page relocatable program, by its header: the code follows 256 bytes, and its bits after it.
     #[tactic(auto, unfolding(crate::specs::Plans::relocatable_plan))]
     pub fn relocatable(header: PrlHeader) -> Plan
-        ensures plan { result ≡ relocatable_plan header.length header.extra }
-        ensures bounds { IsPlan result }
+        ensures { HasPlan (relocatable_plan header.length header.extra) result }
     {
         let length = u32::from(header.length);
         Plan {
@@ -37,8 +36,7 @@ impl Plan {
     #[tactic(auto, unfolding(crate::specs::Plans::absolute_plan))]
     pub fn absolute(records: u32) -> Plan
         requires { records < 16777216 }
-        ensures plan { result ≡ absolute_plan records }
-        ensures bounds { IsPlan result }
+        ensures { HasPlan (absolute_plan records) result }
     {
         Plan {
             start: 0,

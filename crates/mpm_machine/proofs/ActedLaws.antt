@@ -11,7 +11,7 @@ use Rattle.mpm_kernel.proofs.SoundLaws.{runner_lives}
 use Rattle.mpm_residents.specs.Natives.{native_act, native_call, native_in}
 use Rattle.mpm_residents.specs.declared.native.Native.{Native}
 use Rattle.mpm_residents.specs.declared.cli.act.Act.{Act}
-use Rattle.mpm_residents.specs.declared.cli.act.Act.TheVariants.{Ask, Place, Patch, Begin, Give}
+use Rattle.mpm_residents.specs.declared.cli.act.Act.TheVariants.{Ask, PlaceBytes, MoveCode, BeginProcess, GiveConsole}
 use Rattle.mpm_kernel.specs.Called.{low_parameter}
 use Rattle.mpm_gate.specs.declared.gate.Gate.{Gate}
 use Rattle.mpm_gate.specs.declared.gate.Gate.TheVariants.{End, Call, Return}
@@ -107,10 +107,10 @@ whole_telling call p system w h = whole_residents _ _ (whole_text call p system 
 whole_handed : (act : Act) (call : Taken) (p : ℕ) (system : System) → IsWhole system → Lives system.kernel.dispatcher.procs p
     → IsWhole (handed_over act call.bytes p system)
 whole_handed Ask call p system w h = w
-whole_handed (Place seg address count) call p system w h = whole_placing seg address call.bytes system w
-whole_handed (Patch seg address count page) call p system w h = whole_moving seg address count call.bytes page system w
-whole_handed (Begin seg new) call p system w h = whole_beginning seg new p system w
-whole_handed (Give console) call p system w h = whole_giving console p system w
+whole_handed (PlaceBytes seg address count) call p system w h = whole_placing seg address call.bytes system w
+whole_handed (MoveCode seg address count page) call p system w h = whole_moving seg address count call.bytes page system w
+whole_handed (BeginProcess seg new) call p system w h = whole_beginning seg new p system w
+whole_handed (GiveConsole console) call p system w h = whole_giving console p system w
 
 whole_handing : (act : Act) (call : Taken) (p : ℕ) (system : System) → IsWhole system → Lives system.kernel.dispatcher.procs p
     → IsWhole (handing_step act call p system)
@@ -122,10 +122,10 @@ whole_native_step : (act : Act) (call : Taken) (p : ℕ) (system : System) → c
 whole_native_step Ask call p system keeps w h ready =
     either (λ (change : SystemChange). IsWhole change.system) (tells (native_in system.residents p) call) _ _ (λ _. whole_telling call p system w h)
     (λ _. whole_native_call call p system keeps w h ready)
-whole_native_step (Place seg address count) call p system keeps w h ready = whole_handing (Place seg address count) call p system w h
-whole_native_step (Patch seg address count page) call p system keeps w h ready = whole_handing (Patch seg address count page) call p system w h
-whole_native_step (Begin seg new) call p system keeps w h ready = whole_handing (Begin seg new) call p system w h
-whole_native_step (Give console) call p system keeps w h ready = whole_handing (Give console) call p system w h
+whole_native_step (PlaceBytes seg address count) call p system keeps w h ready = whole_handing (PlaceBytes seg address count) call p system w h
+whole_native_step (MoveCode seg address count page) call p system keeps w h ready = whole_handing (MoveCode seg address count page) call p system w h
+whole_native_step (BeginProcess seg new) call p system keeps w h ready = whole_handing (BeginProcess seg new) call p system w h
+whole_native_step (GiveConsole console) call p system keeps w h ready = whole_handing (GiveConsole console) call p system w h
 
 whole_resided : (native : Option Native) (p : ℕ) (system : System) → IsWhole system → Lives system.kernel.dispatcher.procs p → IsReady system.kernel.dispatcher p
     → IsWhole (resided native p system).system

@@ -25,7 +25,7 @@ use Rattle.mpm_refusals.specs.Filing.{Filing, Situation}
 use Rattle.mpm_file_functions.specs.Functions.{function_of}
 use Rattle.mpm_bdos.specs.Serving.{Kept, InService, Serves}
 use Rattle.mpm_directories.specs.Places.{directory_at}
-use Rattle.mpm_bdos.specs.Turns.{FitsDrives, has_work, labelled, images_of}
+use Rattle.mpm_bdos.specs.Turns.{FitsDrives, has_work, drive_and_kind, images_of}
 use Rattle.mpm_bdos.proofs.ServedLaws.{none_before}
 use Rattle.mpm_system.specs.declared.system.System.{System}
 use Rattle.mpm_system.specs.Whole.{SystemChange, silent}
@@ -294,7 +294,7 @@ workless_by (Some function) old new direct idle none = ap has_work (idle refl)
 pub holds_filed : {D : Type 0} (disks : D → Disks) (kernel : Kernel) (found : Option FileFunction) (old new : Kept) (before behind : D)
     → HoldsKept disks kernel old before → (is_some kernel.disk.served ≡ true → found ≡ None)
     → (found ≡ None → new ≡ old) → (is_some found ≡ true → new.service ≡ None)
-    → ((number : ℕ) → option_map labelled (directory_at new.mounted number) ≡ option_map labelled (directory_at old.mounted number))
+    → ((number : ℕ) → option_map drive_and_kind (directory_at new.mounted number) ≡ option_map drive_and_kind (directory_at old.mounted number))
     → FitsDrives disks new.mounted new.cached behind → HoldsKept disks kernel new behind
 holds_filed disks kernel found old new before behind holds apart direct idle labels fits = record {
   filed = holds.filed;

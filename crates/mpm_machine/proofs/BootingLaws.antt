@@ -19,7 +19,7 @@ use Rattle.mpm_bdos.specs.Serving.{nothing_kept}
 use Rattle.mpm_machine.specs.declared.machine.Machine.{Machine}
 use Rattle.mpm_machine.specs.Files.{Between}
 use Rattle.mpm_machine.specs.Mounting.{untouched}
-use Rattle.mpm_machine.specs.Booting.{StandsOnDrives, failures, LeavesUnlisted}
+use Rattle.mpm_machine.specs.Booting.{IsBootedOn, failures, LeavesUnlisted}
 use Rattle.mpm_machine.proofs.MountedLaws.{mounted_here, holds_mounted, fresh_here}
 use Rattle.mpm_machine.proofs.DriveLaws.{mounted_drives}
 use Rattle.mpm_machine.proofs.SettlingLaws.{nobody_yet}
@@ -28,7 +28,7 @@ use Rattle.mpm_machine.proofs.FirstFiles.{opens_on}
 pub stands_bare : {D : Type 0} (disks : D → Disks) (images : Images) (owes : ℕ → Bool) (file : MachineFile) {read : List DriveSpec} (ds items : List Directory) (drives : D) (r : Result (Box Machine) BootError)
     → IsMachine file → read ≡ file.drives → AreMounted (disks drives) images read ds → AreSynced owes ds → items ≡ ds
     → IfOk r (λ machine. machine.value.bdos ≡ nothing_kept (in_places items)) → IfOk r (λ machine. machine.value.system.kernel.disk ≡ no_service file.disk_turn)
-    → IfOk r (λ machine. StandsOnDrives disks images owes file.drives machine.value drives)
+    → IfOk r (λ machine. IsBootedOn disks images owes file.drives machine.value drives)
 stands_bare disks images owes file ds items drives (Ok boxed) is same mounted fresh items_are kept idle =
     let machine = boxed.value in
     let has = mounted_here (disks drives) images file.drives ds items machine.bdos same mounted items_are kept in

@@ -31,7 +31,7 @@ use Rattle.mpm_kernel.proofs.EndingLaws.{call_given_back, beside_given_back}
 use Rattle.mpm_xdos.specs.Procedures.{returned_from_procedure, leaving}
 use Rattle.mpm_output.specs.Texts.{illegal_text}
 use Rattle.mpm_residents.specs.declared.cli.act.Act.{Act}
-use Rattle.mpm_residents.specs.declared.cli.act.Act.TheVariants.{Ask, Place, Patch, Begin, Give}
+use Rattle.mpm_residents.specs.declared.cli.act.Act.TheVariants.{Ask, PlaceBytes, MoveCode, BeginProcess, GiveConsole}
 use Rattle.mpm_residents.specs.declared.native.Native.{Native}
 use Rattle.mpm_residents.specs.Natives.{native_in, native_call, native_act}
 use Rattle.mpm_system.specs.declared.system.System.{System}
@@ -136,12 +136,12 @@ calls_begun_for (Some q) p new kernel s free =
 
 calls_handed : (act : Act) (bytes : List ℕ) (p : ℕ) (system : System) → IsSoundKernel system.kernel → SystemKeepsCalls system (handed_over act bytes p system)
 calls_handed Ask bytes p system s = calls_nothing system.kernel
-calls_handed (Place seg address count) bytes p system s = calls_nothing system.kernel
-calls_handed (Patch seg address count page) bytes p system s = calls_nothing system.kernel
-calls_handed (Begin seg new) bytes p system s =
+calls_handed (PlaceBytes seg address count) bytes p system s = calls_nothing system.kernel
+calls_handed (MoveCode seg address count page) bytes p system s = calls_nothing system.kernel
+calls_handed (BeginProcess seg new) bytes p system s =
     either (SystemKeepsCalls system) (begins seg new system) _ system
     (λ _. calls_begun_for (lowest_free system.kernel.dispatcher.procs) p (record new { seg = Some seg }) system.kernel s refl) (λ _. calls_nothing system.kernel)
-calls_handed (Give console) bytes p system s =
+calls_handed (GiveConsole console) bytes p system s =
     either (λ (k : Kernel). KeepsCalls system.kernel k) (is_console console system.kernel) _ _
     (λ _. calls_given console (Some p) None system.kernel) (λ _. calls_nothing system.kernel)
 
@@ -154,10 +154,10 @@ calls_native_step : (act : Act) (call : Taken) (p : ℕ) (system : System) → c
 calls_native_step Ask call p system keeps w h is_ready =
     either (λ (c : SystemChange). SystemKeepsCalls system c.system) (tells (native_in system.residents p) call) _ _
     (λ _. calls_telling call p system) (λ _. calls_calling call p system keeps w h is_ready)
-calls_native_step (Place seg address count) call p system keeps w h is_ready = calls_handing (Place seg address count) call p system w.sound
-calls_native_step (Patch seg address count page) call p system keeps w h is_ready = calls_handing (Patch seg address count page) call p system w.sound
-calls_native_step (Begin seg new) call p system keeps w h is_ready = calls_handing (Begin seg new) call p system w.sound
-calls_native_step (Give console) call p system keeps w h is_ready = calls_handing (Give console) call p system w.sound
+calls_native_step (PlaceBytes seg address count) call p system keeps w h is_ready = calls_handing (PlaceBytes seg address count) call p system w.sound
+calls_native_step (MoveCode seg address count page) call p system keeps w h is_ready = calls_handing (MoveCode seg address count page) call p system w.sound
+calls_native_step (BeginProcess seg new) call p system keeps w h is_ready = calls_handing (BeginProcess seg new) call p system w.sound
+calls_native_step (GiveConsole console) call p system keeps w h is_ready = calls_handing (GiveConsole console) call p system w.sound
 
 calls_resided : (native : Option Native) (p : ℕ) (system : System) → IsWhole system → Lives system.kernel.dispatcher.procs p → IsReady system.kernel.dispatcher p
     → SystemKeepsCalls system (resided native p system).system

@@ -21,7 +21,7 @@ use Rattle.mpm_directories.specs.Direct.{Directly}
 use Rattle.mpm_refusals.specs.Filing.{Situation}
 use Rattle.mpm_bdos.specs.Jobs.{call_turns}
 use Rattle.mpm_bdos.specs.Outcomes.{file_call}
-use Rattle.mpm_bdos.specs.Serving.{Kept as Filed, StandEach, Serves, filing_of}
+use Rattle.mpm_bdos.specs.Serving.{Kept, StandEach, Serves, filing_of}
 use Rattle.mpm_bdos.specs.Turns.{images_of}
 use Rattle.mpm_bdos.proofs.ServingLaws.{stand_at_last}
 use Rattle.mpm_system.specs.declared.system.System.{System}
@@ -43,7 +43,7 @@ use Rattle.mpm_machine.proofs.KeepingLaws.{finishing_disk, concluded_serves, end
 use Rattle.mpm_machine.proofs.TurnLaws.{stands_idle, paid_stands, drives_left}
 
 -- the call in service, with the turns that are left to it
-pub record InCall (files : FilesInService) (served : Option Served) (p : ℕ) (kept : Filed) (disks : Disks) : Type 0 where
+pub record InCall (files : FilesInService) (served : Option Served) (p : ℕ) (kept : Kept) (disks : Disks) : Type 0 where
   pub call : Situation
   pub is : files ≡ Within call
   pub turns : ℕ
@@ -52,7 +52,7 @@ pub record InCall (files : FilesInService) (served : Option Served) (p : ℕ) (k
   pub serves : Serves (images_of disks) kept call turns
   pub left_is : left_of files served ≡ Some (record { call = call; ended = turns; most = left_to served })
 
-in_call_of : (files : FilesInService) (served : Option Served) (p : ℕ) (kept : Filed) (disks : Disks) → option_map (λ (call : Served). call.p) served ≡ Some p
+in_call_of : (files : FilesInService) (served : Option Served) (p : ℕ) (kept : Kept) (disks : Disks) → option_map (λ (call : Served). call.p) served ≡ Some p
     → StandsServed served kept disks files → InCall files served p kept disks
 in_call_of files None p kept disks some stands = absurd (cc)
 in_call_of (Between filing) (Some call) p kept disks some stands = absurd stands
@@ -68,7 +68,7 @@ in_call_of (Within s) (Some call) p kept disks some stands =
       left_is = ap working (omega (arith, stands.left));
     }
 
-pub in_call : (files : FilesInService) (disk : DiskService) (p : ℕ) (kept : Filed) (disks : Disks) → served_process disk ≡ Some p → StandsForFiles disk kept disks files
+pub in_call : (files : FilesInService) (disk : DiskService) (p : ℕ) (kept : Kept) (disks : Disks) → served_process disk ≡ Some p → StandsForFiles disk kept disks files
     → InCall files disk.served p kept disks
 unfolding served_process
 in_call files disk p kept disks some stands = in_call_of files disk.served p kept disks some stands.stands
@@ -137,7 +137,7 @@ stopped_last told p before one two o m n a b first last =
     (subst (λ (s : System). Stopped m n (records_out (with_ends s)).emitted) two_is last))
 
 -- so the images stand for what the call leaves on the drives, whether the sink fails or not
-pub end_images : (disks : Disks) (kept : Filed) (mounted : List (Option Directory)) (s : Situation) (told : Directly) (before : System)
+pub end_images : (disks : Disks) (kept : Kept) (mounted : List (Option Directory)) (s : Situation) (told : Directly) (before : System)
     → Serves (images_of disks) kept s (call_turns s) → mounted ≡ kept.mounted → HaveImages disks mounted (filing_in (files_at_end told s before)).drives
 end_images disks kept mounted s told before serves same =
     let one = (over_at_end told s.caller.process before).system.owed in
@@ -152,21 +152,21 @@ end_images disks kept mounted s told before serves same =
     }
 
 -- what was paid
-pub record Pays (system : System) (old new : Filed) : Type 0 where
+pub record Pays (system : System) (old new : Kept) : Type 0 where
   pub rest : new ≡ record old { opens = new.opens; marks = new.marks; searches = new.searches }
   pub filing : system.kernel.disk.served ≡ None → (drives : List (Option Drive)) → filing_of new drives ≡ all_left system.owed (filing_of old drives)
 
-paid_in : (system : System) (old new : Filed) (disks : Disks) (files : FilesInService) → Pays system old new → system.kernel.disk.served ≡ None
+paid_in : (system : System) (old new : Kept) (disks : Disks) (files : FilesInService) → Pays system old new → system.kernel.disk.served ≡ None
     → StandsForFiles system.kernel.disk old disks files → StandsForFiles (all_paid system).kernel.disk new disks (given_back system.owed files)
 paid_in system old new disks files pays none stands =
     paid_stands system old new disks files stands none pays.rest (λ filing is. pays.filing none filing.drives ∙ ap (all_left system.owed) is)
 
-still_stand : (one other : DiskService) (kept : Filed) (disks : Disks) (files : FilesInService) → one.served ≡ None → other.served ≡ None → StandsForFiles one kept disks files
+still_stand : (one other : DiskService) (kept : Kept) (disks : Disks) (files : FilesInService) → one.served ≡ None → other.served ≡ None → StandsForFiles one kept disks files
     → StandsForFiles other kept disks files
 still_stand one other kept disks files none same stands =
     record { stands = subst (λ (o : Option Served). StandsServed o kept disks files) (none ∙ sym same) stands.stands }
 
-pub end_stands : (told : Directly) (s : Situation) (before one two three four : System) (first second third : Filed) (disks : Disks)
+pub end_stands : (told : Directly) (s : Situation) (before one two three four : System) (first second third : Kept) (disks : Disks)
     → one ≡ (over_at_end told s.caller.process before).system → two ≡ all_paid one → three ≡ (records_out (with_ends two)).system → four ≡ all_paid three
     → StandsBetween first disks (file_call s).filing → Pays one first second → Pays three second third
     → StandsForFiles four.kernel.disk third disks (files_at_end told s before)
@@ -198,17 +198,17 @@ over_is s p system before whose is =
     ap (λ (x : System). call_over (told_of_call s p x) p x) is
     ∙ ap (λ (q : ℕ). call_over (told_of_call s q (turns_passed before)) q (turns_passed before)) (sym whose)
 
-pub carried_stopped_first : (o n : Outside) (disks : Disks) (kept new : Filed) (s : Situation) (p : ℕ) (system before : System) → s.caller.process ≡ p → system ≡ turns_passed before
+pub carried_stopped_first : (o n : Outside) (disks : Disks) (kept new : Kept) (s : Situation) (p : ℕ) (system before : System) → s.caller.process ≡ p → system ≡ turns_passed before
     → Serves (images_of disks) kept s (call_turns s) → EndKeeps kept new → Stopped o n (call_over (told_of_call s p system) p system).emitted
     → Stopped o n (carried_out s before).change.emitted × HaveImages disks new.mounted (filing_in (carried_out s before).files).drives
 unfolding carried_out
 carried_stopped_first o n disks kept new s p system before whose is serves keeps stopped =
     let told = told_last s before in (
       stopped_first told s.caller.process before o n (subst (λ (c : SystemChange). Stopped o n c.emitted) (over_is s p system before whose is) stopped),
-      end_images disks kept new.mounted s told before serves (ap (λ (k : Filed). k.mounted) keeps),
+      end_images disks kept new.mounted s told before serves (ap (λ (k : Kept). k.mounted) keeps),
     )
 
-pub carried_stopped_last : (o m n : Outside) (disks : Disks) (kept new : Filed) (s : Situation) (p : ℕ) (system before one two : System) → s.caller.process ≡ p → system ≡ turns_passed before
+pub carried_stopped_last : (o m n : Outside) (disks : Disks) (kept new : Kept) (s : Situation) (p : ℕ) (system before one two : System) → s.caller.process ≡ p → system ≡ turns_passed before
     → Serves (images_of disks) kept s (call_turns s) → new.mounted ≡ kept.mounted → one ≡ (call_over (told_of_call s p system) p system).system → two ≡ all_paid one
     → CameOut o m (call_over (told_of_call s p system) p system).emitted → Stopped m n (records_out (with_ends two)).emitted
     → Stopped o n (carried_out s before).change.emitted × HaveImages disks new.mounted (filing_in (carried_out s before).files).drives
@@ -220,7 +220,7 @@ carried_stopped_last o m n disks kept new s p system before one two whose is ser
       end_images disks kept new.mounted s told before serves same,
     )
 
-pub carried_all : (o m n : Outside) (disks : Disks) (first second third : Filed) (s : Situation) (p : ℕ) (system before one two three four : System) → s.caller.process ≡ p
+pub carried_all : (o m n : Outside) (disks : Disks) (first second third : Kept) (s : Situation) (p : ℕ) (system before one two three four : System) → s.caller.process ≡ p
     → system ≡ turns_passed before → one ≡ (call_over (told_of_call s p system) p system).system → two ≡ all_paid one → three ≡ (records_out (with_ends two)).system → four ≡ all_paid three
     → CameOut o m (call_over (told_of_call s p system) p system).emitted → CameOut m n (records_out (with_ends two)).emitted
     → StandsBetween first disks (file_call s).filing → Pays one first second → Pays three second third → HasCarried (Within s) o n before four third disks
@@ -240,12 +240,12 @@ never_both (Ok x) e P is ok = absurd (cc)
 never_both (Err f) e P is ok = absurd (cc)
 
 -- what is kept besides
-pub keeps_by : (old new : Filed) → new.mounted ≡ old.mounted → new.cached ≡ old.cached → EndKeeps old new
+pub keeps_by : (old new : Kept) → new.mounted ≡ old.mounted → new.cached ≡ old.cached → EndKeeps old new
 keeps_by old new mounted cached = λ i. record new { mounted = mounted i; cached = cached i }
 
-pub keeps_paid : (old between new : Filed) → EndKeeps old between → new ≡ record between { opens = new.opens; marks = new.marks; searches = new.searches } → EndKeeps old new
+pub keeps_paid : (old between new : Kept) → EndKeeps old between → new ≡ record between { opens = new.opens; marks = new.marks; searches = new.searches } → EndKeeps old new
 keeps_paid old between new keeps rest =
-    keeps_by old new (ap (λ (k : Filed). k.mounted) rest ∙ ap (λ (k : Filed). k.mounted) keeps) (ap (λ (k : Filed). k.cached) rest ∙ ap (λ (k : Filed). k.cached) keeps)
+    keeps_by old new (ap (λ (k : Kept). k.mounted) rest ∙ ap (λ (k : Kept). k.mounted) keeps) (ap (λ (k : Kept). k.cached) rest ∙ ap (λ (k : Kept). k.cached) keeps)
 
 -- and why it stopped
 pub stopped_behind : (A E : Type 0) (e : E) (old : ℕ) (m n : Outside) (emitted : List Output) → m.faults.sink ≡ old → Stopped m n emitted → HasCause {A = A} old n.faults.sink (Err e)

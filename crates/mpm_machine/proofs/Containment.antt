@@ -29,7 +29,7 @@ use Rattle.mpm_xdos.specs.Aborting.{waits_to_end, target, memory_after_abort}
 use Rattle.mpm_gate.specs.declared.gate.Gate.{Gate}
 use Rattle.mpm_gate.specs.declared.gate.Gate.TheVariants.{End, Call, Return}
 use Rattle.mpm_residents.specs.declared.cli.act.Act.{Act}
-use Rattle.mpm_residents.specs.declared.cli.act.Act.TheVariants.{Ask, Place, Patch, Begin, Give}
+use Rattle.mpm_residents.specs.declared.cli.act.Act.TheVariants.{Ask, PlaceBytes, MoveCode, BeginProcess, GiveConsole}
 use Rattle.mpm_kernel.specs.Called.{low_parameter}
 use Rattle.mpm_residents.specs.Natives.{native_act, native_call, native_in}
 use Rattle.mpm_residents.specs.declared.native.Native.{Native}
@@ -156,25 +156,25 @@ act_segments : (act : Act) (call : Taken) (p : ℕ) (system : System) (seg at : 
     → byte_at (native_step act call p system).system.memory seg at ≡ byte_at system.memory seg at
 unfolding handing_step
 act_segments Ask call p system seg at below none = reads_alike system.memory _ (asked_alike call p system) seg at
-act_segments (Place to address count) call p system seg at below none =
+act_segments (PlaceBytes to address count) call p system seg at below none =
     changed_elsewhere to address (length call.bytes) system.memory _ seg at (changes_placing to address call.bytes system) below none
-act_segments (Patch to address count page) call p system seg at below none =
+act_segments (MoveCode to address count page) call p system seg at below none =
     changed_elsewhere to address count system.memory _ seg at (changes_moving to address count call.bytes page system) below none
-act_segments (Begin to new) call p system seg at below none =
+act_segments (BeginProcess to new) call p system seg at below none =
     changed_elsewhere to new.sp 2 system.memory _ seg at (changes_beginning to new p system) below none
-act_segments (Give console) call p system seg at below none = refl
+act_segments (GiveConsole console) call p system seg at below none = refl
 
 act_common : (act : Act) (call : Taken) (p : ℕ) (system : System) (seg at : ℕ) → 49152 ≤ at → ((home : ℕ) → HandsAt act (length call.bytes) home at → ⊥)
     → byte_at (native_step act call p system).system.memory seg at ≡ byte_at system.memory seg at
 unfolding handing_step
 act_common Ask call p system seg at above none = reads_alike system.memory _ (asked_alike call p system) seg at
-act_common (Place to address count) call p system seg at above none =
+act_common (PlaceBytes to address count) call p system seg at above none =
     changed_common to address (length call.bytes) system.memory _ seg at (changes_placing to address call.bytes system) above (λ there. none to (refl, there))
-act_common (Patch to address count page) call p system seg at above none =
+act_common (MoveCode to address count page) call p system seg at above none =
     changed_common to address count system.memory _ seg at (changes_moving to address count call.bytes page system) above (λ there. none to (refl, there))
-act_common (Begin to new) call p system seg at above none =
+act_common (BeginProcess to new) call p system seg at above none =
     changed_common to new.sp 2 system.memory _ seg at (changes_beginning to new p system) above (λ there. none to (refl, there))
-act_common (Give console) call p system seg at above none = refl
+act_common (GiveConsole console) call p system seg at above none = refl
 
 resided_segments : (native : Option Native) (p : ℕ) (system : System) (seg at : ℕ) → at < 49152
     → ((n : Native) → native ≡ Some n → HandsAt (native_act n) (length (native_call n).bytes) seg at → ⊥)

@@ -13,7 +13,7 @@ use Rattle.mpm_drives.specs.Images.{Images}
 use Rattle.mpm_drives.specs.Mounted.{number_of, AreMounted}
 use Rattle.mpm_bdos.specs.Serving.{Kept, nothing_kept}
 use Rattle.mpm_directories.specs.Places.{directory_at, all_put, in_places}
-use Rattle.mpm_bdos.specs.Turns.{has_directory, labelled}
+use Rattle.mpm_bdos.specs.Turns.{has_directory, drive_and_kind}
 use Rattle.mpm_bdos.proofs.Fitting.{stays_same, stays_again, told_same, told_again}
 use Rattle.mpm_bdos.proofs.AtOnceLaws.{still_there}
 use Rattle.mpm_machine.specs.Mounting.{HasMounted, IsInPlace, HasDrives, KeepsMounted}
@@ -24,7 +24,7 @@ use Rattle.mpm_machine.proofs.MountedLaws.{none_mounted}
 -- nothing was done, or one thing after another
 pub keeps_still : (told : Images) (disks : Disks) (one other : List (Option Directory)) → other ≡ one → KeepsMounted told told disks disks one other
 keeps_still told disks one other same = record {
-  labels = λ number. ap (λ m. option_map labelled (directory_at m number)) same;
+  labels = λ number. ap (λ m. option_map drive_and_kind (directory_at m number)) same;
   beside = stays_same one disks;
   told_are = told_same one disks told;
 }
@@ -74,7 +74,7 @@ numbers_apart spec (other ∷ specs) is each apart = (
 in_place : (x : Disks) (mounted : List (Option Directory)) (spec : DriveSpec) (d : Directory) → d.drive ≡ number_of spec → d.kind ≡ spec.kind → x.name_of d.drive ≡ Some spec.image
     → directory_at mounted d.drive ≡ Some d → IsInPlace x mounted spec
 in_place x mounted spec d number kind name at = record {
-  label = ap (λ n. option_map labelled (directory_at mounted n)) (sym number) ∙ ap (option_map labelled) at ∙ ap (λ n. Some (n, d.kind)) number ∙ ap (λ k. Some (number_of spec, k)) kind;
+  label = ap (λ n. option_map drive_and_kind (directory_at mounted n)) (sym number) ∙ ap (option_map drive_and_kind) at ∙ ap (λ n. Some (n, d.kind)) number ∙ ap (λ k. Some (number_of spec, k)) kind;
   name = subst (λ n. x.name_of n ≡ Some spec.image) number name;
 }
 
@@ -83,7 +83,7 @@ others_in_place : (x : Disks) (mounted : List (Option Directory)) (number : ℕ)
 others_in_place x mounted number d [] apart each = tt
 others_in_place x mounted number d (spec ∷ specs) apart each = (
   record {
-    label = ap (option_map labelled) (get_or-set_other mounted number (number_of spec) (Some d) None apart.0) ∙ each.0.label;
+    label = ap (option_map drive_and_kind) (get_or-set_other mounted number (number_of spec) (Some d) None apart.0) ∙ each.0.label;
     name = each.0.name;
   },
   others_in_place x mounted number d specs apart.1 each.1,

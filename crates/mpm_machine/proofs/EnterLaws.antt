@@ -21,11 +21,10 @@ use Rattle.mpm_output.specs.Writing.{CameOut}
 use Rattle.mpm_output.proofs.WritingLaws.{wrote_nothing}
 use Rattle.mpm_directories.specs.Direct.{Directly}
 use Rattle.mpm_file_functions.specs.declared.functions.FileFunction.{FileFunction}
-use Rattle.mpm_bdos.specs.Starting.{HasBegunService}
 use Rattle.mpm_refusals.specs.Filing.{Filing}
 use Rattle.mpm_file_functions.specs.Functions.{function_of}
 use Rattle.mpm_bdos.specs.Jobs.{call_turns}
-use Rattle.mpm_bdos.specs.Serving.{Kept, InService, StandEach, Serves, filing_of}
+use Rattle.mpm_bdos.specs.Serving.{Kept, InService, Serves, filing_of}
 use Rattle.mpm_bdos.specs.Starting.{caller_of}
 use Rattle.mpm_bdos.specs.Turns.{images_of}
 use Rattle.mpm_system.specs.declared.system.System.{System}
@@ -42,6 +41,7 @@ use Rattle.mpm_machine.proofs.HoldingLaws.{filed_still}
 use Rattle.mpm_machine.proofs.FilingLaws.{named_by}
 use Rattle.mpm_machine.proofs.ServeLaws.{IsServedBy, somebody}
 use Rattle.mpm_machine.proofs.TurnLaws.{who, stands_idle, entered_first, paid_stands, entry_stands}
+use Rattle.mpm_machine.specs.Parts.{StartsCall}
 
 -- where nobody is in service
 pub nobody_served : (disk : DiskService) → disk.served ≡ None → served_process disk ≡ None
@@ -130,18 +130,9 @@ starts_filed old kernel p is starts filed =
 
 -- so it enters
 
-pub record Begins (p turns : ℕ) (old : System) (kept kept' : Kept) : Type 0 where
-  pub turns_are : (images : ℕ → List ℕ) (drives : List (Option Drive)) (function : FileFunction) → function_of (call_of old.kernel.dispatcher.procs p).function ≡ Some function
-      → StandEach images kept.mounted drives → turns ≡ call_turns (situation_of (filing_of kept drives) function p old)
-  pub serves : (images : ℕ → List ℕ) (drives : List (Option Drive)) (function : FileFunction) → function_of (call_of old.kernel.dispatcher.procs p).function ≡ Some function
-      → StandEach images kept.mounted drives → Serves images kept' (situation_of (filing_of kept drives) function p old) 0
-  pub entered : (function : FileFunction) → function_of (call_of old.kernel.dispatcher.procs p).function ≡ Some function
-      → HasBegunService (caller_of p (looked_at (process_in old.kernel.dispatcher.procs p))) function (call_of old.kernel.dispatcher.procs p) kept'.service
-  pub some : 0 < turns
-
-pub begins_so : (p turns : ℕ) (old : System) (kernel : Kernel) (kept kept' : Kept) → kernel ≡ with_disk turned old.kernel → Begins p turns (record old { kernel = kernel }) kept kept'
-    → Begins p turns (step_passed old) kept kept'
-begins_so p turns old kernel kept kept' is begins = subst (λ (k : Kernel). Begins p turns (record old { kernel = k }) kept kept') is begins
+pub begins_so : (p turns : ℕ) (old : System) (kernel : Kernel) (kept kept' : Kept) → kernel ≡ with_disk turned old.kernel → StartsCall p turns (record old { kernel = kernel }) kept kept'
+    → StartsCall p turns (step_passed old) kept kept'
+begins_so p turns old kernel kept kept' is begins = subst (λ (k : Kernel). StartsCall p turns (record old { kernel = k }) kept kept') is begins
 
 pub begun_is : (turns : ℕ) (old : System) (kernel behind : Kernel) → kernel ≡ with_disk turned old.kernel → behind ≡ with_disk (λ disk. begun disk turns) kernel
     → record old { kernel = behind } ≡ with_kernel (with_disk (λ disk. begun disk turns)) (step_passed old)
@@ -149,7 +140,7 @@ begun_is turns old kernel behind is begins =
     ap (λ (k : Kernel). record old { kernel = k }) (begins ∙ ap (with_disk (λ disk. begun disk turns)) is)
 
 pub enters_so : (old new : System) (p turns : ℕ) (kept kept' : Kept) (disks : Disks) (files : FilesInService) → new ≡ with_kernel (with_disk (λ disk. begun disk turns)) (step_passed old)
-    → turn_answer old.kernel.disk ≡ Starts p → old.kernel.disk.served ≡ None → AreFiled old.kernel → Begins p turns (step_passed old) kept kept'
+    → turn_answer old.kernel.disk ≡ Starts p → old.kernel.disk.served ≡ None → AreFiled old.kernel → StartsCall p turns (step_passed old) kept kept'
     → StandsForFiles old.kernel.disk kept disks files → Entered old new kept' disks files
 enters_so old new p turns kept kept' disks files is starts none filed begins stands =
     enters_by old new kept kept' disks files none stands
@@ -175,7 +166,7 @@ enters_whole old new w made = subst IsWhole (sym made.1) (whole_call_entered mad
 
 -- his is the call in service then
 pub owns_entered : (old new : System) (p turns : ℕ) (kept kept' : Kept) → new ≡ with_kernel (with_disk (λ disk. begun disk turns)) (step_passed old)
-    → turn_answer old.kernel.disk ≡ Starts p → old.kernel.disk.served ≡ None → AreFiled old.kernel → Begins p turns (step_passed old) kept kept' → OwnsService new.kernel kept'.service
+    → turn_answer old.kernel.disk ≡ Starts p → old.kernel.disk.served ≡ None → AreFiled old.kernel → StartsCall p turns (step_passed old) kept kept' → OwnsService new.kernel kept'.service
 unfolding turn_answer turned begun
 owns_entered old new p turns kept kept' is starts none filed begins =
     let disk = old.kernel.disk in

@@ -30,7 +30,7 @@ use Rattle.mpm_bdos.specs.Serving.{Kept, Serves, StandEach}
 use Rattle.mpm_directories.specs.Places.{directory_at}
 use Rattle.mpm_refusals.specs.Asking.{StandsWhere}
 use Rattle.mpm_bdos.specs.Starting.{caller_of, entering as entering_here}
-use Rattle.mpm_bdos.specs.Turns.{KeepsImages, StopsWithin, drive_served, labelled, images_of, has_directory}
+use Rattle.mpm_bdos.specs.Turns.{KeepsImages, StopsWithin, drive_served, drive_and_kind, images_of, has_directory}
 use Rattle.mpm_bdos.specs.AtOnce.{FailsSince, FailsIn, ChangesAlone}
 use Rattle.mpm_bdos.proofs.ServedLaws.{job_mounted, kinds_within, set_within}
 use Rattle.mpm_bdos.proofs.Fitting.{there_label}
@@ -62,7 +62,7 @@ set_here (y ∷ ys) zero x there = refl
 set_here (y ∷ ys) (suc n) x there = set_here ys n x there
 
 label_there : (number : ℕ) (image : List ℕ) (directory : Option Directory) (drive : Option Drive) → is_some drive ≡ true → StandsWhere number image directory drive
-    → option_map labelled directory ≡ Some (number, (unwrap_or drive blank_drive).kind)
+    → option_map drive_and_kind directory ≡ Some (number, (unwrap_or drive blank_drive).kind)
 label_there number image directory None there stands = absurd (false≢true there)
 label_there number image None (Some drive) there stands = absurd stands
 label_there number image (Some d) (Some drive) there stands =
@@ -70,24 +70,24 @@ label_there number image (Some d) (Some drive) there stands =
 
 -- the image of one drive stands for other files, with its directory, and each other image is as it was
 record Changes (disks now : Disks) (old new : List (Option Directory)) (drives : List (Option Drive)) (number : ℕ) (d : Directory) (files : Drive) : Type 0 where
-  pub label : option_map labelled (directory_at old number) ≡ Some (labelled d)
+  pub label : option_map drive_and_kind (directory_at old number) ≡ Some (drive_and_kind d)
   pub here : d.drive ≡ number
   pub stands : Stands (images_of now number) d files
   pub there : is_some (slice_index_or drives number None) ≡ true
   pub images : (other : ℕ) → other ≢ number → has_directory old other ≡ true → now.image other ≡ disks.image other
-  pub labels : (other : ℕ) → option_map labelled (directory_at new other) ≡ option_map labelled (directory_at old other)
+  pub labels : (other : ℕ) → option_map drive_and_kind (directory_at new other) ≡ option_map drive_and_kind (directory_at old other)
   pub stand : StandEach (images_of disks) old drives
 
-has_directory_there : (old : List (Option Directory)) (number : ℕ) (d : Directory) → option_map labelled (directory_at old number) ≡ Some (labelled d) → is_some (directory_at old number) ≡ true
+has_directory_there : (old : List (Option Directory)) (number : ℕ) (d : Directory) → option_map drive_and_kind (directory_at old number) ≡ Some (drive_and_kind d) → is_some (directory_at old number) ≡ true
 has_directory_there old number d label = sym (there_label (directory_at old number)) ∙ ap is_some label
 
 changed_label : (disks now : Disks) (old new : List (Option Directory)) (drives : List (Option Drive)) (number : ℕ) (d : Directory) (files : Drive) → Changes disks now old new drives number d files
-    → (other : ℕ) → (other ≡ number) ⊎ (other ≢ number) → option_map labelled (directory_at (slice_set old number (Some d)) other) ≡ option_map labelled (directory_at new other)
+    → (other : ℕ) → (other ≡ number) ⊎ (other ≢ number) → option_map drive_and_kind (directory_at (slice_set old number (Some d)) other) ≡ option_map drive_and_kind (directory_at new other)
 changed_label disks now old new drives number d files c other (inl same) =
-    subst (λ n. option_map labelled (directory_at (slice_set old number (Some d)) n) ≡ option_map labelled (directory_at new n)) (sym same)
-    (ap (option_map labelled) (set_here old number d (has_directory_there old number d c.label)) ∙ sym (c.labels number ∙ c.label))
+    subst (λ n. option_map drive_and_kind (directory_at (slice_set old number (Some d)) n) ≡ option_map drive_and_kind (directory_at new n)) (sym same)
+    (ap (option_map drive_and_kind) (set_here old number d (has_directory_there old number d c.label)) ∙ sym (c.labels number ∙ c.label))
 changed_label disks now old new drives number d files c other (inr apart) =
-    ap (option_map labelled) (get_or-set_other old number other (Some d) None apart) ∙ sym (c.labels other)
+    ap (option_map drive_and_kind) (get_or-set_other old number other (Some d) None apart) ∙ sym (c.labels other)
 
 changed_stands : (disks now : Disks) (old new : List (Option Directory)) (drives : List (Option Drive)) (number : ℕ) (d : Directory) (files : Drive) → Changes disks now old new drives number d files
     → (other : ℕ) → (other ≡ number) ⊎ (other ≢ number)
@@ -140,7 +140,7 @@ behind_turns call j job is =
     record { there = both.0; kind = both.1; set = set_within call j }
 
 call_label : (images : ℕ → List ℕ) (mounted : List (Option Directory)) (call : Situation) (drives : List (Option Drive)) → AreBehind call drives
-    → StandEach images mounted drives → option_map labelled (directory_at mounted (drive_number call)) ≡ Some (drive_number call, (drive_at call).kind)
+    → StandEach images mounted drives → option_map drive_and_kind (directory_at mounted (drive_number call)) ≡ Some (drive_number call, (drive_at call).kind)
 call_label images mounted call drives behind stand =
     let number = drive_number call in
     label_there number (images number) (directory_at mounted number) (slice_index_or drives number None) behind.there (stand.each number)
@@ -148,7 +148,7 @@ call_label images mounted call drives behind stand =
 
 fails_stand : (disks now : Disks) (old new : List (Option Directory)) (call : Situation) (drives : List (Option Drive)) (ended most : ℕ) → AreBehind call drives
     → (fails : FailsSince now call ended) → fails.turn < ended + most → KeepsImages (Some (drive_number call)) old disks now
-    → ((number : ℕ) → option_map labelled (directory_at new number) ≡ option_map labelled (directory_at old number)) → StandEach (images_of disks) old drives
+    → ((number : ℕ) → option_map drive_and_kind (directory_at new number) ≡ option_map drive_and_kind (directory_at old number)) → StandEach (images_of disks) old drives
     → HaveImagesOf (FailsWithin (Some (record { call = call; ended = ended; most = most }))) now new
 fails_stand disks now old new call drives ended most behind fails before images labels stand =
     let stops = fails.stops in
@@ -176,7 +176,7 @@ fails_stand disks now old new call drives ended most behind fails before images 
 
 -- one that is done at once
 at_once_fails : (disks now : Disks) (old new : List (Option Directory)) (call : Situation) → FailsIn now call → ChangesAlone (drive_number call) old new disks now
-    → ((number : ℕ) → option_map labelled (directory_at new number) ≡ option_map labelled (directory_at old number)) → StandEach (images_of disks) old call.filing.drives
+    → ((number : ℕ) → option_map drive_and_kind (directory_at new number) ≡ option_map drive_and_kind (directory_at old number)) → StandEach (images_of disks) old call.filing.drives
     → HaveImagesOf (FailsWithin (Some (working_at_once call))) now new
 at_once_fails disks now old new call fails alone labels stand =
     fails_stand disks now old new call call.filing.drives 0 (call_turns call) (behind_nothing call fails.stops.job fails.stops.its) fails (omega (arith, fails.its)) alone.images labels stand
@@ -185,7 +185,7 @@ at_once_fails disks now old new call fails alone labels stand =
 pub turns_fail : (disks now : Disks) (old : Kept) (new : List (Option Directory)) (call : Situation) (ended most : ℕ) → Serves (images_of disks) old call ended
     → (fails : FailsSince now call ended) → fails.turn < ended + most
     → KeepsImages (drive_served old.service) old.mounted disks now
-    → ((number : ℕ) → option_map labelled (directory_at new number) ≡ option_map labelled (directory_at old.mounted number))
+    → ((number : ℕ) → option_map drive_and_kind (directory_at new number) ≡ option_map drive_and_kind (directory_at old.mounted number))
     → HaveImagesOf (FailsWithin (Some (record { call = call; ended = ended; most = most }))) now new
 turns_fail disks now old new call ended most serves fails before images labels =
     let on : drive_served old.service ≡ Some (drive_number call) = ap drive_served serves.there ∙ ap (λ n. Some n) serves.is.drive in
@@ -194,7 +194,7 @@ turns_fail disks now old new call ended most serves fails before images labels =
 
 pub turn_fails : (disks now : Disks) (old : Kept) (new : List (Option Directory)) (call : Situation) (j : ℕ) → Serves (images_of disks) old call j → j < call_turns call
     → StopsWithin now call j → KeepsImages (drive_served old.service) old.mounted disks now
-    → ((number : ℕ) → option_map labelled (directory_at new number) ≡ option_map labelled (directory_at old.mounted number))
+    → ((number : ℕ) → option_map drive_and_kind (directory_at new number) ≡ option_map drive_and_kind (directory_at old.mounted number))
     → HaveImagesOf (FailsWithin (Some (record { call = call; ended = j; most = 1 }))) now new
 turn_fails disks now old new call j serves below stops images labels =
     let next : j < j + 1 = omega arith in
@@ -213,7 +213,7 @@ pub disk_fails : {A E : Type 0} (disks now : Disks) (filing : Filing) (p : ℕ) 
     → OnErr result (FailsIn now (entering_here kept before (caller_of p caller) function call (stamp moment))))
     → ((before : List (Option Drive)) (function : FileFunction) → function_of call.function ≡ Some function
     → ChangesAlone (drive_number (entering_here kept before (caller_of p caller) function call (stamp moment))) kept.mounted new.mounted disks now)
-    → ((number : ℕ) → option_map labelled (directory_at new.mounted number) ≡ option_map labelled (directory_at kept.mounted number))
+    → ((number : ℕ) → option_map drive_and_kind (directory_at new.mounted number) ≡ option_map drive_and_kind (directory_at kept.mounted number))
     → OnErr result (HaveImagesOf (FailsWithin (working_if true filing p system)) now new.mounted)
 disk_fails disks now filing p system kept new caller process call moment result looks lives calls at some stands fails alone labels =
     let named = named_by (function_of (call_of system.kernel.dispatcher.procs p).function) some in

@@ -1,5 +1,5 @@
 -- A file that a process has open in read-only mode stays as it is in each step in which the process makes no file call but one that
--- reads, and gives nothing back.
+-- reads, and gives nothing back; and nothing is opened for the process.
 use Rattle.std.proofs.Common.{◌≡◌, ◌∙◌, inl, inr, ℕ, Bool, true, false, cond, List, [], ◌∷◌, Option, Some, None, ap}
 use Rattle.std.specs.Prelude.{⊤}
 use Rattle.std.specs.List.{range_with_len}
@@ -9,7 +9,9 @@ use Rattle.mpm_service.specs.Disk.{turn_answer, served_process}
 use Rattle.mpm_service.specs.declared.service.Turn.{Turn}
 use Rattle.mpm_service.specs.declared.service.Turn.TheVariants.{Idle, Passing, Work, Starts}
 use Rattle.mpm_opens.specs.declared.kinds.FileKey.{FileKey}
-use Rattle.mpm_opens.specs.Opens.{AreOpen}
+use Rattle.mpm_opens.proofs.OneItem.{others_open_none}
+use Rattle.mpm_opens.specs.Items.{has_item, is_of}
+use Rattle.mpm_opens.specs.Opens.{AreOpen, OpensNone}
 use Rattle.mpm_procs.specs.Table.{call_of}
 use Rattle.mpm_file_functions.specs.declared.functions.FileFunction.{FileFunction}
 use Rattle.mpm_file_functions.specs.declared.functions.FileFunction.TheVariants.{ReadSequential}
@@ -19,7 +21,8 @@ use Rattle.mpm_refusals.specs.Filing.{Filing, Situation}
 use Rattle.mpm_bdos.specs.Outcomes.{file_call, left_by, without_search}
 use Rattle.mpm_bdos.specs.OpenToRead.{HasFile, KeepsFile}
 use Rattle.mpm_bdos.proofs.SoundLaws.{call_keeps_sound, end_keeps_sound}
-use Rattle.mpm_bdos.proofs.KeptFile.{kept_by_others, kept_by_reading, kept_as_left, kept_same, kept_after, has_still}
+use Rattle.mpm_bdos.proofs.OthersItems.{call_leaves, end_leaves}
+use Rattle.mpm_bdos.proofs.KeptFile.{kept_by_others, reads_place, kept_by_reading, kept_as_left, kept_same, kept_after, has_still}
 use Rattle.mpm_system.specs.declared.system.System.{System}
 use Rattle.mpm_system.specs.FileCalling.{call_made}
 use Rattle.mpm_machine.specs.State.{State}
@@ -34,17 +37,21 @@ pub record IsOpen (q : ℕ) (key : FileKey) (number : ℕ) (filing : Filing) : T
   pub sound : AreOpen filing.opens
   pub has : HasFile q key number filing
 
-abbrev pub Stays : ℕ → FileKey → ℕ → Filing → Filing → Type 0
-Stays q key number old new = IsOpen q key number old → IsOpen q key number new × KeepsFile key number old new
+pub record Stays (q : ℕ) (key : FileKey) (number : ℕ) (old new : Filing) : Type 0 where
+  pub none : OpensNone q old.opens new.opens
+  pub file : IsOpen q key number old → IsOpen q key number new × KeepsFile key number old new
 
 stays_same : (q : ℕ) (key : FileKey) (number : ℕ) (filing : Filing) → Stays q key number filing filing
-stays_same q key number filing is = (is, kept_same key number filing)
+stays_same q key number filing = record { none = λ _ none. none; file = λ is. (is, kept_same key number filing) }
 
 stays_after : (q : ℕ) (key : FileKey) (number : ℕ) (a b c : Filing) → Stays q key number a b → Stays q key number b c → Stays q key number a c
-stays_after q key number a b c first second is =
-    let one = first is in
-    let other = second one.0 in
-    (other.0, kept_after key number a b c one.1 other.1)
+stays_after q key number a b c first second = record {
+  none = λ place none. second.none place (first.none place none);
+  file = λ is.
+      let one = first.file is in
+      let other = second.file one.0 in
+      (other.0, kept_after key number a b c one.1 other.1);
+}
 
 kept : (q : ℕ) (key : FileKey) (number : ℕ) (old new : Filing) → HasFile q key number old → AreOpen new.opens → KeepsFile key number old new → IsOpen q key number new × KeepsFile key number old new
 kept q key number old new has sound keeps = (record { sound = sound; has = has_still q key number old new has keeps }, keeps)
@@ -59,12 +66,17 @@ ReadsIn q (Between filing) = ⊤
 ReadsIn q (Within s) = s.caller.process ≡ q → s.function ≡ ReadSequential
 
 call_stays : (q : ℕ) (key : FileKey) (number : ℕ) (s : Situation) → (s.caller.process ≡ q → s.function ≡ ReadSequential) → Stays q key number s.filing (file_call s).filing
-call_stays q key number s reads is =
-    kept q key number s.filing (file_call s).filing is.has (call_keeps_sound s is.sound)
-    (elim (cases_eq s.caller.process q) [
-      | inl own ↦ kept_by_reading s q key number (reads own) is.has
-      | inr other ↦ kept_by_others s q key number other is.sound is.has
-    ])
+call_stays q key number s reads =
+    elim (cases_eq s.caller.process q) [
+      | inl own ↦ record {
+        none = λ place none. ap (has_item (is_of q)) (reads_place s place (reads own)) ∙ none;
+        file = λ is. kept q key number s.filing (file_call s).filing is.has (call_keeps_sound s is.sound) (kept_by_reading s q key number (reads own) is.has);
+      }
+      | inr other ↦ record {
+        none = others_open_none s.caller.process q s.filing.opens (file_call s).filing.opens (call_leaves s) other;
+        file = λ is. kept q key number s.filing (file_call s).filing is.has (call_keeps_sound s is.sound) (kept_by_others s q key number other is.sound is.has);
+      }
+    ]
 
 outcome_stays : (q : ℕ) (key : FileKey) (number : ℕ) (function : Option FileFunction) (other : Option DirectFunction) (filing : Filing) (p : ℕ) (system : System) → ReadsAs q p function
     → Stays q key number filing (outcome_by function other filing p system).filing
@@ -128,10 +140,13 @@ served_stays q key number system files reads = served_stays_by q key number (ser
 -- what those leave who end in it
 gone_stays : (q : ℕ) (key : FileKey) (number : ℕ) (gone : Bool) (p : ℕ) (filing : Filing) → (p ≡ q → gone ≡ false)
     → Stays q key number filing (cond gone (without_search (left_by filing p) p) filing)
-gone_stays q key number true p filing stays is =
-    kept q key number filing (without_search (left_by filing p) p) is.has (end_keeps_sound filing p is.sound)
-    (kept_as_left filing p q key number (λ same. true≢false (stays same)) is.has)
-gone_stays q key number false p filing stays is = stays_same q key number filing is
+gone_stays q key number true p filing stays =
+    let new : Filing = without_search (left_by filing p) p in
+    record {
+      none = others_open_none p q filing.opens new.opens (end_leaves filing p) (λ same. true≢false (stays same));
+      file = λ is. kept q key number filing new is.has (end_keeps_sound filing p is.sound) (kept_as_left filing p q key number (λ same. true≢false (stays same)) is.has);
+    }
+gone_stays q key number false p filing stays = stays_same q key number filing
 
 each_stays : (q : ℕ) (key : FileKey) (number : ℕ) (gone : ℕ → Bool) (ps : List ℕ) (filing : Filing) → gone q ≡ false → Stays q key number filing (left_each gone ps filing)
 unfolding left_each
@@ -200,5 +215,7 @@ unfolding next stepped
 stays_in_step q key number s reads sound has =
     let system = (before_disk s.system s.files).system in
     let begun : FilesInService = files_begun s.system s.files in
-    (stays_after q key number (filing_in s.files) (filing_in begun) (filing_in (files_rest system begun)) (begun_stays q key number s.system s.files reads.begins)
-    (rest_stays q key number system begun reads.rest) (record { sound = sound; has = has })).1
+    let stays : StaysIn q key number s.files (files_rest system begun) =
+    stays_after q key number (filing_in s.files) (filing_in begun) (filing_in (files_rest system begun)) (begun_stays q key number s.system s.files reads.begins)
+    (rest_stays q key number system begun reads.rest) in
+    (stays.file (record { sound = sound; has = has })).1

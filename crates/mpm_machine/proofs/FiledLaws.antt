@@ -37,7 +37,7 @@ use Rattle.mpm_machine.specs.Finishing.{all_answered}
 use Rattle.mpm_machine.specs.FileCalls.{calls_files, file_caller_by, file_caller, told_then, error_met, answered_by, concluded}
 use Rattle.mpm_machine.specs.DiskStep.{is_done_at_once, file_called, ready_again, step_passed, call_over, over_after, served_by, disk_served, over_by, process_over, all_paid, entered_by, entered_unless, call_entered}
 use Rattle.mpm_machine.specs.Stepping.{Telling, begun_alone, begun_with, begun_as, paid_after, entered_after, ended_after, rest_of, step_with}
-use Rattle.mpm_machine.specs.Contained.{is_answered, IsFiled, AnswersOne, IsWrittenBy, IsOverBy, IsAnsweredIn, IsContainedBy}
+use Rattle.mpm_machine.specs.Contained.{is_answered, AnswersFileCall, AnswersOne, IsWrittenBy, IsOverBy, IsAnsweredIn, IsContainedBy}
 use Rattle.mpm_machine.proofs.WholeStepLaws.{whole_counted, whole_after_begun, whole_all_answered}
 use Rattle.mpm_machine.proofs.FileLaws.{makes, whole_caller, whole_concluded}
 use Rattle.mpm_machine.proofs.DiskStepLaws.{whole_file_called, whole_passed, whole_ready_again}
@@ -166,19 +166,19 @@ concluded_leaves told p system seg at w h left =
 
 -- the segments of others, and the bytes that it doesn't write
 
-left_of_segment : (told : Directly) (p : ℕ) (system : System) (seg at : ℕ) → at < 49152 → (IsFiled told p system seg at → ⊥)
+left_of_segment : (told : Directly) (p : ℕ) (system : System) (seg at : ℕ) → at < 49152 → (AnswersFileCall told p system seg at → ⊥)
     → is_answered told.extended (process_in system.kernel.dispatcher.procs p).error_mode ≡ true
     → IsLeftBy told.answer p system.kernel.dispatcher.procs system.memory seg at
 left_of_segment told p system seg at below none answers = λ own there. elim (cases_eq seg own) [
   | inl same ↦
-      let never : IsFiled told p system own at → ⊥ = subst (λ s. IsFiled told p system s at → ⊥) same none in
+      let never : AnswersFileCall told p system own at → ⊥ = subst (λ s. AnswersFileCall told p system s at → ⊥) same none in
       let afterwards = placed told.answer (call_of system.kernel.dispatcher.procs p).word own system.memory in
       subst (λ s. byte_at afterwards s at ≡ byte_at system.memory s at) (sym same)
       (others_keep _ _ own system.memory at (λ places. never (record { home = there; answers = answers; places = places })))
   | inr other ↦ segments_keep _ _ own system.memory seg at other below
 ]
 
-left_of_common : (told : Directly) (p : ℕ) (system : System) (seg at : ℕ) → 49152 ≤ at → ((home : ℕ) → IsFiled told p system home at → ⊥)
+left_of_common : (told : Directly) (p : ℕ) (system : System) (seg at : ℕ) → 49152 ≤ at → ((home : ℕ) → AnswersFileCall told p system home at → ⊥)
     → is_answered told.extended (process_in system.kernel.dispatcher.procs p).error_mode ≡ true
     → IsLeftBy told.answer p system.kernel.dispatcher.procs system.memory seg at
 left_of_common told p system seg at above none answers = λ own there.
@@ -238,7 +238,7 @@ unfolding begun_as
 whole_begun_as told system w = whole_all_answered (begun_with (file_caller system) told system).system _ (whole_begun told system w) refl
 
 called_segments : (told : Directly) (p : ℕ) (made : System) (seg at : ℕ) → IsWhole made → Lives made.kernel.dispatcher.procs p → at < 49152
-    → ((is_done_at_once p made ≡ true) × IsFiled told p made seg at → ⊥) → byte_at (file_called told p made).system.memory seg at ≡ byte_at made.memory seg at
+    → ((is_done_at_once p made ≡ true) × AnswersFileCall told p made seg at → ⊥) → byte_at (file_called told p made).system.memory seg at ≡ byte_at made.memory seg at
 unfolding file_called
 called_segments told p made seg at w h below none =
     either (λ (c : SystemChange). byte_at c.system.memory seg at ≡ byte_at made.memory seg at) (is_done_at_once p made) _ _
@@ -246,7 +246,7 @@ called_segments told p made seg at w h below none =
     (λ _. refl)
 
 called_common : (told : Directly) (p : ℕ) (made : System) (seg at : ℕ) → IsWhole made → Lives made.kernel.dispatcher.procs p → 49152 ≤ at
-    → ((home : ℕ) → (is_done_at_once p made ≡ true) × IsFiled told p made home at → ⊥) → byte_at (file_called told p made).system.memory seg at ≡ byte_at made.memory seg at
+    → ((home : ℕ) → (is_done_at_once p made ≡ true) × AnswersFileCall told p made home at → ⊥) → byte_at (file_called told p made).system.memory seg at ≡ byte_at made.memory seg at
 unfolding file_called
 called_common told p made seg at w h above none =
     either (λ (c : SystemChange). byte_at c.system.memory seg at ≡ byte_at made.memory seg at) (is_done_at_once p made) _ _
@@ -270,7 +270,7 @@ first_common (Some p) told system seg at w h above unwritten =
 
 -- the disk's step: a call that is over
 over_segments : (told : Directly) (p : ℕ) (passed : System) (seg at : ℕ) → IsWhole passed → IsOver p passed.kernel → at < 49152
-    → (IsFiled told p (ready_again p passed) seg at ⊎ AnswersOne (concluded told p (ready_again p passed)).system seg at → ⊥)
+    → (AnswersFileCall told p (ready_again p passed) seg at ⊎ AnswersOne (concluded told p (ready_again p passed)).system seg at → ⊥)
     → byte_at (call_over told p passed).system.memory seg at ≡ byte_at passed.memory seg at
 unfolding call_over
 over_segments told p passed seg at w over below none =
@@ -280,7 +280,7 @@ over_segments told p passed seg at w over below none =
     ∙ concluded_leaves told p again seg at ready over.lives (left_of_segment told p again seg at below (λ filed. none (inl filed)))
 
 over_common : (told : Directly) (p : ℕ) (passed : System) (seg at : ℕ) → IsWhole passed → IsOver p passed.kernel → 49152 ≤ at
-    → ((home : ℕ) → IsFiled told p (ready_again p passed) home at ⊎ AnswersOne (concluded told p (ready_again p passed)).system home at → ⊥)
+    → ((home : ℕ) → AnswersFileCall told p (ready_again p passed) home at ⊎ AnswersOne (concluded told p (ready_again p passed)).system home at → ⊥)
     → byte_at (call_over told p passed).system.memory seg at ≡ byte_at passed.memory seg at
 unfolding call_over
 over_common told p passed seg at w over above none =

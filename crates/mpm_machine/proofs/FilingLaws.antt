@@ -29,7 +29,7 @@ use Rattle.mpm_bdos.specs.Serving.{Kept, InService, StandEach, Serves, filing_of
 use Rattle.mpm_directories.specs.Places.{directory_at}
 use Rattle.mpm_bdos.specs.Starting.{HasBegunService}
 use Rattle.mpm_bdos.specs.Starting.{caller_of, entering as entering_here}
-use Rattle.mpm_bdos.specs.Turns.{KeepsUnsynced, labelled, images_of}
+use Rattle.mpm_bdos.specs.Turns.{KeepsUnsynced, drive_and_kind, images_of}
 use Rattle.mpm_base.specs.declared.kind.Kind.{Kind}
 use Rattle.mpm_mount.specs.Directories.{Directory}
 use Rattle.mpm_system.specs.declared.system.System.{System}
@@ -367,11 +367,11 @@ leaves_last owed number filing whole all so =
 
 -- where no drive is mounted, none is
 
-pub label_none : (d e : Option Directory) → option_map labelled e ≡ option_map labelled d → d ≡ None → e ≡ None
+pub label_none : (d e : Option Directory) → option_map drive_and_kind e ≡ option_map drive_and_kind d → d ≡ None → e ≡ None
 label_none None None same none = refl
 label_none None (Some e) same none = absurd (cc)
 label_none (Some d) e same none = absurd (cc)
 
-pub bare_still : (old new : List (Option Directory)) → ((number : ℕ) → option_map labelled (directory_at new number) ≡ option_map labelled (directory_at old number))
+pub bare_still : (old new : List (Option Directory)) → ((number : ℕ) → option_map drive_and_kind (directory_at new number) ≡ option_map drive_and_kind (directory_at old number))
     → HasNoDrive old → HasNoDrive new
 bare_still old new same none = λ number. label_none (directory_at old number) (directory_at new number) (same number) (none number)

@@ -9,7 +9,7 @@ use Rattle.mpm_base.specs.declared.call.Outcome.{Outcome as Ended_how}
 use Rattle.mpm_base.specs.declared.call.Outcome.TheVariants.{Done, Held, Retry, Ended}
 use Rattle.mpm_residents.specs.Interpreters.{Interpreter, took, next_act, next_call, act_at, call_at, asking as asking_call, asking_file, took_at, process_of}
 use Rattle.mpm_residents.specs.declared.cli.table.Message.{Message}
-use Rattle.mpm_residents.specs.declared.cli.act.Act.TheVariants.{Ask, Patch as MoveCode, Give as GiveConsole}
+use Rattle.mpm_residents.specs.declared.cli.act.Act.TheVariants.{Ask, MoveCode, GiveConsole}
 use Rattle.mpm_residents.specs.declared.cli.table.Row.{Row}
 use Rattle.mpm_residents.specs.declared.cli.table.Row.TheVariants.{ReadCommand, OpenQueue, WriteQueue, SetUser, OpenRelocatable, OpenAbsolute, ReadHeader, ComputeSize, SetUserZero, Reserve, Place, Patch, ReadOn, Free, CloseAfter, Close, Tell, Give, PlaceBasePage, Begin}
 use Rattle.mpm_dispatcher.specs.Dispatch.{IsReady, admitted}

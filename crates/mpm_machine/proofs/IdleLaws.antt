@@ -13,7 +13,7 @@ use Rattle.mpm_system.specs.Idling.{IsIdle, later, CanPass}
 use Rattle.mpm_system.proofs.WholeLaws.{whole_kernel}
 use Rattle.mpm_machine.specs.State.{State}
 use Rattle.mpm_machine.specs.Files.{FilesInService, AreWithin}
-use Rattle.mpm_machine.specs.Step.{acted_by, acted, running_segment, at_instruction, dispatched}
+use Rattle.mpm_machine.specs.Step.{acted_by, acted, running_segment, at_instruction, runner_picked}
 use Rattle.mpm_machine.specs.Stepping.{Telling, step_with}
 use Rattle.mpm_machine.specs.After.{next, after}
 use Rattle.mpm_machine.specs.Moving.{Quiet}
@@ -50,7 +50,7 @@ idle_step telling system n on =
     let passed = with_disk (passed_by (n + 1)) system.kernel in
     step_quiet telling (later system n) begun (nobody_calls (later system n) idle.running) (none_comes begun (on.quiet n (omega arith))) (nothing_acted begun idle.running) on.no_completions.answered
     ∙ rest_still instruction telling begun (handed_idle system (system.steps + n + 1) n on.no_completions) on.settled on.none_deferred (still_ahead n system.kernel.disk on.passing)
-    ∙ ap (λ (disk : DiskService). dispatched instruction (silent (record begun { kernel = record system.kernel { disk = disk } }))) (passes_on n system.kernel.disk on.passing)
+    ∙ ap (λ (disk : DiskService). runner_picked instruction (silent (record begun { kernel = record system.kernel { disk = disk } }))) (passes_on n system.kernel.disk on.passing)
     ∙ ap (λ (kernel : Kernel). silent (record begun { kernel = kernel })) (picked_same instruction passed (idle.nobody ∙ sym idle.running))
     ∙ ap (λ (steps : ℕ). silent (record system { steps = steps; kernel = passed })) (omega arith)
 

@@ -25,7 +25,7 @@ use Rattle.mpm_loader.proofs.Parts.{some_marked}
 use Rattle.mpm_residents.specs.Interpreters.{Interpreter, asking, act_at, call_at, next_act, next_call, process_of, reserved, row_for_piece, CountsBytes}
 use Rattle.mpm_residents.specs.Standing.{is_loading, StandsIn, AreInPages, HandsIn}
 use Rattle.mpm_residents.specs.declared.cli.act.Act.{Act}
-use Rattle.mpm_residents.specs.declared.cli.act.Act.TheVariants.{Ask, Place as PlaceBytes, Patch as MoveCode, Begin as BeginProcess, Give as GiveConsole}
+use Rattle.mpm_residents.specs.declared.cli.act.Act.TheVariants.{Ask, PlaceBytes, MoveCode, BeginProcess, GiveConsole}
 use Rattle.mpm_residents.specs.declared.cli.table.Message.TheVariants.{NoMemory}
 use Rattle.mpm_residents.specs.declared.cli.table.Row.{Row}
 use Rattle.mpm_residents.specs.declared.cli.table.Row.TheVariants.{ReadCommand, OpenQueue, WriteQueue, SetUser, OpenRelocatable, OpenAbsolute, ReadHeader, ComputeSize, SetUserZero, Reserve, Place, Patch, ReadOn, Free, CloseAfter, Close, Tell, Give, PlaceBasePage, Begin}

@@ -32,7 +32,7 @@ use Rattle.mpm_xdos.specs.Procedures.{entered, returned_from_procedure}
 use Rattle.mpm_residents.specs.declared.native.Native.{Native}
 use Rattle.mpm_residents.specs.Natives.{native_in, native_call, native_act}
 use Rattle.mpm_residents.specs.declared.cli.act.Act.{Act}
-use Rattle.mpm_residents.specs.declared.cli.act.Act.TheVariants.{Ask, Place, Patch, Begin, Give}
+use Rattle.mpm_residents.specs.declared.cli.act.Act.TheVariants.{Ask, PlaceBytes, MoveCode, BeginProcess, GiveConsole}
 use Rattle.mpm_interrupts.specs.Interrupts.{due_taken}
 use Rattle.mpm_output.specs.Texts.{illegal_text}
 use Rattle.mpm_file_functions.specs.declared.refusals.Extended.{Extended}
@@ -402,13 +402,13 @@ system_if system false x y one other = other
 
 act_serves : (act : Act) (bytes : List ℕ) (p : ℕ) (system : System) → ServesSame system (handed_over act bytes p system)
 act_serves Ask bytes p system = same_service system.kernel.disk system.kernel.disk refl
-act_serves (Place seg address count) bytes p system = same_service system.kernel.disk system.kernel.disk refl
-act_serves (Patch seg address count page) bytes p system = same_service system.kernel.disk system.kernel.disk refl
-act_serves (Begin seg new) bytes p system =
+act_serves (PlaceBytes seg address count) bytes p system = same_service system.kernel.disk system.kernel.disk refl
+act_serves (MoveCode seg address count page) bytes p system = same_service system.kernel.disk system.kernel.disk refl
+act_serves (BeginProcess seg new) bytes p system =
     system_if system (begins seg new system) _ system
     (same_service system.kernel.disk _ (begun_for_disk p (record new { seg = Some seg }) (lowest_free system.kernel.dispatcher.procs) system.kernel))
     (same_service system.kernel.disk system.kernel.disk refl)
-act_serves (Give console) bytes p system =
+act_serves (GiveConsole console) bytes p system =
     same_service system.kernel.disk _ (kernel_if system.kernel.disk (is_console console system.kernel) _ _ (given_disk console (Some p) None system.kernel) refl)
 
 handing_serves : (act : Act) (call : Taken) (p : ℕ) (system : System) → ServesSame system (handing_step act call p system)
@@ -418,10 +418,10 @@ handing_serves act call p system = act_serves act call.bytes p system
 native_step_serves : (act : Act) (call : Taken) (p : ℕ) (system : System) → Unserved system p → ServesSame system (native_step act call p system).system
 native_step_serves Ask call p system none =
     change_if system (tells (native_in system.residents p) call) _ _ (telling_serves call p system) (calling_serves call p system none)
-native_step_serves (Place seg address count) call p system none = handing_serves (Place seg address count) call p system
-native_step_serves (Patch seg address count page) call p system none = handing_serves (Patch seg address count page) call p system
-native_step_serves (Begin seg new) call p system none = handing_serves (Begin seg new) call p system
-native_step_serves (Give console) call p system none = handing_serves (Give console) call p system
+native_step_serves (PlaceBytes seg address count) call p system none = handing_serves (PlaceBytes seg address count) call p system
+native_step_serves (MoveCode seg address count page) call p system none = handing_serves (MoveCode seg address count page) call p system
+native_step_serves (BeginProcess seg new) call p system none = handing_serves (BeginProcess seg new) call p system
+native_step_serves (GiveConsole console) call p system none = handing_serves (GiveConsole console) call p system
 
 resided_serves : (native : Option Native) (p : ℕ) (system : System) → Unserved system p → ServesSame system (resided native p system).system
 resided_serves None p system none = same_service system.kernel.disk system.kernel.disk refl

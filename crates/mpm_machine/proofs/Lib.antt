@@ -17,6 +17,7 @@ pub mod LoadedLaws
 pub mod LoadedRows
 pub mod LoadedParts
 pub mod LoadedSteps
+pub mod ResidentsLaws
 pub mod SendingLaws
 pub mod ActedLaws
 pub mod WholeStepLaws
@@ -93,9 +94,11 @@ pub mod SpoolingSteps
 pub mod SpoolingFiles
 pub mod SpoolingDisk
 pub mod SpoolingAfter
+pub mod SchedulingLaws
 pub mod RecordRead
 pub mod TextLaws
 pub mod ReadingLaws
+pub mod ClosingLaws
 pub mod OpeningLaws
 pub mod NamedLaws
 pub mod PrintingLaws

@@ -11,7 +11,7 @@ use Rattle.mpm_banks.proofs.SegmentLaws.{SameBytes, reads_alike, same_bytes_itse
 use Rattle.mpm_residents.specs.Interpreters.{Interpreter, act_at, call_at, next_act, next_call, took}
 use Rattle.mpm_residents.specs.Standing.{is_loading, StandsIn}
 use Rattle.mpm_residents.specs.declared.cli.act.Act.{Act}
-use Rattle.mpm_residents.specs.declared.cli.act.Act.TheVariants.{Ask, Place as PlaceBytes, Patch as MoveCode, Begin as BeginProcess, Give as GiveConsole}
+use Rattle.mpm_residents.specs.declared.cli.act.Act.TheVariants.{Ask, PlaceBytes, MoveCode, BeginProcess, GiveConsole}
 use Rattle.mpm_residents.specs.declared.cli.table.Row.{Row}
 use Rattle.mpm_residents.specs.declared.cli.table.Row.TheVariants.{ReadCommand, OpenQueue, WriteQueue, SetUser, OpenRelocatable, OpenAbsolute, ReadHeader, ComputeSize, SetUserZero, Reserve, Place, Patch, ReadOn, Free, CloseAfter, Close, Tell, Give, PlaceBasePage, Begin}
 use Rattle.mpm_kernel.specs.Called.{low_parameter}
@@ -146,7 +146,7 @@ unfolding executed instructed illegal speaking ended
 executed_residents None p seg system = refl
 executed_residents (Some outcome) p seg system = refl
 
-acted_residents : (gate : Option Gate) (p seg : ℕ) (system : System) → (acted_at gate p seg system).system.residents ≡ system.residents
+pub acted_residents : (gate : Option Gate) (p seg : ℕ) (system : System) → (acted_at gate p seg system).system.residents ≡ system.residents
 unfolding returning ended
 acted_residents (Some End) p seg system = refl
 acted_residents (Some Call) p seg system = gate_residents p seg system
@@ -155,7 +155,7 @@ acted_residents None p seg system = executed_residents (instruction_at p seg sys
 
 -- an event leaves them too
 
-key_residents : (aborts : Option ℕ) (system : System) → (key_aborted aborts system).residents ≡ system.residents
+pub key_residents : (aborts : Option ℕ) (system : System) → (key_aborted aborts system).residents ≡ system.residents
 unfolding aborted
 key_residents None system = refl
 key_residents (Some p) system = refl
@@ -256,12 +256,12 @@ record IsNext (cli : Interpreter) (file : List ℕ) (system : System) : Type 0 w
   pub piece : is_loading cli.row ≡ true → IsPiece file cli.load.before cli.load.piece
   pub loaded : IsLoadedAs file system.memory cli
 
-handed_residents : (act : Act) (bytes : List ℕ) (system : System) → (handed_over act bytes 0 system).residents ≡ system.residents
-handed_residents Ask bytes system = refl
-handed_residents (PlaceBytes seg address count) bytes system = refl
-handed_residents (MoveCode seg address count page) bytes system = refl
-handed_residents (BeginProcess seg new) bytes system = either (λ (s : System). s.residents ≡ system.residents) (begins seg new system) _ _ (λ _. refl) (λ _. refl)
-handed_residents (GiveConsole console) bytes system = refl
+pub handed_residents : (act : Act) (bytes : List ℕ) (p : ℕ) (system : System) → (handed_over act bytes p system).residents ≡ system.residents
+handed_residents Ask bytes p system = refl
+handed_residents (PlaceBytes seg address count) bytes p system = refl
+handed_residents (MoveCode seg address count page) bytes p system = refl
+handed_residents (BeginProcess seg new) bytes p system = either (λ (s : System). s.residents ≡ system.residents) (begins seg new system) _ _ (λ _. refl) (λ _. refl)
+handed_residents (GiveConsole console) bytes p system = refl
 
 loads_hands : (cli : Interpreter) (file : List ℕ) (system : System) → hands cli.row ≡ true → is_loading cli.row ≡ true → IsNext cli file system
     → IsLoading file (handing_step (act_at cli.row cli) (call_at cli.row cli) 0 system)
@@ -270,7 +270,7 @@ loads_hands cli file system hands loading n =
     let act = act_at cli.row cli in
     let reply = handed_answer act system in
     let over = handed_over act (call_at cli.row cli).bytes 0 system in
-    loads_taking file reply cli over (first_resident system over (handed_residents act (call_at cli.row cli).bytes system) ∙ n.acts)
+    loads_taking file reply cli over (first_resident system over (handed_residents act (call_at cli.row cli).bytes 0 system) ∙ n.acts)
     (handed_so cli.row cli reply file system hands loading n.memory (n.has loading) n.stands (n.piece loading) n.loaded)
 
 loads_hands_at : (row : Row) (cli : Interpreter) (file : List ℕ) (system : System) → cli.row ≡ row → hands row ≡ true → is_loading row ≡ true → IsNext cli file system

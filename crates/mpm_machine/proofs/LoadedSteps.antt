@@ -27,11 +27,10 @@ use Rattle.mpm_residents.specs.declared.native.Native.TheVariants.{Cli}
 use Rattle.mpm_service.specs.Disk.{served_process, turn_answer}
 use Rattle.mpm_service.specs.declared.service.Turn.{Turn}
 use Rattle.mpm_service.specs.declared.service.Turn.TheVariants.{Idle, Passing, Work, Starts}
-use Rattle.mpm_system.specs.FileCalling.{call_made, error_told, file_replied, made_by, reply_by, with_caller}
-use Rattle.mpm_system.specs.Residents.{asked_by, taking}
+use Rattle.mpm_system.specs.FileCalling.{call_made, error_told, file_replied, reply_by, with_caller}
+use Rattle.mpm_system.specs.Residents.{taking}
 use Rattle.mpm_system.specs.Sending.{chains}
-use Rattle.mpm_system.specs.Answering.{answering_call, popped, recorded, replied}
-use Rattle.mpm_system.specs.Taking.{keeping}
+use Rattle.mpm_system.specs.Answering.{answering_call, recorded, replied}
 use Rattle.mpm_system.specs.Whole.{SystemChange, IsWhole, speaking}
 use Rattle.mpm_system.specs.Coming.{coming, counted}
 use Rattle.mpm_system.specs.declared.system.System.{System}
@@ -65,6 +64,7 @@ use Rattle.mpm_machine.specs.Interpreting.{Interprets, awaited, is_reading}
 use Rattle.mpm_machine.specs.Loaded.{HasCome, HasLoadedAt, IsLoading, IsReadIn, IsReading, code_byte}
 use Rattle.mpm_machine.specs.Serving.{fulfilling, reply_at_entry, with_entry}
 use Rattle.mpm_machine.specs.Stepping.{Telling, begun_as, begun_with, ended_after, entered_after, is_instruction, rest_of, step_with, telling_of}
+use Rattle.mpm_machine.proofs.ResidentsLaws.{call_residents}
 
 -- in a row that makes a call on files, or reads a command, nothing is handed over
 files_ask : (row : Row) (cli : Interpreter) → is_of_files (call_at row cli).function ≡ true → hands row ≡ false
@@ -190,16 +190,6 @@ loads_called told p file system w living f h =
     either (λ (c : SystemChange). IsLoading file c.system) (is_done_at_once p system) _ _ (λ _. loads_concluded told p file system w living f h) (λ _. h)
 
 -- the call is made
-
-made_residents : (seg : Option ℕ) (native : Option Native) (p : ℕ) (system : System) → native_in system.residents p ≡ native → (made_by seg p system).residents ≡ system.residents
-unfolding keeping popped
-made_residents (Some seg) native p system here = refl
-made_residents None None p system here = ap (λ (o : Option Native). (asked_by o p system).residents) here
-made_residents None (Some native) p system here = ap (λ (o : Option Native). (asked_by o p system).residents) here
-
-call_residents : (p : ℕ) (system : System) → (call_made p system).residents ≡ system.residents
-unfolding call_made
-call_residents p system = made_residents (process_in system.kernel.dispatcher.procs p).seg _ p (counted system) refl
 
 rests_made : (p : ℕ) (system : System) → Rests system (call_made p system)
 rests_made p system = record {

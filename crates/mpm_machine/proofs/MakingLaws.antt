@@ -5,7 +5,7 @@ use Rattle.std.specs.Prelude.{IsErr}
 use Rattle.mpm_port.specs.declared.Failed.{Failed}
 use Rattle.mpm_render.specs.Outputs.{Output}
 use Rattle.mpm_render.specs.Shown.{KeptLines}
-use Rattle.mpm_output.specs.Outside.{Outside, by_sink, seen}
+use Rattle.mpm_output.specs.Outside.{by_sink, seen}
 use Rattle.mpm_output.specs.Writing.{CameOut, Stopped}
 use Rattle.mpm_output.proofs.WritingLaws.{emits_after, passes_on}
 use Rattle.mpm_system.specs.declared.system.System.{System}

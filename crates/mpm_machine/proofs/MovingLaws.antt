@@ -37,7 +37,7 @@ use Rattle.mpm_system.proofs.WholeLaws.{whole_kernel, whole_memory, whole_regs}
 use Rattle.mpm_system.proofs.IdlingLaws.{fewer_can}
 use Rattle.mpm_machine.specs.declared.ahead.Ahead.{Ahead}
 use Rattle.mpm_machine.specs.State.{State}
-use Rattle.mpm_machine.specs.Step.{instructed, executed, instruction_at, acted_at, gate_before, acted_by, acted, running_segment, at_instruction, dispatched as step_dispatched}
+use Rattle.mpm_machine.specs.Step.{instructed, executed, instruction_at, acted_at, gate_before, acted_by, acted, running_segment, at_instruction, runner_picked}
 use Rattle.mpm_machine.specs.FileCalls.{file_caller}
 use Rattle.mpm_machine.specs.Files.{AreWithin}
 use Rattle.mpm_machine.specs.Stepping.{Telling, step_with}
@@ -192,7 +192,7 @@ step_view telling system p seg n view below on can quiet passing alone =
     ∙ rest_still instruction telling later (handed_unpassed system p n (moved seg view) on.no_completions)
     (nobody_view system.kernel (moved seg view).devices (passed_by n system.kernel.disk) p (moved seg view).regs below on.settled) on.none_deferred
     (still_ahead n system.kernel.disk passing)
-    ∙ ap (λ (disk : DiskService). step_dispatched instruction (silent (record later { kernel = record later.kernel { disk = disk } }))) (passes_on n system.kernel.disk passing)
+    ∙ ap (λ (disk : DiskService). runner_picked instruction (silent (record later { kernel = record later.kernel { disk = disk } }))) (passes_on n system.kernel.disk passing)
     ∙ ap (λ (kernel : Kernel). silent (record last { kernel = kernel })) (picked_same instruction last.kernel (on.first ∙ sym on.running))
 
 -- so n of them are n steps, which say nothing

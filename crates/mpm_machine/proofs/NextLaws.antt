@@ -1,10 +1,10 @@
 -- Laws of the steps of a state.
-use Rattle.std.proofs.Common.{◌≡◌, ◌∙◌, ℕ, zero, suc, ◌+◌, ◌-◌, ◌<◌, ◌≤◌, Bool, List, refl, ap, sym, subst, arith, add-one}
+use Rattle.std.proofs.Common.{◌≡◌, ◌∙◌, ℕ, zero, suc, ◌+◌, ◌-◌, ◌<◌, ◌≤◌, Bool, List, refl, ap, sym, subst, arith, add-one, ◌*◌}
 use Rattle.mpm_render.specs.Outputs.{rendered}
 use Rattle.mpm_system.specs.declared.system.System.{System}
 use Rattle.mpm_system.specs.Whole.{IsWhole, NoCompletions}
 use Rattle.mpm_machine.specs.declared.machine.StepFault.{StepFault}
-use Rattle.mpm_machine.specs.State.{State}
+use Rattle.mpm_machine.specs.State.{State, IsAt}
 use Rattle.mpm_machine.specs.Faults.{EndsBy}
 use Rattle.mpm_machine.specs.Stepping.{paid_after, before_disk, step_with, telling_of, stepped}
 use Rattle.mpm_machine.specs.After.{next, after, IsStepOf, made_in, EndsInStep}
@@ -17,6 +17,14 @@ use Rattle.mpm_machine.proofs.FiledValue.{filed_by_value, over_by_value, enters_
 use Rattle.mpm_machine.proofs.PrintingSteps.{spooling_next, printing_next}
 use Rattle.mpm_machine.proofs.StepWithLaws.{whole_with, no_completions_with, instructed_with, served_with}
 use Rattle.mpm_machine.proofs.FileStepLaws.{steps_with}
+use Rattle.mpm_machine.specs.Scheduling.{GoesOnScheduling}
+use Rattle.mpm_machine.proofs.SchedulingLaws.{schedules_on}
+use Rattle.mpm_machine.proofs.InterpretingLaws.{handed_is_own, nobody_lives_there}
+use Rattle.mpm_port.specs.Disks.{Disks}
+use Rattle.mpm_machine.specs.declared.machine.Machine.{Machine}
+use Rattle.mpm_machine.specs.OneStep.{turns_in}
+use Rattle.mpm_machine.specs.Failing.{turns_done, working_in}
+use Rattle.mpm_machine.specs.Standing.{StandingFor}
 
 -- what a step makes of the system
 pub next_is : (s : State) → (next s).system ≡ (step_with (telling_of s.system s.files) s.system).system
@@ -67,14 +75,15 @@ handed_after (suc n) s no_completions =
 
 step_of : (s : State) → IsWhole s.system → NoCompletions s.system → IsStepOf s
 unfolding before_disk
-step_of s w handed =
+step_of s w no_completions =
     let telling = telling_of s.system s.files in
     let old = s.system in
     let is = sym (next_is s) in
     let begun = (before_disk old s.files).system in
     record {
       contained = subst (IsContainedBy telling old) is (contained_by telling old w);
-      instruction = λ p seg i. subst (OnlyInstructed telling p old) is (instructed_with telling p seg old handed i);
+      hands = λ i seg at handed. record { own = handed_is_own old seg at i handed; nobody = λ p living. nobody_lives_there old seg at p w i handed living };
+      instruction = λ p seg i. subst (OnlyInstructed telling p old) is (instructed_with telling p seg old no_completions i);
       calls = λ p seg i none. subst (ServedByValue telling p seg old) is (served_with telling p seg old i none);
       resides = λ p native i none. subst (ResidedByValue telling p native old) is (resided_with telling p native old i none);
       filed = filed_by_value (file_caller old) (made_in (file_caller old) old);
@@ -82,6 +91,7 @@ step_of s w handed =
       enters = enters_by_value (paid_after telling.at_disk begun);
       spools = λ q i. spooling_next q s w i;
       prints = λ q p. printing_next q s w p;
+      schedules = λ q answers i. subst (λ (system : System). GoesOnScheduling q answers system.residents) is (schedules_on q answers telling old i);
     }
 
 pub step_by : (s : State) (old : System) → s.system ≡ old → IsWhole old → NoCompletions old → IsStepOf s
@@ -144,3 +154,39 @@ so_later P s done step below so =
 pub still_state : (system : System) (s : State) → s.system ≡ system → after 0 s ≡ record s { system = system }
 unfolding after
 still_state system s is = ap (λ (x : System). record s { system = x }) is
+
+-- the turns of steps
+
+pub turns_more : (n : ℕ) (s : State) → turns_in (n + 1) s ≡ turns_in n s + turns_done (working_in (after n s).system (after n s).files)
+unfolding turns_in
+turns_more n s = ap (λ m. turns_in m s) (add-one n)
+
+pub turns_both : (first more : ℕ) (s : State) → turns_in (first + more) s ≡ turns_in first s + turns_in more (after first s)
+unfolding turns_in
+turns_both first zero s =
+    let count : first + zero ≡ first = omega arith in
+    let none : turns_in first s ≡ turns_in first s + 0 = omega arith in
+    ap (λ n. turns_in n s) count ∙ none
+turns_both first (suc more) s =
+    let count : first + suc more ≡ suc (first + more) = omega arith in
+    let turns : State → ℕ = λ t. turns_done (working_in t.system t.files) in
+    let last : turns (after (first + more) s) ≡ turns (after more (after first s)) = ap turns (after_both first more s) in
+    let before = turns_both first more s in
+    let all : turns_in (first + more) s + turns (after (first + more) s) ≡ turns_in first s + (turns_in more (after first s) + turns (after more (after first s))) = omega (arith, before, last) in
+    ap (λ n. turns_in n s) count ∙ all
+
+-- where fewer steps do as many, more do
+pub turns_fewer : (few most : ℕ) (s : State) → few ≤ most → turns_in few s ≤ turns_in most s
+turns_fewer few most s le =
+    let both = turns_both few (most - few) s in
+    let all : few + (most - few) ≡ most = omega (arith, le) in
+    subst (λ (n : ℕ). turns_in few s ≤ turns_in n s) all (omega (arith, both))
+
+-- a step after some that did none
+pub turns_step : {D : Type 0} (disks : D → Disks) (done : ℕ) (machine : Machine) (drives : D) (s : State) (before behind : ℕ) → IsAt machine (disks drives) (after done s)
+    → StandingFor machine (disks drives) (λ files. behind ≤ before + 20 * turns_done (working_in machine.system files)) → behind ≤ before + 20 * turns_in (done + 1) s
+turns_step disks done machine drives s before behind here calls =
+    let t = after done s in
+    let P : System → Type 0 = λ system. behind ≤ before + 20 * turns_done (working_in system t.files) in
+    let few = subst P here.system (calls t.files here.files) in
+    omega (arith, few, turns_more done s)

@@ -18,7 +18,7 @@ use Rattle.mpm_fcb.specs.Positions.{sequential_record}
 use Rattle.mpm_fcb.specs.declared.block.ControlBlock.{ControlBlock}
 use Rattle.mpm_file_functions.specs.declared.functions.FileFunction.{FileFunction}
 use Rattle.mpm_file_functions.specs.declared.functions.FileFunction.TheVariants.{OpenFile}
-use Rattle.mpm_opens.specs.Opens.{AreOpen}
+use Rattle.mpm_opens.specs.Opens.{AreOpen, HasNone, HasOne}
 use Rattle.mpm_opens.specs.declared.kinds.FileKey.{FileKey}
 use Rattle.mpm_refusals.specs.Filing.{Situation, block}
 use Rattle.mpm_refusals.specs.Subjects.{drive_by, drive_number, last_search, own_file, key_of}
@@ -27,7 +27,7 @@ use Rattle.mpm_spool.specs.declared.list.SpoolItem.{SpoolItem}
 use Rattle.mpm_spool.specs.declared.table.Row.TheVariants.{Open, Attach}
 use Rattle.mpm_machine.proofs.ReadingLaws.{reads_again}
 use Rattle.mpm_machine.specs.Printed.{has_file}
-use Rattle.mpm_machine.specs.Printing.{first_bytes, NamesFile, key_of_item, seen_in, ReadsFile}
+use Rattle.mpm_machine.specs.Printing.{first_bytes, NamesFile, key_of_spool_item, seen_in, ReadsFile}
 
 -- the block with which it opens a file
 
@@ -79,16 +79,16 @@ opening_is item size =
 with_sixth : (a b c d e f g h i j k : ℕ) → plain (a ∷ b ∷ c ∷ d ∷ e ∷ bit_or f 128 ∷ g ∷ h ∷ i ∷ j ∷ k ∷ []) ≡ plain (a ∷ b ∷ c ∷ d ∷ e ∷ f ∷ g ∷ h ∷ i ∷ j ∷ k ∷ [])
 with_sixth a b c d e f g h i j k = ap (λ (x : ℕ). a % 128 ∷ b % 128 ∷ c % 128 ∷ d % 128 ∷ e % 128 ∷ x ∷ g % 128 ∷ h % 128 ∷ i % 128 ∷ j % 128 ∷ k % 128 ∷ []) (low_bits f)
 
-opening_names : (item : SpoolItem) → length item.name ≡ 11 → NamesFile (read_only_block item) (key_of_item item)
+opening_names : (item : SpoolItem) → length item.name ≡ 11 → NamesFile (read_only_block item) (key_of_spool_item item)
 unfolding block_of zeros
 opening_names item size =
-    subst (λ (name : List ℕ). NamesFile (read_only_block (item_with item name)) (key_of_item (item_with item name))) (spread_is item.name 11 size)
+    subst (λ (name : List ℕ). NamesFile (read_only_block (item_with item name)) (key_of_spool_item (item_with item name))) (spread_is item.name 11 size)
     (refl, with_sixth _ _ _ _ _ (slice_index item.name 5) _ _ _ _ _)
 
-pub deleting_names : (item : SpoolItem) → length item.name ≡ 11 → NamesFile (file_block item) (key_of_item item)
+pub deleting_names : (item : SpoolItem) → length item.name ≡ 11 → NamesFile (file_block item) (key_of_spool_item item)
 unfolding block_of zeros
 deleting_names item size =
-    subst (λ (name : List ℕ). NamesFile (file_block (item_with item name)) (key_of_item (item_with item name))) (spread_is item.name 11 size) (refl, refl)
+    subst (λ (name : List ℕ). NamesFile (file_block (item_with item name)) (key_of_spool_item (item_with item name))) (spread_is item.name 11 size) (refl, refl)
 
 -- it is answered
 
@@ -99,6 +99,7 @@ pub record IsOpeningOf (q : ℕ) (s : Spooler) (call : Situation) : Type 0 where
   pub drive : call.caller.drive ≡ 0
   pub user : call.caller.user ≡ 0
   pub opens : AreOpen call.filing.opens
+  pub without : HasNone q call.filing.opens
 
 begun_without : (next : Option SpoolItem) (s : Spooler) → has_file (begun_with next s).row ≡ true → ⊥
 begun_without None s has = false≢true has
@@ -115,7 +116,7 @@ module _ (q : ℕ) (s : Spooler) (call : Situation) (c : IsOpeningOf q s call) (
   its_block : block call ≡ opening_block s.item
   its_block = ap block_of c.block_is
 
-  its_key : key_of (drive_number call) (own_file call) ≡ key_of_item s.item
+  its_key : key_of (drive_number call) (own_file call) ≡ key_of_spool_item s.item
   unfolding drive_by
   its_key =
       ap (λ (f : FileFunction). key_of (unwrap_or (drive_by (last_search call) call.caller.drive call.call.word (block call) f) call.caller.drive) (own_file call)) c.function
@@ -123,7 +124,7 @@ module _ (q : ℕ) (s : Spooler) (call : Situation) (c : IsOpeningOf q s call) (
       ∙ ap (λ (user : ℕ). key_of (drive_of 0 (block call)) (record { user = user; name = plain (block call).name })) c.user
       ∙ ap (λ (b : ControlBlock). key_of (drive_of 0 b) (record { user = 0; name = plain b.name })) its_block
       ∙ ap (λ (d : ℕ). record { drive = d; user = 0; name = plain (opening_block s.item).name }) (opening_names s.item size).0
-      ∙ ap (λ (name : List ℕ). record { drive = (key_of_item s.item).drive; user = 0; name = name }) (opening_names s.item size).1
+      ∙ ap (λ (name : List ℕ). record { drive = (key_of_spool_item s.item).drive; user = 0; name = name }) (opening_names s.item size).1
 
   was_opened : reply.hl ≡ 0 → OpensToRead call
   was_opened hl =
@@ -135,7 +136,7 @@ module _ (q : ℕ) (s : Spooler) (call : Situation) (c : IsOpeningOf q s call) (
   has_opened hl =
       let is = opening_is s.item size in
       let o = was_opened hl in
-      let key = key_of_item s.item in
+      let key = key_of_spool_item s.item in
       let new = (file_call call).filing in
       let fcb : block_after reply.fcb s.fcb ≡ o.fcb = ap (λ (f : Option (List ℕ)). block_after f s.fcb) o.answered in
       let at : sequential_record (block_of o.fcb) ≡ 0 =
@@ -143,6 +144,8 @@ module _ (q : ℕ) (s : Spooler) (call : Situation) (c : IsOpeningOf q s call) (
       let here : ReadsFile q (record s { fcb = o.fcb }) [] false new = record {
         number = o.number;
         has = subst (λ (p : ℕ). HasFile p key o.number new) c.process (subst (λ (k : FileKey). HasFile call.caller.process k o.number new) its_key o.has);
+        one = subst (λ (p : ℕ). HasNone p call.filing.opens → HasOne p o.number new.opens) c.process o.one c.without;
+        f5 = o.f5;
         size = o.size;
         named = o.named;
         drive = ap (λ (d : ℕ). if d == 0 then 0 else d - 1) (o.drive ∙ ap (λ (b : ControlBlock). b.drive) its_block) ∙ (opening_names s.item size).0;

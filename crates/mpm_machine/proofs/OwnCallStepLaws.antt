@@ -47,7 +47,7 @@ use Rattle.mpm_machine.specs.Holding.{HoldsKept}
 use Rattle.mpm_machine.specs.Serving.{gate_step}
 use Rattle.mpm_machine.specs.Finishing.{all_answered}
 use Rattle.mpm_machine.specs.FileCalls.{is_file_number, at_gate, called_next, calls_files, file_caller_by, file_caller}
-use Rattle.mpm_machine.specs.Step.{acted, begun_by, instruction_unless, then_also, dispatched as step_dispatched}
+use Rattle.mpm_machine.specs.Step.{acted, begun_by, instruction_unless, then_also, runner_picked}
 use Rattle.mpm_machine.specs.DiskStep.{step_passed}
 use Rattle.mpm_machine.specs.Stepping.{Telling, nothing_told, begun_with, begun_alone, begun_as, is_instruction, rest_of, step_with, told_first, telling_of, before_disk, files_begun_by, files_begun, files_rest, stepped}
 use Rattle.mpm_machine.specs.Contained.{CallsAtGate}
@@ -178,11 +178,11 @@ own_passes p seg system w makes = record {
 -- and it comes out
 
 out_so : (value : ℕ) (changed : Process) (p seg : ℕ) (system : System) → MakesOwnCall p seg system
-    → step_dispatched false (records_out (step_passed (behind_so value changed p seg (counted system)))) ≡ records_out (behind_so value changed p seg (counted system))
+    → runner_picked false (records_out (step_passed (behind_so value changed p seg (counted system)))) ≡ records_out (behind_so value changed p seg (counted system))
 unfolding answering_call recorded replied popped keeping
 out_so value changed p seg system makes =
     let behind = behind_so value changed p seg (counted system) in
-    ap (λ (disk : DiskService). step_dispatched false (records_out (record behind { kernel = record behind.kernel { disk = disk } })))
+    ap (λ (disk : DiskService). runner_picked false (records_out (record behind { kernel = record behind.kernel { disk = disk } })))
     (idle_turned system.kernel.disk makes.idle makes.nobody)
     ∙ ap (λ (kernel : Kernel). let c : SystemChange = record { system = record behind { kernel = kernel; records = [] }; emitted = recorded_behind behind.records [] } in c)
     (picked_same false behind.kernel (makes.on.first ∙ sym makes.on.running))
@@ -192,7 +192,7 @@ unfolding with_own_call
 gate_out p seg system w makes = ap with_records (own_steps_gate p seg system w makes)
 
 own_out : (p seg : ℕ) (system : System) → IsWhole system → (makes : MakesOwnCall p seg system)
-    → step_dispatched false (records_out (step_passed (behind_gate p seg system makes))) ≡ with_own_call p seg system
+    → runner_picked false (records_out (step_passed (behind_gate p seg system makes))) ≡ with_own_call p seg system
 own_out p seg system w makes =
     out_so (row_of p seg system makes).value (row_of p seg system makes).changed p seg system makes ∙ sym (gate_out p seg system w makes)
 

@@ -4,6 +4,7 @@ use Rattle.std.specs.Prelude.{IsOk}
 use Rattle.std.proofs.lemmas.Bool.{false≢true}
 use Rattle.mpm_port.specs.declared.Failed.{Failed}
 use Rattle.mpm_port.specs.Disks.{Disks}
+use Rattle.mpm_port.specs.declared.drives.Drives.{Ghosts}
 use Rattle.mpm_mount.specs.Directories.{Directory}
 use Rattle.mpm_drives.specs.Images.{Images}
 use Rattle.mpm_service.specs.Disk.{HasBegun}
@@ -35,18 +36,18 @@ pub done_fails : {A E : Type 0} {x : A} {e : E} → Err e ≡ Ok x → ⊥
 done_fails e = absurd (cc)
 
 -- no drive was used
-pub uses_none : {D A E : Type 0} (disks : D → Disks) (told : D → Images) (failed : D → List (List ℕ)) (owes : D → ℕ → Bool) (fault : E → StepFault) (mounted : List (Option Directory)) (drives : D)
-    (r : Result A E) → IfErr r (λ error. fault error ≡ WriteFault) → UsesDrives disks told failed owes fault mounted mounted drives drives r
-uses_none disks told failed owes fault mounted drives r sink = record {
-  drives = record { keeps = keeps_still (told drives) (disks drives) mounted mounted refl; names = refl; unsynced = λ number was. was };
+pub uses_none : {D A E : Type 0} (of : Ghosts D) (fault : E → StepFault) (mounted : List (Option Directory)) (drives : D)
+    (r : Result A E) → IfErr r (λ error. fault error ≡ WriteFault) → UsesDrives of fault mounted mounted drives drives r
+uses_none of fault mounted drives r sink = record {
+  drives = record { keeps = keeps_still (of.told drives) (of.disks drives) mounted mounted refl; names = refl; unsynced = λ number was. was };
   none = λ bare. record { sink = sink; drives = refl; bare = bare };
 }
 
 -- the turns of a call were done, or some of them
-pub uses_turns : {D A E : Type 0} (disks : D → Disks) (told : D → Images) (failed : D → List (List ℕ)) (owes : D → ℕ → Bool) (fault : E → StepFault) (old new : Kept) (drives now : D)
-    (r : Result A E) → TurnsLeave disks told failed owes old new drives now → (HasNoDrive old.mounted → now ≡ drives) → (HasNoDrive old.mounted → IfErr r (λ error. fault error ≡ WriteFault))
-    → UsesDrives disks told failed owes fault old.mounted new.mounted drives now r
-uses_turns disks told failed owes fault old new drives now r left same sink = record {
+pub uses_turns : {D A E : Type 0} (of : Ghosts D) (fault : E → StepFault) (old new : Kept) (drives now : D)
+    (r : Result A E) → TurnsLeave of.disks of.told of.failed_names of.unsynced old new drives now → (HasNoDrive old.mounted → now ≡ drives) → (HasNoDrive old.mounted → IfErr r (λ error. fault error ≡ WriteFault))
+    → UsesDrives of fault old.mounted new.mounted drives now r
+uses_turns of fault old new drives now r left same sink = record {
   drives = record {
     keeps = record { labels = left.kept.labels; beside = left.beside; told_are = left.told_are };
     names = left.names;
@@ -56,19 +57,19 @@ uses_turns disks told failed owes fault old new drives now r left same sink = re
 }
 
 -- the same was done, with another result
-pub uses_as : {D A B E F : Type 0} {disks : D → Disks} {told : D → Images} {failed : D → List (List ℕ)} {owes : D → ℕ → Bool} {f : E → StepFault} {one two : List (Option Directory)} {x y : D}
-    {r : Result A E} (h : F → StepFault) (q : Result B F) → UsesDrives disks told failed owes f one two x y r → (HasNoDrive one → IfErr q (λ error. h error ≡ WriteFault))
-    → UsesDrives disks told failed owes h one two x y q
+pub uses_as : {D A B E F : Type 0} {of : Ghosts D} {f : E → StepFault} {one two : List (Option Directory)} {x y : D}
+    {r : Result A E} (h : F → StepFault) (q : Result B F) → UsesDrives of f one two x y r → (HasNoDrive one → IfErr q (λ error. h error ≡ WriteFault))
+    → UsesDrives of h one two x y q
 uses_as h q uses sink = record {
   drives = uses.drives;
   none = λ bare. let so = uses.none bare in record { sink = sink bare; drives = so.drives; bare = so.bare };
 }
 
 -- one thing was done after another
-pub uses_both : {D A B C E F G : Type 0} {disks : D → Disks} {told : D → Images} {failed : D → List (List ℕ)} {owes : D → ℕ → Bool} {f : E → StepFault} {h : F → StepFault}
+pub uses_both : {D A B C E F G : Type 0} {of : Ghosts D} {f : E → StepFault} {h : F → StepFault}
     {one two three : List (Option Directory)} {x y z : D} {r : Result A E} {q : Result B F} (k : G → StepFault) (last : Result C G)
-    → UsesDrives disks told failed owes f one two x y r → UsesDrives disks told failed owes h two three y z q → (HasNoDrive one → IfErr last (λ error. k error ≡ WriteFault))
-    → UsesDrives disks told failed owes k one three x z last
+    → UsesDrives of f one two x y r → UsesDrives of h two three y z q → (HasNoDrive one → IfErr last (λ error. k error ≡ WriteFault))
+    → UsesDrives of k one three x z last
 uses_both k last first next sink = record {
   drives = record {
     keeps = keeps_both _ _ _ _ _ _ _ _ _ first.drives.keeps next.drives.keeps;
@@ -82,9 +83,9 @@ uses_both k last first next sink = record {
 }
 
 -- what leaves the directories leaves that
-pub uses_kept : {D A E : Type 0} (disks : D → Disks) (told : D → Images) (failed : D → List (List ℕ)) (owes : D → ℕ → Bool) (f : E → StepFault) (one two three : List (Option Directory)) (x y : D)
-    (r : Result A E) → three ≡ two → UsesDrives disks told failed owes f one two x y r → UsesDrives disks told failed owes f one three x y r
-uses_kept disks told failed owes f one two three x y r same uses = subst (λ (m : List (Option Directory)). UsesDrives disks told failed owes f one m x y r) (sym same) uses
+pub uses_kept : {D A E : Type 0} (of : Ghosts D) (f : E → StepFault) (one two three : List (Option Directory)) (x y : D)
+    (r : Result A E) → three ≡ two → UsesDrives of f one two x y r → UsesDrives of f one three x y r
+uses_kept of f one two three x y r same uses = subst (λ (m : List (Option Directory)). UsesDrives of f one m x y r) (sym same) uses
 
 -- what began with the same directories
 pub keeps_since : (told told' : Images) (x y : Disks) (kept between : Kept) (last : List (Option Directory)) → between ≡ kept → KeepsMounted told told' x y between.mounted last

@@ -16,7 +16,7 @@ use Rattle.mpm_system.specs.Written.{with_records, records_out}
 use Rattle.mpm_system.specs.Idling.{CanPass}
 use Rattle.mpm_machine.specs.Due.{with_ends}
 use Rattle.mpm_machine.specs.Files.{FilesInService, Between, Within, AreWithin}
-use Rattle.mpm_machine.specs.Step.{dispatched}
+use Rattle.mpm_machine.specs.Step.{runner_picked}
 use Rattle.mpm_machine.specs.DiskStep.{step_passed, disk_served, owed_then, all_paid, call_entered}
 use Rattle.mpm_machine.specs.Stepping.{Telling, entered_after, ended_after, rest_of}
 use Rattle.mpm_machine.specs.Moving.{is_still}
@@ -155,20 +155,20 @@ ended_still telling system paid nobody off still = ap with_ends (entered_still t
 
 -- the records of the calls that it began with come out
 pub rest_recorded : (instruction : Bool) (telling : Telling) (system : System) → IsPaid system → NobodyAborted system.kernel → system.abort_deferred ≡ false
-    → is_still (turn_answer system.kernel.disk) ≡ true → rest_of instruction telling (silent system) ≡ dispatched instruction (records_out (step_passed system))
+    → is_still (turn_answer system.kernel.disk) ≡ true → rest_of instruction telling (silent system) ≡ runner_picked instruction (records_out (step_passed system))
 unfolding rest_of
 rest_recorded instruction telling system paid nobody off still =
     let passed = step_passed system in
-    let F : System → List Output → SystemChange = λ ended said. dispatched instruction (with_records (record { system = ended; emitted = said ++ [] })) in
+    let F : System → List Output → SystemChange = λ ended said. runner_picked instruction (with_records (record { system = ended; emitted = said ++ [] })) in
     let ended : all_paid (ended_after telling system) ≡ passed = ap all_paid (ended_still telling system paid nobody off still) ∙ paid_passed system paid still in
     ap (λ (s : System). F s (disk_served telling.at_disk system).emitted) ended
     ∙ ap (F passed) (says_by_whom (served_process system.kernel.disk) telling.at_disk system refl still)
 
 -- or nothing does
 pub rest_still : (instruction : Bool) (telling : Telling) (system : System) → NoCompletions system → NobodyAborted system.kernel → system.abort_deferred ≡ false
-    → is_still (turn_answer system.kernel.disk) ≡ true → rest_of instruction telling (silent system) ≡ dispatched instruction (silent (step_passed system))
+    → is_still (turn_answer system.kernel.disk) ≡ true → rest_of instruction telling (silent system) ≡ runner_picked instruction (silent (step_passed system))
 rest_still instruction telling system none nobody off still =
-    rest_recorded instruction telling system none.paid nobody off still ∙ ap (dispatched instruction) (nothing_out (step_passed system) none.written)
+    rest_recorded instruction telling system none.paid nobody off still ∙ ap (runner_picked instruction) (nothing_out (step_passed system) none.written)
 
 -- a call that is in service goes on so, and none begins; and files are within one as they were
 

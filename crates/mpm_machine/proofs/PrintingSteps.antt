@@ -50,7 +50,7 @@ use Rattle.mpm_machine.specs.FileCalls.{file_caller, is_of_files, outcome_by, ou
 use Rattle.mpm_machine.specs.Files.{FilesInService, Between, Within, filing_in, owes, given_back}
 use Rattle.mpm_machine.specs.Printing.{ServedBy, HasTurns, IsItsCall, IfItsCall, ReadsOpenFile, IsPrinting}
 use Rattle.mpm_machine.specs.Slots.{Settings}
-use Rattle.mpm_machine.specs.Spooling.{IsAtHome, IsFiled, IsSpooling}
+use Rattle.mpm_machine.specs.Spooling.{IsAtHome, KeepsFileCall, IsSpooling}
 use Rattle.mpm_machine.specs.State.{State}
 use Rattle.mpm_machine.specs.Stepping.{told_first_by, told_first, files_begun_by, files_begun, before_disk, told_by_process, told_within, paid_after, entered_after, ended_after, files_paid, files_then, telling_then, files_rest, telling_of, step_with, stepped}
 
@@ -72,7 +72,7 @@ unchanged_row AskStop s call error files is = absurd (false≢true files)
 unchanged_row Print s call error files is = absurd (false≢true files)
 unchanged_row Detach s call error files is = absurd (false≢true files)
 
-pub unchanged : (q : ℕ) (answers : List Answer) (system : System) (error : Option Extended) → IsFiled q answers system → change_of (call_of system.kernel.dispatcher.procs q) error ≡ Unchanged
+pub unchanged : (q : ℕ) (answers : List Answer) (system : System) (error : Option Extended) → KeepsFileCall q answers system → change_of (call_of system.kernel.dispatcher.procs q) error ≡ Unchanged
 unfolding next_call
 unchanged q answers system error f = unchanged_row (after answers).row (after answers) (call_of system.kernel.dispatcher.procs q) error f.files f.kept
 
@@ -94,7 +94,7 @@ some_function : (o : Option FileFunction) → is_some o ≡ true → (function :
 some_function None some = absurd (false≢true some)
 some_function (Some function) some = (function, refl)
 
-its_function : (q : ℕ) (answers : List Answer) (system : System) → IsFiled q answers system → (function : FileFunction) × (function_of (call_of system.kernel.dispatcher.procs q).function ≡ Some function)
+its_function : (q : ℕ) (answers : List Answer) (system : System) → KeepsFileCall q answers system → (function : FileFunction) × (function_of (call_of system.kernel.dispatcher.procs q).function ≡ Some function)
 unfolding next_call
 its_function q answers system f =
     some_function (function_of (call_of system.kernel.dispatcher.procs q).function)
@@ -102,7 +102,7 @@ its_function q answers system f =
 
 -- as its call enters service
 
-pub its_situation : (q : ℕ) (answers : List Answer) (filing : Filing) (function : FileFunction) (system : System) → IsAtHome q system → IsFiled q answers system
+pub its_situation : (q : ℕ) (answers : List Answer) (filing : Filing) (function : FileFunction) (system : System) → IsAtHome q system → KeepsFileCall q answers system
     → function_of (call_of system.kernel.dispatcher.procs q).function ≡ Some function → IsItsCall answers (situation_of filing function q system)
 its_situation q answers filing function system h f is = record {
   function = ap function_of (sym f.kept) ∙ is;
@@ -149,7 +149,7 @@ at_once_turns None b some once = absurd (false≢true some)
 at_once_turns (Some function) b some once = once
 
 module _ (q : ℕ) (system : System) (files : FilesInService) where
-  own_at_once : (answers : List Answer) → ServedBy system.kernel.disk.served files → HasTurns system.kernel.disk → IsAtHome q system → IsFiled q answers system
+  own_at_once : (answers : List Answer) → ServedBy system.kernel.disk.served files → HasTurns system.kernel.disk → IsAtHome q system → KeepsFileCall q answers system
       → is_done_at_once q system ≡ true → Reads q files answers → Reads q (done_at_once q system files) ((told_at_gate q system files).answer ∷ answers)
   unfolding outcome_in
   own_at_once answers by sound h f once r = by_files files by r where
@@ -166,7 +166,7 @@ module _ (q : ℕ) (system : System) (files : FilesInService) where
         let number = (call_of system.kernel.dispatcher.procs q).function in
         let call = situation_of filing function.0 q system in
         subst (λ (o : Option FileFunction). Reads q (Between (outcome_by o (direct_of number) filing q system).filing) ((outcome_by o (direct_of number) filing q system).answer ∷ answers)) (sym function.1)
-        (own_answered q answers call (its_situation q answers filing function.0 system h f function.1) refl r.opens (call_keeps_sound call r.opens) r.file)
+        (own_answered q answers call (its_situation q answers filing function.0 system h f function.1) refl r.opens (call_keeps_sound call r.opens) r.file r.without)
 
 -- what a step begins with
 
@@ -296,7 +296,7 @@ over_last q p system (Within s) by is =
       own = λ same answers h f r.
           let its_own : s.caller.process ≡ q = process ∙ sym same in
           let answered : Reads q (Between (file_call s).filing) ((file_call s).answer ∷ answers) =
-          own_answered q answers s (r.its_call its_own) its_own r.opens (call_keeps_sound s r.opens) r.file in (
+          own_answered q answers s (r.its_call its_own) its_own r.opens (call_keeps_sound s r.opens) r.file r.without in (
             told_caller (Within s) system p is ∙ ap (λ (n : ℕ). change_of (call_of system.kernel.dispatcher.procs n) told.extended) (sym same)
                 ∙ unchanged q answers (ready_again p (step_passed system)) told.extended f,
             subst (λ (f : FilesInService). Reads q f (told.answer ∷ answers)) (sym served)
@@ -329,7 +329,7 @@ starts_there disk p is =
     let waits : in_list p disk.waiting ≡ true = first_is_in disk.waiting p (starts_first disk.turn_steps disk.served (first_of disk.waiting) p is) in
     subst (λ (b : Bool). 0 < (if b then 1 else 0) + (if is_call_of p disk.served then 1 else 0)) (sym waits) (omega arith)
 
-module _ (q : ℕ) (answers : List Answer) (system : System) (h : IsAtHome q system) (filed : 0 < at_disk system.kernel.disk q → IsFiled q answers system) where
+module _ (q : ℕ) (answers : List Answer) (system : System) (h : IsAtHome q system) (filed : 0 < at_disk system.kernel.disk q → KeepsFileCall q answers system) where
   within_so : (o : Option FileFunction) (p : ℕ) (filing : Filing) → function_of (call_of system.kernel.dispatcher.procs p).function ≡ o → turn_answer system.kernel.disk ≡ Starts p
       → IfItsCall q answers (within_call o filing p system)
   within_so None p filing is starts = tt

@@ -6,16 +6,16 @@ use Rattle.std.proofs.lemmas.Slice.Eq.{bytes_eq-Decides}
 use Rattle.std.proofs.lemmas.List.{length-append}
 use Rattle.mpm_base.specs.Calls.{Answer, answering, word_at}
 use Rattle.mpm_base.specs.Lists.{in_width}
-use Rattle.mpm_bdos.proofs.KeptFile.{kept_by_reading, has_still}
+use Rattle.mpm_bdos.proofs.KeptFile.{reads_place, kept_by_reading, has_still}
 use Rattle.mpm_bdos.specs.Jobs.{reading_job, turned, call_turns}
-use Rattle.mpm_bdos.specs.OpenToRead.{drive_in, KeepsFile}
+use Rattle.mpm_bdos.specs.OpenToRead.{drive_or_blank, KeepsFile}
 use Rattle.mpm_bdos.specs.Outcomes.{file_call, outcome_by}
 use Rattle.mpm_directories.specs.Direct.{where_changed}
 use Rattle.mpm_dirent.proofs.Lengths.{part_size}
 use Rattle.mpm_dirent.specs.Names.{plain}
 use Rattle.mpm_fcb.proofs.Back.{bytes_back, block_back}
 use Rattle.mpm_fcb.specs.Blocks.{block_of, bytes_of}
-use Rattle.mpm_fcb.specs.Names.{drive_of}
+use Rattle.mpm_fcb.specs.Names.{drive_of, has_f5}
 use Rattle.mpm_fcb.specs.Opening.{item_of}
 use Rattle.mpm_fcb.specs.Positions.{sequential_record, at_position, extent_of}
 use Rattle.mpm_fcb.specs.declared.block.ControlBlock.{ControlBlock}
@@ -27,18 +27,20 @@ use Rattle.mpm_file_functions.specs.declared.refusals.Refusal.{Refusal}
 use Rattle.mpm_file_functions.specs.declared.refusals.Refusal.TheVariants.{NotMounted, Ambiguous, NotOpen, NotOpenToLock, BeyondFile, NotFound, ProtectedDrive, ReadOnlyFile, FileExists, WrongPassword, InUse, FileLimit, ListFull, DirectoryFull, Busy}
 use Rattle.mpm_files.specs.Plans.{file_of_job}
 use Rattle.mpm_mount.specs.Drives.{FileName, Drive, visible_of}
-use Rattle.mpm_opens.specs.Items.{file_named, file_where, is_named}
+use Rattle.mpm_opens.proofs.OneItem.{one_still}
+use Rattle.mpm_opens.specs.Items.{has_item, is_of, file_named, file_where, is_named}
+use Rattle.mpm_opens.specs.Opens.{OpensNone}
 use Rattle.mpm_opens.specs.declared.kinds.FileKey.{FileKey}
 use Rattle.mpm_opens.specs.declared.kinds.Item.{Item}
 use Rattle.mpm_refusals.specs.Filing.{Filing, Situation, block}
 use Rattle.mpm_refusals.specs.Refusals.{refusal_of}
-use Rattle.mpm_refusals.specs.Subjects.{mounted, blank_drive, drive_by, drive_number, drive_at, last_search, number_by, item_number, key_named, open_key, own_file, open_file, subject_by, subject, file_of, first_by, first_record}
+use Rattle.mpm_refusals.specs.Subjects.{mounted, blank_drive, drive_by, drive_named, drive_number, drive_at, last_search, number_by, item_number, key_named, open_key, own_file, open_file, subject_by, subject, file_of, first_by, first_record}
 use Rattle.mpm_spool.specs.Spoolers.{Spooler, took_at, block_after, with_block, record_in, row_at}
 use Rattle.mpm_spool.specs.declared.list.SpoolItem.{SpoolItem}
 use Rattle.mpm_spool.specs.declared.table.Row.TheVariants.{Read, Detach}
 use Rattle.mpm_machine.proofs.RecordRead.{ReadsOne, reads_one}
 use Rattle.mpm_machine.specs.Printed.{read_by, ended_by}
-use Rattle.mpm_machine.specs.Printing.{first_bytes, key_of_item, seen_in, ReadsFile}
+use Rattle.mpm_machine.specs.Printing.{first_bytes, key_of_spool_item, seen_in, ReadsFile}
 
 -- as others leave the file
 
@@ -49,14 +51,16 @@ same_bytes seen other same (suc k) =
     ap (λ (xs : List ℕ). xs ++ in_width 128 (unwrap_or (seen k) [])) (same_bytes seen other same k)
     ∙ ap (λ (o : Option (List ℕ)). first_bytes other k ++ in_width 128 (unwrap_or o [])) (same k)
 
-pub reads_kept : (q : ℕ) (s : Spooler) (read : List ℕ) (ended : Bool) (old new : Filing) (r : ReadsFile q s read ended old) → KeepsFile (key_of_item s.item) r.number old new
-    → ReadsFile q s read ended new
-reads_kept q s read ended old new r keeps =
-    let key = key_of_item s.item in
+pub reads_kept : (q : ℕ) (s : Spooler) (read : List ℕ) (ended : Bool) (old new : Filing) (r : ReadsFile q s read ended old) → KeepsFile (key_of_spool_item s.item) r.number old new
+    → OpensNone q old.opens new.opens → ReadsFile q s read ended new
+reads_kept q s read ended old new r keeps none =
+    let key = key_of_spool_item s.item in
     let k = sequential_record (block_of s.fcb) in
     record {
       number = r.number;
       has = has_still q key r.number old new r.has keeps;
+      one = one_still q r.number old.opens new.opens none keeps.placed r.one;
+      f5 = r.f5;
       size = r.size;
       named = r.named;
       drive = r.drive;
@@ -72,6 +76,8 @@ as_set : (q : ℕ) (s t : Spooler) (read : List ℕ) (ended : Bool) (filing : Fi
 as_set q s t read ended filing r = record {
   number = r.number;
   has = r.has;
+  one = r.one;
+  f5 = r.f5;
   size = r.size;
   named = r.named;
   drive = r.drive;
@@ -86,6 +92,44 @@ reads_again q s t read ended filing block item r =
     subst (λ (fcb : List ℕ). ReadsFile q (record t { fcb = fcb }) read ended filing) (sym block)
     (subst (λ (i : SpoolItem). ReadsFile q (record t { fcb = s.fcb; item = i }) read ended filing) (sym item) (as_set q s t read ended filing r))
 
+-- its own call that names it
+
+pub record NamesItsFile (q : ℕ) (s : Spooler) (call : Situation) : Type 0 where
+  pub process : call.caller.process ≡ q
+  pub block_is : call.call.fcb ≡ s.fcb
+  pub drive_is : drive_named call ≡ Some (drive_of 0 (block call))
+  pub number_is : item_number call ≡ item_of (block call)
+
+module _ (q : ℕ) (s : Spooler) (read : List ℕ) (ended : Bool) (call : Situation) (r : ReadsFile q s read ended call.filing) (n : NamesItsFile q s call) where
+  abbrev its_key : FileKey
+  its_key = key_of_spool_item s.item
+
+  its_block : block call ≡ block_of s.fcb
+  its_block = ap block_of n.block_is
+
+  pub named_drive : drive_named call ≡ Some its_key.drive
+  named_drive = n.drive_is ∙ ap (λ (b : ControlBlock). Some (drive_of 0 b)) its_block ∙ ap (λ (drive : ℕ). Some drive) r.drive
+
+  its_drive : drive_number call ≡ its_key.drive
+  its_drive = ap (λ (drive : Option ℕ). unwrap_or drive call.caller.drive) named_drive
+
+  named_so : (item : Item) → item.process ≡ q → item.file ≡ its_key → is_named call.caller.process (drive_number call) (plain (block call).name) item ≡ true
+  named_so item process file =
+      ap (λ (b : Bool). b && ((item.file.drive == drive_number call) && bytes_eq item.file.name (plain (block call).name))) (eq-eqb item.process call.caller.process (process ∙ sym n.process))
+      ∙ ap (λ (b : Bool). b && bytes_eq item.file.name (plain (block call).name))
+      (eq-eqb item.file.drive (drive_number call) (ap (λ (k : FileKey). k.drive) file ∙ sym its_drive))
+      ∙ (bytes_eq-Decides item.file.name (plain (block call).name)).1
+      (ap (λ (k : FileKey). k.name) file ∙ sym r.name ∙ ap (λ (b : ControlBlock). plain b.name) (sym its_block))
+
+  pub its_open_key : open_key call ≡ Some its_key
+  unfolding open_key file_named
+  its_open_key =
+      let item = r.has.item in
+      ap (option_and_then (key_named call)) (n.number_is ∙ ap item_of its_block ∙ r.named)
+      ∙ ap (file_where (is_named call.caller.process (drive_number call) (plain (block call).name))) r.has.placed
+      ∙ ap (λ (b : Bool). if b then Some item.file else None) (named_so item r.has.its_process r.has.its_file)
+      ∙ ap (λ (k : FileKey). Some k) r.has.its_file
+
 -- its own function 20
 
 pub record IsReadOf (q : ℕ) (s : Spooler) (call : Situation) : Type 0 where
@@ -95,67 +139,50 @@ pub record IsReadOf (q : ℕ) (s : Spooler) (call : Situation) : Type 0 where
   pub drive : call.caller.drive ≡ 0
   pub multi : call.caller.multi ≡ 1
 
+reading_names : (q : ℕ) (s : Spooler) (call : Situation) → IsReadOf q s call → NamesItsFile q s call
+unfolding drive_by number_by
+reading_names q s call c = record {
+  process = c.process;
+  block_is = c.block_is;
+  drive_is = ap (λ (f : FileFunction). drive_by (last_search call) call.caller.drive call.call.word (block call) f) c.function
+      ∙ ap (λ (own : ℕ). Some (drive_of own (block call))) c.drive;
+  number_is = ap (number_by (word_at call.call 0) (block call)) c.function;
+}
+
 module _ (q : ℕ) (s : Spooler) (read : List ℕ) (ended : Bool) (call : Situation) (r : ReadsFile q s read ended call.filing) (c : IsReadOf q s call) where
-  abbrev its_key : FileKey
-  its_key = key_of_item s.item
+  abbrev key_read : FileKey
+  key_read = key_of_spool_item s.item
 
   abbrev its_record : ℕ
   its_record = sequential_record (block_of s.fcb)
 
-  its_block : block call ≡ block_of s.fcb
-  its_block = ap block_of c.block_is
+  block_read : block call ≡ block_of s.fcb
+  block_read = ap block_of c.block_is
 
-  its_drive : drive_number call ≡ its_key.drive
-  unfolding drive_by
-  its_drive =
-      ap (λ (f : FileFunction). unwrap_or (drive_by (last_search call) call.caller.drive call.call.word (block call) f) call.caller.drive) c.function
-      ∙ ap (λ (own : ℕ). drive_of own (block call)) c.drive ∙ ap (λ (b : ControlBlock). drive_of 0 b) its_block ∙ r.drive
-
-  its_drive_at : drive_at call ≡ drive_in call.filing its_key.drive
+  its_drive_at : drive_at call ≡ drive_or_blank call.filing key_read.drive
   unfolding drive_at
-  its_drive_at = ap (λ (n : ℕ). unwrap_or (mounted call.filing n) blank_drive) its_drive
+  its_drive_at = ap (λ (n : ℕ). unwrap_or (mounted call.filing n) blank_drive) (its_drive q s read ended call r (reading_names q s call c))
 
-  its_number : item_number call ≡ Some r.number
-  unfolding number_by
-  its_number = ap (number_by (word_at call.call 0) (block call)) c.function ∙ ap item_of its_block ∙ r.named
-
-  named_so : (item : Item) → item.process ≡ q → item.file ≡ its_key → is_named call.caller.process (drive_number call) (plain (block call).name) item ≡ true
-  named_so item process file =
-      ap (λ (b : Bool). b && ((item.file.drive == drive_number call) && bytes_eq item.file.name (plain (block call).name))) (eq-eqb item.process call.caller.process (process ∙ sym c.process))
-      ∙ ap (λ (b : Bool). b && bytes_eq item.file.name (plain (block call).name))
-      (eq-eqb item.file.drive (drive_number call) (ap (λ (k : FileKey). k.drive) file ∙ sym its_drive))
-      ∙ (bytes_eq-Decides item.file.name (plain (block call).name)).1
-      (ap (λ (k : FileKey). k.name) file ∙ sym r.name ∙ ap (λ (b : ControlBlock). plain b.name) (sym its_block))
-
-  its_open_key : open_key call ≡ Some its_key
-  unfolding open_key file_named
-  its_open_key =
-      let item = r.has.item in
-      ap (option_and_then (key_named call)) its_number
-      ∙ ap (file_where (is_named call.caller.process (drive_number call) (plain (block call).name))) r.has.placed
-      ∙ ap (λ (b : Bool). if b then Some item.file else None) (named_so item r.has.its_process r.has.its_file)
-      ∙ ap (λ (k : FileKey). Some k) r.has.its_file
-
-  its_subject : subject call ≡ file_of its_key
+  its_subject : subject call ≡ file_of key_read
   unfolding subject_by
   its_subject =
-      ap (subject_by (drive_at call) (own_file call) (open_key call)) c.function ∙ ap (open_file (own_file call)) its_open_key
+      ap (subject_by (drive_at call) (own_file call) (open_key call)) c.function ∙ ap (open_file (own_file call)) (its_open_key q s read ended call r (reading_names q s call c))
 
-  its_file : file_of_job (reading_job call) ≡ file_of its_key
+  its_file : file_of_job (reading_job call) ≡ file_of key_read
   its_file =
       ap (λ (f : FileName). record { user = f.user; name = plain (block call).name }) its_subject
-      ∙ ap (λ (b : ControlBlock). record { user = its_key.user; name = plain b.name }) its_block
-      ∙ ap (λ (name : List ℕ). record { user = its_key.user; name = name }) r.name
+      ∙ ap (λ (b : ControlBlock). record { user = key_read.user; name = plain b.name }) block_read
+      ∙ ap (λ (name : List ℕ). record { user = key_read.user; name = name }) r.name
 
   its_first : first_record call ≡ its_record
   unfolding first_record
-  its_first = ap (first_by (block call)) c.function ∙ ap sequential_record its_block
+  its_first = ap (first_by (block call)) c.function ∙ ap sequential_record block_read
 
-  seen_so : visible_of (drive_at call) (file_of_job (reading_job call)) (first_record call) ≡ seen_in call.filing its_key its_record
+  seen_so : visible_of (drive_at call) (file_of_job (reading_job call)) (first_record call) ≡ seen_in call.filing key_read its_record
   seen_so =
       ap (λ (d : Drive). visible_of d (file_of_job (reading_job call)) (first_record call)) its_drive_at
-      ∙ ap (λ (f : FileName). visible_of (drive_in call.filing its_key.drive) f (first_record call)) its_file
-      ∙ ap (visible_of (drive_in call.filing its_key.drive) (file_of its_key)) its_first
+      ∙ ap (λ (f : FileName). visible_of (drive_or_blank call.filing key_read.drive) f (first_record call)) its_file
+      ∙ ap (visible_of (drive_or_blank call.filing key_read.drive) (file_of key_read)) its_first
 
 -- the block after it
 
@@ -231,6 +258,8 @@ not_over : (q : ℕ) (s : Spooler) (read : List ℕ) (ended : Bool) (filing : Fi
 not_over q s read ended filing r = record {
   number = r.number;
   has = r.has;
+  one = r.one;
+  f5 = r.f5;
   size = r.size;
   named = r.named;
   drive = r.drive;
@@ -240,11 +269,13 @@ not_over q s read ended filing r = record {
   none = λ e. absurd (false≢true e);
 }
 
-now_over : (q : ℕ) (s : Spooler) (read : List ℕ) (ended : Bool) (filing : Filing) → seen_in filing (key_of_item s.item) (sequential_record (block_of s.fcb)) ≡ None
+now_over : (q : ℕ) (s : Spooler) (read : List ℕ) (ended : Bool) (filing : Filing) → seen_in filing (key_of_spool_item s.item) (sequential_record (block_of s.fcb)) ≡ None
     → ReadsFile q s read ended filing → ReadsFile q s read true filing
 now_over q s read ended filing none r = record {
   number = r.number;
   has = r.has;
+  one = r.one;
+  f5 = r.f5;
   size = r.size;
   named = r.named;
   drive = r.drive;
@@ -267,12 +298,12 @@ read_more seen k bytes read is so =
     ap (λ (xs : List ℕ). xs ++ in_width 128 bytes) so ∙ ap (λ (o : Option (List ℕ)). first_bytes seen k ++ in_width 128 (unwrap_or o [])) (sym is)
     ∙ ap (first_bytes seen) (sym (add-one k))
 
-one_more : (q : ℕ) (s : Spooler) (read bytes : List ℕ) (ended : Bool) (count : ℕ) (filing : Filing) → seen_in filing (key_of_item s.item) (sequential_record (block_of s.fcb)) ≡ Some bytes
+one_more : (q : ℕ) (s : Spooler) (read bytes : List ℕ) (ended : Bool) (count : ℕ) (filing : Filing) → seen_in filing (key_of_spool_item s.item) (sequential_record (block_of s.fcb)) ≡ Some bytes
     → ReadsFile q s read ended filing
     → ReadsFile q (record s { fcb = bytes_of (at_position (block_of s.fcb) (sequential_record (block_of s.fcb) + 1) count) }) (read ++ in_width 128 bytes) false filing
 unfolding at_position item_of
 one_more q s read bytes ended count filing is r =
-    let key = key_of_item s.item in
+    let key = key_of_spool_item s.item in
     let old = block_of s.fcb in
     let k = sequential_record old in
     let new : ControlBlock = at_position old (k + 1) count in
@@ -285,6 +316,8 @@ one_more q s read bytes ended count filing is r =
     record {
       number = r.number;
       has = r.has;
+      one = r.one;
+      f5 = ap (λ (b : ControlBlock). has_f5 b) back ∙ r.f5;
       size = bytes_size new named mapped randomed;
       named = ap item_of back ∙ r.named;
       drive = ap (λ (b : ControlBlock). drive_of 0 b) back ∙ r.drive;
@@ -303,16 +336,16 @@ module _ (q : ℕ) (s : Spooler) (read : List ℕ) (ended : Bool) (call : Situat
   abbrev after_it : Filing
   after_it = (file_call call).filing
 
-  kept : KeepsFile (key_of_item s.item) r.number call.filing after_it
-  kept = kept_by_reading call q (key_of_item s.item) r.number c.function r.has
+  kept : KeepsFile (key_of_spool_item s.item) r.number call.filing after_it
+  kept = kept_by_reading call q (key_of_spool_item s.item) r.number c.function r.has
 
   still : ReadsFile q s read ended after_it
-  still = reads_kept q s read ended call.filing after_it r kept
+  still = reads_kept q s read ended call.filing after_it r kept (λ place none. ap (has_item (is_of q)) (reads_place call place c.function) ∙ none)
 
   abbrev Took : Answer → Type 0
   Took reply = TookRead (reply.hl == 0) (reply.hl == 1) q s reply read after_it
 
-  by_record : (o : Option (List ℕ)) → seen_in call.filing (key_of_item s.item) (sequential_record (block_of s.fcb)) ≡ o → refusal_of call ≡ None → Took (file_call call).answer
+  by_record : (o : Option (List ℕ)) → seen_in call.filing (key_of_spool_item s.item) (sequential_record (block_of s.fcb)) ≡ o → refusal_of call ≡ None → Took (file_call call).answer
   by_record None is none =
       let one : ReadsOne call None = reads_one call None c.function c.multi none (seen_so q s read ended call r c ∙ is) in
       let reply = (file_call call).answer in
@@ -337,7 +370,7 @@ module _ (q : ℕ) (s : Spooler) (read : List ℕ) (ended : Bool) (call : Situat
 
   by_refusal : (refusal : Option Refusal) → refusal_of call ≡ refusal → Took (file_call call).answer
   unfolding file_call
-  by_refusal None none = by_record (seen_in call.filing (key_of_item s.item) (sequential_record (block_of s.fcb))) refl none
+  by_refusal None none = by_record (seen_in call.filing (key_of_spool_item s.item) (sequential_record (block_of s.fcb))) refl none
   by_refusal (Some refusal) is =
       let reply = (file_call call).answer in
       let n = refused_value (answered refusal) in

@@ -1,6 +1,6 @@
 -- The end of a run: what was written and what the images stand for, where it came through and where it stopped.
 use Rattle.std.proofs.Common.{◌≡◌, ◌∙◌, ℕ, suc, ◌+◌, ◌*◌, ◌<◌, ◌≤◌, Bool, List, [], ◌∷◌, ◌++◌, Option, Some, None, IsSome, Result, Ok, Err, inl, inr, refl, sym, ap, subst, arith}
-use Rattle.std.specs.Prelude.{OnOk, OnErr, IfErr, is_some, option_map}
+use Rattle.std.specs.Prelude.{OnOk, IfErr, is_some, option_map}
 use Rattle.mpm_base.proofs.CountLaws.{count_cons}
 use Rattle.mpm_port.specs.Disks.{Disks}
 use Rattle.mpm_port.specs.Texts.{Begins}
@@ -9,7 +9,7 @@ use Rattle.mpm_mount.specs.Directories.{Directory}
 use Rattle.mpm_port.specs.declared.drives.Drives.{Ghosts}
 use Rattle.mpm_port.specs.Frames.{SameDrives}
 use Rattle.mpm_render.specs.Outputs.{Output, rendered, closed}
-use Rattle.mpm_render.specs.Shown.{KeptLines, Shows, EndsBetween}
+use Rattle.mpm_render.specs.Shown.{Shows, EndsBetween}
 use Rattle.mpm_render.proofs.Grows.{begins_refl, begins_more, widened}
 use Rattle.mpm_output.specs.Outside.{Outside, seen}
 use Rattle.mpm_output.proofs.WritingLaws.{rendered_onward, wrote_nothing}
@@ -17,10 +17,10 @@ use Rattle.mpm_service.specs.Ahead.{turns_left}
 use Rattle.mpm_service.specs.Disk.{DiskService, no_service, served_process}
 use Rattle.mpm_service.specs.declared.service.Served.{Served}
 use Rattle.mpm_refusals.specs.Filing.{Filing, Situation}
-use Rattle.mpm_bdos.specs.Serving.{Kept as Filed, StandEach}
+use Rattle.mpm_bdos.specs.Serving.{Kept, StandEach}
 use Rattle.mpm_directories.specs.Places.{directory_at}
 use Rattle.mpm_bdos.specs.Syncing.{mounted_count}
-use Rattle.mpm_bdos.specs.Turns.{KeepsUnsynced, drive_served, labelled, images_of}
+use Rattle.mpm_bdos.specs.Turns.{KeepsUnsynced, drive_served, drive_and_kind, images_of}
 use Rattle.mpm_system.specs.declared.system.System.{System}
 use Rattle.mpm_machine.specs.declared.machine.Machine.{Machine}
 use Rattle.mpm_machine.specs.declared.machine.StepFault.{StepFault}
@@ -34,12 +34,12 @@ use Rattle.mpm_machine.specs.Settling.{at_end, carried_out, carried, HasCarried,
 use Rattle.mpm_machine.specs.AtEnd.{EndsRun, StopsAtEnd, StopsSettling, DriveCalls, TurnsCall, SyncsTo}
 
 -- the images stand for what is on the drives where no call is in service
-between_stand : (served : Option Served) (kept : Filed) (disks : Disks) (filing : Filing) → StandsServed served kept disks (Between filing)
+between_stand : (served : Option Served) (kept : Kept) (disks : Disks) (filing : Filing) → StandsServed served kept disks (Between filing)
     → StandEach (images_of disks) kept.mounted filing.drives
 between_stand None kept disks filing s = s.stand
 between_stand (Some call) kept disks filing s = absurd s
 
-end_stands : (files : FilesInService) (system : System) (served : Option Served) (kept : Filed) (disks : Disks) → StandsServed served kept disks (at_end files system).files
+end_stands : (files : FilesInService) (system : System) (served : Option Served) (kept : Kept) (disks : Disks) → StandsServed served kept disks (at_end files system).files
     → StandEach (images_of disks) kept.mounted (filing_in (at_end files system).files).drives
 unfolding carried_out
 end_stands (Between filing) system served kept disks s = between_stand served kept disks filing s
@@ -47,25 +47,25 @@ end_stands (Within call) system served kept disks s = between_stand served kept 
 
 -- after the end
 
-pub carried_shows : (s : State) (o m : Outside) (old new : System) (kept : Filed) (disks : Disks) (first : List ℕ) → old ≡ s.system
+pub carried_shows : (s : State) (o m : Outside) (old new : System) (kept : Kept) (disks : Disks) (first : List ℕ) → old ≡ s.system
     → HasCarried s.files o m old new kept disks → Shows o.kept o.written s.outputs first → Shows m.kept m.written (carried s).outputs first
 unfolding carried
 carried_shows s o m old new kept disks first same has shows =
     subst (λ (system : System). Shows m.kept m.written ((at_end s.files system).change.emitted ++ s.outputs) first) same (has.wrote.shown s.outputs first shows)
 
-pub carried_system : (s : State) (o m : Outside) (old new : System) (kept : Filed) (disks : Disks) → old ≡ s.system → HasCarried s.files o m old new kept disks
+pub carried_system : (s : State) (o m : Outside) (old new : System) (kept : Kept) (disks : Disks) → old ≡ s.system → HasCarried s.files o m old new kept disks
     → new ≡ (carried s).system
 unfolding carried
 carried_system s o m old new kept disks same has = has.system ∙ ap (λ (system : System). (at_end s.files system).change.system) same
 
-pub carried_files : (s : State) (o m : Outside) (old new : System) (kept : Filed) (disks now : Disks) → old ≡ s.system
+pub carried_files : (s : State) (o m : Outside) (old new : System) (kept : Kept) (disks now : Disks) → old ≡ s.system
     → HasCarried s.files o m old new kept disks → now ≡ disks → StandsForFiles new.kernel.disk kept now (carried s).files
 unfolding carried
 carried_files s o m old new kept disks now same has synced =
     subst (λ (d : Disks). StandsForFiles new.kernel.disk kept d (at_end s.files s.system).files) (sym synced)
     (subst (λ (system : System). StandsForFiles new.kernel.disk kept disks (at_end s.files system).files) same has.stands)
 
-pub settled_stand : (s : State) (disk : DiskService) (kept : Filed) (disks : Disks) → StandsForFiles disk kept disks (carried s).files
+pub settled_stand : (s : State) (disk : DiskService) (kept : Kept) (disks : Disks) → StandsForFiles disk kept disks (carried s).files
     → StandEach (images_of disks) kept.mounted (filing_in (carried s).files).drives
 unfolding carried
 settled_stand s disk kept disks stands = end_stands s.files s.system disk.served kept disks stands.stands
@@ -81,7 +81,7 @@ ends_run (Ok x) machine s o m old disks now trace trace' written first same has 
 }
 ends_run (Err e) machine s o m old disks now trace trace' written first same has synced traces text = tt
 
-pub carried_images : (s : State) (o m : Outside) (old new : System) (kept : Filed) (disks now : Disks) → old ≡ s.system
+pub carried_images : (s : State) (o m : Outside) (old new : System) (kept : Kept) (disks now : Disks) → old ≡ s.system
     → HasCarried s.files o m old new kept disks → now ≡ disks → HaveImages now kept.mounted (filing_in (carried s).files).drives
 carried_images s o m old new kept disks now same has synced = record {
   directories = kept.mounted;
@@ -108,7 +108,7 @@ ends_from written first trace more from to ends =
 abbrev left_at : Outside → Disks → List (Option Directory) → Left
 left_at seen disks mounted = record { kept = seen.kept; written = seen.written; disks = disks; mounted = mounted }
 
-pub stops_carrying : (fault : StepFault) (s : State) (o m : Outside) (old : System) (mounted : List (Option Directory)) (disks : Disks) (first : List ℕ) (kept : Filed) (before behind : DriveCalls)
+pub stops_carrying : (fault : StepFault) (s : State) (o m : Outside) (old : System) (mounted : List (Option Directory)) (disks : Disks) (first : List ℕ) (kept : Kept) (before behind : DriveCalls)
     → old ≡ s.system → m.kept.trace ≡ o.kept.trace → Shows o.kept o.written s.outputs first → StopsCarrying fault s.files o m old mounted disks → TurnsCall old kept before behind
     → StopsAtEnd fault (left_at m disks mounted) kept before behind s first
 unfolding carried
@@ -128,7 +128,7 @@ stops_carrying DiskFault s o m old mounted disks first kept before behind same t
 
 -- or as the drives were synced, or lines closed
 
-pub stops_closing : (fault : StepFault) (s : State) (m n : Outside) (mounted : List (Option Directory)) (disks : Disks) (first : List ℕ) (kept : Filed) (before between now : DriveCalls)
+pub stops_closing : (fault : StepFault) (s : State) (m n : Outside) (mounted : List (Option Directory)) (disks : Disks) (first : List ℕ) (kept : Kept) (before between now : DriveCalls)
     → TurnsCall s.system kept before between → SyncsTo fault mounted between now → n.kept.trace ≡ m.kept.trace
     → Shows m.kept m.written (carried s).outputs first → OnDiskFault fault (n ≡ m)
     → EndsBy fault n.written first (rendered m.kept.trace (carried s).outputs) (closed m.kept.trace (carried s).outputs)
@@ -145,16 +145,8 @@ stops_closing DiskFault s m n mounted disks first kept before between now turns 
       calls = record { between = between; turns = turns; syncs = syncs };
     })
 
-pub seen_same : {S : Type 0} (written : S → List ℕ) (faults : S → ℕ) (kept kept' : KeptLines) (sink sink' : S) → (kept' ≡ kept) × (sink' ≡ sink)
-    → seen written faults kept' sink' ≡ seen written faults kept sink
-seen_same written faults kept kept' sink sink' same = ap (λ (k : KeptLines). seen written faults k sink') same.0 ∙ ap (seen written faults kept) same.1
-
-pub on_fault : (fault : StepFault) (P Q : Type 0) → (P → Q) → OnDiskFault fault P → OnDiskFault fault Q
-on_fault WriteFault P Q so p = tt
-on_fault DiskFault P Q so p = so p
-
 -- after the turns the drives were synced, or not all of them
-pub syncs_after : {A : Type 0} (r : Result A StepFault) (kept : Filed) (mounted : List (Option Directory)) (before between now : DriveCalls) (system : System)
+pub syncs_after : {A : Type 0} (r : Result A StepFault) (kept : Kept) (mounted : List (Option Directory)) (before between now : DriveCalls) (system : System)
     → TurnsCall system kept before between → IfErr r (λ fault. SyncsTo fault mounted between now) → IfErr r (λ fault. StopsSettling fault mounted kept before now system)
 syncs_after (Ok x) kept mounted before between now system turns syncs = tt
 syncs_after (Err fault) kept mounted before between now system turns syncs = inr (record { between = between; turns = turns; syncs = syncs })
@@ -169,16 +161,16 @@ keeps_synced told told' told'' x y z one other keeps same told_same =
 pub same_still : {D : Type 0} (of : Ghosts D) (drives now : D) → now ≡ drives → SameDrives of drives now
 same_still of drives now same = record { images = ap of.disks same; told_are = ap of.told same; failed = ap of.failed_names same }
 
-some_label : (d : Directory) → Some (labelled d) ≡ None → ⊥
+some_label : (d : Directory) → Some (drive_and_kind d) ≡ None → ⊥
 some_label d e = absurd (cc)
 
-none_label : (d : Directory) → None ≡ Some (labelled d) → ⊥
+none_label : (d : Directory) → None ≡ Some (drive_and_kind d) → ⊥
 none_label d e = absurd (cc)
 
 abbrev is_there : Option Directory → Bool
 is_there directory = is_some directory
 
-pub same_count : (one other : List (Option Directory)) → ((number : ℕ) → option_map labelled (directory_at other number) ≡ option_map labelled (directory_at one number))
+pub same_count : (one other : List (Option Directory)) → ((number : ℕ) → option_map drive_and_kind (directory_at other number) ≡ option_map drive_and_kind (directory_at one number))
     → mounted_count other ≡ mounted_count one
 same_count [] [] same = refl
 same_count [] (None ∷ other) same = same_count [] other (λ number. same (suc number))
@@ -233,13 +225,12 @@ some_call : (served : Option Served) (p : ℕ) → option_map (λ (call : Served
 some_call None p some = absurd (cc)
 some_call (Some call) p some = refl
 
-pub served_err : {A E : Type 0} (r : Result A E) (system : System) (p : ℕ) → served_process system.kernel.disk ≡ Some p → OnErr r (IsSome system.kernel.disk.served)
+pub is_served : (system : System) (p : ℕ) → served_process system.kernel.disk ≡ Some p → IsSome system.kernel.disk.served
 unfolding served_process
-served_err (Ok x) system p some = tt
-served_err (Err e) system p some = some_call system.kernel.disk.served p some
+is_served system p some = some_call system.kernel.disk.served p some
 
 -- the turns that are left to the one in service call its drive
-pub turns_call : (system : System) (p : ℕ) (kept : Filed) (before behind : DriveCalls) (turns : ℕ) → served_process system.kernel.disk ≡ Some p
+pub turns_call : (system : System) (p : ℕ) (kept : Kept) (before behind : DriveCalls) (turns : ℕ) → served_process system.kernel.disk ≡ Some p
     → KeepsUnsynced (drive_served kept.service) before.unsynced behind.unsynced → behind.calls ≤ before.calls + 20 * turns → turns ≡ turns_left system.kernel.disk
     → TurnsCall system kept before behind
 turns_call system p kept before behind turns serves unsynced calls all = record {
@@ -248,11 +239,11 @@ turns_call system p kept before behind turns serves unsynced calls all = record 
   idle = λ none. somebody_served system p _ serves none;
 }
 
-none_within : (served : Option Served) (kept : Filed) (disks : Disks) (s : Situation) → served ≡ None → StandsServed served kept disks (Within s) → ⊥
+none_within : (served : Option Served) (kept : Kept) (disks : Disks) (s : Situation) → served ≡ None → StandsServed served kept disks (Within s) → ⊥
 none_within None kept disks s none stands = stands
 none_within (Some call) kept disks s none stands = absurd (cc)
 
-pub nothing_carried : (files : FilesInService) (o : Outside) (system : System) (kept : Filed) (disks : Disks) → served_process system.kernel.disk ≡ None
+pub nothing_carried : (files : FilesInService) (o : Outside) (system : System) (kept : Kept) (disks : Disks) → served_process system.kernel.disk ≡ None
     → StandsForFiles system.kernel.disk kept disks files → HasCarried files o o system system kept disks
 nothing_carried (Between filing) o system kept disks none stands = record { system = refl; wrote = wrote_nothing o; stands = stands }
 nothing_carried (Within s) o system kept disks none stands =
@@ -260,12 +251,7 @@ nothing_carried (Within s) o system kept disks none stands =
 
 -- by the result of what came last
 
-pub err_seen : {A S : Type 0} (r : Result A StepFault) (written : S → List ℕ) (faults : S → ℕ) (kept kept' : KeptLines) (sink sink' : S)
-    → IfErr r (λ fault. OnDiskFault fault ((kept' ≡ kept) × (sink' ≡ sink))) → IfErr r (λ fault. OnDiskFault fault (seen written faults kept' sink' ≡ seen written faults kept sink))
-err_seen (Ok x) written faults kept kept' sink sink' same = tt
-err_seen (Err fault) written faults kept kept' sink sink' same = on_fault fault _ _ (seen_same written faults kept kept' sink sink') same
-
-pub err_stops : {A : Type 0} (r : Result A StepFault) (s : State) (m n : Outside) (mounted : List (Option Directory)) (disks : Disks) (first : List ℕ) (kept : Filed) (before between now : DriveCalls)
+pub err_stops : {A : Type 0} (r : Result A StepFault) (s : State) (m n : Outside) (mounted : List (Option Directory)) (disks : Disks) (first : List ℕ) (kept : Kept) (before between now : DriveCalls)
     → TurnsCall s.system kept before between → IfErr r (λ fault. SyncsTo fault mounted between now) → n.kept.trace ≡ m.kept.trace
     → Shows m.kept m.written (carried s).outputs first → IfErr r (λ fault. OnDiskFault fault (n ≡ m))
     → IfErr r (λ fault. EndsBy fault n.written first (rendered m.kept.trace (carried s).outputs) (closed m.kept.trace (carried s).outputs))

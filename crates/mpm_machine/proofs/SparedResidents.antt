@@ -22,7 +22,7 @@ use Rattle.mpm_procs.specs.declared.process.NewProcess.{NewProcess}
 use Rattle.mpm_procs.specs.declared.process.Process.{Process}
 use Rattle.mpm_residents.specs.Natives.{native_in, native_call, native_act, answer_taken, native_took}
 use Rattle.mpm_residents.specs.declared.cli.act.Act.{Act}
-use Rattle.mpm_residents.specs.declared.cli.act.Act.TheVariants.{Ask, Place, Patch, Begin, Give}
+use Rattle.mpm_residents.specs.declared.cli.act.Act.TheVariants.{Ask, PlaceBytes, MoveCode, BeginProcess, GiveConsole}
 use Rattle.mpm_residents.specs.declared.native.Native.{Native}
 use Rattle.mpm_system.proofs.PlacedLaws.{given_disk}
 use Rattle.mpm_system.proofs.WholeLaws.{keeps_asked}
@@ -50,7 +50,7 @@ set_other (first ∷ others) zero (suc q) native other = refl
 set_other (first ∷ others) (suc p) zero native other = refl
 set_other (first ∷ others) (suc p) (suc q) native other = set_other others p q native (λ is. other (ap suc is))
 
-taken_other : (o : Option Native) (reply : Answer) (p q : ℕ) (natives : List Native) → q ≢ p → native_in (answer_taken o reply p natives) q ≡ native_in natives q
+pub taken_other : (o : Option Native) (reply : Answer) (p q : ℕ) (natives : List Native) → q ≢ p → native_in (answer_taken o reply p natives) q ≡ native_in natives q
 taken_other None reply p q natives other = refl
 taken_other (Some native) reply p q natives other = set_other natives p q (native_took native reply) other
 
@@ -97,7 +97,7 @@ spares_asks q call p system keeps w h ready other =
 
 -- what the interpreter hands over
 
-spares_given : (q console p : ℕ) (system : System) → IsWhole system → Spares q system (silent (handed_over (Give console) [] p system))
+spares_given : (q console p : ℕ) (system : System) → IsWhole system → Spares q system (silent (handed_over (GiveConsole console) [] p system))
 spares_given q console p system w =
     let gave = given console (Some p) None system.kernel in
     either (λ (k : Kernel). Spares q system (silent (record system { kernel = k }))) (is_console console system.kernel) gave system.kernel
@@ -143,7 +143,7 @@ awaits_begun q (Some r) k p new system w below free a =
     (lives_added system.kernel.dispatcher.procs r new (free_below system.kernel.dispatcher.procs r free))
     (awaits_in_slot k q system.kernel new (Some r) w.sound free a)
 
-spares_beginning : (q seg : ℕ) (new : NewProcess) (p : ℕ) (system : System) → IsWhole system → Lives system.kernel.dispatcher.procs q → Spares q system (silent (handed_over (Begin seg new) [] p system))
+spares_beginning : (q seg : ℕ) (new : NewProcess) (p : ℕ) (system : System) → IsWhole system → Lives system.kernel.dispatcher.procs q → Spares q system (silent (handed_over (BeginProcess seg new) [] p system))
 spares_beginning q seg new p system w h =
     let here = record new { seg = Some seg } in
     let slot = lowest_free system.kernel.dispatcher.procs in
@@ -158,10 +158,10 @@ spares_beginning q seg new p system w h =
 
 spares_handed : (q : ℕ) (act : Act) (bytes : List ℕ) (p : ℕ) (system : System) → IsWhole system → Lives system.kernel.dispatcher.procs q → Spares q system (silent (handed_over act bytes p system))
 spares_handed q Ask bytes p system w h = spares_itself q system
-spares_handed q (Place seg address count) bytes p system w h = spares_same q system _ refl refl refl refl refl refl (λ x. x)
-spares_handed q (Patch seg address count page) bytes p system w h = spares_same q system _ refl refl refl refl refl refl (λ x. x)
-spares_handed q (Begin seg new) bytes p system w h = spares_beginning q seg new p system w h
-spares_handed q (Give console) bytes p system w h = spares_given q console p system w
+spares_handed q (PlaceBytes seg address count) bytes p system w h = spares_same q system _ refl refl refl refl refl refl (λ x. x)
+spares_handed q (MoveCode seg address count page) bytes p system w h = spares_same q system _ refl refl refl refl refl refl (λ x. x)
+spares_handed q (BeginProcess seg new) bytes p system w h = spares_beginning q seg new p system w h
+spares_handed q (GiveConsole console) bytes p system w h = spares_given q console p system w
 
 spares_handing : (q : ℕ) (act : Act) (call : Taken) (p : ℕ) (system : System) → IsWhole system → Lives system.kernel.dispatcher.procs q → q ≢ p
     → Spares q system (silent (handing_step act call p system))
@@ -173,10 +173,10 @@ spares_handing q act call p system w h other =
 spares_by_act : (q : ℕ) (act : Act) (call : Taken) (p : ℕ) (system : System) → call_of system.kernel.dispatcher.procs p ≡ call → IsWhole system → Lives system.kernel.dispatcher.procs p
     → IsReady system.kernel.dispatcher p → q ≢ p → Lives system.kernel.dispatcher.procs q → Spares q system (native_step act call p system)
 spares_by_act q Ask call p system keeps w h ready other living = spares_asks q call p system keeps w h ready other
-spares_by_act q (Place seg address count) call p system keeps w h ready other living = spares_handing q (Place seg address count) call p system w living other
-spares_by_act q (Patch seg address count page) call p system keeps w h ready other living = spares_handing q (Patch seg address count page) call p system w living other
-spares_by_act q (Begin seg new) call p system keeps w h ready other living = spares_handing q (Begin seg new) call p system w living other
-spares_by_act q (Give console) call p system keeps w h ready other living = spares_handing q (Give console) call p system w living other
+spares_by_act q (PlaceBytes seg address count) call p system keeps w h ready other living = spares_handing q (PlaceBytes seg address count) call p system w living other
+spares_by_act q (MoveCode seg address count page) call p system keeps w h ready other living = spares_handing q (MoveCode seg address count page) call p system w living other
+spares_by_act q (BeginProcess seg new) call p system keeps w h ready other living = spares_handing q (BeginProcess seg new) call p system w living other
+spares_by_act q (GiveConsole console) call p system keeps w h ready other living = spares_handing q (GiveConsole console) call p system w living other
 
 pub spares_resided : (q : ℕ) (native : Option Native) (p : ℕ) (system : System) → IsWhole system → Lives system.kernel.dispatcher.procs p → IsReady system.kernel.dispatcher p
     → q ≢ p → Lives system.kernel.dispatcher.procs q → Spares q system (resided native p system)

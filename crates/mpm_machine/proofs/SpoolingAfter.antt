@@ -5,7 +5,7 @@ use Rattle.std.proofs.lemmas.List.{take_at, length-reverse}
 use Rattle.mpm_kernel.specs.Awaiting.{completions}
 use Rattle.mpm_port.specs.Texts.{Begins}
 use Rattle.mpm_render.specs.Outputs.{Output}
-use Rattle.mpm_opens.specs.Opens.{AreOpen}
+use Rattle.mpm_opens.specs.Opens.{AreOpen, HasNone}
 use Rattle.mpm_refusals.specs.Filing.{Filing}
 use Rattle.mpm_service.proofs.PlaceLaws.{at_none}
 use Rattle.mpm_service.specs.Disk.{DiskService, no_service}
@@ -25,7 +25,7 @@ use Rattle.mpm_machine.proofs.TextLaws.{prints_file}
 use Rattle.mpm_machine.specs.Files.{Between, filing_in, owes}
 use Rattle.mpm_machine.specs.Interpreting.{sets_or_chains}
 use Rattle.mpm_machine.specs.Printed.{text_of, to_printer, read_in, printed_in, has_file, has_printer, bytes_to}
-use Rattle.mpm_machine.specs.Printing.{HasText, key_of_item, seen_in, ServedBy, at_beginning, IsPrinting}
+use Rattle.mpm_machine.specs.Printing.{HasText, key_of_spool_item, seen_in, ServedBy, at_beginning, IsPrinting}
 use Rattle.mpm_machine.specs.Slots.{HasResidents}
 use Rattle.mpm_machine.specs.Spooling.{IsSpooling}
 use Rattle.mpm_machine.specs.State.{State}
@@ -50,11 +50,11 @@ spools_at_first consoles spool sched system turn_steps has w none disk asked =
       printed = λ e. absurd (false≢true e);
     }
 
--- and its file, whatever is open
+-- and its file, whatever others have open
 pub prints_at_first : (consoles : ℕ) (spool sched : Bool) (system : System) (turn_steps : ℕ) → HasResidents consoles spool sched system → IsWhole system → NoCompletions system
-    → system.kernel.disk ≡ no_service turn_steps → spool ≡ true → (filing : Filing) → AreOpen filing.opens → IsPrinting (consoles + 1) (at_beginning filing system)
+    → system.kernel.disk ≡ no_service turn_steps → spool ≡ true → (filing : Filing) → AreOpen filing.opens → HasNone (consoles + 1) filing.opens → IsPrinting (consoles + 1) (at_beginning filing system)
 unfolding after_answers opening no_service spools_at_first
-prints_at_first consoles spool sched system turn_steps has w none disk asked filing opens =
+prints_at_first consoles spool sched system turn_steps has w none disk asked filing opens without =
     let nobody : (p : ℕ) → at_disk system.kernel.disk p ≡ 0 = λ p. ap (λ (d : DiskService). at_disk d p) disk ∙ at_none turn_steps p in
     let spooling = spools_at_first consoles spool sched system turn_steps has w none disk asked in
     record {
@@ -62,7 +62,7 @@ prints_at_first consoles spool sched system turn_steps has w none disk asked fil
       filed = λ p some. absurd (omega (arith, some, nobody p));
       turns = λ p some. absurd (omega (arith, some, nobody p));
       served = subst (λ (served : Option Served). ServedBy served (Between filing)) (sym (ap (λ (d : DiskService). d.served) disk)) tt;
-      reads = record { opens = opens; its_call = tt; file = λ e. absurd (false≢true e) };
+      reads = record { opens = opens; its_call = tt; file = λ e. absurd (false≢true e); without = λ _. without };
       prints = prints_file (consoles + 1) spooling.answers filing (λ e. absurd (false≢true e));
     }
 
@@ -107,7 +107,7 @@ printed_last q system outputs i has few =
     last_by q system outputs i (to_printer (text_of (read_in i.answers))) has few ((prints_text i.answers).begins (printer_has_file (after_answers i.answers).row has))
 
 -- and of the file's text
-pub file_last : (q : ℕ) (s : State) (p : IsPrinting q s) (text : List ℕ) → HasText (seen_in (filing_in s.files) (key_of_item (after_answers p.spooling.answers).item)) text
+pub file_last : (q : ℕ) (s : State) (p : IsPrinting q s) (text : List ℕ) → HasText (seen_in (filing_in s.files) (key_of_spool_item (after_answers p.spooling.answers).item)) text
     → has_printer (after_answers p.spooling.answers).row ≡ true → length (printed_in p.spooling.answers) < 2 ^ 64
     → take (after_answers p.spooling.answers).printed (bytes_to 0 s.outputs) ≡ reverse (take (after_answers p.spooling.answers).printed (to_printer text))
 file_last q s p text has_text has few =

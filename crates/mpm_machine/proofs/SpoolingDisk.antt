@@ -47,7 +47,7 @@ use Rattle.mpm_machine.specs.Due.{with_ends}
 use Rattle.mpm_machine.specs.FileCalls.{calls_files, called_next, concluded, file_caller, file_caller_by, is_file_number, is_of_files}
 use Rattle.mpm_machine.specs.Files.{owes}
 use Rattle.mpm_machine.specs.Printed.{bytes_to}
-use Rattle.mpm_machine.specs.Spooling.{IsAtHome, IsFiled}
+use Rattle.mpm_machine.specs.Spooling.{IsAtHome, KeepsFileCall}
 use Rattle.mpm_machine.specs.Stepping.{Telling, begun_as, begun_with, ended_after, entered_after, is_instruction, paid_after, rest_of, step_with, unwritten_rest}
 
 -- a step of the disk in which its call isn't over
@@ -250,7 +250,7 @@ pub record Rests (Such Over_it Paid Entered Ended : List Answer → Type 0) (q :
   pub paid : (answers : List Answer) → owes (disk_served telling.at_disk system).system.owed q ≡ false → Over_it answers → Paid answers
   pub paid_stays : Stays Paid
   pub enters : (answers : List Answer) → IsAtHome q (paid_after telling.at_disk system)
-      → (0 < at_disk (paid_after telling.at_disk system).kernel.disk q → IsFiled q answers (paid_after telling.at_disk system)) → Paid answers → Entered answers
+      → (0 < at_disk (paid_after telling.at_disk system).kernel.disk q → KeepsFileCall q answers (paid_after telling.at_disk system)) → Paid answers → Entered answers
   pub enters_stays : Stays Entered
   pub ends : (answers : List Answer) → owes (ended_after telling system).owed q ≡ false → Entered answers → Ended answers
   pub ends_stays : Stays Ended

@@ -49,7 +49,7 @@ use Rattle.mpm_machine.specs.DiskStep.{file_called, is_done_at_once}
 use Rattle.mpm_machine.specs.Ending.{ended}
 use Rattle.mpm_machine.specs.FileCalls.{answered_by, concluded, error_met, told_then, is_of_files, called_next, is_file_number, calls_files}
 use Rattle.mpm_machine.specs.Printed.{has_printer, printed_by, printed_in}
-use Rattle.mpm_machine.specs.Spooling.{IsAtHome, IsFiled, may_wait, spooler_awaits, opens_or_attaches}
+use Rattle.mpm_machine.specs.Spooling.{IsAtHome, KeepsFileCall, may_wait, spooler_awaits, opens_or_attaches}
 
 -- another's call
 
@@ -147,7 +147,7 @@ spares_made q p system other =
 -- what is so of its answers, and what is then, where a process's call has come to something
 pub record Passes (Such New : List Answer → Type 0) (q p : ℕ) (told : Directly) (system : System) : Type 0 where
   pub others : q ≢ p → (answers : List Answer) → Such answers → New answers
-  pub own : q ≡ p → (answers : List Answer) → IsAtHome q system → IsFiled q answers system → Such answers → (told.caller ≡ Unchanged) × New (told.answer ∷ answers)
+  pub own : q ≡ p → (answers : List Answer) → IsAtHome q system → KeepsFileCall q answers system → Such answers → (told.caller ≡ Unchanged) × New (told.answer ∷ answers)
 
 -- and where it was made: it is done at once, or waits for the disk
 pub record Called (Such New : List Answer → Type 0) (q p : ℕ) (told : Directly) (system : System) : Type 0 where
@@ -165,7 +165,7 @@ others_so {Such} {New} q p told system c other answers so = by_test (is_done_at_
 pub record MakesFiled (q : ℕ) (answers : List Answer) (system : System) (outputs : List Output) : Type 0 where
   pub acts : native_in system.residents q ≡ Some (Spool (after answers))
   pub home : IsAtHome q system
-  pub filed : IsFiled q answers system
+  pub filed : KeepsFileCall q answers system
   pub none : AwaitsIn 0 q system.kernel
   pub gone : at_disk system.kernel.disk q ≡ 0
   pub has : has_printer (after answers).row ≡ true → HasPrinter q (printed_in answers) system.kernel outputs

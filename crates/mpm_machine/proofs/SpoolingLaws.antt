@@ -23,7 +23,7 @@ use Rattle.mpm_machine.proofs.SparedParts.{Spares, bytes_both}
 use Rattle.mpm_machine.specs.FileCalls.{is_of_files}
 use Rattle.mpm_machine.specs.Interpreting.{sets_or_chains}
 use Rattle.mpm_machine.specs.Printed.{printed_in, has_printer, bytes_to}
-use Rattle.mpm_machine.specs.Spooling.{IsAtHome, IsFiled, IsSpooling, spooler_awaits, opens_or_attaches}
+use Rattle.mpm_machine.specs.Spooling.{IsAtHome, KeepsFileCall, IsSpooling, spooler_awaits, opens_or_attaches}
 
 -- what else is so of the answers that it took, which stays so as it takes an answer to a call that isn't on files
 
@@ -35,7 +35,7 @@ pub record Spools (Such : List Answer → Type 0) (q : ℕ) (system : System) (o
   pub acts : native_in system.residents q ≡ Some (Spool (after answers))
   pub home : IsAtHome q system
   pub asks : (after answers).row ≡ Attach → opens_or_attaches (call_of system.kernel.dispatcher.procs q).function ≡ true
-  pub filed : 0 < at_disk system.kernel.disk q → IsFiled q answers system
+  pub filed : 0 < at_disk system.kernel.disk q → KeepsFileCall q answers system
   pub awaits : AwaitsIn (spooler_awaits (at_disk system.kernel.disk q) (after answers).row) q system.kernel
   pub owns : has_printer (after answers).row ≡ true → owner_of system.kernel.units (Printer 0) ≡ Some q
   pub printed : has_printer (after answers).row ≡ true → Begins (reverse (printed_in answers)) (bytes_to 0 outputs)
@@ -102,12 +102,12 @@ spooling_by {Such} q old change outputs s i = record {
   so = i.so;
   stays = i.stays;
 } where
-  filed_still : IsFiled q i.answers old → IsFiled q i.answers change.system
+  filed_still : KeepsFileCall q i.answers old → KeepsFileCall q i.answers change.system
   filed_still f = record { files = f.files; kept = s.beside.function ∙ f.kept; block = s.printer.block ∙ f.block }
 
 -- it takes an answer
 
-set_itself : (natives : List Native) (q : ℕ) (native new : Native) → slice_get natives q ≡ Some native → slice_get (slice_set natives q new) q ≡ Some new
+pub set_itself : (natives : List Native) (q : ℕ) (native new : Native) → slice_get natives q ≡ Some native → slice_get (slice_set natives q new) q ≡ Some new
 set_itself [] q native new is = absurd (cc)
 set_itself (first ∷ others) zero native new is = refl
 set_itself (first ∷ others) (suc q) native new is = set_itself others q native new is

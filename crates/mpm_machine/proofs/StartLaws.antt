@@ -4,7 +4,7 @@ use Rattle.std.specs.Prelude.{unwrap_or, slice_index_or}
 use Rattle.std.specs.FinMap.{get-empty}
 use Rattle.std.proofs.lemmas.Option.{none-some}
 use Rattle.mpm_bdos.specs.Ending.{IsSoundDrive}
-use Rattle.mpm_bdos.specs.OpenToRead.{drive_in}
+use Rattle.mpm_bdos.specs.OpenToRead.{drive_or_blank}
 use Rattle.mpm_bdos.specs.Serving.{Kept}
 use Rattle.mpm_bdos.specs.Turns.{images_of}
 use Rattle.mpm_directories.specs.Places.{directory_at}
@@ -14,6 +14,7 @@ use Rattle.mpm_mount.proofs.InSlots.{extent_of_image}
 use Rattle.mpm_mount.proofs.LookedUp.{kind_of}
 use Rattle.mpm_mount.specs.Directories.{Directory}
 use Rattle.mpm_mount.specs.Drives.{FileName, Drive, IsOfImage, entry_cmp, visible_of}
+use Rattle.mpm_opens.proofs.OneItem.{none_at_first}
 use Rattle.mpm_port.specs.Disks.{Disks}
 use Rattle.mpm_refusals.specs.Asking.{StandsWhere}
 use Rattle.mpm_refusals.specs.Filing.{Filing}
@@ -48,7 +49,7 @@ prints_from_start file events drives n is script asked =
     let has = has_residents file events (booted file events) (opened file events) refl bare.whole refl in
     printing_after (file.consoles + 1) n (at_beginning (untouched drives) (opened file events)) whole
     (prints_at_first file.consoles file.spool file.sched (opened file events) file.disk_turn has whole (opened_handed file events is script) (opened_disk file events is script) asked
-    (untouched drives) (locks_at_first drives))
+    (untouched drives) (locks_at_first drives) (none_at_first (file.consoles + 1)))
 
 -- where images stand for the drives, a file has a text
 
@@ -63,7 +64,7 @@ sound_by number image (Some d) (Some drive) stands = record {
 }
 
 pub standing_text : (kept : Kept) (disks : Disks) (filing : Filing) (number : ℕ) (file : FileName) → StandsBetween kept disks filing
-    → (text : List ℕ) × HasText (visible_of (drive_in filing number) file) text
+    → (text : List ℕ) × HasText (visible_of (drive_or_blank filing number) file) text
 standing_text kept disks filing number file stands =
-    file_has_text (drive_in filing number) file
+    file_has_text (drive_or_blank filing number) file
     (sound_by number (images_of disks number) (directory_at kept.mounted number) (slice_index_or filing.drives number None) (stands.stand.each number))

@@ -16,7 +16,7 @@ use Rattle.mpm_render.specs.Completions.{Completion}
 use Rattle.mpm_dispatcher.specs.Dispatch.{first_completed}
 use Rattle.mpm_kernel.specs.Called.{low_parameter}
 use Rattle.mpm_residents.specs.declared.cli.act.Act.{Act}
-use Rattle.mpm_residents.specs.declared.cli.act.Act.TheVariants.{Ask, Place, Patch, Begin, Give}
+use Rattle.mpm_residents.specs.declared.cli.act.Act.TheVariants.{Ask, PlaceBytes, MoveCode, BeginProcess, GiveConsole}
 use Rattle.mpm_residents.specs.Natives.{native_act, native_call, native_in}
 use Rattle.mpm_residents.specs.declared.native.Native.{Native}
 use Rattle.mpm_interrupts.specs.Interrupts.{due_taken}
@@ -154,10 +154,10 @@ native_tally Retry reply call p system = refl
 
 handed_tally : (act : Act) (call : Taken) (p : ℕ) (system : System) → tally (handed_over act call.bytes p system) ≡ tally system
 handed_tally Ask call p system = refl
-handed_tally (Place seg address count) call p system = refl
-handed_tally (Patch seg address count page) call p system = refl
-handed_tally (Begin seg new) call p system = either (λ (s : System). tally s ≡ tally system) (begins seg new system) _ _ (λ _. refl) (λ _. refl)
-handed_tally (Give console) call p system = refl
+handed_tally (PlaceBytes seg address count) call p system = refl
+handed_tally (MoveCode seg address count page) call p system = refl
+handed_tally (BeginProcess seg new) call p system = either (λ (s : System). tally s ≡ tally system) (begins seg new system) _ _ (λ _. refl) (λ _. refl)
+handed_tally (GiveConsole console) call p system = refl
 
 text_tally : (call : Taken) (system : System) → tally (text_told call system).system ≡ tally system
 unfolding speaking
@@ -169,10 +169,10 @@ unfolding telling_step calling_step handing_step
 native_step_tally Ask call p system =
     either (λ (change : SystemChange). tally change.system ≡ tally system) (tells (native_in system.residents p) call) _ _ (λ _. text_tally call system)
     (λ _. native_tally _ _ call p (served_to_all call p system).system ∙ to_all_tally call p system)
-native_step_tally (Place seg address count) call p system = refl
-native_step_tally (Patch seg address count page) call p system = refl
-native_step_tally (Begin seg new) call p system = handed_tally (Begin seg new) call p system
-native_step_tally (Give console) call p system = refl
+native_step_tally (PlaceBytes seg address count) call p system = refl
+native_step_tally (MoveCode seg address count page) call p system = refl
+native_step_tally (BeginProcess seg new) call p system = handed_tally (BeginProcess seg new) call p system
+native_step_tally (GiveConsole console) call p system = refl
 
 resided_tally : (native : Option Native) (p : ℕ) (system : System) → tally (resided native p system).system ≡ tally system
 resided_tally None p system = refl

@@ -21,7 +21,7 @@ use Rattle.mpm_machine.proofs.NamedLaws.{named_in_full}
 use Rattle.mpm_machine.proofs.OpeningLaws.{deleting_names}
 use Rattle.mpm_machine.proofs.PrintedItems.{has_item, its_item}
 use Rattle.mpm_machine.specs.Printed.{text_of, to_printer, read_in, ended_in, printed_in, item_in, has_file, has_ended}
-use Rattle.mpm_machine.specs.Printing.{first_bytes, HasText, NamesFile, key_of_item, seen_in, ReadsFile, has_closing, PrintsFile}
+use Rattle.mpm_machine.specs.Printing.{first_bytes, HasText, NamesFile, key_of_spool_item, seen_in, ReadsFile, has_closing, PrintsFile}
 
 -- first parts
 
@@ -122,10 +122,10 @@ closing_has_ended Print has = absurd (false≢true has)
 closing_has_ended Delete has = absurd (false≢true has)
 
 whole_by : (q : ℕ) (answers : List Answer) (filing : Filing) (ended : Bool) → ended_in answers ≡ ended → has_ended (after answers).row ≡ true → (after answers).is_unprinted ≡ false
-    → (reads : ReadsFile q (after answers) (read_in answers) ended filing) (text : List ℕ) → HasText (seen_in filing (key_of_item (after answers).item)) text → text_of (read_in answers) ≡ text
-whole_by q answers filing true is end all reads text has = ap text_of reads.read_is ∙ ended_text (seen_in filing (key_of_item (after answers).item)) _ reads.visible text has (reads.none refl)
+    → (reads : ReadsFile q (after answers) (read_in answers) ended filing) (text : List ℕ) → HasText (seen_in filing (key_of_spool_item (after answers).item)) text → text_of (read_in answers) ≡ text
+whole_by q answers filing true is end all reads text has = ap text_of reads.read_is ∙ ended_text (seen_in filing (key_of_spool_item (after answers).item)) _ reads.visible text has (reads.none refl)
 whole_by q answers filing false is end all reads text has =
-    ap text_of reads.read_is ∙ closed_text (seen_in filing (key_of_item (after answers).item)) _ reads.visible text has (subst EndsText reads.read_is (ends_text answers end all is))
+    ap text_of reads.read_is ∙ closed_text (seen_in filing (key_of_spool_item (after answers).item)) _ reads.visible text has (subst EndsText reads.read_is (ends_text answers end all is))
 
 file_has_item : (row : Row) → has_file row ≡ true → has_item row ≡ true
 file_has_item Attach has = refl
@@ -157,20 +157,20 @@ prints_file q answers filing reads =
           let less : length (printed_in answers) ≤ length (to_printer text) = subst (λ (n : ℕ). length (printed_in answers) ≤ n) (sym (ap length b.whole_is ∙ length-append (printed_in answers) b.rest)) (omega arith) in
           p.count has (omega (arith, less, few, printer_length text));
       deletes = λ is.
-          subst (λ (s : Taken). NamesFile s.fcb (key_of_item (item_in answers))) (sym (deleting_call answers is))
-          (subst (λ (item : SpoolItem). NamesFile (file_block (after answers).item) (key_of_item item)) (its_item answers (ap has_item is)) (deleting_names (after answers).item (named_in_full answers)));
+          subst (λ (s : Taken). NamesFile s.fcb (key_of_spool_item (item_in answers))) (sym (deleting_call answers is))
+          (subst (λ (item : SpoolItem). NamesFile (file_block (after answers).item) (key_of_spool_item item)) (its_item answers (ap has_item is)) (deleting_names (after answers).item (named_in_full answers)));
       begins = begins_in;
       whole = λ closing all text t.
           let row = (after answers).row in
           p.whole (closing_has_ended row closing) all
           ∙ ap to_printer (whole_by q answers filing (ended_in answers) refl (closing_has_ended row closing) all (reads (closing_has_file row closing)) text t);
     } where
-      begins_in : has_file (after answers).row ≡ true → (text : List ℕ) → HasText (seen_in filing (key_of_item (after answers).item)) text → Begins (printed_in answers) (to_printer text)
+      begins_in : has_file (after answers).row ≡ true → (text : List ℕ) → HasText (seen_in filing (key_of_spool_item (after answers).item)) text → Begins (printed_in answers) (to_printer text)
       begins_in has text t =
           let r = reads has in
           begins_so (printed_in answers) (to_printer (text_of (read_in answers))) (to_printer text) ((prints_text answers).begins has)
           (printed_so (text_of (read_in answers)) text
-          (subst (λ (read : List ℕ). Begins (text_of read) text) (sym r.read_is) (first_text (seen_in filing (key_of_item (after answers).item)) _ r.visible text t)))
+          (subst (λ (read : List ℕ). Begins (text_of read) text) (sym r.read_is) (first_text (seen_in filing (key_of_spool_item (after answers).item)) _ r.visible text t)))
 
 -- each file of a drive has a text, as no directory entry goes beyond a file's last extent
 

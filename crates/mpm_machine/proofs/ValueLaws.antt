@@ -17,7 +17,7 @@ use Rattle.mpm_kernel.specs.Called.{failure_code}
 use Rattle.mpm_kernel.specs.Consoling.{given}
 use Rattle.mpm_kernel.specs.Waiting.{completion_reply}
 use Rattle.mpm_residents.specs.declared.cli.act.Act.{Act}
-use Rattle.mpm_residents.specs.declared.cli.act.Act.TheVariants.{Ask, Place, Patch, Begin, Give}
+use Rattle.mpm_residents.specs.declared.cli.act.Act.TheVariants.{Ask, PlaceBytes, MoveCode, BeginProcess, GiveConsole}
 use Rattle.mpm_residents.specs.Natives.{native_call, native_act}
 use Rattle.mpm_residents.specs.declared.native.Native.{Native}
 use Rattle.mpm_system.specs.declared.system.System.{System}
@@ -58,10 +58,10 @@ begins_alike seg new one other d =
 -- what is handed over is answered alike
 pub handed_by_value : (act : Act) (one other : System) → DiffersInBytes one other → handed_value act other ≡ handed_value act one
 handed_by_value Ask one other d = refl
-handed_by_value (Place seg address count) one other d = refl
-handed_by_value (Patch seg address count page) one other d = refl
-handed_by_value (Begin seg new) one other d = ap (λ (b : Bool). if b then 0 else failure_code) (begins_alike seg new one other d)
-handed_by_value (Give console) one other d = refl
+handed_by_value (PlaceBytes seg address count) one other d = refl
+handed_by_value (MoveCode seg address count page) one other d = refl
+handed_by_value (BeginProcess seg new) one other d = ap (λ (b : Bool). if b then 0 else failure_code) (begins_alike seg new one other d)
+handed_by_value (GiveConsole console) one other d = refl
 
 -- and leaves systems that differ in bytes alone
 
@@ -115,18 +115,18 @@ beginning_alike seg new p one other d =
 
 pub handed_alike : (act : Act) (bytes : List ℕ) (p : ℕ) (one other : System) → DiffersInBytes one other → DiffersInBytes (handed_over act bytes p one) (handed_over act bytes p other)
 handed_alike Ask bytes p one other d = d
-handed_alike (Place seg address count) bytes p one other d = record {
+handed_alike (PlaceBytes seg address count) bytes p one other d = record {
   kernel = d.kernel;
   residents = d.residents;
   segments = same_around one.memory other.memory _ _ (same_segments_with_bytes bytes one.memory seg address) (same_segments_with_bytes bytes other.memory seg address) d.segments;
 }
-handed_alike (Patch seg address count page) bytes p one other d = record {
+handed_alike (MoveCode seg address count page) bytes p one other d = record {
   kernel = d.kernel;
   residents = d.residents;
   segments = same_around one.memory other.memory _ _ (same_moving seg address count bytes page one.memory) (same_moving seg address count bytes page other.memory) d.segments;
 }
-handed_alike (Begin seg new) bytes p one other d = beginning_alike seg new p one other d
-handed_alike (Give console) bytes p one other d = record {
+handed_alike (BeginProcess seg new) bytes p one other d = beginning_alike seg new p one other d
+handed_alike (GiveConsole console) bytes p one other d = record {
   kernel = ap (λ (kernel : Kernel). if is_console console kernel then given console (Some p) None kernel else kernel) d.kernel;
   residents = d.residents;
   segments = d.segments;

@@ -20,7 +20,7 @@ use Rattle.mpm_directories.specs.Places.{directory_at}
 use Rattle.mpm_base.proofs.Options.{none_there}
 use Rattle.mpm_procs.specs.Table.{Table, call_of}
 use Rattle.mpm_kernel.specs.Kernel.{Kernel}
-use Rattle.mpm_bdos.specs.Turns.{FitsDrives, KeepsImages, StopsWithin, TurnKeeps, drive_served, has_work, labelled, images_of, without_work}
+use Rattle.mpm_bdos.specs.Turns.{FitsDrives, KeepsImages, StopsWithin, TurnKeeps, drive_served, has_work, drive_and_kind, images_of, without_work}
 use Rattle.mpm_bdos.proofs.ServedLaws.{none_before}
 use Rattle.mpm_system.specs.declared.system.System.{System}
 use Rattle.mpm_system.specs.Owing.{nobody_owes}
@@ -106,7 +106,7 @@ failed_by : (turn_steps : ℕ) (served : Option Served) (first : Option ℕ) (di
     → is_work (answer_by turn_steps served first) ≡ true → StandsServed served old disks (Within s)
     → ((j : ℕ) → Serves (images_of disks) old s j → j < call_turns s → StopsWithin now s j)
     → KeepsImages (drive_served old.service) old.mounted disks now
-    → ((number : ℕ) → option_map labelled (directory_at new number) ≡ option_map labelled (directory_at old.mounted number))
+    → ((number : ℕ) → option_map drive_and_kind (directory_at new number) ≡ option_map drive_and_kind (directory_at old.mounted number))
     → HaveImagesOf (FailsWithin (working_turn served (answer_by turn_steps served first) s)) now new
 failed_by turn_steps None first disks now old new s some stands stops images labels = absurd stands
 failed_by turn_steps (Some call) first disks now old new s some stands stops images labels =
@@ -125,7 +125,7 @@ pub turn_failed : (disks now : Disks) (system : System) (old : Kept) (new : List
     → StandsForFiles system.kernel.disk old disks files
     → ((s : Situation) (j : ℕ) → Serves (images_of disks) old s j → j < call_turns s → StopsWithin now s j)
     → KeepsImages (drive_served old.service) old.mounted disks now
-    → ((number : ℕ) → option_map labelled (directory_at new number) ≡ option_map labelled (directory_at old.mounted number))
+    → ((number : ℕ) → option_map drive_and_kind (directory_at new number) ≡ option_map drive_and_kind (directory_at old.mounted number))
     → HaveImagesOf (FailsWithin (working_turn_of system files)) now new
 unfolding turn_answer
 turn_failed disks now system old new (Between filing) some stands stops images labels =

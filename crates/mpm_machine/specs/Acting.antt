@@ -4,9 +4,9 @@ use Rattle.mpm_procs.specs.Table.{Lives, process_in}
 use Rattle.mpm_dispatcher.specs.Dispatch.{IsReady}
 use Rattle.mpm_kernel.specs.Disk.{IsOver}
 use Rattle.mpm_system.specs.declared.system.System.{System}
-pub use Rattle.mpm_system.specs.Whole.{LivesWithin, Makes}
+pub use Rattle.mpm_system.specs.Whole.{LivesInSystem, Makes}
 pub use Rattle.mpm_system.specs.Sending.{IsReadyWithin}
-pub use Rattle.mpm_system.specs.Calling.{Gives}
+pub use Rattle.mpm_system.specs.Calling.{CallGives}
 use Rattle.mpm_system.specs.Whole.{IsWhole, HasRoom, HasRoomForAll}
 
 -- Of a process.

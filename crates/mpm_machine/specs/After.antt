@@ -6,7 +6,7 @@ use Rattle.mpm_render.specs.Shown.{KeptLines, Shows}
 use Rattle.mpm_output.specs.Outside.{Outside}
 use Rattle.mpm_output.specs.Writing.{CameOut, Stopped}
 use Rattle.mpm_directories.specs.Direct.{Directly}
-use Rattle.mpm_bdos.specs.Serving.{Kept as Filed}
+use Rattle.mpm_bdos.specs.Serving.{Kept}
 use Rattle.mpm_residents.specs.declared.native.Native.{Native}
 use Rattle.mpm_file_functions.specs.declared.functions.FileFunction.{FileFunction}
 use Rattle.mpm_refusals.specs.Filing.{Filing, Situation}
@@ -23,7 +23,10 @@ use Rattle.mpm_machine.specs.DiskStep.{process_over, file_called, call_entered, 
 use Rattle.mpm_machine.specs.Stepping.{rest_of, nothing_told, before_disk, files_begun, told_within, paid_after, files_then, telling_then, telling_of, files_rest, StepMade, stepped}
 use Rattle.mpm_machine.specs.Printing.{IsPrinting}
 use Rattle.mpm_machine.specs.Spooling.{IsSpooling}
-use Rattle.mpm_machine.specs.Contained.{IsContainedBy, Instructs, OnlyInstructed, CallsAtGate, DiffersInBytes, ServedByValue, Resides, ResidedByValue}
+use Rattle.mpm_machine.specs.Contained.{IsContainedBy, IsHanded, Instructs, OnlyInstructed, CallsAtGate, DiffersInBytes, ServedByValue, Resides, ResidedByValue}
+use Rattle.mpm_base.specs.Calls.{Answer}
+use Rattle.mpm_machine.specs.Interpreting.{Interprets, IsOwnOfNobody}
+use Rattle.mpm_machine.specs.Scheduling.{IsScheduling, GoesOnScheduling}
 
 -- what a step that was made of a state leaves
 abbrev pub having : StepMade → List Output → State
@@ -66,11 +69,14 @@ EntersByValue system =
     (filing : Filing) (function : FileFunction) (p : ℕ) (other : System) → DiffersInBytes system other
     → situation_of filing function p other ≡ situation_of filing function p system
 
--- what is so of the step of a state, by what its files show: each byte that it changes is one that it writes or answers. An instruction
--- leaves all but what is its own, and a call is served by what it took. A spooler goes on, and what it prints stands last on its printer: a first
--- part of its file's text
+-- what is so of the step of a state, by what its files show. Each byte that it changes is one that it writes or answers (`contained`). What
+-- a resident hands over comes into a segment that it has reserved and in which nobody lives (`hands`). An instruction leaves all but what is
+-- its own (`instruction`). A call is served by what it took, and so are a resident's, a file call that is done at once, one that the disk
+-- served, and one that enters service (`calls`, `resides`, `filed`, `over`, `enters`). A spooler goes on, what it prints stands last on its
+-- printer (`spools`), and that is a first part of its file's text (`prints`). A scheduler keeps what it accepted and hasn't sent (`schedules`)
 pub record IsStepOf (s : State) : Type 0 where
   pub contained : IsContainedBy (telling_of s.system s.files) s.system (next s).system
+  pub hands : Interprets s.system → (seg at : ℕ) → IsHanded s.system seg at → IsOwnOfNobody s.system seg at
   pub instruction : (p seg : ℕ) → Instructs s.system p seg → OnlyInstructed (telling_of s.system s.files) p s.system (next s).system
   pub calls : (p seg : ℕ) → CallsAtGate s.system p seg → file_caller s.system ≡ None → ServedByValue (telling_of s.system s.files) p seg s.system (next s).system
   pub resides : (p : ℕ) (native : Native) → Resides s.system p native → file_caller s.system ≡ None
@@ -80,43 +86,44 @@ pub record IsStepOf (s : State) : Type 0 where
   pub enters : EntersByValue (paid_after (telling_of s.system s.files).at_disk (before_disk s.system s.files).system)
   pub spools : (q : ℕ) → IsSpooling q s.system s.outputs → IsSpooling q (next s).system (next s).outputs
   pub prints : (q : ℕ) → IsPrinting q s → IsPrinting q (next s)
+  pub schedules : (q : ℕ) (answers : List Answer) → IsScheduling q answers s.system.residents → GoesOnScheduling q answers (next s).system.residents
 
 -- what a step begins with was done, by what is on the drives
-pub record HasBegunTo (files : FilesInService) (before behind : Outside) (old new : System) (kept : Filed) (disks : Disks) : Type 0 where
+pub record HasBegunTo (files : FilesInService) (old_outside new_outside : Outside) (old new : System) (kept : Kept) (disks : Disks) : Type 0 where
   pub system : new ≡ (before_disk old files).system
-  pub wrote : CameOut before behind (before_disk old files).emitted
+  pub wrote : CameOut old_outside new_outside (before_disk old files).emitted
   pub stands : StandsWorked new.kernel.disk kept disks (files_begun old files)
 
--- the rest of a step was
-pub record HasEndedTo (instruction : Bool) (files : FilesInService) (before behind : Outside) (old new : System) (kept : Filed) (disks : Disks) : Type 0 where
+-- the rest of a step was done
+pub record HasEndedTo (instruction : Bool) (files : FilesInService) (old_outside new_outside : Outside) (old new : System) (kept : Kept) (disks : Disks) : Type 0 where
   pub system : new ≡ (rest_of instruction (telling_then nothing_told old files) (silent old)).system
-  pub wrote : CameOut before behind (rest_of instruction (telling_then nothing_told old files) (silent old)).emitted
+  pub wrote : CameOut old_outside new_outside (rest_of instruction (telling_then nothing_told old files) (silent old)).emitted
   pub stands : StandsForFiles new.kernel.disk kept disks (files_rest old files)
 
--- a whole one was
-pub record HasSteppedTo (files : FilesInService) (before behind : Outside) (old new : System) (kept : Filed) (disks : Disks) : Type 0 where
+-- a whole step was done
+pub record HasSteppedTo (files : FilesInService) (old_outside new_outside : Outside) (old new : System) (kept : Kept) (disks : Disks) : Type 0 where
   pub system : new ≡ (stepped old files).change.system
-  pub wrote : CameOut before behind (stepped old files).change.emitted
+  pub wrote : CameOut old_outside new_outside (stepped old files).change.emitted
   pub stands : StandsForFiles new.kernel.disk kept disks (stepped old files).files
 
 -- a step stopped: where a drive failed nothing of it was written
 abbrev pub StopsBy : StepFault → Outside → Outside → List Output → Type 0
-StopsBy WriteFault before behind emitted = Stopped before behind emitted
-StopsBy DiskFault before behind emitted = behind ≡ before
+StopsBy WriteFault old new emitted = Stopped old new emitted
+StopsBy DiskFault old new emitted = new ≡ old
 
 -- a file call that a process made was done at once, or waits, by what it came to
-pub record HasCalled (told : Directly) (p : ℕ) (before behind : Outside) (old new : System) : Type 0 where
+pub record HasCalled (told : Directly) (p : ℕ) (old_outside new_outside : Outside) (old new : System) : Type 0 where
   pub system : new ≡ (file_called told p old).system
-  pub wrote : CameOut before behind (file_called told p old).emitted
+  pub wrote : CameOut old_outside new_outside (file_called told p old).emitted
 
 -- the disk made its step
-pub record HasServedTo (files : FilesInService) (before behind : Outside) (old new : System) (kept : Filed) (disks : Disks) : Type 0 where
+pub record HasServedTo (files : FilesInService) (old_outside new_outside : Outside) (old new : System) (kept : Kept) (disks : Disks) : Type 0 where
   pub system : new ≡ call_entered (turns_within (files_then old files)) (paid_after (told_within files old) old)
-  pub wrote : CameOut before behind (disk_served (told_within files old) old).emitted
+  pub wrote : CameOut old_outside new_outside (disk_served (told_within files old) old).emitted
   pub stands : StandsForFiles new.kernel.disk kept disks (files_then old files)
 
 -- of what is kept of file calls, the rest of a step leaves the directories and what is cached
-abbrev pub EndKeeps : Filed → Filed → Type 0
+abbrev pub EndKeeps : Kept → Kept → Type 0
 EndKeeps old new = new ≡ record new { mounted = old.mounted; cached = old.cached }
 
 -- where a drive failed in the step after a state, what is kept to be written is that of the state

@@ -16,7 +16,7 @@ use Rattle.mpm_gate.specs.declared.gate.Gate.{Gate}
 use Rattle.mpm_gate.specs.declared.gate.Gate.TheVariants.{End, Call, Return}
 use Rattle.mpm_dispatcher.specs.Dispatch.{first_completed}
 use Rattle.mpm_residents.specs.declared.cli.act.Act.{Act}
-use Rattle.mpm_residents.specs.declared.cli.act.Act.TheVariants.{Ask, Place, Patch, Begin, Give}
+use Rattle.mpm_residents.specs.declared.cli.act.Act.TheVariants.{Ask, PlaceBytes, MoveCode, BeginProcess, GiveConsole}
 use Rattle.mpm_residents.specs.Natives.{native_act, native_call, native_in}
 use Rattle.mpm_residents.specs.declared.native.Native.{Native}
 use Rattle.mpm_file_functions.specs.declared.refusals.Extended.{Extended}
@@ -78,10 +78,10 @@ IsIn address count at = (k : ℕ) × (k < count) × (at ≡ onward address k)
 -- what is handed over writes there: so many bytes that are placed, code that is moved, the word on a new process's stack
 abbrev pub HandsAt : Act → ℕ → ℕ → ℕ → Type 0
 HandsAt Ask placed seg at = ⊥
-HandsAt (Place to address count) placed seg at = (to ≡ seg) × IsIn address placed at
-HandsAt (Patch to address count page) placed seg at = (to ≡ seg) × IsIn address count at
-HandsAt (Begin to new) placed seg at = (to ≡ seg) × IsIn new.sp 2 at
-HandsAt (Give console) placed seg at = ⊥
+HandsAt (PlaceBytes to address count) placed seg at = (to ≡ seg) × IsIn address placed at
+HandsAt (MoveCode to address count page) placed seg at = (to ≡ seg) × IsIn address count at
+HandsAt (BeginProcess to new) placed seg at = (to ≡ seg) × IsIn new.sp 2 at
+HandsAt (GiveConsole console) placed seg at = ⊥
 
 -- no event comes in this step, and the process that runs is a resident, which hands over what is written to that segment at the
 -- address
@@ -132,7 +132,7 @@ is_answered None mode = true
 is_answered (Some error) mode = mode == 255 || mode == 254
 
 -- the reply to the file call of a process that lives in that segment is placed at the address
-pub record IsFiled (told : Directly) (p : ℕ) (system : System) (seg at : ℕ) : Type 0 where
+pub record AnswersFileCall (told : Directly) (p : ℕ) (system : System) (seg at : ℕ) : Type 0 where
   pub home : (process_in system.kernel.dispatcher.procs p).seg ≡ Some seg
   pub answers : is_answered told.extended (process_in system.kernel.dispatcher.procs p).error_mode ≡ true
   pub places : IsPlacedAt told.answer (call_of system.kernel.dispatcher.procs p).word at
@@ -140,13 +140,13 @@ pub record IsFiled (told : Directly) (p : ℕ) (system : System) (seg at : ℕ) 
 -- what a step begins with writes there; a file call does that is done at once
 abbrev pub IsWrittenBy : Option ℕ → Directly → System → ℕ → ℕ → Type 0
 IsWrittenBy None told system seg at = IsWritten system seg at ⊎ IsHanded system seg at
-IsWrittenBy (Some p) told system seg at = (is_done_at_once p (call_made p system) ≡ true) × IsFiled told p (call_made p system) seg at
+IsWrittenBy (Some p) told system seg at = (is_done_at_once p (call_made p system) ≡ true) × AnswersFileCall told p (call_made p system) seg at
 
 -- a call is over whose reply is placed there, or whose process ends, and that completes a call whose reply is
 abbrev pub IsOverBy : Option ℕ → Directly → System → ℕ → ℕ → Type 0
 IsOverBy None told system seg at = ⊥
 IsOverBy (Some p) told system seg at =
-    let passed = ready_again p (step_passed system) in IsFiled told p passed seg at ⊎ AnswersOne (concluded told p passed).system seg at
+    let passed = ready_again p (step_passed system) in AnswersFileCall told p passed seg at ⊎ AnswersOne (concluded told p passed).system seg at
 
 -- a held call is completed by what a step begins with, or a file call is over, or a held call is completed by an end that is due
 unfoldable pub IsAnsweredIn : Telling → System → ℕ → ℕ → Type 0

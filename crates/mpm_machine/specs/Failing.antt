@@ -17,7 +17,7 @@ use Rattle.mpm_refusals.specs.Subjects.{drive_number, drive_at}
 use Rattle.mpm_bdos.specs.Jobs.{call_turns, job_of}
 use Rattle.mpm_bdos.specs.Serving.{StandEach}
 use Rattle.mpm_directories.specs.Places.{directory_at}
-use Rattle.mpm_bdos.specs.Turns.{labelled, images_of}
+use Rattle.mpm_bdos.specs.Turns.{drive_and_kind, images_of}
 use Rattle.mpm_service.specs.Disk.{turn_answer}
 use Rattle.mpm_service.specs.declared.service.Served.{Served}
 use Rattle.mpm_service.specs.declared.service.Turn.{Turn}
@@ -102,7 +102,7 @@ leaving written disks kept sink drives mounted = record { kept = kept; written =
 -- each image stands, with a directory of the drive and the kind of the one that is mounted, for what is on its drive
 pub record HaveImages (disks : Disks) (mounted : List (Option Directory)) (drives : List (Option Drive)) : Type 0 where
   pub directories : List (Option Directory)
-  pub labels : (number : ℕ) → option_map labelled (directory_at directories number) ≡ option_map labelled (directory_at mounted number)
+  pub labels : (number : ℕ) → option_map drive_and_kind (directory_at directories number) ≡ option_map drive_and_kind (directory_at mounted number)
   pub stand : StandEach (images_of disks) directories drives
 
 -- some drives are so, and each image stands for what is on its drive

@@ -25,13 +25,13 @@ pub record HaveCause {A E : Type 0} (fault : E → StepFault) (old new : Failure
   pub failed : IfErr result (λ error. HasFailed (fault error) old new)
 
 -- whether a part stopped or not, records of calls are asked for as before, and what failed has its cause
-pub record EndsByCause {A E : Type 0} (fault : E → StepFault) (before behind : Bool) (old new : FailureCounts) (result : Result A E) : Type 0 where
-  pub trace : behind ≡ before
+pub record EndsByCause {A E : Type 0} (fault : E → StepFault) (old_trace new_trace : Bool) (old new : FailureCounts) (result : Result A E) : Type 0 where
+  pub trace : new_trace ≡ old_trace
   pub cause : HaveCause fault old new result
 
--- so it is of a part that calls no drive
-pub record EndsBySink {A E : Type 0} (before behind : Bool) (old new : ℕ) (result : Result A E) : Type 0 where
-  pub trace : behind ≡ before
+-- whether a part that calls no drive stopped or not, records of calls are asked for as before, and an error has its cause
+pub record EndsBySink {A E : Type 0} (old_trace new_trace : Bool) (old new : ℕ) (result : Result A E) : Type 0 where
+  pub trace : new_trace ≡ old_trace
   pub cause : HasCause old new result
 
 abbrev pub itself : StepFault → StepFault

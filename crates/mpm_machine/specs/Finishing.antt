@@ -1,8 +1,8 @@
 -- Held calls that are completed, by another process's call or by an event: their replies are placed, in order. (MP/M II
 -- Programmer's Guide, "Function 132: Flag Wait", "Function 141: Delay", "Function 131: Poll", "Function 151: Call Resident
 -- System Procedure", "Function 150: Send CLI Command", "Function 47: Chain to Program".)
-use Rattle.std.specs.Prelude.{ℕ, List, [], ◌∷◌, Option, Some, None, if◌then◌else◌}
-use Rattle.mpm_procs.specs.Table.{process_in, call_of}
+use Rattle.std.specs.Prelude.{ℕ, List, [], ◌∷◌, Option, Some, None, if◌then◌else◌, ◌≡◌, IfSome, IfNone}
+use Rattle.mpm_procs.specs.Table.{process_in, call_of, Lives}
 use Rattle.mpm_dispatcher.specs.Dispatch.{first_completed}
 use Rattle.mpm_kernel.specs.Events.{handed_out}
 use Rattle.mpm_kernel.specs.Waiting.{completion_reply}
@@ -11,6 +11,9 @@ use Rattle.mpm_system.specs.Sending.{chains, let_in}
 use Rattle.mpm_system.specs.Residents.{taking}
 use Rattle.mpm_machine.specs.Ending.{ended}
 use Rattle.mpm_machine.specs.Serving.{fulfilling}
+use Rattle.mpm_base.specs.Calls.{Answer}
+use Rattle.mpm_system.specs.Whole.{IsWhole}
+use Rattle.mpm_machine.specs.Acting.{MayAnswer}
 
 -- the held call of a process is completed: it is fulfilled in its segment, and a resident, which has none, takes the answer
 abbrev pub finished : Option ℕ → ℕ → System → System
@@ -47,3 +50,17 @@ answered_from (Some p) system = all_finished (finished_or_ended p (command_let_i
 
 abbrev pub all_answered : System → System
 all_answered system = answered_from (first_completed system.kernel.dispatcher.completed) system
+
+-- the next process whose held call was completed is handed out, if there is one, with its reply
+pub record HandsOut (old new : System) (answer : Answer) (result : Option ℕ) : Type 0 where
+  pub process : result ≡ first_completed old.kernel.dispatcher.completed
+  pub system : new ≡ completion_dequeued old
+  pub whole : IsWhole new
+  pub nothing : IfNone result (new ≡ old)
+  pub lives : IfSome result (λ p. Lives new.kernel.dispatcher.procs p)
+  pub reply : IfSome result (λ p. answer ≡ completion_reply new.kernel p)
+
+-- so it may be answered, with that reply
+pub record MayFinish (p : ℕ) (answer : Answer) (system : System) : Type 0 where
+  pub answers : MayAnswer p system
+  pub reply : answer ≡ completion_reply system.kernel p

@@ -1,7 +1,7 @@
 -- The command line interpreter of a machine in every step: it acts in slot 0 alone, lives there in no segment, and the segment
 -- that it names is the one that it has reserved. (MP/M II User's Guide, "Command Line Interpreter"; Programmer's Guide,
 -- functions 128 to 130; System Guide, "Resident System Processes".)
-use Rattle.std.specs.Prelude.{◌≡◌, ℕ, ◌+◌, ◌*◌, ◌<◌, ◌≤◌, ◌==◌, ◌||◌, if◌then◌else◌, Bool, true, false, length, Some, None}
+use Rattle.std.specs.Prelude.{◌≡◌, ◌≢◌, ℕ, ◌+◌, ◌*◌, ◌<◌, ◌≤◌, ◌==◌, ◌||◌, if◌then◌else◌, Bool, true, false, length, Some, None}
 use Rattle.mpm_banks.specs.Memory.{Memory, HasSegment, segment_of}
 use Rattle.mpm_banks.specs.Allocations.{spec_of}
 use Rattle.mpm_banks.specs.declared.segment.Allocation.TheVariants.{Reserved}
@@ -68,3 +68,8 @@ pub record IsOwnAddress (memory : Memory) (seg at : ℕ) : Type 0 where
   pub reserved : (segment_of memory seg).allocation ≡ Reserved 0
   pub first : 256 * (segment_of memory seg).base ≤ at
   pub below : at < 256 * ((segment_of memory seg).base + (segment_of memory seg).pages)
+
+-- so it is of a segment in which no process lives
+pub record IsOwnOfNobody (system : System) (seg at : ℕ) : Type 0 where
+  pub own : IsOwnAddress system.memory seg at
+  pub nobody : (p : ℕ) → Lives system.kernel.dispatcher.procs p → (process_in system.kernel.dispatcher.procs p).seg ≢ Some seg

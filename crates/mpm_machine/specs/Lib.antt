@@ -28,8 +28,12 @@ pub mod Standing
 pub mod AtEnd
 pub mod OneStep
 pub mod Parts
+pub mod Setup
+pub mod StepParts
+pub mod EndParts
 pub mod Quietly
 pub mod Settling
 pub mod Housing
 pub mod Printed
 pub mod Spooling
+pub mod Scheduling

@@ -10,7 +10,7 @@ use Rattle.mpm_mount.specs.Drives.{Drive}
 use Rattle.mpm_refusals.specs.Filing.{Filing}
 use Rattle.mpm_bdos.specs.Serving.{Kept, filing_of, nothing_kept}
 use Rattle.mpm_directories.specs.Places.{directory_at, in_places}
-use Rattle.mpm_bdos.specs.Turns.{StaysBeside, KeepsToldOf, labelled}
+use Rattle.mpm_bdos.specs.Turns.{StaysBeside, KeepsToldOf, drive_and_kind}
 use Rattle.mpm_service.specs.Disk.{DiskService}
 use Rattle.mpm_machine.specs.Files.{Between, StandsForFiles}
 
@@ -37,7 +37,7 @@ HasNoDrive mounted = (number : ℕ) → directory_at mounted number ≡ None
 
 -- a drive of a machine file is mounted in the place of its number, as one of its kind, and attached by the name of its image
 pub record IsInPlace (disks : Disks) (mounted : List (Option Directory)) (spec : DriveSpec) : Type 0 where
-  pub label : option_map labelled (directory_at mounted (number_of spec)) ≡ Some (number_of spec, spec.kind)
+  pub label : option_map drive_and_kind (directory_at mounted (number_of spec)) ≡ Some (number_of spec, spec.kind)
   pub name : disks.name_of (number_of spec) ≡ Some spec.image
 
 -- so is each drive of a machine file, and no other is mounted
@@ -47,7 +47,7 @@ pub record HasDrives (disks : Disks) (specs : List DriveSpec) (mounted : List (O
 
 -- what steps leave of drives, whether one fails or not. Each directory is of the drive and the kind of which it was. Each drive has its
 -- name and its size, and one whose name no mounted drive has its image as it was. What is known of other names stays
-pub record KeepsMounted (told told' : Images) (disks now : Disks) (old new : List (Option Directory)) : Type 0 where
-  pub labels : (number : ℕ) → option_map labelled (directory_at new number) ≡ option_map labelled (directory_at old number)
-  pub beside : StaysBeside old disks now
-  pub told_are : KeepsToldOf old disks told told'
+pub record KeepsMounted (old_told new_told : Images) (old_disks new_disks : Disks) (old new : List (Option Directory)) : Type 0 where
+  pub labels : (number : ℕ) → option_map drive_and_kind (directory_at new number) ≡ option_map drive_and_kind (directory_at old number)
+  pub beside : StaysBeside old old_disks new_disks
+  pub told_are : KeepsToldOf old old_disks old_told new_told

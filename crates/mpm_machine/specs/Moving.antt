@@ -3,7 +3,7 @@ use Rattle.std.specs.Prelude.{◌≡◌, ℕ, ◌+◌, ◌-◌, ◌*◌, ◌<◌
 use Rattle.mpm_ready.specs.Order.{first_of}
 use Rattle.mpm_ready.specs.Tables.{list_at}
 use Rattle.mpm_banks.specs.Gates.{last_page, call_gate}
-use Rattle.mpm_procs.specs.Table.{process_in}
+use Rattle.mpm_procs.specs.Table.{process_in, Lives}
 use Rattle.mpm_dispatcher.specs.Dispatch.{ready}
 use Rattle.mpm_service.specs.declared.service.Turn.{Turn}
 use Rattle.mpm_service.specs.declared.service.Turn.TheVariants.{Idle, Passing, Work, Starts}
@@ -16,6 +16,9 @@ use Rattle.mpm_system.specs.Procedures.{is_inside}
 use Rattle.mpm_system.specs.Taking.{with_regs}
 use Rattle.mpm_system.specs.Idling.{CanPass}
 use Rattle.mpm_machine.specs.declared.ahead.Ahead.{Ahead}
+use Rattle.mpm_script.specs.declared.line.TheConstants.{GREATEST_STEP}
+use Rattle.mpm_gate.specs.Gates.{IsHome}
+use Rattle.mpm_kernel.specs.Kernel.{IsSoundKernel}
 
 -- what a process of a system sees
 abbrev pub view_of : System → ℕ → View
@@ -63,6 +66,15 @@ pub record RunsAhead (ahead : Ahead) (system : System) : Type 0 where
 -- where calls are known to be alone, no record of them is asked for
 abbrev pub IsUntraced : Option Ahead → Bool → Type 0
 IsUntraced ahead traced = IfSome ahead (λ a. a.alone ≡ true → traced ≡ false)
+
+-- a process of a segment may run so many: nothing else happens in these steps
+pub record MayRunBurst (p seg most : ℕ) (system : System) : Type 0 where
+  pub sound : IsSoundKernel system.kernel
+  pub short : most ≤ 4294967295
+  pub passing : CanPass most system.kernel.disk
+  pub lives : Lives system.kernel.dispatcher.procs p
+  pub home : IsHome system.memory seg
+  pub room : system.steps + most ≤ GREATEST_STEP
 
 -- a system ran n instructions of a process
 pub record Moved (n p seg : ℕ) (old new : System) : Type 0 where

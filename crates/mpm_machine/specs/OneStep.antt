@@ -1,8 +1,7 @@
 -- What a step of a machine leaves, or n steps, and where they stop.
-use Rattle.std.specs.Prelude.{◌≡◌, ℕ, ◌+◌, ◌-◌, ◌<◌, Bool, true, List, Option}
-use Rattle.mpm_port.specs.Disks.{Disks}
+use Rattle.std.specs.Prelude.{◌≡◌, ℕ, ◌+◌, ◌-◌, ◌<◌, Bool, true, List, Option, zero, suc}
+use Rattle.mpm_port.specs.declared.drives.Drives.{Ghosts}
 use Rattle.mpm_mount.specs.Directories.{Directory}
-use Rattle.mpm_drives.specs.Images.{Images}
 use Rattle.mpm_render.specs.Outputs.{rendered}
 use Rattle.mpm_opens.specs.Opens.{AreOpen}
 use Rattle.mpm_system.specs.Whole.{IsWhole, NoCompletions}
@@ -14,12 +13,12 @@ use Rattle.mpm_machine.specs.Faults.{EndsBy}
 use Rattle.mpm_machine.specs.Due.{NobodyDue}
 use Rattle.mpm_machine.specs.Interpreting.{Interprets}
 use Rattle.mpm_machine.specs.Mounting.{KeepsMounted}
-use Rattle.mpm_machine.specs.Failing.{Left, StopsWithImages}
+use Rattle.mpm_machine.specs.Failing.{Left, StopsWithImages, turns_done, working_in}
 use Rattle.mpm_machine.specs.After.{next, after, ShowsBefore, EndsInStep}
 
 -- so many were done: they are counted, the machine is whole, nobody is left to be answered, nobody's end is due, and no two locks are of
 -- one record. An interpreter that acts goes on with the segment that it has, and the disk's turns have as many steps as before
-pub record LeavesMachine (steps : ℕ) (old new : Machine) : Type 0 where
+pub record StepsLeave (steps : ℕ) (old new : Machine) : Type 0 where
   pub count : new.system.steps ≡ old.system.steps + steps
   pub whole : IsWhole new.system
   pub no_completions : NoCompletions new.system
@@ -43,9 +42,14 @@ pub record StopsRun (error : RunFault) (trace : Bool) (left : Left) (n : ℕ) (s
   pub shown : ShowsBefore error.fault left.kept left.written (after (error.step - 1 - s.system.steps) s) first
   pub images : StopsWithImages error.fault left.disks left.mounted (after (error.step - 1 - s.system.steps) s)
 
+-- how many turns n steps do
+unfoldable pub turns_in : ℕ → State → ℕ
+turns_in zero s = 0
+turns_in (suc n) s = turns_in n s + turns_done (working_in (after n s).system (after n s).files)
+
 -- whether they were done or not, each drive is that of the same name, of the same kind and size. An image that is no mounted drive's is as
 -- it was, no name joined the failed ones, and a drive that isn't synced isn't so still
-pub record LeavesDrives {D : Type 0} (disks : D → Disks) (told : D → Images) (failed : D → List (List ℕ)) (owes : D → ℕ → Bool) (mounted mounted' : List (Option Directory)) (old new : D) : Type 0 where
-  pub keeps : KeepsMounted (told old) (told new) (disks old) (disks new) mounted mounted'
-  pub names : failed new ≡ failed old
-  pub unsynced : (number : ℕ) → owes old number ≡ true → owes new number ≡ true
+pub record LeavesDrives {D : Type 0} (of : Ghosts D) (old_mounted new_mounted : List (Option Directory)) (old new : D) : Type 0 where
+  pub keeps : KeepsMounted (of.told old) (of.told new) (of.disks old) (of.disks new) old_mounted new_mounted
+  pub names : of.failed_names new ≡ of.failed_names old
+  pub unsynced : (number : ℕ) → of.unsynced old number ≡ true → of.unsynced new number ≡ true

@@ -4,15 +4,15 @@
 use Rattle.std.specs.Prelude.{◌≡◌, ℕ, zero, suc, ◌-◌, ◌<◌, ◌^◌, ◌==◌, if◌then◌else◌, Bool, true, false, List, [], ◌++◌, Option, Some, None, is_some, unwrap_or, length, ⊤}
 use Rattle.mpm_base.specs.Calls.{Answer}
 use Rattle.mpm_base.specs.Lists.{in_width}
-use Rattle.mpm_bdos.specs.OpenToRead.{drive_in, HasFile}
+use Rattle.mpm_bdos.specs.OpenToRead.{drive_or_blank, HasFile}
 use Rattle.mpm_dirent.specs.Names.{plain}
 use Rattle.mpm_fcb.specs.Blocks.{block_of}
-use Rattle.mpm_fcb.specs.Names.{drive_of}
+use Rattle.mpm_fcb.specs.Names.{drive_of, has_f5}
 use Rattle.mpm_fcb.specs.Opening.{item_of}
 use Rattle.mpm_fcb.specs.Positions.{sequential_record}
 use Rattle.mpm_file_functions.specs.Functions.{function_of}
 use Rattle.mpm_mount.specs.Drives.{visible_of}
-use Rattle.mpm_opens.specs.Opens.{AreOpen}
+use Rattle.mpm_opens.specs.Opens.{AreOpen, HasNone, HasOne}
 use Rattle.mpm_opens.specs.declared.kinds.FileKey.{FileKey}
 use Rattle.mpm_port.specs.Texts.{Begins}
 use Rattle.mpm_refusals.specs.Filing.{Filing, Situation}
@@ -44,8 +44,8 @@ pub record HasText (seen : ℕ → Option (List ℕ)) (text : List ℕ) : Type 0
   pub text_is : text ≡ text_of (first_bytes seen count)
 
 -- the file that an item of a list names: a file of user 0, on drive A where the item names none
-abbrev pub key_of_item : SpoolItem → FileKey
-key_of_item item = record { drive = if item.drive == 0 then 0 else item.drive - 1; user = 0; name = plain item.name }
+abbrev pub key_of_spool_item : SpoolItem → FileKey
+key_of_spool_item item = record { drive = if item.drive == 0 then 0 else item.drive - 1; user = 0; name = plain item.name }
 
 -- the file that a call's control block names
 abbrev pub NamesFile : List ℕ → FileKey → Type 0
@@ -53,20 +53,22 @@ NamesFile fcb key = (drive_of 0 (block_of fcb) ≡ key.drive) × (plain (block_o
 
 -- its records, as far as they are visible on its drive
 abbrev pub seen_in : Filing → FileKey → ℕ → Option (List ℕ)
-seen_in filing key = visible_of (drive_in filing key.drive) (file_of key)
+seen_in filing key = visible_of (drive_or_blank filing key.drive) (file_of key)
 
--- the spooler has its file open, which nobody can change; its control block names it, and stands at a record; what it has read are the
--- records before that, and where no more came, that record isn't visible
+-- the spooler has its file open, once, which nobody can change, and nothing else; its control block names it, without F5', and stands at a
+-- record; what it has read are the records before that, and where no more came, that record isn't visible
 pub record ReadsFile (q : ℕ) (s : Spooler) (read : List ℕ) (ended : Bool) (filing : Filing) : Type 0 where
   pub number : ℕ
-  pub has : HasFile q (key_of_item s.item) number filing
+  pub has : HasFile q (key_of_spool_item s.item) number filing
+  pub one : HasOne q number filing.opens
+  pub f5 : has_f5 (block_of s.fcb) ≡ false
   pub size : length s.fcb ≡ 36
   pub named : item_of (block_of s.fcb) ≡ Some number
-  pub drive : drive_of 0 (block_of s.fcb) ≡ (key_of_item s.item).drive
-  pub name : plain (block_of s.fcb).name ≡ (key_of_item s.item).name
-  pub visible : (n : ℕ) → n < sequential_record (block_of s.fcb) → is_some (seen_in filing (key_of_item s.item) n) ≡ true
-  pub read_is : read ≡ first_bytes (seen_in filing (key_of_item s.item)) (sequential_record (block_of s.fcb))
-  pub none : ended ≡ true → seen_in filing (key_of_item s.item) (sequential_record (block_of s.fcb)) ≡ None
+  pub drive : drive_of 0 (block_of s.fcb) ≡ (key_of_spool_item s.item).drive
+  pub name : plain (block_of s.fcb).name ≡ (key_of_spool_item s.item).name
+  pub visible : (n : ℕ) → n < sequential_record (block_of s.fcb) → is_some (seen_in filing (key_of_spool_item s.item) n) ≡ true
+  pub read_is : read ≡ first_bytes (seen_in filing (key_of_spool_item s.item)) (sequential_record (block_of s.fcb))
+  pub none : ended ≡ true → seen_in filing (key_of_spool_item s.item) (sequential_record (block_of s.fcb)) ≡ None
 
 -- files are within a call where the disk serves one, and that is its process's
 abbrev pub ServedBy : Option Served → FilesInService → Type 0
@@ -91,11 +93,12 @@ abbrev pub IfItsCall : ℕ → List Answer → FilesInService → Type 0
 IfItsCall q answers (Between filing) = ⊤
 IfItsCall q answers (Within s) = s.caller.process ≡ q → IsItsCall answers s
 
--- so it has its file in the rows in which that is open, where items and locks are sound
+-- so it has its file in the rows in which that is open, and has nothing open in the others, where items and locks are sound
 pub record ReadsOpenFile (q : ℕ) (answers : List Answer) (files : FilesInService) : Type 0 where
   pub opens : AreOpen (filing_in files).opens
   pub its_call : IfItsCall q answers files
   pub file : has_file (after answers).row ≡ true → ReadsFile q (after answers) (read_in answers) (ended_in answers) (filing_in files)
+  pub without : has_file (after answers).row ≡ false → HasNone q (filing_in files).opens
 
 -- the rows in which it goes on with a file that it has come to the end of
 abbrev pub has_closing : Row → Bool
@@ -108,12 +111,12 @@ has_closing _ = false
 pub record PrintsFile (answers : List Answer) (filing : Filing) : Type 0 where
   pub read : PrintsText (after answers) (read_in answers) (printed_in answers)
   pub item : has_file (after answers).row ≡ true → (after answers).item ≡ item_in answers
-  pub begins : has_file (after answers).row ≡ true → (text : List ℕ) → HasText (seen_in filing (key_of_item (after answers).item)) text → Begins (printed_in answers) (to_printer text)
-  pub count : has_file (after answers).row ≡ true → (text : List ℕ) → HasText (seen_in filing (key_of_item (after answers).item)) text → length text < 2 ^ 64
+  pub begins : has_file (after answers).row ≡ true → (text : List ℕ) → HasText (seen_in filing (key_of_spool_item (after answers).item)) text → Begins (printed_in answers) (to_printer text)
+  pub count : has_file (after answers).row ≡ true → (text : List ℕ) → HasText (seen_in filing (key_of_spool_item (after answers).item)) text → length text < 2 ^ 64
       → (after answers).printed ≡ length (printed_in answers)
   pub whole : has_closing (after answers).row ≡ true → (after answers).is_unprinted ≡ false
-      → (text : List ℕ) → HasText (seen_in filing (key_of_item (after answers).item)) text → printed_in answers ≡ to_printer text
-  pub deletes : (after answers).row ≡ Delete → NamesFile (next_call (after answers)).fcb (key_of_item (item_in answers))
+      → (text : List ℕ) → HasText (seen_in filing (key_of_spool_item (after answers).item)) text → printed_in answers ≡ to_printer text
+  pub deletes : (after answers).row ≡ Delete → NamesFile (next_call (after answers)).fcb (key_of_spool_item (item_in answers))
 
 -- a spooler acts in a slot of a state, and prints its file
 pub record IsPrinting (q : ℕ) (s : State) : Type 0 where

@@ -1,5 +1,5 @@
 -- Steps in a row in which nothing is written and no drive is called.
-use Rattle.std.specs.Prelude.{◌≡◌, ℕ, ◌+◌, ◌<◌, List}
+use Rattle.std.specs.Prelude.{◌≡◌, ℕ, ◌+◌, ◌<◌, List, ◌≤◌}
 use Rattle.mpm_port.specs.Disks.{Disks}
 use Rattle.mpm_service.specs.Ahead.{passed_by}
 use Rattle.mpm_output.specs.Outside.{Outside}
@@ -12,6 +12,8 @@ use Rattle.mpm_machine.specs.Interpreting.{Interprets}
 use Rattle.mpm_machine.specs.Files.{AreWithin}
 use Rattle.mpm_machine.specs.Holding.{HoldsDrives, CallsAlike}
 use Rattle.mpm_machine.specs.After.{after}
+use Rattle.mpm_machine.specs.declared.ahead.Ahead.{Ahead}
+use Rattle.mpm_machine.specs.Moving.{RunsAhead}
 
 -- a system did so many steps, which have no output: files and what is kept of file calls stay as they are, whatever they are, and the
 -- disk's steps only pass
@@ -23,6 +25,17 @@ pub record WentSilently (n : ℕ) (old new : System) : Type 0 where
   pub whole : IsWhole new
   pub no_completions : NoCompletions new
   pub done : new.steps ≡ old.steps + n
+
+-- at most so many
+pub record GoesSilently (most n : ℕ) (old new : System) : Type 0 where
+  pub count : n ≤ most
+  pub went : WentSilently n old new
+
+-- so do instructions of the process that runs ahead, which runs ahead still
+pub record RunsBurst (ahead : Ahead) (most n : ℕ) (old new : System) : Type 0 where
+  pub count : n ≤ most
+  pub went : WentSilently n old new
+  pub still : RunsAhead ahead new
 
 -- a machine did so many steps, while all that is outside of it stayed as it is: its drives, and what the renderer has and the sink got
 pub record WentOn {D : Type 0} (disks : D → Disks) (drives : D) (outside : Outside) (n : ℕ) (old new : Machine) : Type 0 where

@@ -1,7 +1,7 @@
 -- Residents: processes of the system that run no instructions. In its step each makes one call, whose bytes it has itself, or, as
 -- the command line interpreter does, hands something over, and goes on by the answer; its calls read and write no memory. (MP/M
 -- II System Guide, "Resident System Processes"; User's Guide, "Terminal Message Processor", "Command Line Interpreter".)
-use Rattle.std.specs.Prelude.{ℕ, if◌then◌else◌, Option, Some, None}
+use Rattle.std.specs.Prelude.{ℕ, if◌then◌else◌, Option, Some, None, ◌≡◌, true, is_some}
 use Rattle.mpm_base.specs.Calls.{Taken, Answer}
 use Rattle.mpm_base.specs.declared.call.Outcome.{Outcome}
 use Rattle.mpm_base.specs.declared.call.Outcome.TheVariants.{Done, Held, Retry, Ended}
@@ -16,6 +16,7 @@ use Rattle.mpm_system.specs.Saying.{said_by}
 use Rattle.mpm_system.specs.Residents.{taking, tells, telling_step, handing_step}
 use Rattle.mpm_machine.specs.Ending.{ended}
 use Rattle.mpm_machine.specs.Serving.{served_to_all, after_echo}
+use Rattle.mpm_system.specs.Sending.{IsReadyWithin}
 
 -- what its call brings about: one that is done writes its text, whose string is the call's bytes, and the resident takes the
 -- answer
@@ -42,3 +43,8 @@ native_step act call p system = silent (handing_step act call p system)
 abbrev pub resided : Option Native → ℕ → System → SystemChange
 resided None p system = silent system
 resided (Some native) p system = native_step (native_act native) (native_call native) p (asking p (native_call native) system)
+
+-- the process that acts is a resident's
+pub record MayReside (p : ℕ) (system : System) : Type 0 where
+  pub acts : IsReadyWithin p system
+  pub has : is_some (native_in system.residents p) ≡ true

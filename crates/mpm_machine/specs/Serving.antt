@@ -2,12 +2,12 @@
 -- "BDOS Calling Conventions"; functions 47, chain to program; 128 to 130, memory segments; 144, create process; 150, send CLI
 -- command; 151, call resident system procedure; 152, parse filename; 154, return address of system data page; 156, return process
 -- descriptor address; 157, abort specified process.)
-use Rattle.std.specs.Prelude.{ℕ, length, Bool, true, false, not, ◌++◌, Option, Some, None, ◌==◌, ◌&&◌, ◌||◌, if◌then◌else◌}
+use Rattle.std.specs.Prelude.{ℕ, length, Bool, true, false, not, ◌++◌, Option, Some, None, ◌==◌, ◌&&◌, ◌||◌, if◌then◌else◌, ◌≡◌}
 use Rattle.mpm_base.specs.Calls.{Taken, Answer, answering}
 use Rattle.mpm_base.specs.declared.call.Outcome.{Outcome}
 use Rattle.mpm_base.specs.declared.call.Outcome.TheVariants.{Done, Held, Retry, Ended}
 use Rattle.mpm_base.specs.declared.functions.TheConstants.{ABSOLUTE_MEMORY_REQUEST, RELOCATABLE_MEMORY_REQUEST, MEMORY_FREE, CREATE_PROCESS, CHAIN_TO_PROGRAM, SEND_CLI_COMMAND, CALL_RESIDENT_SYSTEM_PROCEDURE, PARSE_FILENAME, ABORT_SPECIFIED_PROCESS, SYSTEM_DATA_ADDRESS, RETURN_PROCESS_DESCRIPTOR_ADDRESS}
-use Rattle.mpm_procs.specs.Table.{process_in}
+use Rattle.mpm_procs.specs.Table.{process_in, call_of}
 use Rattle.mpm_kernel.specs.Kernel.{is_resident}
 use Rattle.mpm_kernel.specs.Calls.{failure_code}
 use Rattle.mpm_xdos.specs.Creating.{home_base, created, create_answer}
@@ -104,6 +104,11 @@ with_entry reply call p system =
 unfoldable pub reply_at_entry : Answer → Taken → ℕ → System → Answer
 reply_at_entry reply call p system =
     if is_entry call reply then entry_reply system.memory (process_in system.kernel.dispatcher.procs p) else reply
+
+-- so a process enters one, or goes on without
+pub record EntersIfAnswered (old_reply new_reply : Answer) (p : ℕ) (old new : System) : Type 0 where
+  pub system : new ≡ with_entry old_reply (call_of old.kernel.dispatcher.procs p) p old
+  pub reply : new_reply ≡ reply_at_entry old_reply (call_of old.kernel.dispatcher.procs p) p old
 
 -- a call is fulfilled, whose return address was taken: at once, or later where it was held
 unfoldable pub fulfilling : Answer → Taken → ℕ → ℕ → System → System

@@ -9,7 +9,7 @@ use Rattle.mpm_kernel.specs.Disk.{with_disk}
 use Rattle.mpm_directories.specs.Direct.{Directly}
 use Rattle.mpm_refusals.specs.Filing.{Situation}
 use Rattle.mpm_bdos.specs.Outcomes.{file_call}
-use Rattle.mpm_bdos.specs.Serving.{Kept as Filed}
+use Rattle.mpm_bdos.specs.Serving.{Kept}
 use Rattle.mpm_output.specs.Outside.{Outside}
 use Rattle.mpm_output.specs.Writing.{CameOut, Stopped}
 use Rattle.mpm_system.specs.declared.system.System.{System}
@@ -60,10 +60,10 @@ at_end (Within s) system = carried_out s system
 unfoldable pub carried : State → State
 carried s = having (at_end s.files s.system) s.outputs
 
--- that was done, and written
-pub record HasCarried (files : FilesInService) (before behind : Outside) (old new : System) (kept : Filed) (disks : Disks) : Type 0 where
+-- the call in service was carried to its end, and what that emits was written
+pub record HasCarried (files : FilesInService) (old_outside new_outside : Outside) (old new : System) (kept : Kept) (disks : Disks) : Type 0 where
   pub system : new ≡ (at_end files old).change.system
-  pub wrote : CameOut before behind (at_end files old).change.emitted
+  pub wrote : CameOut old_outside new_outside (at_end files old).change.emitted
   pub stands : StandsForFiles new.kernel.disk kept disks (at_end files old).files
 
 -- the turns that are left to the call in service
@@ -72,9 +72,9 @@ left_of (Within call) (Some served) = Some (record { call = call; ended = turns_
 left_of (Within call) None = None
 left_of (Between filing) served = None
 
--- or it stopped: where a drive failed nothing of it was written
+-- the carrying stopped: where a drive failed nothing of it was written
 abbrev pub StopsCarrying : StepFault → FilesInService → Outside → Outside → System → List (Option Directory) → Disks → Type 0
-StopsCarrying WriteFault files before behind old mounted disks =
-    Stopped before behind (at_end files old).change.emitted × HaveImages disks mounted (filing_in (at_end files old).files).drives
-StopsCarrying DiskFault files before behind old mounted disks =
-    (behind ≡ before) × HaveImagesOf (FailsWithin (left_of files old.kernel.disk.served)) disks mounted
+StopsCarrying WriteFault files old_outside new_outside old mounted disks =
+    Stopped old_outside new_outside (at_end files old).change.emitted × HaveImages disks mounted (filing_in (at_end files old).files).drives
+StopsCarrying DiskFault files old_outside new_outside old mounted disks =
+    (new_outside ≡ old_outside) × HaveImagesOf (FailsWithin (left_of files old.kernel.disk.served)) disks mounted

@@ -48,7 +48,7 @@ abbrev pub opens_or_attaches : ℕ → Bool
 opens_or_attaches function = function == OPEN_FILE || function == ATTACH_LIST
 
 -- the call of its row is one on files, and its process keeps that
-pub record IsFiled (q : ℕ) (answers : List Answer) (system : System) : Type 0 where
+pub record KeepsFileCall (q : ℕ) (answers : List Answer) (system : System) : Type 0 where
   pub files : is_of_files (next_call (after answers)).function ≡ true
   pub kept : (call_of system.kernel.dispatcher.procs q).function ≡ (next_call (after answers)).function
   pub block : (call_of system.kernel.dispatcher.procs q).fcb ≡ (next_call (after answers)).fcb
@@ -59,7 +59,7 @@ pub record IsSpooling (q : ℕ) (system : System) (outputs : List Output) : Type
   pub acts : native_in system.residents q ≡ Some (Spool (after answers))
   pub home : IsAtHome q system
   pub asks : (after answers).row ≡ Attach → opens_or_attaches (call_of system.kernel.dispatcher.procs q).function ≡ true
-  pub filed : 0 < at_disk system.kernel.disk q → IsFiled q answers system
+  pub filed : 0 < at_disk system.kernel.disk q → KeepsFileCall q answers system
   pub awaits : AwaitsIn (spooler_awaits (at_disk system.kernel.disk q) (after answers).row) q system.kernel
   pub owns : has_printer (after answers).row ≡ true → owner_of system.kernel.units (Printer 0) ≡ Some q
   pub printed : has_printer (after answers).row ≡ true → Begins (reverse (printed_in answers)) (bytes_to 0 outputs)

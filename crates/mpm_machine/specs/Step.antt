@@ -1,5 +1,5 @@
 -- What a step begins with in which no file call is made, and its parts.
-use Rattle.std.specs.Prelude.{ℕ, Bool, true, false, List, [], ◌++◌, Option, Some, None}
+use Rattle.std.specs.Prelude.{ℕ, Bool, true, false, List, [], ◌++◌, Option, Some, None, ◌≡◌}
 use Rattle.z80_regs.specs.Outcome.{StepOutcome}
 use Rattle.z80_ext.specs.Instruction.{instruction, registers_after, actions_of}
 use Rattle.mpm_banks.specs.Memory.{byte_at}
@@ -13,7 +13,7 @@ use Rattle.mpm_dispatcher.specs.Dispatch.{picked}
 use Rattle.mpm_kernel.specs.Events.{happened}
 use Rattle.mpm_kernel.specs.Consoling.{abort_taken}
 use Rattle.mpm_render.specs.Outputs.{Output}
-use Rattle.mpm_gate.specs.Gates.{gate_of}
+use Rattle.mpm_gate.specs.Gates.{gate_of, IsHome}
 use Rattle.mpm_gate.specs.declared.gate.Gate.{Gate}
 use Rattle.mpm_gate.specs.declared.gate.Gate.TheVariants.{End, Call, Return}
 use Rattle.mpm_output.specs.Writing.{spoken}
@@ -22,7 +22,7 @@ use Rattle.mpm_residents.specs.Natives.{native_in}
 use Rattle.mpm_interrupts.specs.Interrupts.{due_taken}
 use Rattle.mpm_system.specs.Procedures.{is_inside}
 use Rattle.mpm_system.specs.declared.system.System.{System}
-use Rattle.mpm_system.specs.Whole.{SystemChange, silent, speaking}
+use Rattle.mpm_system.specs.Whole.{SystemChange, silent, speaking, LivesInSystem}
 use Rattle.mpm_system.specs.Taking.{with_regs}
 use Rattle.mpm_system.specs.Coming.{unhalted}
 use Rattle.mpm_machine.specs.Ending.{ended}
@@ -66,6 +66,12 @@ acted_at None p seg system = executed (instruction_at p seg system) p seg system
 -- the gate at which a process of a segment stands
 abbrev pub gate_before : ℕ → ℕ → System → Option Gate
 gate_before p seg system = gate_of (is_inside system.kernel.dispatcher.procs p) system.memory seg (process_in system.kernel.dispatcher.procs p).regs.pc
+
+-- it lives there, and stands at none
+pub record IsAtNoGate (p seg : ℕ) (system : System) : Type 0 where
+  pub living : LivesInSystem p system
+  pub home : IsHome system.memory seg
+  pub gate : gate_before p seg system ≡ None
 
 -- what the running process does: in its segment, or as a resident
 abbrev pub acted_by : Option ℕ → Option ℕ → System → SystemChange
@@ -147,6 +153,6 @@ then_so first next =
     record { system = afterwards.system; emitted = afterwards.emitted ++ first.emitted }
 
 -- and it is picked who runs
-abbrev pub dispatched : Bool → SystemChange → SystemChange
-dispatched instruction change =
+abbrev pub runner_picked : Bool → SystemChange → SystemChange
+runner_picked instruction change =
     record change { system = record change.system { kernel = with_dispatcher (picked instruction) change.system.kernel } }

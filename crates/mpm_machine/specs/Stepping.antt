@@ -13,7 +13,7 @@ use Rattle.mpm_system.specs.FileCalling.{call_made}
 use Rattle.mpm_machine.specs.Files.{FilesInService, Between, Within, given_back}
 use Rattle.mpm_machine.specs.Finishing.{all_answered}
 use Rattle.mpm_machine.specs.Due.{with_ends}
-use Rattle.mpm_machine.specs.Step.{begun_by, instruction_unless, then_also, then_so, dispatched}
+use Rattle.mpm_machine.specs.Step.{begun_by, instruction_unless, then_also, then_so, runner_picked}
 use Rattle.mpm_machine.specs.FileCalls.{file_caller, told_of}
 use Rattle.mpm_machine.specs.DiskStep.{file_called, files_called, told_at_gate, told_of_call, process_over, disk_served, files_served, all_paid, call_entered, files_entered, turns_within}
 
@@ -57,7 +57,7 @@ unwritten_rest telling begun =
     record (then_so begun (disk_served telling.at_disk)) { system = all_paid (ended_after telling begun.system) }
 
 unfoldable pub rest_of : Bool → Telling → SystemChange → SystemChange
-rest_of instruction telling begun = dispatched instruction (with_records (unwritten_rest telling begun))
+rest_of instruction telling begun = runner_picked instruction (with_records (unwritten_rest telling begun))
 
 -- what a step makes of a system, by what its file calls come to
 unfoldable pub step_with : Telling → System → SystemChange

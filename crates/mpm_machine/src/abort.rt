@@ -1,5 +1,5 @@
 ghost use Rattle.std.specs.Prelude.{◌≡◌};
-ghost use Rattle.mpm_machine.specs.Acting.{LivesWithin, Gives};
+ghost use Rattle.mpm_machine.specs.Acting.{LivesInSystem, CallGives};
 ghost use Rattle.mpm_machine.specs.Serving.{aborting, aborted};
 
 use mpm_base::{FAILURE_CODE, Outcome, Pid, Reply};
@@ -10,8 +10,8 @@ use mpm_system::System;
 #[inline(never)]
 #[tactic(auto, unfolding(crate::specs::Serving::aborting))]
 pub(crate) fn abort(system: &mut System, p: Pid, reply: &mut Reply) -> Outcome
-    requires { LivesWithin p system.old }
-    ensures { Gives (aborting p system.old) system.new result reply.new }
+    requires { LivesInSystem p system.old }
+    ensures { CallGives (aborting p system.old) system.new result reply.new }
 {
     let Some(other) = mpm_xdos::target(&system.kernel, p) else {
         reply.answer(FAILURE_CODE);
@@ -29,7 +29,7 @@ pub(crate) fn abort(system: &mut System, p: Pid, reply: &mut Reply) -> Outcome
 /// while a call of it is in service.
 #[tactic(auto, using(mpm_system::proofs::WholeLaws::segment_is_there, crate::proofs::WholeLaws::slot_is_there), unfolding(crate::specs::Serving::aborted))]
 pub(crate) fn abort_process(system: &mut System, p: Pid)
-    requires { LivesWithin p system.old }
+    requires { LivesInSystem p system.old }
     ensures { system.new ≡ aborted p system.old }
 {
     let waits = mpm_xdos::waits_to_end(&system.kernel, p);

@@ -7,8 +7,8 @@ ghost use Rattle.mpm_gate.specs.declared.gate.Gate.TheVariants.{Return};
 ghost use Rattle.mpm_system.specs.Procedures.{is_inside};
 ghost use Rattle.mpm_system.specs.Whole.{IsWhole, NoCompletions, HasRoom, HasRoomForAll};
 ghost use Rattle.mpm_system.specs.Coming.{coming};
-ghost use Rattle.mpm_machine.specs.Acting.{LivesWithin, ActsIn, Makes};
-ghost use Rattle.mpm_machine.specs.Step.{acted, acted_at, at_instruction, gate_before, is_no_gate, begun_by, instruction_unless, instruction_at, instructed, executed, illegal as at_unlisted};
+ghost use Rattle.mpm_machine.specs.Acting.{LivesInSystem, ActsIn, Makes};
+ghost use Rattle.mpm_machine.specs.Step.{acted, acted_at, at_instruction, gate_before, is_no_gate, begun_by, instruction_unless, instruction_at, instructed, executed, illegal as at_unlisted, IsAtNoGate};
 ghost use Rattle.mpm_machine.specs.Finishing.{all_answered};
 ghost use Rattle.mpm_machine.specs.Stepping.{begun_alone, is_instruction};
 
@@ -152,9 +152,7 @@ fn execute<S: Sink>(
     render: &mut Render,
     sink: &mut S,
 ) -> Result<(), Failed>
-    requires living { LivesWithin p system.old }
-    requires home { IsHome system.old.memory seg }
-    requires gate { gate_before p seg system.old ≡ None }
+    requires { IsAtNoGate p seg system.old }
     ensures { Makes S.written S.faults (executed (instruction_at p seg system.old) p seg system.old) system.new render.old sink.old render.new sink.new result }
 {
     if instruct(system, p, seg) {
@@ -167,9 +165,7 @@ fn execute<S: Sink>(
 /// one stands there, and then nothing changes.
 #[tactic(auto, unfolding(crate::specs::Step::instructed))]
 fn instruct(system: &mut System, p: Pid, seg: Seg) -> bool
-    requires lives { Lives system.old.kernel.dispatcher.procs p }
-    requires home { IsHome system.old.memory seg }
-    requires gate { gate_before p seg system.old ≡ None }
+    requires { IsAtNoGate p seg system.old }
     ensures listed { result ≡ is_some (instruction_at p seg system.old) }
     ensures system { system.new ≡ instructed (instruction_at p seg system.old) p seg system.old }
 {
@@ -191,7 +187,7 @@ fn illegal<S: Sink>(
     render: &mut Render,
     sink: &mut S,
 ) -> Result<(), Failed>
-    requires { LivesWithin p system.old }
+    requires { LivesInSystem p system.old }
     ensures { Makes S.written S.faults (at_unlisted p system.old) system.new render.old sink.old render.new sink.new result }
 {
     let process = system.kernel.living(p);

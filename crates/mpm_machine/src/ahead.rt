@@ -1,14 +1,10 @@
 ghost use Rattle.std.specs.Prelude.{◌≡◌, ◌+◌, ◌-◌, ◌≤◌, ◌<◌, true, min, Some, None, IfSome};
 ghost use Rattle.std.specs.Bool.{OnTrue};
 ghost use Rattle.mpm_script.specs.declared.line.TheConstants.{GREATEST_STEP};
-ghost use Rattle.mpm_procs.specs.Table.{Lives};
-ghost use Rattle.mpm_kernel.specs.Kernel.{IsSoundKernel};
-ghost use Rattle.mpm_gate.specs.Gates.{IsHome};
 ghost use Rattle.mpm_system.specs.Whole.{IsWhole, NoCompletions};
-ghost use Rattle.mpm_system.specs.Idling.{CanPass};
-ghost use Rattle.mpm_machine.specs.Moving.{RunsAhead, Moved, IsUntraced};
+ghost use Rattle.mpm_machine.specs.Moving.{RunsAhead, Moved, IsUntraced, MayRunBurst};
 ghost use Rattle.mpm_machine.specs.OwnCalls.{MakesOwnCall, with_own_call, IsRecord};
-ghost use Rattle.mpm_machine.specs.Quietly.{WentSilently};
+ghost use Rattle.mpm_machine.specs.Quietly.{GoesSilently, RunsBurst};
 
 use crate::machine::Machine;
 use mpm_base::{Pid, Seg};
@@ -22,8 +18,8 @@ use mpm_system::{System, is_own};
 impl Machine {
     ghost use Rattle.mpm_output.specs.Outside.{seen};
     ghost use Rattle.mpm_system.specs.Whole.{IsWhole, NoCompletions};
-    ghost use Rattle.mpm_machine.specs.Holding.{HoldsDrives};
     ghost use Rattle.mpm_machine.specs.Quietly.{WentOn};
+    ghost use Rattle.mpm_machine.specs.Parts.{IsBetweenSteps};
 
     /// Steps at most so many, as long as each is an instruction of the process that runs, or its call that concerns it alone, or no
     /// process runs. Answers how many were done. Nothing is written, and no drive is called.
@@ -35,10 +31,8 @@ impl Machine {
         render: &Render,
         sink: &S,
     ) -> u64
-        requires whole { IsWhole self.old.system }
-        requires no_completions { NoCompletions self.old.system }
+        requires between { IsBetweenSteps D.disks self.old drives.now }
         requires room { self.old.system.steps + most ≤ GREATEST_STEP }
-        requires holds { HoldsDrives D.disks self.old.system.kernel self.old.bdos drives.now }
         ensures count { result ≤ most }
         ensures went { WentOn D.disks drives.now (seen S.written S.faults render.now sink.now) result self.old self.new }
     {
@@ -113,9 +107,7 @@ fn run_burst(system: &mut System, ahead: &Ahead, most: u64) -> u64
     requires whole { IsWhole system.old }
     requires room { system.old.steps + most ≤ GREATEST_STEP }
     requires ahead { RunsAhead ahead.now system.old }
-    ensures count { result ≤ most }
-    ensures went { WentSilently result system.old system.new }
-    ensures ahead { RunsAhead ahead.now system.new }
+    ensures { RunsBurst ahead.now most result system.old system.new }
 {
     let few = steps_ahead(system, ahead.last, most);
     run_process(system, ahead.p, ahead.seg, few)
@@ -133,12 +125,7 @@ fn steps_ahead(system: &System, last: u64, most: u64) -> u64
 #[tactic(auto, unfolding(crate::specs::Moving::with_view))]
 #[inline(always)]
 fn run_process(system: &mut System, p: Pid, seg: Seg, most: u64) -> u64
-    requires sound { IsSoundKernel system.old.kernel }
-    requires short { most ≤ 4294967295 }
-    requires passing { CanPass most system.old.kernel.disk }
-    requires lives { Lives system.old.kernel.dispatcher.procs p }
-    requires home { IsHome system.old.memory seg }
-    requires room { system.old.steps + most ≤ GREATEST_STEP }
+    requires { MayRunBurst p seg most system.old }
     ensures count { result ≤ most }
     ensures moved { Moved result p seg system.old system.new }
 {
@@ -169,8 +156,7 @@ fn idle(system: &mut System, most: u64) -> u64
     requires whole { IsWhole system.old }
     requires no_completions { NoCompletions system.old }
     requires room { system.old.steps + most ≤ GREATEST_STEP }
-    ensures count { result ≤ most }
-    ensures went { WentSilently result system.old system.new }
+    ensures { GoesSilently most result system.old system.new }
 {
     if !system.is_idle() {
         return 0;

@@ -4,7 +4,7 @@ ghost use Rattle.mpm_procs.specs.Table.{Lives, call_of};
 ghost use Rattle.mpm_base.specs.Calls.{Answer};
 ghost use Rattle.mpm_system.specs.Whole.{silent};
 ghost use Rattle.mpm_system.specs.Taking.{IsTaken};
-ghost use Rattle.mpm_machine.specs.Acting.{LivesWithin, IsReadyWithin, ActsIn, MayAnswer, Gives, Makes};
+ghost use Rattle.mpm_machine.specs.Acting.{LivesInSystem, IsReadyWithin, ActsIn, MayAnswer, CallGives, Makes};
 ghost use Rattle.mpm_machine.specs.Serving.{served, served_to_all, creating, telling_system, telling_descriptor, fulfilling, completing, after_echo, outcome_of, gate_step};
 ghost use Rattle.mpm_machine.specs.Ending.{ended};
 
@@ -80,7 +80,7 @@ fn conclude_undone<S: Sink>(
     render: &mut Render,
     sink: &mut S,
 ) -> Result<(), Failed>
-    requires living { LivesWithin p system.old }
+    requires living { LivesInSystem p system.old }
     requires undone { outcome ≢ Done }
     ensures { (reply : Answer) → Makes S.written S.faults (after_echo (call_of system.old.kernel.dispatcher.procs p) p system.old (outcome_of outcome reply (call_of system.old.kernel.dispatcher.procs p) p seg system.old)) system.new render.old sink.old render.new sink.new result }
 {
@@ -91,7 +91,7 @@ fn conclude_undone<S: Sink>(
 
 /// What the outcome of the call that a process keeps brings about, where it isn't done.
 fn bring_about(system: &mut System, outcome: Outcome, p: Pid, seg: Seg)
-    requires living { LivesWithin p system.old }
+    requires living { LivesInSystem p system.old }
     requires undone { outcome ≢ Done }
     ensures { (reply : Answer) → silent system.new ≡ outcome_of outcome reply (call_of system.old.kernel.dispatcher.procs p) p seg system.old }
 {
@@ -108,7 +108,7 @@ fn bring_about(system: &mut System, outcome: Outcome, p: Pid, seg: Seg)
 fn serve(system: &mut System, p: Pid, reply: &mut Reply) -> Outcome
     requires acts { IsReadyWithin p system.old }
     requires taken { IsTaken (call_of system.old.kernel.dispatcher.procs p) }
-    ensures { Gives (served (call_of system.old.kernel.dispatcher.procs p) p system.old) system.new result reply.new }
+    ensures { CallGives (served (call_of system.old.kernel.dispatcher.procs p) p system.old) system.new result reply.new }
 {
     match system.kernel.kept_call(p).function {
         functions::CREATE_PROCESS => create(system, p, reply),
@@ -126,7 +126,7 @@ fn serve(system: &mut System, p: Pid, reply: &mut Reply) -> Outcome
 #[tactic(auto, unfolding(crate::specs::Serving::served_to_all))]
 pub(crate) fn serve_to_all(system: &mut System, p: Pid, reply: &mut Reply) -> Outcome
     requires { IsReadyWithin p system.old }
-    ensures { Gives (served_to_all (call_of system.old.kernel.dispatcher.procs p) p system.old) system.new result reply.new }
+    ensures { CallGives (served_to_all (call_of system.old.kernel.dispatcher.procs p) p system.old) system.new result reply.new }
 {
     match system.kernel.kept_call(p).function {
         functions::ABSOLUTE_MEMORY_REQUEST => system.reserve(p, true, reply),
@@ -141,9 +141,9 @@ pub(crate) fn serve_to_all(system: &mut System, p: Pid, reply: &mut Reply) -> Ou
 #[inline(never)]
 #[tactic(auto, using(mpm_system::proofs::WholeLaws::segment_is_there), unfolding(crate::specs::Serving::creating))]
 fn create(system: &mut System, p: Pid, reply: &mut Reply) -> Outcome
-    requires living { LivesWithin p system.old }
+    requires living { LivesInSystem p system.old }
     requires few { length (call_of system.old.kernel.dispatcher.procs p).bytes ≤ 576 }
-    ensures { Gives (creating p system.old) system.new result reply.new }
+    ensures { CallGives (creating p system.old) system.new result reply.new }
 {
     mpm_xdos::create(&mut system.kernel, &system.memory, p, reply);
     Outcome::Done
@@ -152,7 +152,7 @@ fn create(system: &mut System, p: Pid, reply: &mut Reply) -> Outcome
 /// Function 154: tells the system data page.
 #[inline(never)]
 fn tell_system(system: &System, reply: &mut Reply) -> Outcome
-    ensures { Gives (telling_system system.now) system.now result reply.new }
+    ensures { CallGives (telling_system system.now) system.now result reply.new }
 {
     mpm_xdos::tell_system(&system.kernel, &system.memory, reply);
     Outcome::Done
@@ -162,7 +162,7 @@ fn tell_system(system: &System, reply: &mut Reply) -> Outcome
 #[inline(never)]
 fn tell_descriptor(system: &System, p: Pid, reply: &mut Reply) -> Outcome
     requires lives { Lives system.now.kernel.dispatcher.procs p }
-    ensures { Gives (telling_descriptor p system.now) system.now result reply.new }
+    ensures { CallGives (telling_descriptor p system.now) system.now result reply.new }
 {
     mpm_xdos::tell_descriptor(&system.kernel, p, reply);
     Outcome::Done
@@ -205,7 +205,7 @@ pub(crate) fn fulfil(system: &mut System, p: Pid, seg: Seg, reply: &mut Reply)
 #[inline(never)]
 #[tactic(auto, using(mpm_system::proofs::WholeLaws::segment_is_there, crate::proofs::WholeLaws::slot_is_there), unfolding(crate::specs::Ending::ended))]
 pub(crate) fn end(system: &mut System, p: Pid)
-    requires { LivesWithin p system.old }
+    requires { LivesInSystem p system.old }
     ensures { system.new ≡ ended p system.old }
 {
     mpm_xdos::end(&mut system.kernel, &mut system.memory, p);

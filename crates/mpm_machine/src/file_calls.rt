@@ -4,7 +4,7 @@ ghost use Rattle.mpm_procs.specs.Table.{Lives, call_of};
 ghost use Rattle.mpm_gate.specs.Gates.{IsHome};
 ghost use Rattle.mpm_file_functions.specs.declared.refusals.Extended.{Extended};
 ghost use Rattle.mpm_system.specs.Whole.{IsWhole};
-ghost use Rattle.mpm_machine.specs.Acting.{LivesWithin, MayAnswer, Makes};
+ghost use Rattle.mpm_machine.specs.Acting.{LivesInSystem, MayAnswer, Makes};
 ghost use Rattle.mpm_machine.specs.FileCalls.{is_of_files as is_file_function, called_next, is_file_number, calls_files as files_called, file_caller as caller_of_files, told_of, answered_or_ended, told_then, error_met, concluded};
 
 use crate::acting::gate;
@@ -46,7 +46,7 @@ pub(crate) fn file_caller(system: &System) -> Option<Pid>
 #[inline(always)]
 #[tactic(auto, unfolding(crate::specs::FileCalls::calls_files))]
 fn calls_files(system: &System, p: Pid) -> bool
-    requires { LivesWithin p system.now }
+    requires { LivesInSystem p system.now }
     ensures { result ≡ files_called p system.now }
 {
     match system.kernel.segment(p) {

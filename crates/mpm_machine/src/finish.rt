@@ -1,10 +1,8 @@
 ghost use Rattle.std.specs.Prelude.{◌≡◌, ◌≤◌, ◌+◌, length, IfSome, IfNone};
-ghost use Rattle.mpm_procs.specs.Table.{Lives, process_in};
-ghost use Rattle.mpm_kernel.specs.Waiting.{completion_reply};
-ghost use Rattle.mpm_dispatcher.specs.Dispatch.{first_completed};
+ghost use Rattle.mpm_procs.specs.Table.{process_in};
 ghost use Rattle.mpm_system.specs.Whole.{IsWhole, HasRoomForAll, most_records};
-ghost use Rattle.mpm_machine.specs.Acting.{MayAnswer, MayAnswerAll};
-ghost use Rattle.mpm_machine.specs.Finishing.{finished, completion_dequeued, all_finished, command_let_in, finished_or_ended, all_answered};
+ghost use Rattle.mpm_machine.specs.Acting.{MayAnswerAll};
+ghost use Rattle.mpm_machine.specs.Finishing.{finished, all_finished, command_let_in, finished_or_ended, all_answered, HandsOut, MayFinish};
 
 use crate::call::{end, fulfil};
 use mpm_base::{Pid, Reply};
@@ -39,8 +37,7 @@ fn answer_each(system: &mut System, reply: &mut Reply)
 
 /// The held call that was completed first: a command goes in with it, and it is answered, unless its process chained by it.
 fn finish_first(system: &mut System, p: Pid, reply: &mut Reply)
-    requires answers { MayAnswer p system.old }
-    requires reply { reply.old ≡ completion_reply system.old.kernel p }
+    requires { MayFinish p reply.old system.old }
     ensures { system.new ≡ finished_or_ended p (command_let_in p system.old) }
 {
     system.let_in(p);
@@ -80,20 +77,14 @@ fn finish_each(system: &mut System, reply: &mut Reply)
 #[tactic(auto, using(crate::proofs::WholeStepLaws::whole_dequeued, crate::proofs::FinishLaws::dequeued_nobody, crate::proofs::FinishLaws::dequeued_lives, crate::proofs::FinishLaws::dequeued_reply))]
 fn next_completed(system: &mut System, reply: &mut Reply) -> Option<Pid>
     requires { IsWhole system.old }
-    ensures process { result ≡ first_completed system.old.kernel.dispatcher.completed }
-    ensures system { system.new ≡ completion_dequeued system.old }
-    ensures whole { IsWhole system.new }
-    ensures nothing { IfNone result (system.new ≡ system.old) }
-    ensures lives { IfSome result (λ p. Lives system.new.kernel.dispatcher.procs p) }
-    ensures reply { IfSome result (λ p. reply.new ≡ completion_reply system.new.kernel p) }
+    ensures { HandsOut system.old system.new reply.new result }
 {
     system.kernel.completed(reply)
 }
 
 /// The held call of a process is completed, with its reply. A resident takes the answer.
 fn finish(system: &mut System, p: Pid, reply: &mut Reply)
-    requires answers { MayAnswer p system.old }
-    requires reply { reply.old ≡ completion_reply system.old.kernel p }
+    requires { MayFinish p reply.old system.old }
     ensures { system.new ≡ finished (process_in system.old.kernel.dispatcher.procs p).seg p system.old }
 {
     match system.kernel.segment(p) {

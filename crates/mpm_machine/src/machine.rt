@@ -47,32 +47,31 @@ impl Machine {
     ghost use Rattle.mpm_kernel.specs.Kernel.{IsConsole};
     ghost use Rattle.mpm_consoles.specs.Consoles.{console_at};
     ghost use Rattle.mpm_machine_file.specs.MachineFiles.{IsMachine};
-    ghost use Rattle.mpm_drives.specs.Mounted.{placed};
-    ghost use Rattle.mpm_port.specs.Disks.{Disks};
     ghost use Rattle.mpm_directories.specs.Places.{directory_at, in_places};
     ghost use Rattle.mpm_bdos.specs.Serving.{nothing_kept};
-    ghost use Rattle.mpm_output.specs.Outside.{seen};
     ghost use Rattle.mpm_system.specs.Whole.{IsWhole, NoCompletions};
     ghost use Rattle.mpm_machine.specs.State.{State, IsAt, StandsWithDrives};
-    ghost use Rattle.mpm_machine.specs.Files.{Between, StandsForFiles};
     ghost use Rattle.mpm_machine.specs.Holding.{HoldsDrives};
     ghost use Rattle.mpm_service.specs.Disk.{no_service};
     ghost use Rattle.mpm_machine.specs.Faults.{counts, EndsByCause, itself, of_run};
     ghost use Rattle.mpm_machine.specs.Slots.{HasResidents};
     ghost use Rattle.mpm_machine.specs.Interpreting.{Interprets};
-    ghost use Rattle.mpm_opens.specs.Opens.{AreOpen};
+    ghost use Rattle.mpm_opens.specs.Opens.{AreOpen, HasNone};
     ghost use Rattle.mpm_refusals.specs.Filing.{Filing};
     ghost use Rattle.mpm_machine.specs.Printing.{at_beginning, IsPrinting};
     ghost use Rattle.mpm_machine.specs.Spooling.{IsSpooling};
-    ghost use Rattle.mpm_system.specs.Opening.{booted, opened, IsBare, MayPlace, with_placed, opening_system, OnlyHas, with_residents};
-    ghost use Rattle.mpm_queues.specs.Queues.{no_queues};
-    ghost use Rattle.mpm_machine.specs.OneStep.{LeavesMachine, StopsStep, StopsRun, LeavesDrives};
+    ghost use Rattle.mpm_system.specs.Opening.{booted, opened, IsBare, MayPlace, with_placed, opening_system};
+    ghost use Rattle.mpm_machine.specs.OneStep.{StepsLeave, StopsStep, StopsRun, LeavesDrives, turns_in};
     ghost use Rattle.mpm_machine.specs.Standing.{StandingFor, StandingAt};
-    ghost use Rattle.mpm_machine.specs.Parts.{IsBetweenSteps, HasMadeStep, HasAdvanced, StopsTaking, UsesDrives, CallsInStep};
-    ghost use Rattle.mpm_machine.specs.After.{next, after, IsStepOf, HasSteppedTo};
-    ghost use Rattle.mpm_machine.specs.Booting.{StandsOnDrives, LeavesUnlisted};
-    ghost use Rattle.mpm_machine.specs.Mounting.{HasNoDrive, untouched};
+    ghost use Rattle.mpm_machine.specs.Parts.{IsBetweenSteps};
+    ghost use Rattle.mpm_machine.specs.After.{next, after, IsStepOf};
+    ghost use Rattle.mpm_machine.specs.Booting.{IsBootedOn, LeavesUnlisted, MayBeginResidents, HasBegunResidents, IsOfProgram};
+    ghost use Rattle.mpm_machine.specs.Mounting.{HasNoDrive};
     ghost use Rattle.mpm_machine.specs.Failing.{leaving, does_work, turns_done, working_in};
+    ghost use Rattle.mpm_machine.specs.Setup.{set_up};
+    ghost use Rattle.mpm_machine.specs.StepParts.{TakesStep, Advances};
+    ghost use Rattle.mpm_machine.specs.Scheduling.{IsScheduling};
+    ghost use Rattle.mpm_base.specs.Counts.{one_if};
 
     /// The machine of a machine file, and of its script's events, as it is run. It has the command queue, the command line interpreter, a
     /// terminal message processor for each console, and the spooler and the scheduler with their queues, where the file asks for them. Its
@@ -89,16 +88,30 @@ impl Machine {
         drives: &mut D,
     ) -> Result<Box<Machine>, BootError>
         requires { IsMachine file.now }
+        // The system is that of the file and of the script, with its residents begun.
         ensures opening { IfOk result (λ machine. machine.value.system ≡ opened file.now script) }
+        // These are the command line interpreter, a terminal message processor for each console, and what the file asks for, each in its
+        // slot.
         ensures residents { IfOk result (λ machine. HasResidents file.now.consoles file.now.spool file.now.sched machine.value.system) }
+        // The interpreter awaits its first command, and has no segment.
         ensures interprets { IfOk result (λ machine. Interprets machine.value.system) }
+        // Where the file asks for the spooler, it acts in its slot, has read and printed nothing, and so prints its file from the first step on.
         ensures spools { IfOk result (λ machine. file.now.spool ≡ true → IsSpooling (file.now.consoles + 1) machine.value.system []) }
-        ensures prints { IfOk result (λ machine. file.now.spool ≡ true → (filing : Filing) → AreOpen filing.opens → IsPrinting (file.now.consoles + 1) (at_beginning filing machine.value.system)) }
+        ensures prints { IfOk result (λ machine. file.now.spool ≡ true → (filing : Filing) → AreOpen filing.opens → HasNone (file.now.consoles + 1) filing.opens → IsPrinting (file.now.consoles + 1) (at_beginning filing machine.value.system)) }
+        // Where the file asks for the scheduler, it acts in its slot, and has accepted nothing.
+        ensures schedules { IfOk result (λ machine. file.now.sched ≡ true → IsScheduling (file.now.consoles + 1 + one_if file.now.spool) [] machine.value.system.residents) }
+        // No step was done.
         ensures start { IfOk result (λ machine. machine.value.system.steps ≡ 0) }
+        // The system is whole: its processes, lists and memory fit together.
         ensures whole { IfOk result (λ machine. IsWhole machine.value.system) }
+        // Nobody is left to be answered.
         ensures no_completions { IfOk result (λ machine. NoCompletions machine.value.system) }
+        // No call is at the disk, whose turns have as many steps as the file says.
         ensures disk { IfOk result (λ machine. machine.value.system.kernel.disk ≡ no_service file.now.disk_turn) }
-        ensures stands { IfOk result (λ machine. StandsOnDrives D.disks (D.told drives.old) (D.unsynced drives.new) file.now.drives machine.value drives.new) }
+        // The drives of the file are mounted and synced, with what their images stand for, and nothing is open, locked, marked or sought.
+        ensures stands { IfOk result (λ machine. IsBootedOn D.disks (D.told drives.old) (D.unsynced drives.new) file.now.drives machine.value drives.new) }
+        // Booted or not, no image changes, and other drives stay as they were. An error names the first drive that couldn't be mounted, or
+        // want of memory; a drive fails only then.
         ensures leaves { LeavesUnlisted D.Drives file.now.drives drives.old drives.new result }
     {
         let mut machine = match Machine::boot_bare(alloc, file, script, drives) {
@@ -111,17 +124,8 @@ impl Machine {
 
     /// What a machine has as it is run, beside what its file says.
     fn begin_residents(&mut self, consoles: u8, spool: bool, sched: bool)
-        requires whole { IsWhole self.old.system }
-        requires no_completions { NoCompletions self.old.system }
-        requires consoles { consoles ≡ length self.old.system.kernel.units.consoles }
-        requires queues { OnlyHas no_queues self.old.system.kernel }
-        requires nobody { self.old.system.residents ≡ [] }
-        ensures system { self.new.system ≡ with_residents consoles spool sched self.old.system }
-        ensures whole { IsWhole self.new.system }
-        ensures no_completions { NoCompletions self.new.system }
-        ensures disk { self.new.system.kernel.disk ≡ self.old.system.kernel.disk }
-        ensures steps { self.new.system.steps ≡ self.old.system.steps }
-        ensures bdos { self.new.bdos ≡ self.old.bdos }
+        requires { MayBeginResidents consoles self.old.system }
+        ensures { HasBegunResidents consoles spool sched self.old self.new }
     {
         self.system.begin_residents(consoles, spool, sched);
     }
@@ -141,7 +145,7 @@ impl Machine {
         ensures booted { IfOk result (λ machine. machine.value.system ≡ booted file.now script) }
         ensures bare { IfOk result (λ machine. IsBare machine.value.system) }
         ensures disk { IfOk result (λ machine. machine.value.system.kernel.disk ≡ no_service file.now.disk_turn) }
-        ensures stands { IfOk result (λ machine. StandsOnDrives D.disks (D.told drives.old) (D.unsynced drives.new) file.now.drives machine.value drives.new) }
+        ensures stands { IfOk result (λ machine. IsBootedOn D.disks (D.told drives.old) (D.unsynced drives.new) file.now.drives machine.value drives.new) }
         ensures leaves { LeavesUnlisted D.Drives file.now.drives drives.old drives.new result }
     {
         let mounted = match MountedDrives::mount(alloc, file.drives.as_slice(), drives) {
@@ -196,13 +200,7 @@ impl Machine {
     #[tactic(auto, unfolding(mpm_system::specs::Opening::opening_system))]
     pub fn boot_program(alloc: Global, program: &[u8]) -> Result<Box<Machine>, BootError>
         requires { length program.now ≤ 48512 }
-        ensures opening { IfOk result (λ machine. machine.value.system ≡ opening_system program.now) }
-        ensures start { IfOk result (λ machine. machine.value.system.steps ≡ 0) }
-        ensures whole { IfOk result (λ machine. IsWhole machine.value.system) }
-        ensures no_completions { IfOk result (λ machine. NoCompletions machine.value.system) }
-        ensures disk { IfOk result (λ machine. machine.value.system.kernel.disk ≡ no_service 0) }
-        ensures bdos { IfOk result (λ machine. machine.value.bdos ≡ nothing_kept (in_places [])) }
-        ensures files { (disks : Disks) → IfOk result (λ machine. StandsForFiles machine.value.system.kernel.disk machine.value.bdos disks (Between (untouched (placed [])))) }
+        ensures program { IfOk result (λ machine. IsOfProgram program.now machine.value) }
         ensures memory { IfErr result (λ error. error ≡ BootError.OutOfMemory) }
     {
         let file = match program_file(alloc) {
@@ -271,37 +269,53 @@ impl Machine {
     }
 
     /// One step. After an error the machine isn't stepped again. A function on files is done in the step in which it is called where
-    /// turns have no steps; else it waits for the disk, which serves one at a time in turns, and is done after its last one. No
-    /// drive is synced.
+    /// turns have no steps; else it waits for the disk, which serves one at a time in turns, and is done after its last one. A
+    /// drive that isn't synced before a step isn't so after it.
     #[inline(always)]
     pub fn step<D: Drives, S: Sink, L: Ledger>(
         &mut self,
         drives: &mut D,
         render: &mut Render,
         sink: &mut S,
-        steps: &mut Steps<L>,
+        calls: &mut Steps<L>,
     ) -> Result<(), StepFault>
+        // A step may be called while fewer than GREATEST_STEP are done.
         requires most { self.old.system.steps < GREATEST_STEP }
-        requires whole { IsWhole self.old.system }
-        requires no_completions { NoCompletions self.old.system }
-        requires holds { HoldsDrives D.disks self.old.system.kernel self.old.bdos drives.old }
+        // The system is whole: its processes, lists and memory fit together. Nobody is left to be answered. What is kept of file calls and
+        // the images stand for some files.
+        requires between { IsBetweenSteps D.disks self.old drives.old }
+        // After a success the machine, the output and the images stand for `next` of whatever state they stood for, after the same first
+        // text.
         ensures ok { StandingAt self.old render.old (S.written sink.old) (D.disks drives.old) (λ s first. OnOk result (StandsWithDrives self.new render.new (S.written sink.new) (D.disks drives.new) (next s) first)) }
+        // So it is of the machine and the images alone, whatever was written before.
         ensures model { (s : State) → IsAt self.old (D.disks drives.old) s → OnOk result (IsAt self.new (D.disks drives.new) (next s)) }
+        // After an error the text stops within that of this step, or before it where a drive failed. The images stand for drives within a
+        // turn, or after the step where the sink failed.
         ensures stops { StandingAt self.old render.old (S.written sink.old) (D.disks drives.old) (λ s first. IfErr result (λ fault. StopsStep fault render.old.trace (leaving S.written D.disks render.new sink.new drives.new self.new.bdos.mounted) s first)) }
+        // Each byte that a step changes is one that it writes or answers. A resident hands bytes only to a segment that it has reserved, in
+        // which nobody lives. An instruction leaves all bytes but its own. A call is served by what it took. A spooler prints its file, and
+        // a scheduler sends what it accepted in order.
         ensures law { (s : State) → s.system ≡ self.old.system → IsStepOf s }
-        ensures leaves { OnOk result (LeavesMachine 1 self.old self.new) }
+        // A success counts one step and leaves the machine whole. No end of a process is due, and no two locks are of one record.
+        ensures leaves { OnOk result (StepsLeave 1 self.old self.new) }
+        // Then the images stand for files again: the machine may be stepped on.
         ensures holds { OnOk result (HoldsDrives D.disks self.new.system.kernel self.new.bdos drives.new) }
-        ensures drives { LeavesDrives D.disks D.told D.failed_names D.unsynced self.old.bdos.mounted self.new.bdos.mounted drives.old drives.new }
+        // In any case each drive keeps its name, kind and size. Other images stay as they were. A drive that isn't synced
+        // isn't so after it.
+        ensures drives { LeavesDrives D.Drives self.old.bdos.mounted self.new.bdos.mounted drives.old drives.new }
+        // A success leaves the counts of faults. An error comes only where the count of the device that it names rose; the other count
+        // stays. Whether calls are traced stays too.
         ensures ends { EndsByCause itself render.old.trace render.new.trace (counts S.faults D.faults sink.old drives.old) (counts S.faults D.faults sink.new drives.new) result }
-
-        // A step that works on no drive calls none. One that does calls it at most 20 times a turn: where turns have steps, one turn is
-        // done in a step.
-        ensures rests { does_work self.old.system ≡ false → IfErr result (λ fault. fault ≡ StepFault.WriteFault) × (drives.new ≡ drives.old) × (steps.new ≡ steps.old) }
+        // A step that does no work on a drive calls none, so only the sink can fail.
+        ensures rests { does_work self.old.system ≡ false → IfErr result (λ fault. fault ≡ StepFault.WriteFault) × (drives.new ≡ drives.old) × (calls.new ≡ calls.old) }
+        // Where no drive is mounted none is called, and none is mounted after it.
         ensures none { HasNoDrive self.old.bdos.mounted → IfErr result (λ fault. fault ≡ StepFault.WriteFault) × (drives.new ≡ drives.old) × HasNoDrive self.new.bdos.mounted }
-        ensures calls { StandingFor self.old (D.disks drives.old) (λ files. steps.new ≤ steps.old + 20 * turns_done (working_in self.old.system files)) }
-        ensures few { 0 < self.old.system.kernel.disk.turn_steps → steps.new ≤ steps.old + 20 }
+        // A step calls drives at most 20 times for each turn that it does.
+        ensures calls { StandingFor self.old (D.disks drives.old) (λ files. calls.new ≤ calls.old + 20 * turns_done (working_in self.old.system files)) }
+        // Where turns have steps, it does at most one turn: 20 calls at most.
+        ensures few { 0 < self.old.system.kernel.disk.turn_steps → calls.new ≤ calls.old + 20 }
     {
-        match self.take_step(drives, render, sink, steps) {
+        match self.take_step(drives, render, sink, calls) {
             Ok(()) => {
                 self.bdos.tell_sound();
                 Ok(())
@@ -317,21 +331,16 @@ impl Machine {
         drives: &mut D,
         render: &mut Render,
         sink: &mut S,
-        steps: &mut Steps<L>,
+        calls: &mut Steps<L>,
     ) -> Result<(), StepFault>
         requires most { self.old.system.steps < GREATEST_STEP }
         requires between { IsBetweenSteps D.disks self.old drives.old }
-        ensures ok { StandingFor self.old (D.disks drives.old) (λ files. OnOk result (HasSteppedTo files (seen S.written S.faults render.old sink.old) (seen S.written S.faults render.new sink.new) self.old.system self.new.system self.new.bdos (D.disks drives.new))) }
-        ensures stops { StandingFor self.old (D.disks drives.old) (λ files. IfErr result (λ fault. StopsTaking fault (seen S.written S.faults render.old sink.old) (seen S.written S.faults render.new sink.new) self.old.system self.new.bdos (D.disks drives.new) files)) }
-        ensures made { OnOk result (HasMadeStep D.disks self.old self.new drives.new) }
-        ensures uses { UsesDrives D.disks D.told D.failed_names D.unsynced itself self.old.bdos.mounted self.new.bdos.mounted drives.old drives.new result }
-        ensures calls { CallsInStep (D.disks drives.old) self.old drives.old drives.new steps.old steps.new result }
-        ensures ends { EndsByCause itself render.old.trace render.new.trace (counts S.faults D.faults sink.old drives.old) (counts S.faults D.faults sink.new drives.new) result }
+        ensures { TakesStep D.Drives (set_up S.Sink self.old drives.old render.old sink.old calls.old) (set_up S.Sink self.new drives.new render.new sink.new calls.new) result }
     {
-        if let Err(Failed) = work(&self.system, &mut self.bdos, drives, steps) {
+        if let Err(Failed) = work(&self.system, &mut self.bdos, drives, calls) {
             return Err(StepFault::DiskFault);
         }
-        let instruction = match self.begin_step(drives, render, sink, steps) {
+        let instruction = match self.begin_step(drives, render, sink, calls) {
             Ok(instruction) => instruction,
             Err(fault) => return Err(fault),
         };
@@ -349,29 +358,46 @@ impl Machine {
         drives: &mut D,
         render: &mut Render,
         sink: &mut S,
-        steps: &mut Steps<L>,
+        calls: &mut Steps<L>,
     ) -> Result<(), RunFault>
+        // After `n` steps at most GREATEST_STEP are done.
         requires most { self.old.system.steps + n ≤ GREATEST_STEP }
-        requires whole { IsWhole self.old.system }
-        requires no_completions { NoCompletions self.old.system }
-        requires holds { HoldsDrives D.disks self.old.system.kernel self.old.bdos drives.old }
+        // The system is whole: its processes, lists and memory fit together. Nobody is left to be answered. What is kept of file calls and
+        // the images stand for some files.
+        requires between { IsBetweenSteps D.disks self.old drives.old }
+        // After a success the machine, the output and the images stand for what comes `n` steps after whatever state they stood for,
+        // after the same first text.
         ensures ok { StandingAt self.old render.old (S.written sink.old) (D.disks drives.old) (λ s first. OnOk result (StandsWithDrives self.new render.new (S.written sink.new) (D.disks drives.new) (after n s) first)) }
+        // So it is of the machine and the images alone, whatever was written before.
         ensures model { (s : State) → IsAt self.old (D.disks drives.old) s → OnOk result (IsAt self.new (D.disks drives.new) (after n s)) }
+        // After an error all text of the steps before the one that the error names is written. The text stops within that of this one, or
+        // before it where a drive failed. The images stand for drives within a turn, or after that step where the sink failed.
         ensures stops { StandingAt self.old render.old (S.written sink.old) (D.disks drives.old) (λ s first. IfErr result (λ error. StopsRun error render.old.trace (leaving S.written D.disks render.new sink.new drives.new self.new.bdos.mounted) n s first)) }
+        // Each of the steps keeps to what `law` of `step` says.
         ensures each { (s : State) → s.system ≡ self.old.system → (k : ℕ) → k < n → IsStepOf (after k s) }
-        ensures leaves { OnOk result (LeavesMachine n self.old self.new) }
+        // A success counts `n` steps and leaves the machine whole. After a step no end of a process is due. No two locks are of one
+        // record.
+        ensures leaves { OnOk result (StepsLeave n self.old self.new) }
+        // Then the images stand for files again: the machine may be run on.
         ensures holds { OnOk result (HoldsDrives D.disks self.new.system.kernel self.new.bdos drives.new) }
-        ensures drives { LeavesDrives D.disks D.told D.failed_names D.unsynced self.old.bdos.mounted self.new.bdos.mounted drives.old drives.new }
+        // In any case each drive keeps its name, kind and size. Other images stay as they were. A drive that isn't synced
+        // isn't so after it.
+        ensures drives { LeavesDrives D.Drives self.old.bdos.mounted self.new.bdos.mounted drives.old drives.new }
+        // A success leaves the counts of faults. An error comes only where the count of the device that it names rose; the other count
+        // stays. Whether calls are traced stays too.
         ensures ends { EndsByCause of_run render.old.trace render.new.trace (counts S.faults D.faults sink.old drives.old) (counts S.faults D.faults sink.new drives.new) result }
-
-        // Without a step no drive is called, nor where none is mounted. Where turns have steps, a step calls a drive at most 20 times.
+        // Without a step no drive is called.
         ensures still { n ≡ 0 → drives.new ≡ drives.old }
+        // Where no drive is mounted none is called, only the sink can fail, and none is mounted after it.
         ensures none { HasNoDrive self.old.bdos.mounted → IfErr result (λ error. error.fault ≡ StepFault.WriteFault) × (drives.new ≡ drives.old) × HasNoDrive self.new.bdos.mounted }
-        ensures few { 0 < self.old.system.kernel.disk.turn_steps → steps.new ≤ steps.old + 20 * n }
+        // Drives are called at most 20 times for each turn that these steps do.
+        ensures calls { (s : State) → IsAt self.old (D.disks drives.old) s → calls.new ≤ calls.old + 20 * turns_in n s }
+        // Where turns have steps, a step calls drives at most 20 times.
+        ensures few { 0 < self.old.system.kernel.disk.turn_steps → calls.new ≤ calls.old + 20 * n }
     {
         let mut left = n;
         while 0 < left {
-            match self.advance(left, drives, render, sink, steps) {
+            match self.advance(left, drives, render, sink, calls) {
                 Ok(more) => left -= more,
                 Err(error) => return Err(error),
             }
@@ -389,19 +415,12 @@ impl Machine {
         drives: &mut D,
         render: &mut Render,
         sink: &mut S,
-        steps: &mut Steps<L>,
+        calls: &mut Steps<L>,
     ) -> Result<u64, RunFault>
         requires some { 0 < most }
         requires room { self.old.system.steps + most ≤ GREATEST_STEP }
         requires between { IsBetweenSteps D.disks self.old drives.old }
-        ensures ok { StandingAt self.old render.old (S.written sink.old) (D.disks drives.old) (λ s first. IfOk result (λ more. StandsWithDrives self.new render.new (S.written sink.new) (D.disks drives.new) (after more s) first)) }
-        ensures model { (s : State) → IsAt self.old (D.disks drives.old) s → IfOk result (λ more. IsAt self.new (D.disks drives.new) (after more s)) }
-        ensures stops { StandingAt self.old render.old (S.written sink.old) (D.disks drives.old) (λ s first. IfErr result (λ error. StopsRun error render.old.trace (leaving S.written D.disks render.new sink.new drives.new self.new.bdos.mounted) most s first)) }
-        ensures advanced { IfOk result (λ more. HasAdvanced most more self.old self.new) }
-        ensures holds { OnOk result (HoldsDrives D.disks self.new.system.kernel self.new.bdos drives.new) }
-        ensures uses { UsesDrives D.disks D.told D.failed_names D.unsynced of_run self.old.bdos.mounted self.new.bdos.mounted drives.old drives.new result }
-        ensures calls { 0 < self.old.system.kernel.disk.turn_steps → MatchResult result (λ more. steps.new ≤ steps.old + 20 * more) (λ _. steps.new ≤ steps.old + 20 * most) }
-        ensures ends { EndsByCause of_run render.old.trace render.new.trace (counts S.faults D.faults sink.old drives.old) (counts S.faults D.faults sink.new drives.new) result }
+        ensures { Advances D.Drives most (set_up S.Sink self.old drives.old render.old sink.old calls.old) (set_up S.Sink self.new drives.new render.new sink.new calls.new) result }
     {
         let done = self.run_on(most, drives, render, sink);
         if done == most {
@@ -409,7 +428,7 @@ impl Machine {
             return Ok(done);
         }
         let step = self.steps_done() + 1;
-        if let Err(fault) = self.step(drives, render, sink, steps) {
+        if let Err(fault) = self.step(drives, render, sink, calls) {
             return Err(RunFault { step, fault });
         }
         Ok(done + 1)

@@ -1,9 +1,9 @@
 ghost use Rattle.std.specs.Prelude.{◌≡◌, true};
-ghost use Rattle.mpm_procs.specs.Table.{process_in, call_of};
+ghost use Rattle.mpm_procs.specs.Table.{process_in};
 ghost use Rattle.mpm_xdos.specs.Procedures.{entered, entry_reply};
 ghost use Rattle.mpm_system.specs.Procedures.{is_inside};
-ghost use Rattle.mpm_machine.specs.Acting.{LivesWithin};
-ghost use Rattle.mpm_machine.specs.Serving.{is_entry as got_message, with_entry, reply_at_entry, returning};
+ghost use Rattle.mpm_machine.specs.Acting.{LivesInSystem};
+ghost use Rattle.mpm_machine.specs.Serving.{is_entry as got_message, with_entry, reply_at_entry, returning, EntersIfAnswered};
 
 use mpm_base::{Call, Pid, Reply, functions};
 use mpm_system::System;
@@ -12,9 +12,8 @@ use mpm_system::System;
 #[inline(always)]
 #[tactic(auto, unfolding(crate::specs::Serving::with_entry, crate::specs::Serving::reply_at_entry))]
 pub(crate) fn enter(system: &mut System, p: Pid, reply: &mut Reply)
-    requires { LivesWithin p system.old }
-    ensures system { system.new ≡ with_entry reply.old (call_of system.old.kernel.dispatcher.procs p) p system.old }
-    ensures reply { reply.new ≡ reply_at_entry reply.old (call_of system.old.kernel.dispatcher.procs p) p system.old }
+    requires { LivesInSystem p system.old }
+    ensures { EntersIfAnswered reply.old reply.new p system.old system.new }
 {
     if system.kernel.kept_call(p).function == functions::CALL_RESIDENT_SYSTEM_PROCEDURE {
         enter_if_answered(system, p, reply);
@@ -26,9 +25,8 @@ pub(crate) fn enter(system: &mut System, p: Pid, reply: &mut Reply)
 #[inline(never)]
 #[tactic(auto, unfolding(crate::specs::Serving::with_entry, crate::specs::Serving::reply_at_entry))]
 fn enter_if_answered(system: &mut System, p: Pid, reply: &mut Reply)
-    requires { LivesWithin p system.old }
-    ensures system { system.new ≡ with_entry reply.old (call_of system.old.kernel.dispatcher.procs p) p system.old }
-    ensures reply { reply.new ≡ reply_at_entry reply.old (call_of system.old.kernel.dispatcher.procs p) p system.old }
+    requires { LivesInSystem p system.old }
+    ensures { EntersIfAnswered reply.old reply.new p system.old system.new }
 {
     if is_entry(system.kernel.kept_call(p), reply) {
         enter_procedure(system, p, reply);
@@ -40,7 +38,7 @@ fn enter_if_answered(system: &mut System, p: Pid, reply: &mut Reply)
 #[inline(never)]
 #[tactic(auto, using(mpm_system::proofs::WholeLaws::segment_is_there))]
 fn enter_procedure(system: &mut System, p: Pid, reply: &mut Reply)
-    requires { LivesWithin p system.old }
+    requires { LivesInSystem p system.old }
     ensures system { system.new ≡ record system.old { kernel = entered p system.old.kernel } }
     ensures reply { reply.new ≡ entry_reply system.old.memory (process_in system.old.kernel.dispatcher.procs p) }
 {
@@ -52,7 +50,7 @@ fn enter_procedure(system: &mut System, p: Pid, reply: &mut Reply)
 #[inline(never)]
 #[tactic(auto, unfolding(crate::specs::Serving::returning))]
 pub(crate) fn leave_procedure(system: &mut System, p: Pid)
-    requires living { LivesWithin p system.old }
+    requires living { LivesInSystem p system.old }
     requires inside { is_inside system.old.kernel.dispatcher.procs p ≡ true }
     ensures { system.new ≡ returning p system.old }
 {

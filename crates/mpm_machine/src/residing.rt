@@ -2,8 +2,8 @@ ghost use Rattle.std.specs.Prelude.{◌≡◌, is_some, true};
 ghost use Rattle.mpm_residents.specs.declared.cli.act.Act.TheVariants.{Ask};
 ghost use Rattle.mpm_procs.specs.Table.{call_of};
 ghost use Rattle.mpm_residents.specs.Natives.{native_in};
-ghost use Rattle.mpm_machine.specs.Acting.{LivesWithin, IsReadyWithin, Makes};
-ghost use Rattle.mpm_machine.specs.Residing.{resided, native_step, native_outcome, calling_step};
+ghost use Rattle.mpm_machine.specs.Acting.{LivesInSystem, IsReadyWithin, Makes};
+ghost use Rattle.mpm_machine.specs.Residing.{resided, native_step, native_outcome, calling_step, MayReside};
 
 use crate::call::{end, serve_to_all};
 use mpm_base::{Outcome, Pid, Reply};
@@ -41,13 +41,15 @@ fn act_native<S: Sink>(
     render: &mut Render,
     sink: &mut S,
 ) -> Result<(), Failed>
-    requires acts { IsReadyWithin p system.old }
-    requires has { is_some (native_in system.old.residents p) ≡ true }
+    requires { MayReside p system.old }
     ensures { Makes S.written S.faults (native_step act (call_of system.old.kernel.dispatcher.procs p) p system.old) system.new render.old sink.old render.new sink.new result }
 {
     match act {
         Act::Ask => make_call(system, p, reply, render, sink),
-        Act::Place { .. } | Act::Patch { .. } | Act::Begin { .. } | Act::Give { .. } => {
+        Act::PlaceBytes { .. }
+        | Act::MoveCode { .. }
+        | Act::BeginProcess { .. }
+        | Act::GiveConsole { .. } => {
             system.hand(p, act, reply);
             Ok(())
         }
@@ -63,8 +65,7 @@ fn make_call<S: Sink>(
     render: &mut Render,
     sink: &mut S,
 ) -> Result<(), Failed>
-    requires acts { IsReadyWithin p system.old }
-    requires has { is_some (native_in system.old.residents p) ≡ true }
+    requires { MayReside p system.old }
     ensures { Makes S.written S.faults (native_step Ask (call_of system.old.kernel.dispatcher.procs p) p system.old) system.new render.old sink.old render.new sink.new result }
 {
     if system.tells(p) {
@@ -81,8 +82,7 @@ fn serve_native<S: Sink>(
     render: &mut Render,
     sink: &mut S,
 ) -> Result<(), Failed>
-    requires acts { IsReadyWithin p system.old }
-    requires has { is_some (native_in system.old.residents p) ≡ true }
+    requires { MayReside p system.old }
     ensures { Makes S.written S.faults (calling_step (call_of system.old.kernel.dispatcher.procs p) p system.old) system.new render.old sink.old render.new sink.new result }
 {
     let outcome = serve_to_all(system, p, reply);
@@ -99,7 +99,7 @@ fn conclude_residing<S: Sink>(
     render: &mut Render,
     sink: &mut S,
 ) -> Result<(), Failed>
-    requires living { LivesWithin p system.old }
+    requires living { LivesInSystem p system.old }
     requires has { is_some (native_in system.old.residents p) ≡ true }
     ensures { Makes S.written S.faults (native_outcome outcome reply.now (call_of system.old.kernel.dispatcher.procs p) p system.old) system.new render.old sink.old render.new sink.new result }
 {

@@ -9,32 +9,22 @@ use mpm_render::Render;
 use std::sync::ledger::Ledger;
 
 impl Machine {
-    ghost use Rattle.mpm_port.specs.Disks.{Disks};
     ghost use Rattle.mpm_port.specs.Frames.{SameDrives};
-    ghost use Rattle.mpm_render.specs.Outputs.{Output, rendered, closed};
-    ghost use Rattle.mpm_render.specs.Shown.{Shows};
+    ghost use Rattle.mpm_render.specs.Outputs.{closed};
     ghost use Rattle.mpm_output.specs.Outside.{seen};
-    ghost use Rattle.mpm_output.specs.Writing.{Stopped};
     ghost use Rattle.mpm_service.specs.Disk.{served_process};
     ghost use Rattle.mpm_service.specs.Ahead.{turns_left};
-    ghost use Rattle.mpm_kernel.specs.Disk.{IsOver};
-    ghost use Rattle.mpm_refusals.specs.Filing.{Situation};
-    ghost use Rattle.mpm_bdos.specs.Jobs.{call_turns};
-    ghost use Rattle.mpm_bdos.specs.Serving.{Serves};
     ghost use Rattle.mpm_bdos.specs.Syncing.{mounted_count};
-    ghost use Rattle.mpm_bdos.specs.Turns.{FitsDrives, images_of};
-    ghost use Rattle.mpm_system.specs.declared.system.System.{System};
-    ghost use Rattle.mpm_system.specs.Whole.{IsWhole, NoCompletions};
-    ghost use Rattle.mpm_machine.specs.Files.{Within, filing_in};
-    ghost use Rattle.mpm_machine.specs.Holding.{HoldsDrives};
-    ghost use Rattle.mpm_machine.specs.Faults.{counts, EndsByCause, EndsBySink, itself, EndsBy, OnDiskFault};
+    ghost use Rattle.mpm_bdos.specs.Turns.{FitsDrives};
+    ghost use Rattle.mpm_system.specs.Whole.{IsWhole};
+    ghost use Rattle.mpm_machine.specs.Faults.{counts, EndsByCause, itself};
     ghost use Rattle.mpm_machine.specs.Mounting.{HasNoDrive, KeepsMounted};
-    ghost use Rattle.mpm_machine.specs.Failing.{leaving, HaveImages};
-    ghost use Rattle.mpm_machine.specs.After.{EndKeeps};
-    ghost use Rattle.mpm_machine.specs.Standing.{StandingFor, StandingAt};
-    ghost use Rattle.mpm_machine.specs.Parts.{IsBetweenSteps, UsesDrives};
-    ghost use Rattle.mpm_machine.specs.Settling.{carried_out, turns_passed, HasCarried, StopsCarrying};
-    ghost use Rattle.mpm_machine.specs.AtEnd.{EndsRun, StopsAtEnd, StopsSettling, called, TurnsCall, SyncsAll, SyncsTo, BehindTurns};
+    ghost use Rattle.mpm_machine.specs.Failing.{leaving};
+    ghost use Rattle.mpm_machine.specs.Standing.{StandingAt};
+    ghost use Rattle.mpm_machine.specs.Parts.{IsBetweenSteps};
+    ghost use Rattle.mpm_machine.specs.AtEnd.{EndsRun, StopsAtEnd, StopsSettling, drive_calls, SyncsAll, AfterTurns};
+    ghost use Rattle.mpm_machine.specs.Setup.{set_up};
+    ghost use Rattle.mpm_machine.specs.EndParts.{Carries, MayEndLast, EndsCall, Closes};
 
     /// The end of a run: the call in service is carried to its end, each drive is synced, in order of the letters, and unfinished lines
     /// are closed. Where a drive fails nothing more is written, and the lines are left to `Render::finish`. Only `Render::finish` may
@@ -44,31 +34,42 @@ impl Machine {
         drives: &mut D,
         render: &mut Render,
         sink: &mut S,
-        steps: &mut Steps<L>,
+        calls: &mut Steps<L>,
     ) -> Result<(), StepFault>
-        requires whole { IsWhole self.old.system }
-        requires no_completions { NoCompletions self.old.system }
-        requires holds { HoldsDrives D.disks self.old.system.kernel self.old.bdos drives.old }
+        // The system is whole: its processes, lists and memory fit together. Nobody is left to be answered. What is kept of file calls and
+        // the images stand for some files.
+        requires between { IsBetweenSteps D.disks self.old drives.old }
+        // After a success the text of all outputs is written, those of the call in service among them, and unfinished lines are closed.
+        // The machine and the images stand for what the call comes to.
         ensures ok { StandingAt self.old render.old (S.written sink.old) (D.disks drives.old) (λ s first. OnOk result (EndsRun render.old.trace self.new (S.written sink.new) (D.disks drives.new) s first)) }
+        // Where a drive failed within a turn, nothing of the end is written and no drive is synced. Where one failed as it was synced,
+        // all is written but the ends of unfinished lines. Where the sink failed, a first part of what the end adds is written.
         ensures stops { StandingAt self.old render.old (S.written sink.old) (D.disks drives.old) (λ s first. IfErr result (λ fault. StopsAtEnd fault (leaving S.written D.disks render.new sink.new drives.new self.new.bdos.mounted) self.old.bdos
-            (called D.unsynced drives.old steps.old) (called D.unsynced drives.new steps.new) s first)) }
+            (drive_calls D.unsynced drives.old calls.old) (drive_calls D.unsynced drives.new calls.new) s first)) }
+        // A success leaves the system whole.
         ensures whole { OnOk result (IsWhole self.new.system) }
+        // A success leaves the counts of faults. An error comes only where the count of the device that it names rose; the other count
+        // stays. Whether calls are traced stays too.
         ensures ends { EndsByCause itself render.old.trace render.new.trace (counts S.faults D.faults sink.old drives.old) (counts S.faults D.faults sink.new drives.new) result }
+        // In any case each drive keeps its name, kind and size, and other images stay as they were.
         ensures keeps { KeepsMounted (D.told drives.old) (D.told drives.new) (D.disks drives.old) (D.disks drives.new) self.old.bdos.mounted self.new.bdos.mounted }
-
-        // The end stops as the call in service is carried to its end, and no drive is synced. Or it stops as the drives are synced, of
-        // which those before the one that fails are then. Or all are, and it stops as lines are closed. Each turn that is left calls a
-        // drive at most 20 times, and each drive is synced by one call. Where no call is in service no image changes.
-        ensures synced { OnOk result (BehindTurns self.old.system self.old.bdos (SyncsAll self.new.bdos.mounted) (called D.unsynced drives.old steps.old) (called D.unsynced drives.new steps.new)) }
+        // A success syncs each mounted drive by one call, after the turns that were left.
+        ensures synced { OnOk result (AfterTurns self.old.system self.old.bdos (SyncsAll self.new.bdos.mounted) (drive_calls D.unsynced drives.old calls.old) (drive_calls D.unsynced drives.new calls.new)) }
+        // After an error no drive is synced, where it came in a turn. Where it came as drives were synced, those before the one that
+        // failed are. Where it came as lines were closed, all are.
         ensures syncs { IfErr result (λ fault. StopsSettling fault self.new.bdos.mounted self.old.bdos
-            (called D.unsynced drives.old steps.old) (called D.unsynced drives.new steps.new) self.old.system) }
-        ensures calls { steps.new ≤ steps.old + 20 * turns_left self.old.system.kernel.disk + mounted_count self.old.bdos.mounted }
+            (drive_calls D.unsynced drives.old calls.old) (drive_calls D.unsynced drives.new calls.new) self.old.system) }
+        // Each turn that is left calls a drive at most 20 times, and each sync calls one once.
+        ensures calls { calls.new ≤ calls.old + 20 * turns_left self.old.system.kernel.disk + mounted_count self.old.bdos.mounted }
+        // Where no call is in service no image changes.
         ensures idle { self.old.system.kernel.disk.served ≡ None → SameDrives D.Drives drives.old drives.new }
+        // No name joins those on which an attach failed.
         ensures names { D.failed_names drives.new ≡ D.failed_names drives.old }
+        // Where no drive is mounted none is called, so only the sink can fail.
         ensures none { HasNoDrive self.old.bdos.mounted → IfErr result (λ fault. fault ≡ StepFault.WriteFault) × (drives.new ≡ drives.old) }
     {
-        match self.carry(drives, render, sink, steps) {
-            Ok(()) => self.close(drives, render, sink, steps),
+        match self.carry(drives, render, sink, calls) {
+            Ok(()) => self.close(drives, render, sink, calls),
             Err(fault) => Err(fault),
         }
     }
@@ -79,23 +80,12 @@ impl Machine {
         drives: &mut D,
         render: &mut Render,
         sink: &mut S,
-        steps: &mut Steps<L>,
+        calls: &mut Steps<L>,
     ) -> Result<(), StepFault>
         requires { FitsDrives D.disks self.now.bdos.mounted self.now.bdos.cached drives.old }
-        ensures ok { (outputs : List Output) (first : List ℕ) → Shows render.old (S.written sink.old) outputs first
-            → OnOk result (S.written sink.new ≡ first ++ closed render.old.trace outputs) }
-        ensures err { (outputs : List Output) (first : List ℕ) → Shows render.old (S.written sink.old) outputs first
-            → IfErr result (λ fault. EndsBy fault (S.written sink.new) first (rendered render.old.trace outputs) (closed render.old.trace outputs)) }
-        ensures unwritten { IfErr result (λ fault. OnDiskFault fault ((render.new ≡ render.old) × (sink.new ≡ sink.old))) }
-        ensures some { IfErr result (λ fault. OnDiskFault fault (0 < mounted_count self.now.bdos.mounted)) }
-        ensures ends { EndsByCause itself render.old.trace render.new.trace (counts S.faults D.faults sink.old drives.old) (counts S.faults D.faults sink.new drives.new) result }
-        ensures calls { steps.new ≤ steps.old + mounted_count self.now.bdos.mounted }
-        ensures synced { OnOk result (SyncsAll self.now.bdos.mounted (called D.unsynced drives.old steps.old) (called D.unsynced drives.new steps.new)) }
-        ensures syncs { IfErr result (λ fault. SyncsTo fault self.now.bdos.mounted (called D.unsynced drives.old steps.old) (called D.unsynced drives.new steps.new)) }
-        ensures drives { SameDrives D.Drives drives.old drives.new }
-        ensures none { mounted_count self.now.bdos.mounted ≡ 0 → drives.new ≡ drives.old }
+        ensures { Closes D.Drives (set_up S.Sink self.now drives.old render.old sink.old calls.old) (set_up S.Sink self.now drives.new render.new sink.new calls.new) result }
     {
-        if let Err(Failed) = self.bdos.sync(drives, steps) {
+        if let Err(Failed) = self.bdos.sync(drives, calls) {
             return Err(StepFault::DiskFault);
         }
         match render.finish(sink) {
@@ -110,21 +100,13 @@ impl Machine {
         drives: &mut D,
         render: &mut Render,
         sink: &mut S,
-        steps: &mut Steps<L>,
+        calls: &mut Steps<L>,
     ) -> Result<(), StepFault>
         requires between { IsBetweenSteps D.disks self.old drives.old }
-        ensures ok { StandingFor self.old (D.disks drives.old) (λ files. OnOk result (HasCarried files (seen S.written S.faults render.old sink.old) (seen S.written S.faults render.new sink.new) self.old.system self.new.system self.new.bdos (D.disks drives.new))) }
-        ensures err { StandingFor self.old (D.disks drives.old) (λ files. IfErr result (λ fault. StopsCarrying fault files (seen S.written S.faults render.old sink.old) (seen S.written S.faults render.new sink.new) self.old.system self.new.bdos.mounted (D.disks drives.new))) }
-        ensures whole { OnOk result (IsWhole self.new.system) }
-        ensures serves { OnErr result (IsSome self.old.system.kernel.disk.served) }
-        ensures idle { self.old.system.kernel.disk.served ≡ None → drives.new ≡ drives.old }
-        ensures uses { UsesDrives D.disks D.told D.failed_names D.unsynced itself self.old.bdos.mounted self.new.bdos.mounted drives.old drives.new result }
-        ensures called { TurnsCall self.old.system self.old.bdos (called D.unsynced drives.old steps.old) (called D.unsynced drives.new steps.new) }
-        ensures fits { FitsDrives D.disks self.new.bdos.mounted self.new.bdos.cached drives.new }
-        ensures ends { EndsByCause itself render.old.trace render.new.trace (counts S.faults D.faults sink.old drives.old) (counts S.faults D.faults sink.new drives.new) result }
+        ensures { Carries D.Drives (set_up S.Sink self.old drives.old render.old sink.old calls.old) (set_up S.Sink self.new drives.new render.new sink.new calls.new) result }
     {
         match self.system.kernel.disk().serving() {
-            Some(p) => self.carry_call(p, drives, render, sink, steps),
+            Some(p) => self.carry_call(p, drives, render, sink, calls),
             None => Ok(()),
         }
     }
@@ -136,20 +118,14 @@ impl Machine {
         drives: &mut D,
         render: &mut Render,
         sink: &mut S,
-        steps: &mut Steps<L>,
+        calls: &mut Steps<L>,
     ) -> Result<(), StepFault>
         requires between { IsBetweenSteps D.disks self.old drives.old }
         requires served { served_process self.old.system.kernel.disk ≡ Some p }
-        ensures ok { StandingFor self.old (D.disks drives.old) (λ files. OnOk result (HasCarried files (seen S.written S.faults render.old sink.old) (seen S.written S.faults render.new sink.new) self.old.system self.new.system self.new.bdos (D.disks drives.new))) }
-        ensures err { StandingFor self.old (D.disks drives.old) (λ files. IfErr result (λ fault. StopsCarrying fault files (seen S.written S.faults render.old sink.old) (seen S.written S.faults render.new sink.new) self.old.system self.new.bdos.mounted (D.disks drives.new))) }
-        ensures whole { OnOk result (IsWhole self.new.system) }
-        ensures uses { UsesDrives D.disks D.told D.failed_names D.unsynced itself self.old.bdos.mounted self.new.bdos.mounted drives.old drives.new result }
-        ensures called { TurnsCall self.old.system self.old.bdos (called D.unsynced drives.old steps.old) (called D.unsynced drives.new steps.new) }
-        ensures fits { FitsDrives D.disks self.new.bdos.mounted self.new.bdos.cached drives.new }
-        ensures ends { EndsByCause itself render.old.trace render.new.trace (counts S.faults D.faults sink.old drives.old) (counts S.faults D.faults sink.new drives.new) result }
+        ensures { Carries D.Drives (set_up S.Sink self.old drives.old render.old sink.old calls.old) (set_up S.Sink self.new drives.new render.new sink.new calls.new) result }
     {
         let turns = self.system.kernel.finish_disk_call();
-        if let Err(Failed) = self.bdos.do_turns(turns, drives, steps) {
+        if let Err(Failed) = self.bdos.do_turns(turns, drives, calls) {
             return Err(StepFault::DiskFault);
         }
         match self.end_call(p, render, sink) {
@@ -160,17 +136,8 @@ impl Machine {
 
     /// After its turns it is answered, and the ends that are due come.
     fn end_call<S: Sink>(&mut self, p: Pid, render: &mut Render, sink: &mut S) -> Result<(), Failed>
-        requires whole { IsWhole self.old.system }
-        requires over { IsOver p self.old.system.kernel }
-        requires none { self.old.system.records ≡ [] }
-        requires idle { self.old.system.kernel.disk.served ≡ None }
-        ensures ok { (disks : Disks) (s : Situation) (before : System) → Serves (images_of disks) self.old.bdos s (call_turns s) → s.caller.process ≡ p → self.old.system ≡ turns_passed before
-            → OnOk result (HasCarried (Within s) (seen S.written S.faults render.old sink.old) (seen S.written S.faults render.new sink.new) before self.new.system self.new.bdos disks) }
-        ensures err { (disks : Disks) (s : Situation) (before : System) → Serves (images_of disks) self.old.bdos s (call_turns s) → s.caller.process ≡ p → self.old.system ≡ turns_passed before
-            → OnErr result (Stopped (seen S.written S.faults render.old sink.old) (seen S.written S.faults render.new sink.new) (carried_out s before).change.emitted × HaveImages disks self.new.bdos.mounted (filing_in (carried_out s before).files).drives) }
-        ensures whole { OnOk result (IsWhole self.new.system) }
-        ensures ends { EndsBySink render.old.trace render.new.trace (S.faults sink.old) (S.faults sink.new) result }
-        ensures kept { EndKeeps self.old.bdos self.new.bdos }
+        requires { MayEndLast p self.old.system }
+        ensures { EndsCall p (seen S.written S.faults render.old sink.old) (seen S.written S.faults render.new sink.new) self.old self.new result }
     {
         if let Err(Failed) = self.answer_call(p, render, sink) {
             return Err(Failed);

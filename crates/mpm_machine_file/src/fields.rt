@@ -1,9 +1,8 @@
-ghost use Rattle.std.specs.Prelude.{◌≡◌, ◌≤◌, IfOk, map, option_map, bytes_eq};
+ghost use Rattle.std.specs.Prelude.{◌≡◌, ◌≤◌, map, option_map, bytes_eq};
 ghost use Rattle.std.specs.List.{list_any};
-ghost use Rattle.std.specs.Option.{ok_or};
 ghost use Rattle.toml.specs.Data.{get_member};
 ghost use Rattle.toml.specs.View.{view, table_view};
-ghost use Rattle.mpm_machine_file.specs.Reading.{ReadsValue};
+ghost use Rattle.mpm_machine_file.specs.Reading.{ReadsValue, ReadsNumber};
 ghost use Rattle.mpm_machine_file.specs.Fields as field;
 
 use crate::error::MachineError;
@@ -39,8 +38,7 @@ fn is_among(text: &str, some: &[&str]) -> bool
 
 /// A whole number between two limits.
 fn number(value: &Value, least: u32, greatest: u32) -> Result<u32, MachineError>
-    ensures number { result ≡ ok_or (field.number_of least greatest (view value.now)) MachineError.Fault }
-    ensures limit { IfOk result (λ n. n ≤ greatest) }
+    ensures { ReadsNumber (field.number_of least greatest (view value.now)) greatest result }
 {
     match value.as_integer() {
         Some(number) if i64::from(least) <= number && number <= i64::from(greatest) => {
@@ -63,8 +61,7 @@ fn text(alloc: Global, value: &Value) -> Result<Text, MachineError>
 /// The number at a key that must be there.
 #[tactic(auto, unfolding(crate::specs::Fields::number_at))]
 pub fn number_at(table: &Table, key: &str, least: u32, greatest: u32) -> Result<u32, MachineError>
-    ensures number { result ≡ ok_or (field.number_at key.now least greatest (table_view table.now)) MachineError.Fault }
-    ensures limit { IfOk result (λ n. n ≤ greatest) }
+    ensures { ReadsNumber (field.number_at key.now least greatest (table_view table.now)) greatest result }
 {
     match value_at(table, key) {
         Some(value) => number(value, least, greatest),
@@ -82,8 +79,7 @@ pub fn number_or(
     greatest: u32,
 ) -> Result<u32, MachineError>
     requires { missing ≤ greatest }
-    ensures number { result ≡ ok_or (field.number_or key.now missing least greatest (table_view table.now)) MachineError.Fault }
-    ensures limit { IfOk result (λ n. n ≤ greatest) }
+    ensures { ReadsNumber (field.number_or key.now missing least greatest (table_view table.now)) greatest result }
 {
     match value_at(table, key) {
         Some(value) => number(value, least, greatest),

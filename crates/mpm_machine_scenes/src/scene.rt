@@ -3,9 +3,9 @@ ghost use Rattle.std.specs.Prelude.{ℕ, ◌≡◌, ◌<◌, ◌≤◌, ◌+◌,
 ghost use Rattle.std.specs.Bool.{OnTrue};
 ghost use Rattle.mpm_machine_file.specs.MachineFiles.{IsMachine};
 ghost use Rattle.mpm_port.specs.MemoryDisks.{disks_of};
-ghost use Rattle.mpm_system.specs.Whole.{IsWhole, NoCompletions};
-ghost use Rattle.mpm_machine.specs.Holding.{HoldsDrives};
+ghost use Rattle.mpm_system.specs.Whole.{IsWhole};
 ghost use Rattle.mpm_system.specs.Opening.{IsBare, MayPlace};
+ghost use Rattle.mpm_machine.specs.Parts.{IsBetweenSteps};
 
 use mpm_base::{Kind, Name8, Pid, Seg, Steps};
 use mpm_images::{EntryBytes, UNUSED, entry_in, image, read_record, record_at};
@@ -194,10 +194,8 @@ impl Scene<'_> {
         look: &Behind,
         apart: bool,
     ) -> Result<bool, Fail>
-        requires whole { IsWhole machine.old.system }
-        requires no_completions { NoCompletions machine.old.system }
+        requires between { IsBetweenSteps disks_of machine.old drives.old }
         requires start { machine.old.system.steps ≡ 0 }
-        requires holds { HoldsDrives disks_of machine.old.system.kernel machine.old.bdos drives.old }
         requires name { blank.name ≡ L.name }
         requires parts { blank.parts ≡ L.parts }
         requires some { 0 < L.parts }
@@ -296,13 +294,9 @@ fn go<L: Ledger>(
     sink: &mut MemorySink,
     calls: &mut Steps<L>,
 ) -> Result<(), Fail>
-    requires whole { IsWhole machine.old.system }
-    requires no_completions { NoCompletions machine.old.system }
+    requires between { IsBetweenSteps disks_of machine.old drives.old }
     requires start { machine.old.system.steps ≡ 0 }
-    requires holds { HoldsDrives disks_of machine.old.system.kernel machine.old.bdos drives.old }
-    ensures whole { OnOk result (IsWhole machine.new.system) }
-    ensures no_completions { OnOk result (NoCompletions machine.new.system) }
-    ensures holds { OnOk result (HoldsDrives disks_of machine.new.system.kernel machine.new.bdos drives.new) }
+    ensures { OnOk result (IsBetweenSteps disks_of machine.new drives.new) }
 {
     if 10000 < steps {
         return Err(Fail::from("there are too many steps"));

@@ -11,6 +11,11 @@ use Rattle.mpm_mount.specs.Directories.{Directory, entry_in}
 abbrev pub attributes_in : List ℕ → List Bool
 attributes_in name = map (nat_le 128) name
 
+-- the first of some entries, which is the lowest where they stand in order
+abbrev pub first_entry : {K : Type 0} → List (K × PhysicalExtent) → Option (K × PhysicalExtent)
+first_entry [] = None
+first_entry (entry ∷ entries) = Some entry
+
 -- the attributes of a file that is there are those of its lowest entry; of one that isn't, none is set
 abbrev pub first_attributes : {K : Type 0} → List (K × PhysicalExtent) → Option (List Bool)
 first_attributes [] = None

@@ -9,7 +9,7 @@ use Rattle.mpm_dirent.specs.declared.kinds.Entry.{Entry}
 use Rattle.mpm_dirent.specs.declared.kinds.Entry.TheVariants.{Free, File, Xfcb, Label, Kept}
 use Rattle.mpm_dirent.specs.Proper.{IsProper, HasSizes}
 use Rattle.mpm_mount.specs.Drives.{FileName, Drive, entry_name}
-use Rattle.mpm_mount.specs.Faults.{holds, is_named, is_label, is_xfcb, first_fault}
+use Rattle.mpm_mount.specs.Faults.{holds, is_named, is_label, is_xfcb, cause_of, first_fault}
 use Rattle.mpm_mount.specs.Images.{entries_of, drive_of}
 
 -- the drive's number, its kind, and the entry of each slot
@@ -91,6 +91,12 @@ pub record IsKept (kind : Kind) (entries : List Entry) (blocks : Blocks) : Type 
   pub whole : All IsWholeEntry entries
   pub of_kind : blocks.kind ≡ kind
   pub used : blocks.used ≡ used_blocks kind entries
+
+-- an entry may be put into a slot: it can be written, and isn't at fault beside those of all other slots
+pub record MayReplace (kind : Kind) (entries : List Entry) (slot : ℕ) (entry : Entry) : Type 0 where
+  pub slot_is : slot ≤ (geometry_of kind).drm
+  pub proper : IsProper (geometry_of kind).wide entry
+  pub faultless : cause_of kind (others entries slot) entry ≡ None
 
 -- an image, its directory in memory, and the drive that both stand for
 pub record Stands (image : List ℕ) (d : Directory) (files : Drive) : Type 0 where

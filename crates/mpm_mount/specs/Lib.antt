@@ -8,5 +8,7 @@ pub mod Mounting
 pub mod Searching
 pub mod Attributes
 pub mod Files
+pub mod Lowest
 pub mod Looking
 pub mod Records
+pub mod Standing

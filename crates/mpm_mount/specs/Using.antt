@@ -1,6 +1,7 @@
 -- Which blocks are used after those of an entry are used, or freed.
-use Rattle.std.specs.Prelude.{◌≡◌, ℕ, ◌==◌, ◌&&◌, ◌||◌, not, Bool, false, List, length, if◌then◌else◌}
+use Rattle.std.specs.Prelude.{◌≡◌, ℕ, ◌+◌, ◌==◌, ◌&&◌, ◌||◌, not, Bool, false, List, length, if◌then◌else◌}
 use Rattle.mpm_base.specs.declared.kind.Kind.{Kind}
+use Rattle.mpm_blocks.specs.Geometries.{last_block}
 use Rattle.mpm_blocks.specs.Maps.{Blocks, is_used, claimed, freed}
 use Rattle.mpm_dirent.specs.declared.kinds.Entry.{Entry}
 use Rattle.mpm_dirent.specs.declared.kinds.Entry.TheVariants.{Free, File, Xfcb, Label, Kept}
@@ -20,6 +21,12 @@ IsInsideBlocks kind Free = Unit {0}
 IsInsideBlocks kind (Xfcb x) = Unit {0}
 IsInsideBlocks kind (Label l) = Unit {0}
 IsInsideBlocks kind (Kept bytes) = Unit {0}
+
+-- a map is of the kind's blocks, and has each block of an entry
+pub record HasBlocks (kind : Kind) (entry : Entry) (blocks : Blocks) : Type 0 where
+  pub of_kind : blocks.kind ≡ kind
+  pub size : length blocks.used ≡ last_block kind + 1
+  pub inside : IsInsideBlocks kind entry
 
 -- a block among the first of an entry; number 0 is none
 abbrev pub is_among : FileEntry → ℕ → ℕ → Bool

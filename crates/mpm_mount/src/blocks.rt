@@ -1,9 +1,10 @@
-ghost use Rattle.std.specs.Prelude.{◌≡◌, ◌+◌, ◌≤◌, ◌==◌, ◌||◌, not, true, false, length};
+ghost use Rattle.std.specs.Prelude.{◌≡◌, ◌≤◌, ◌==◌, ◌||◌, not};
 ghost use Rattle.mpm_blocks.specs.Geometries.{last_block};
 ghost use Rattle.mpm_blocks.specs.Maps.{is_used};
+ghost use Rattle.mpm_dirent.specs.declared.kinds.Entry.TheVariants.{File};
 ghost use Rattle.mpm_mount.specs.Drives as drives;
 ghost use Rattle.mpm_mount.specs.Faults as faults;
-ghost use Rattle.mpm_mount.specs.Using.{ClaimsTo, FreesTo, clashes, claimed_unless_zero, freed_unless_zero};
+ghost use Rattle.mpm_mount.specs.Using.{HasBlocks, ClaimsTo, FreesTo, clashes, claimed_unless_zero, freed_unless_zero};
 
 use crate::slots::places;
 use mpm_base::Kind;
@@ -54,9 +55,7 @@ fn free_one(block: u16, blocks: &mut BlockMap)
 
 /// Uses the blocks of a file's entry; false exactly where one of them was used.
 pub(crate) fn claim_all(kind: Kind, file: &FileEntry, blocks: &mut BlockMap) -> bool
-    requires of_kind { blocks.old.kind ≡ kind }
-    requires size { length blocks.old.used ≡ last_block kind + 1 }
-    requires inside { faults.some_place kind (faults.is_outside kind file.now) ≡ false }
+    requires { HasBlocks kind (File file.now) blocks.old }
     ensures answer { result ≡ not (faults.some_place kind (clashes blocks.old file.now)) }
     ensures claims { ClaimsTo file.now (drives.places kind) blocks.old blocks.new }
 {
@@ -69,9 +68,7 @@ pub(crate) fn claim_all(kind: Kind, file: &FileEntry, blocks: &mut BlockMap) -> 
 
 /// Frees the blocks of a file's entry.
 pub(crate) fn free_all(kind: Kind, file: &FileEntry, blocks: &mut BlockMap)
-    requires of_kind { blocks.old.kind ≡ kind }
-    requires size { length blocks.old.used ≡ last_block kind + 1 }
-    requires inside { faults.some_place kind (faults.is_outside kind file.now) ≡ false }
+    requires { HasBlocks kind (File file.now) blocks.old }
     ensures { FreesTo file.now (drives.places kind) blocks.old blocks.new }
 {
     for place in 0..places(kind) {

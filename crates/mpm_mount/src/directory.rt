@@ -1,11 +1,10 @@
-ghost use Rattle.std.specs.Prelude.{◌≡◌, ◌+◌, ◌<◌, ◌≤◌, None, length, slice_set};
-ghost use Rattle.mpm_blocks.specs.Geometries.{geometry_of, last_block};
+ghost use Rattle.std.specs.Prelude.{◌≡◌, ◌≤◌, length, slice_set};
+ghost use Rattle.mpm_blocks.specs.Geometries.{geometry_of};
 ghost use Rattle.mpm_dirent.specs.Proper.{IsProper};
 ghost use Rattle.mpm_dirent.specs.Names.{plain};
-ghost use Rattle.mpm_mount.specs.Faults.{cause_of, first_fault};
-ghost use Rattle.mpm_mount.specs.Directories.{IsDirectory, IsKept, IsWholeEntry, others, entry_in, with_entry, extent_slot, xfcb_slot, label_slot, free_slot, free_block, free_records_in, free_entries_in};
+ghost use Rattle.mpm_mount.specs.Directories.{IsDirectory, IsKept, IsWholeEntry, MayReplace, entry_in, with_entry, extent_slot, xfcb_slot, label_slot, free_slot, free_block, free_records_in, free_entries_in};
 ghost use Rattle.mpm_mount.specs.Searching.{IsNext, search_of};
-ghost use Rattle.mpm_mount.specs.Using.{IsInsideBlocks, Claims, Frees};
+ghost use Rattle.mpm_mount.specs.Using.{HasBlocks, Claims, Frees};
 
 use crate::blocks::{claim_all, free_all};
 use crate::searching::{Found, Search};
@@ -63,8 +62,6 @@ impl Mounted {
     pub fn kind(&self) -> Kind
         ensures kind { result ≡ self.now.kind }
         ensures directory { IsDirectory self.now.kind self.now.entries }
-        ensures full { length self.now.entries ≡ (geometry_of self.now.kind).drm + 1 }
-        ensures faultless { first_fault self.now.kind self.now.entries ≡ None }
     {
         self.kind
     }
@@ -103,9 +100,7 @@ impl Mounted {
 
     /// Replaces the entry in a slot, at most the directory's last, by one that is not at fault beside all others.
     pub fn put(&mut self, slot: u16, entry: Entry)
-        requires slot { slot ≤ (geometry_of self.old.kind).drm }
-        requires proper { IsProper (geometry_of self.old.kind).wide entry }
-        requires faultless { cause_of self.old.kind (others self.old.entries slot) entry ≡ None }
+        requires { MayReplace self.old.kind self.old.entries slot entry }
         ensures { self.new ≡ with_entry self.old slot entry }
     {
         tell_whole(&entry);
@@ -207,10 +202,8 @@ fn tell_whole(entry: &Entry)
 /// Replaces an entry, and frees and uses blocks by it.
 fn replace(kind: Kind, entries: &mut Vec<Entry>, blocks: &mut BlockMap, slot: usize, entry: Entry)
     requires kept { IsKept kind entries.old.items blocks.old }
-    requires slot { slot < length entries.old.items }
-    requires proper { IsProper (geometry_of kind).wide entry }
+    requires may { MayReplace kind entries.old.items slot entry }
     requires whole { IsWholeEntry entry }
-    requires faultless { cause_of kind (others entries.old.items slot) entry ≡ None }
     ensures entries { entries.new.items ≡ slice_set entries.old.items slot entry }
     ensures kept { IsKept kind entries.new.items blocks.new }
 {
@@ -221,9 +214,7 @@ fn replace(kind: Kind, entries: &mut Vec<Entry>, blocks: &mut BlockMap, slot: us
 
 /// Frees the blocks of an entry.
 fn free_blocks(kind: Kind, entry: &Entry, blocks: &mut BlockMap)
-    requires of_kind { blocks.old.kind ≡ kind }
-    requires size { length blocks.old.used ≡ last_block kind + 1 }
-    requires inside { IsInsideBlocks kind entry.now }
+    requires { HasBlocks kind entry.now blocks.old }
     ensures { Frees kind entry.now blocks.old blocks.new }
 {
     if let Entry::File { file } = entry {
@@ -233,9 +224,7 @@ fn free_blocks(kind: Kind, entry: &Entry, blocks: &mut BlockMap)
 
 /// Uses the blocks of an entry.
 fn claim_blocks(kind: Kind, entry: &Entry, blocks: &mut BlockMap)
-    requires of_kind { blocks.old.kind ≡ kind }
-    requires size { length blocks.old.used ≡ last_block kind + 1 }
-    requires inside { IsInsideBlocks kind entry.now }
+    requires { HasBlocks kind entry.now blocks.old }
     ensures { Claims kind entry.now blocks.old blocks.new }
 {
     if let Entry::File { file } = entry {

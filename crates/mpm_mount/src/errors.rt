@@ -2,7 +2,7 @@
 #[derive(Clone, Copy, Debug, PartialEq, Eq)]
 pub struct ImageFault {
     /// 1: another size. 2: more than 128 records in an extent. 3: the number of no block that files have. 4: a block that
-    /// is used already. 5: an entry number that its file has already. 6: an extent above 2,047. 7: a second label. 8: a
+    /// is used already. 5: an entry number that its file has already. 6: S2 above 63 or EX above 31. 7: a second label. 8: a
     /// second XFCB of a file.
     pub cause: u8,
     /// The slot of the directory entry, or 0 for a size.

@@ -1,4 +1,4 @@
-ghost use Rattle.std.specs.Prelude.{◌≡◌, ℕ, ◌+◌, ◌*◌, ◌≤◌, ◌++◌, Some, IfOk, IfErr, IfSome, OnOk, length};
+ghost use Rattle.std.specs.Prelude.{◌≡◌, ◌*◌, ◌≤◌, ◌++◌, Some, IfOk, IfErr, IfSome, OnOk, length};
 ghost use Rattle.std.specs.List.{All};
 ghost use Rattle.mpm_blocks.specs.Geometries.{geometry_of};
 ghost use Rattle.mpm_blocks.specs.Sectors.{sectors_of};
@@ -8,7 +8,7 @@ ghost use Rattle.mpm_dirent.specs.Entries.{part};
 ghost use Rattle.mpm_dirent.specs.Proper.{IsProper};
 ghost use Rattle.mpm_mount.specs.Directories.{IsWholeEntry};
 ghost use Rattle.mpm_mount.specs.Images.{entries_of, entries_in};
-ghost use Rattle.mpm_mount.specs.Mounting.{CountsFault, IsDevice, IsSectorOf};
+ghost use Rattle.mpm_mount.specs.Mounting.{FillDirectory, CountsFault, IsDevice, IsSectorOf, ReadsEntries};
 
 use crate::OutOfMemory;
 use crate::errors::MountError;
@@ -29,9 +29,7 @@ pub fn read_directory<D: Drives>(
 ) -> Result<Vec<Entry>, MountError>
     requires { size_of (D.disks drives.old) drive ≡ Some (geometry_of kind).bytes }
     ensures entries { IfOk result (λ entries. IfSome ((D.disks drives.old).image drive) (λ image. entries.items ≡ entries_of (sectors_of image kind) kind)) }
-    ensures full { IfOk result (λ entries. length entries.items ≡ (geometry_of kind).drm + 1) }
-    ensures proper { IfOk result (λ entries. All (IsProper (geometry_of kind).wide) entries.items) }
-    ensures whole { IfOk result (λ entries. All IsWholeEntry entries.items) }
+    ensures slots { IfOk result (λ entries. FillDirectory kind entries.items) }
     ensures device { IfErr result IsDevice }
     ensures count { CountsFault (D.faults drives.old) (D.faults drives.new) result }
     ensures same { OnlyCountsFaults D.Drives drives.old drives.new }
@@ -55,14 +53,7 @@ fn read_sector<D: Drives>(
     entries: &mut Vec<Entry>,
 ) -> Result<(), MountError>
     requires { IsSectorOf kind (size_of (D.disks drives.old) drive) sector }
-    ensures entries { OnOk result (IfSome ((D.disks drives.old).image drive) (λ image.
-        entries.new.items ≡ entries.old.items ++ entries_in (sectors_of image kind sector) (geometry_of kind).wide 4)) }
-    ensures size { OnOk result (length entries.new.items ≡ length entries.old.items + 4) }
-    ensures proper { All (IsProper (geometry_of kind).wide) entries.old.items → OnOk result (All (IsProper (geometry_of kind).wide) entries.new.items) }
-    ensures whole { All IsWholeEntry entries.old.items → OnOk result (All IsWholeEntry entries.new.items) }
-    ensures device { IfErr result IsDevice }
-    ensures count { CountsFault (D.faults drives.old) (D.faults drives.new) result }
-    ensures same { OnlyCountsFaults D.Drives drives.old drives.new }
+    ensures { ReadsEntries D.Drives drive kind sector entries.old.items entries.new.items drives.old drives.new result }
 {
     let mut bytes = [0; 128];
     match drives.read(drive, place(kind, sector), &mut bytes) {

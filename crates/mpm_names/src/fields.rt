@@ -1,4 +1,5 @@
 ghost use Rattle.std.specs.Prelude.{◌≡◌, ◌≤◌, ◌<◌, ◌==◌, length};
+ghost use Rattle.mpm_names.specs.Readings.{IsNumber};
 ghost use Rattle.mpm_names.specs.Spellings.{star_of, kept_at, filled, full_name, kept_password};
 
 use crate::characters::to_upper;
@@ -54,8 +55,7 @@ fn kept(field: &[u8], star: usize, place: usize) -> u8
 
 /// The place of a field's `*`, or its length.
 fn star(field: &[u8]) -> usize
-    ensures place { result ≡ star_of field.now }
-    ensures within { result ≤ length field.now }
+    ensures { IsNumber (star_of field.now) (length field.now) result }
 {
     for (place, byte) in field.iter().enumerate() {
         if *byte == b'*' {

@@ -1,5 +1,6 @@
-ghost use Rattle.std.specs.Prelude.{◌≡◌, ◌≤◌, Some, None, IfOk, OnErr, length};
+ghost use Rattle.std.specs.Prelude.{◌≡◌, ◌≤◌, length};
 ghost use Rattle.mpm_names.specs.Forms.{Spells, IsFormless};
+ghost use Rattle.mpm_names.specs.Readings.{ReadsForm};
 ghost use Rattle.mpm_names.specs.Spellings.{parsed, next_of};
 
 use crate::fields::{name_bytes, password_bytes};
@@ -31,10 +32,7 @@ pub struct BadName;
 #[tactic(auto, using(crate::proofs::Taken::form_found, crate::proofs::Taken::no_form), unfolding(crate::specs::Spellings::parsed))]
 pub fn parse_filename(text: &[u8]) -> Result<Parsed, BadName>
     requires { length text.now ≤ 128 }
-    ensures ok { IfOk result (λ name. parsed text.now ≡ Some name) }
-    ensures err { OnErr result (parsed text.now ≡ None) }
-    ensures form { IfOk result (λ name. Spells text.now name) }
-    ensures formless { OnErr result (IsFormless text.now) }
+    ensures { ReadsForm (parsed text.now) (Spells text.now) (IsFormless text.now) result }
 {
     let parts = split(text);
     if !is_name(&parts) {

@@ -1,6 +1,8 @@
 ghost use Rattle.std.specs.Prelude.{◌≡◌, ◌≤◌, ◌<◌, ◌-◌, length, slice_index};
 ghost use Rattle.std.specs.List.{prefix_len};
 ghost use Rattle.mpm_names.specs.Characters.{is_blank, is_character};
+ghost use Rattle.mpm_names.specs.Readings.{IsBytes, IsNumber};
+ghost use Rattle.mpm_names.specs.Splitting.{seen};
 ghost use Rattle.mpm_names.specs.Spellings.{field_of, behind_blanks, behind_drive, behind_type, behind_password, drive_of, marked, spelling, is_form};
 
 use crate::characters::{blank, character, ends_a_name, to_upper};
@@ -18,11 +20,7 @@ pub struct Parts<'a> {
 /// Takes a text apart, each part as long as it goes.
 #[tactic(auto, unfolding(crate::specs::Spellings::spelling))]
 pub fn split(text: &[u8]) -> Parts<'_>
-    ensures drive { result.drive ≡ (spelling text.now).drive }
-    ensures name { result.name.now ≡ (spelling text.now).name }
-    ensures kind { result.kind.now ≡ (spelling text.now).kind }
-    ensures password { result.password.now ≡ (spelling text.now).password }
-    ensures rest { result.rest.now ≡ (spelling text.now).rest }
+    ensures parts { seen result ≡ spelling text.now }
     ensures size { length result.rest.now ≤ length text.now }
 {
     let start = skip_blanks(text);
@@ -45,7 +43,7 @@ pub fn split(text: &[u8]) -> Parts<'_>
 
 /// Whether the parts are a file name.
 pub fn is_name(parts: &Parts<'_>) -> bool
-    ensures { result ≡ is_form (record { drive = parts.now.drive; name = parts.now.name.now; kind = parts.now.kind.now; password = parts.now.password.now; rest = parts.now.rest.now }) }
+    ensures { result ≡ is_form (seen parts.now) }
 {
     let name = parts.name.len();
     1 <= name
@@ -64,16 +62,14 @@ pub fn byte_at(text: &[u8], place: usize) -> u8
 
 /// What follows the blanks.
 fn skip_blanks(text: &[u8]) -> &[u8]
-    ensures rest { result.now ≡ behind_blanks text.now }
-    ensures size { length result.now ≤ length text.now }
+    ensures { IsBytes (behind_blanks text.now) (length text.now) result.now }
 {
     &text[blank_count(text)..]
 }
 
 /// How many blanks a text begins with.
 fn blank_count(text: &[u8]) -> usize
-    ensures count { result ≡ prefix_len is_blank text.now }
-    ensures within { result ≤ length text.now }
+    ensures { IsNumber (prefix_len is_blank text.now) (length text.now) result }
 {
     for (place, byte) in text.iter().enumerate() {
         if !blank(*byte) {
@@ -85,16 +81,14 @@ fn blank_count(text: &[u8]) -> usize
 
 /// The characters at the front of a text.
 fn characters(text: &[u8]) -> &[u8]
-    ensures field { result.now ≡ field_of text.now }
-    ensures size { length result.now ≤ length text.now }
+    ensures { IsBytes (field_of text.now) (length text.now) result.now }
 {
     &text[..character_count(text)]
 }
 
 /// How many characters a text begins with.
 fn character_count(text: &[u8]) -> usize
-    ensures count { result ≡ prefix_len is_character text.now }
-    ensures within { result ≤ length text.now }
+    ensures { IsNumber (prefix_len is_character text.now) (length text.now) result }
 {
     for (place, byte) in text.iter().enumerate() {
         if !character(*byte) {
@@ -120,8 +114,7 @@ fn drive_at(text: &[u8]) -> u8
 
 /// What follows the drive.
 fn skip_drive(text: &[u8]) -> &[u8]
-    ensures rest { result.now ≡ behind_drive text.now }
-    ensures size { length result.now ≤ length text.now }
+    ensures { IsBytes (behind_drive text.now) (length text.now) result.now }
 {
     if drive_at(text) == 0 {
         text
@@ -134,8 +127,7 @@ fn skip_drive(text: &[u8]) -> &[u8]
 #[tactic(auto, unfolding(crate::specs::Spellings::marked))]
 fn characters_behind(text: &[u8], mark: u8) -> &[u8]
     requires { 0 < mark }
-    ensures field { result.now ≡ marked mark text.now }
-    ensures size { length result.now ≤ length text.now - 1 }
+    ensures { IsBytes (marked mark text.now) (length text.now - 1) result.now }
 {
     if byte_at(text, 0) == mark {
         characters(&text[1..])
@@ -146,8 +138,7 @@ fn characters_behind(text: &[u8], mark: u8) -> &[u8]
 
 /// What follows `.` and a type.
 fn skip_type(text: &[u8]) -> &[u8]
-    ensures rest { result.now ≡ behind_type text.now }
-    ensures size { length result.now ≤ length text.now }
+    ensures { IsBytes (behind_type text.now) (length text.now) result.now }
 {
     if byte_at(text, 0) == b'.' {
         &text[1 + characters_behind(text, b'.').len()..]
@@ -158,8 +149,7 @@ fn skip_type(text: &[u8]) -> &[u8]
 
 /// What follows `;` and a password.
 fn skip_password(text: &[u8]) -> &[u8]
-    ensures rest { result.now ≡ behind_password text.now }
-    ensures size { length result.now ≤ length text.now }
+    ensures { IsBytes (behind_password text.now) (length text.now) result.now }
 {
     let count = characters_behind(text, b';').len();
     if count == 0 { text } else { &text[1 + count..] }

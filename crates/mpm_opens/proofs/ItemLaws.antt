@@ -297,7 +297,7 @@ count_of_none : (test : Option Item → Bool) (n : ℕ) → test None ≡ false 
 count_of_none test zero e = refl
 count_of_none test (suc n) e = omega (arith, count_of_none test n e, one_if_false (test None) e, count_cons test None (replicate n None))
 
-none_at : (n i : ℕ) → place_at (replicate n None) i ≡ None
+pub none_at : (n i : ℕ) → place_at (replicate n None) i ≡ None
 none_at zero i = refl
 none_at (suc n) zero = refl
 none_at (suc n) (suc i) = none_at n i

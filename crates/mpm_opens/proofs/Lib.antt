@@ -10,4 +10,5 @@ pub mod FindingLaws
 pub mod SoundLaws
 pub mod GivingLaws
 pub mod OthersLaws
+pub mod OneItem
 pub mod Examples

@@ -1,17 +1,18 @@
 -- Open files and record locks together. (MP/M II Programmer's Guide, "Function 15: Open File", "Function 16: Close File",
 -- "Function 42: Lock Record".)
-use Rattle.std.specs.Prelude.{◌≡◌, ◌≢◌, ℕ, ◌<◌, ◌≤◌, ◌==◌, ◌&&◌, Bool, true, false, List, [], Option, Some, None, IsSome, length, count_by, nat_lt, if◌then◌else◌, ⊤}
+use Rattle.std.specs.Prelude.{◌≡◌, ◌≢◌, ℕ, ◌<◌, ◌≤◌, ◌==◌, ◌&&◌, Bool, true, false, not, List, [], Option, Some, None, IsSome, Result, IfOk, OnErr, length, count_by, nat_lt, if◌then◌else◌, ⊤}
 use Rattle.std.specs.List.{list_any, list_all}
 use Rattle.mpm_opens.specs.declared.kinds.FileKey.{FileKey}
 use Rattle.mpm_opens.specs.declared.kinds.Mode.{Mode}
 use Rattle.mpm_opens.specs.declared.kinds.Item.{Item}
 use Rattle.mpm_opens.specs.declared.kinds.RecordLock.{RecordLock}
+use Rattle.mpm_opens.specs.declared.kinds.OpenRefused.{OpenRefused}
 use Rattle.mpm_opens.specs.declared.kinds.LockDone.{LockDone}
 use Rattle.mpm_opens.specs.declared.kinds.LockDone.TheVariants.{Locked, Other, ProcessLimit, NoRoom}
 use Rattle.mpm_opens.specs.declared.limits.TheConstants.{ITEMS, ITEMS_OF_PROCESS, LOCKS, LOCKS_OF_PROCESS}
-use Rattle.mpm_opens.specs.Items.{no_items, has_item, place_at, item_at, has_item_of, number_of, excludes, items_of, with_changed, opened_again, new_item, closed_once, that_wrote, items_added, left_in, items_without}
+use Rattle.mpm_opens.specs.Items.{no_items, has_item, place_at, item_at, has_item_of, number_of, excludes, is_of, items_of, with_changed, opened_again, new_item, closed_once, that_wrote, items_added, add_answer, left_in, items_without}
 use Rattle.mpm_opens.specs.Kinds.{is_file}
-use Rattle.mpm_opens.specs.Locks.{is_lock_on, owner_of, locks_of, locks_locked, locks_without, is_lock_among}
+use Rattle.mpm_opens.specs.Locks.{is_lock_on, owner_of, locks_of, lock_answer, locks_locked, locks_without, is_lock_among}
 
 -- the places of items, and the locks in the order in which they were made
 pub record OpenFiles : Type 0 where
@@ -119,9 +120,25 @@ unless_owned p (Some owner) = if owner == p then None else (Some owner)
 abbrev pub owner_left : Bool → ℕ → Option ℕ → Option ℕ
 owner_left leaves p owner = if leaves then unless_owned p owner else owner
 
--- each item of a process but one is as it was
+-- each item of a process but one is as it was, and none of theirs is new
 pub record LeavesOthers (p : ℕ) (old new : OpenFiles) : Type 0 where
   pub stays : (number : ℕ) (item : Item) → place_at old.items number ≡ Some item → item.process ≢ p → place_at new.items number ≡ Some item
+  pub was : (number : ℕ) (item : Item) → place_at new.items number ≡ Some item → item.process ≢ p → place_at old.items number ≡ Some item
+
+-- no item of a process stands at a place; at any; and none at any place but one, where an item stands that was opened once
+abbrev pub HasNoneAt : ℕ → OpenFiles → ℕ → Type 0
+HasNoneAt p opens number = has_item (is_of p) (place_at opens.items number) ≡ false
+
+abbrev pub HasNone : ℕ → OpenFiles → Type 0
+HasNone p opens = (number : ℕ) → HasNoneAt p opens number
+
+pub record HasOne (p number : ℕ) (opens : OpenFiles) : Type 0 where
+  pub once : (item_of opens number).count ≡ 1
+  pub others : (k : ℕ) → k ≢ number → HasNoneAt p opens k
+
+-- where a process had no item it has none
+abbrev pub OpensNone : ℕ → OpenFiles → OpenFiles → Type 0
+OpensNone p old new = (number : ℕ) → HasNoneAt p old number → HasNoneAt p new number
 
 -- a process left the files that pass a test: its items of them are gone, with its locks there, and all others are as they were
 pub record HasLeft (p : ℕ) (among : FileKey → Bool) (old new : OpenFiles) : Type 0 where
@@ -180,3 +197,50 @@ UnlessLocked Locked P = ⊤
 UnlessLocked (Other owner) P = P
 UnlessLocked ProcessLimit P = P
 UnlessLocked NoRoom P = P
+
+-- what each call leaves and answers, and that all is sound after it. A process opens a file; a refused call changes nothing
+pub record Adds (p : ℕ) (file : FileKey) (mode : Mode) (old new : OpenFiles) (result : Result ℕ OpenRefused) : Type 0 where
+  pub opens : new ≡ added old p file mode
+  pub answer : result ≡ add_answer old.items p file mode
+  pub named : IfOk result (λ item. number_of new.items p file ≡ Some item)
+  pub live : IfOk result (λ item. IsLive new item)
+  pub its : IfOk result (λ item. IsItemOf new p file item)
+  pub opened : IfOk result (λ item. IsOpened p file mode item old new)
+  pub refused : OnErr result (new ≡ old)
+  pub sound : AreOpen new
+
+-- an item is closed once
+pub record Closes (item : ℕ) (old new : OpenFiles) : Type 0 where
+  pub opens : new ≡ closed old (process_of old item) (file_of old item)
+  pub closed : IsClosed item old new
+  pub sound : AreOpen new
+
+-- it is noted that a record was written by way of an item, and answered whether that is the first
+pub record NotesWritten (item : ℕ) (old new : OpenFiles) (result : Bool) : Type 0 where
+  pub opens : new ≡ written old (process_of old item) (file_of old item)
+  pub first : result ≡ not (item_of old item).has_written
+  pub noted : HasNoted item old new
+  pub live : IsLive new item
+  pub sound : AreOpen new
+
+-- a record of an item's file is locked for its process; a refused call changes nothing
+pub record AsksLock (item number : ℕ) (old new : OpenFiles) (result : LockDone) : Type 0 where
+  pub opens : new ≡ locked old (process_of old item) (file_of old item) number
+  pub answer : result ≡ lock_answer old.locks (process_of old item) (file_of old item) number
+  pub locked : IfLocked result (HasLocked (process_of old item) (file_of old item) number old new)
+  pub refused : UnlessLocked result (new ≡ old)
+  pub live : IsLive new item
+  pub sound : AreOpen new
+
+-- a record of an item's file is freed
+pub record Unlocks (item number : ℕ) (old new : OpenFiles) : Type 0 where
+  pub opens : new ≡ unlocked old (process_of old item) (file_of old item) number
+  pub unlocked : HasUnlocked (process_of old item) (file_of old item) number old new
+  pub live : IsLive new item
+  pub sound : AreOpen new
+
+-- a process leaves the files that pass a test
+pub record Leaves (p : ℕ) (among : FileKey → Bool) (old new : OpenFiles) : Type 0 where
+  pub opens : new ≡ given_back old p among
+  pub left : HasLeft p among old new
+  pub sound : AreOpen new

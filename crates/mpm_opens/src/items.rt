@@ -1,6 +1,6 @@
 ghost use Rattle.std.specs.Prelude.{◌≡◌, ◌≢◌, ◌<◌, ◌==◌, false, Some, None, IsSome, IfSome, map, position, length, slice_set, is_none};
 ghost use Rattle.mpm_opens.specs.Kinds.{is_among};
-ghost use Rattle.mpm_opens.specs.Items.{has_item, has_item_of, is_named, file_where, is_anothers_of, is_anothers_on, excludes, is_of, is_counted_out, is_given_back, left_in};
+ghost use Rattle.mpm_opens.specs.Items.{has_item, has_item_of, is_named, file_where, excludes, is_of, is_counted_out, is_given_back, left_in};
 
 use crate::kinds::{FileKey, FileSet, Item, Mode, OpenRefused, is_process};
 use crate::limits::{ITEMS, ITEMS_OF_PROCESS, OPENINGS};
@@ -186,7 +186,10 @@ impl Items {
         if ITEMS <= place {
             return None;
         }
-        named_at(&places[place], p, drive, name)
+        match &places[place] {
+            Some(item) if item.is_named(p, drive, name) => Some(item.file),
+            _ => None,
+        }
     }
 
     /// The file of a process's item, by number.
@@ -200,7 +203,10 @@ impl Items {
         if ITEMS <= place {
             return None;
         }
-        file_at(&places[place], p)
+        match &places[place] {
+            Some(item) if is_process(item.process, p) => Some(item.file),
+            _ => None,
+        }
     }
 
     /// The number of the first free place.
@@ -229,9 +235,9 @@ impl Items {
     pub(crate) fn have_others(&self, p: Pid, file: &FileKey) -> bool
         ensures { result ≡ have_others self.now p file.now }
     {
-        self.places
-            .iter()
-            .any(|place| is_anothers_at(place, p, file))
+        self.places.iter().any(
+            |place| matches!(place, Some(item) if !is_process(item.process, p) && item.file.is_same(file)),
+        )
     }
 
     /// Whether another process has an item on a drive.
@@ -239,9 +245,9 @@ impl Items {
     pub(crate) fn have_others_on(&self, p: Pid, drive: u8) -> bool
         ensures { result ≡ have_others_on self.now p drive }
     {
-        self.places
-            .iter()
-            .any(|place| is_anothers_on_drive(place, p, drive))
+        self.places.iter().any(
+            |place| matches!(place, Some(item) if !is_process(item.process, p) && item.file.drive == drive),
+        )
     }
 
     /// Whether an item excludes a new one.
@@ -249,9 +255,9 @@ impl Items {
     fn exclude(&self, p: Pid, file: &FileKey, mode: Mode) -> bool
         ensures { result ≡ is_excluded self.now p file.now mode }
     {
-        self.places
-            .iter()
-            .any(|place| is_excluding(place, p, file, mode))
+        self.places.iter().any(
+            |place| matches!(place, Some(item) if item.file.is_same(file) && !item.admits(p, mode)),
+        )
     }
 
     /// How many items a process has.
@@ -261,7 +267,7 @@ impl Items {
     {
         self.places
             .iter()
-            .filter(|place| is_of_process(place, p))
+            .filter(|place| matches!(place, Some(item) if is_process(item.process, p)))
             .count()
     }
 
@@ -270,9 +276,11 @@ impl Items {
     fn is_counted_out(&self, p: Pid, file: &FileKey) -> bool
         ensures { result ≡ has_counted_out self.now p file.now }
     {
-        self.places
-            .iter()
-            .any(|place| is_last_count(place, p, file))
+        self.places.iter().any(|place| {
+            matches!(place, Some(item) if is_process(item.process, p)
+                && item.file.is_same(file)
+                && item.count == OPENINGS)
+        })
     }
 
     /// A process's items of some files are given back.
@@ -289,27 +297,9 @@ fn first_at(places: &[Option<Item>], p: Pid, file: &FileKey) -> Option<usize>
     ensures value { result ≡ position (has_item_of p file.now) places.now }
     ensures within { IfSome result (λ place. place < length places.now) }
 {
-    places.iter().position(|place| is_at(place, p, file))
-}
-
-/// The file of the item at a place, where it is a process's, and of that drive and name.
-fn named_at(place: &Option<Item>, p: Pid, drive: u8, name: &[u8; 11]) -> Option<FileKey>
-    ensures { result ≡ file_where (is_named p drive name.now) place.now }
-{
-    match place {
-        Some(item) if item.is_named(p, drive, name) => Some(item.file),
-        _ => None,
-    }
-}
-
-/// The file of the item at a place, where it is a process's.
-fn file_at(place: &Option<Item>, p: Pid) -> Option<FileKey>
-    ensures { result ≡ file_where (is_of p) place.now }
-{
-    match place {
-        Some(item) if is_process(item.process, p) => Some(item.file),
-        _ => None,
-    }
+    places.iter().position(
+        |place| matches!(place, Some(item) if is_process(item.process, p) && item.file.is_same(file)),
+    )
 }
 
 /// The first place that is free.
@@ -317,79 +307,7 @@ fn first_free(places: &[Option<Item>]) -> Option<usize>
     ensures value { result ≡ position is_none places.now }
     ensures within { IfSome result (λ place. place < length places.now) }
 {
-    places.iter().position(|place| is_free(place))
-}
-
-/// Whether a place is free.
-fn is_free(place: &Option<Item>) -> bool
-    ensures { result ≡ is_none place.now }
-{
-    match place {
-        Some(_) => false,
-        None => true,
-    }
-}
-
-/// Whether a process's item of a file stands at a place.
-fn is_at(place: &Option<Item>, p: Pid, file: &FileKey) -> bool
-    ensures { result ≡ has_item_of p file.now place.now }
-{
-    match place {
-        Some(item) => is_process(item.process, p) && item.file.is_same(file),
-        None => false,
-    }
-}
-
-/// Whether another process's item of a file stands at a place.
-fn is_anothers_at(place: &Option<Item>, p: Pid, file: &FileKey) -> bool
-    ensures { result ≡ has_item (is_anothers_of p file.now) place.now }
-{
-    match place {
-        Some(item) => !is_process(item.process, p) && item.file.is_same(file),
-        None => false,
-    }
-}
-
-/// Whether another process's item on a drive stands at a place.
-fn is_anothers_on_drive(place: &Option<Item>, p: Pid, drive: u8) -> bool
-    ensures { result ≡ has_item (is_anothers_on p drive) place.now }
-{
-    match place {
-        Some(item) => !is_process(item.process, p) && item.file.drive == drive,
-        None => false,
-    }
-}
-
-/// Whether the item at a place excludes a new one.
-fn is_excluding(place: &Option<Item>, p: Pid, file: &FileKey, mode: Mode) -> bool
-    ensures { result ≡ has_item (excludes p file.now mode) place.now }
-{
-    match place {
-        Some(item) => item.file.is_same(file) && !item.admits(p, mode),
-        None => false,
-    }
-}
-
-/// Whether a process's item stands at a place.
-fn is_of_process(place: &Option<Item>, p: Pid) -> bool
-    ensures { result ≡ has_item (is_of p) place.now }
-{
-    match place {
-        Some(item) => is_process(item.process, p),
-        None => false,
-    }
-}
-
-/// Whether a process's item of a file, which was opened as often as it may be, stands at a place.
-fn is_last_count(place: &Option<Item>, p: Pid, file: &FileKey) -> bool
-    ensures { result ≡ has_item (is_counted_out p file.now) place.now }
-{
-    match place {
-        Some(item) => {
-            is_process(item.process, p) && item.file.is_same(file) && item.count == OPENINGS
-        }
-        None => false,
-    }
+    places.iter().position(|place| place.is_none())
 }
 
 /// Whether the item at a place is a process's of some files.

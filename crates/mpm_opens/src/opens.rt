@@ -1,4 +1,4 @@
-ghost use Rattle.std.specs.Prelude.{◌≡◌, not, Some, IfSome, IfOk, OnErr};
+ghost use Rattle.std.specs.Prelude.{◌≡◌, IfSome};
 ghost use Rattle.mpm_opens.specs.Kinds.{is_file, is_on_drive, is_any, is_among};
 
 use crate::items::Items;
@@ -28,9 +28,9 @@ impl Model for Opens {
 impl Opens {
     ghost use Rattle.std.specs.Prelude.{length};
     ghost use Rattle.mpm_opens.specs.declared.limits.TheConstants.{ITEMS};
-    ghost use Rattle.mpm_opens.specs.Items.{place_at, number_of, is_of, file_where, file_named, have_others, have_others_on, refusal_of, add_answer};
-    ghost use Rattle.mpm_opens.specs.Locks.{owner_of, lock_answer};
-    ghost use Rattle.mpm_opens.specs.Opens.{AreOpen, IsLive, item_of, process_of, file_of, IsItemOf, none_open, added, given_back, closed_at, closed, written_at, written, locked, unlocked, HasLeft, IsOpened, IsClosed, HasNoted, HasLocked, HasUnlocked, IfLocked, UnlessLocked};
+    ghost use Rattle.mpm_opens.specs.Items.{place_at, number_of, is_of, file_where, file_named, have_others, have_others_on, refusal_of};
+    ghost use Rattle.mpm_opens.specs.Locks.{owner_of};
+    ghost use Rattle.mpm_opens.specs.Opens.{AreOpen, IsLive, item_of, IsItemOf, none_open, added, given_back, closed_at, written, Adds, Closes, NotesWritten, AsksLock, Unlocks, Leaves};
 
     /// Nothing is open, nothing is locked.
     #[tactic(auto, unfolding(crate::specs::Opens::none_open))]
@@ -48,14 +48,7 @@ impl Opens {
     /// (MP/M II Programmer's Guide, "Function 15: Open File".)
     #[tactic(auto, unfolding(crate::specs::Opens::added))]
     pub fn add(&mut self, p: Pid, file: FileKey, mode: Mode) -> Result<u8, OpenRefused>
-        ensures opens { self.new ≡ added self.old p file mode }
-        ensures answer { result ≡ add_answer self.old.items p file mode }
-        ensures named { IfOk result (λ item. number_of self.new.items p file ≡ Some item) }
-        ensures live { IfOk result (λ item. IsLive self.new item) }
-        ensures its { IfOk result (λ item. IsItemOf self.new p file item) }
-        ensures opened { IfOk result (λ item. IsOpened p file mode item self.old self.new) }
-        ensures refused { OnErr result (self.new ≡ self.old) }
-        ensures sound { AreOpen self.new }
+        ensures { Adds p file mode self.old self.new result }
     {
         self.items.add(p, file, mode)
     }
@@ -64,7 +57,6 @@ impl Opens {
     #[tactic(auto, using(crate::proofs::OpeningLaws::number_is_live, crate::proofs::FindingLaws::is_its_item))]
     pub fn item(&self, p: Pid, file: FileKey) -> Option<u8>
         ensures number { result ≡ number_of self.now.items p file }
-        ensures live { IfSome result (λ item. IsLive self.now item) }
         ensures its { IfSome result (λ item. IsItemOf self.now p file item) }
     {
         self.items.number_of(p, &file)
@@ -77,7 +69,6 @@ impl Opens {
     #[tactic(auto, using(crate::proofs::OpeningLaws::named_is_live, crate::proofs::FindingLaws::is_named_item))]
     pub fn named(&self, p: Pid, item: u8, drive: u8, name: &[u8; 11]) -> Option<FileKey>
         ensures file { result ≡ file_named self.now.items p item drive name.now }
-        ensures live { IfSome result (λ _. IsLive self.now item) }
         ensures its { IfSome result (λ file. IsItemOf self.now p file item) }
     {
         self.items.named(p, item, drive, name)
@@ -124,9 +115,7 @@ impl Opens {
     /// "Function 16: Close File".)
     pub fn close(&mut self, item: u8)
         requires { IsLive self.old item }
-        ensures opens { self.new ≡ closed self.old (process_of self.old item) (file_of self.old item) }
-        ensures closed { IsClosed item self.old self.new }
-        ensures sound { AreOpen self.new }
+        ensures { Closes item self.old self.new }
     {
         // Reading a field tells that all is sound, which the clauses need.
         let _ = &self.items;
@@ -150,26 +139,11 @@ impl Opens {
     /// Notes that a record was written by way of an item, and answers whether that is the first.
     pub fn wrote(&mut self, item: u8) -> bool
         requires { IsLive self.old item }
-        ensures opens { self.new ≡ written self.old (process_of self.old item) (file_of self.old item) }
-        ensures first { result ≡ not (item_of self.old item).has_written }
-        ensures noted { HasNoted item self.old self.new }
-        ensures live { IsLive self.new item }
-        ensures sound { AreOpen self.new }
+        ensures { NotesWritten item self.old self.new result }
     {
-        // Reading a field tells that all is sound, which the clauses need.
-        let _ = &self.items;
-        let first = !self.has_written(item);
-        self.note_written(item);
-        first
-    }
-
-    /// Notes that a record was written by way of an item.
-    #[tactic(auto, unfolding(crate::specs::Opens::written_at))]
-    fn note_written(&mut self, item: u8)
-        requires { IsLive self.old item }
-        ensures { self.new ≡ written_at self.old item }
-    {
+        let found = self.items.get(item);
         self.items.note_written(item);
+        !found.has_written
     }
 
     /// Whether a record was written by way of an item.
@@ -184,24 +158,7 @@ impl Opens {
     /// Programmer's Guide, "Function 42: Lock Record".)
     pub fn lock(&mut self, item: u8, number: u32) -> LockDone
         requires { IsLive self.old item }
-        ensures opens { self.new ≡ locked self.old (process_of self.old item) (file_of self.old item) number }
-        ensures answer { result ≡ lock_answer self.old.locks (process_of self.old item) (file_of self.old item) number }
-        ensures locked { IfLocked result (HasLocked (process_of self.old item) (file_of self.old item) number self.old self.new) }
-        ensures refused { UnlessLocked result (self.new ≡ self.old) }
-        ensures live { IsLive self.new item }
-        ensures sound { AreOpen self.new }
-    {
-        // Reading a field tells that all is sound, which the clauses need.
-        let _ = &self.items;
-        self.ask_lock(item, number)
-    }
-
-    /// Asks for the lock of a record.
-    #[tactic(auto, unfolding(crate::specs::Opens::locked))]
-    fn ask_lock(&mut self, item: u8, number: u32) -> LockDone
-        requires { IsLive self.old item }
-        ensures opens { self.new ≡ locked self.old (process_of self.old item) (file_of self.old item) number }
-        ensures answer { result ≡ lock_answer self.old.locks (process_of self.old item) (file_of self.old item) number }
+        ensures { AsksLock item number self.old self.new result }
     {
         let found = self.items.get(item);
         self.locks.lock(found.process, found.file, number)
@@ -211,21 +168,7 @@ impl Opens {
     /// Record".)
     pub fn unlock(&mut self, item: u8, number: u32)
         requires { IsLive self.old item }
-        ensures opens { self.new ≡ unlocked self.old (process_of self.old item) (file_of self.old item) number }
-        ensures unlocked { HasUnlocked (process_of self.old item) (file_of self.old item) number self.old self.new }
-        ensures live { IsLive self.new item }
-        ensures sound { AreOpen self.new }
-    {
-        // Reading a field tells that all is sound, which the clauses need.
-        let _ = &self.items;
-        self.free_lock(item, number);
-    }
-
-    /// Frees a record of an item's file.
-    #[tactic(auto, unfolding(crate::specs::Opens::unlocked))]
-    fn free_lock(&mut self, item: u8, number: u32)
-        requires { IsLive self.old item }
-        ensures { self.new ≡ unlocked self.old (process_of self.old item) (file_of self.old item) number }
+        ensures { Unlocks item number self.old self.new }
     {
         let found = self.items.get(item);
         self.locks.give_back(
@@ -256,36 +199,28 @@ impl Opens {
     /// A process's items on a drive are given back, however often they were opened, with its locks there. (MP/M II Programmer's
     /// Guide, "Function 39: Free Drive".)
     pub fn leave_drive(&mut self, p: Pid, drive: u8)
-        ensures opens { self.new ≡ given_back self.old p (is_on_drive drive) }
-        ensures left { HasLeft p (is_on_drive drive) self.old self.new }
-        ensures sound { AreOpen self.new }
+        ensures { Leaves p (is_on_drive drive) self.old self.new }
     {
         self.give_back_files(p, &FileSet::OnDrive(drive));
     }
 
     /// A process's item of a file is given back, if it has one, however often it was opened, with its locks there.
     pub fn leave_file(&mut self, p: Pid, file: FileKey)
-        ensures opens { self.new ≡ given_back self.old p (is_file file) }
-        ensures left { HasLeft p (is_file file) self.old self.new }
-        ensures sound { AreOpen self.new }
+        ensures { Leaves p (is_file file) self.old self.new }
     {
         self.give_back_files(p, &FileSet::One(file));
     }
 
     /// All items and locks of a process are given back.
     pub fn give_back(&mut self, p: Pid)
-        ensures opens { self.new ≡ given_back self.old p is_any }
-        ensures left { HasLeft p is_any self.old self.new }
-        ensures sound { AreOpen self.new }
+        ensures { Leaves p is_any self.old self.new }
     {
         self.give_back_files(p, &FileSet::All);
     }
 
     /// A process's items of some files are given back, with its locks there: nothing of these is left, and all else is as it was.
     fn give_back_files(&mut self, p: Pid, files: &FileSet)
-        ensures opens { self.new ≡ given_back self.old p (is_among files.now) }
-        ensures left { HasLeft p (is_among files.now) self.old self.new }
-        ensures sound { AreOpen self.new }
+        ensures { Leaves p (is_among files.now) self.old self.new }
     {
         // Reading a field tells that all is sound, which the clauses need.
         let _ = &self.items;

@@ -1,5 +1,5 @@
 -- When a device may answer that it failed: by its count of faults, or by its list of failed names.
-use Rattle.std.specs.Prelude.{◌≡◌, ◌⊎◌, ℕ, ◌-◌, ◌^◌, ◌<◌, ◌≤◌, List, [], ◌∷◌, ◌++◌, Result, Ok, Err, OnOk, OnErr}
+use Rattle.std.specs.Prelude.{◌≡◌, ◌⊎◌, Bool, IsTrue, IsErr, ℕ, ◌-◌, ◌^◌, ◌<◌, ◌≤◌, List, [], ◌∷◌, ◌++◌, Result, Ok, Err, OnOk, OnErr}
 use Rattle.mpm_port.specs.declared.files.FetchError.{FetchError}
 use Rattle.mpm_port.specs.declared.files.FetchError.TheVariants.{Failed, OutOfMemory}
 
@@ -22,3 +22,8 @@ names_with names name OutOfMemory = names
 abbrev pub names_after : {A : Type 0} → List (List ℕ) → List ℕ → Result A FetchError → List (List ℕ)
 names_after names name (Ok answer) = names
 names_after names name (Err refusal) = names_with names name refusal
+
+-- a call on a name answers that it failed only where it was to fail, and then it is refused: so, or for want of memory
+pub record FailsWhere {A : Type 0} (fails : Bool) (result : Result A FetchError) : Type 0 where
+  pub failed : result ≡ Err Failed → IsTrue fails
+  pub refused : IsTrue fails → IsErr result

@@ -1,7 +1,7 @@
 -- The images of attached drives, what is known of images before they are attached, and what a sector of one is.
 use Rattle.std.specs.Prelude.{◌≡◌, ◌≢◌, ℕ, ◌+◌, ◌*◌, ◌≤◌, List, ◌++◌, take, drop, length, slice_range, Option, Some, IfSome, IsSomeAnd, option_map, ⊤}
 
--- what is known of the image of a name before a drive is attached to it: nothing, that there is none, or its bytes
+-- what is known of the image of a name, before a drive is attached to it or after: nothing, that there is none, or its bytes
 pub data ToldImage : Type 0 where
   Untold : ToldImage
   Missing : ToldImage

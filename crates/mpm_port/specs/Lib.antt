@@ -1,7 +1,9 @@
 pub mod Causes
 pub mod Texts
 pub mod Fetches
+pub mod Puts
 pub mod Disks
+pub mod DriveCalls
 pub mod Frames
 pub mod Calls
 pub mod MemoryText

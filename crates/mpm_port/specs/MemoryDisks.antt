@@ -1,8 +1,8 @@
 -- The drives over memory.
-use Rattle.std.specs.Prelude.{◌≡◌, ◌≢◌, ℕ, false, true, List, [], replicate, slice_set, slice_index_or, Option, Some, None, option_and_then, unwrap_or, is_some, not, Bool, ◌||◌, if◌then◌else◌, Result, Ok, Err, IfSome}
+use Rattle.std.specs.Prelude.{◌≡◌, ◌≢◌, ◌≤◌, IsTrue, ℕ, false, true, List, [], replicate, slice_set, slice_index_or, Option, Some, None, option_and_then, unwrap_or, is_some, not, Bool, ◌||◌, if◌then◌else◌, Result, Ok, Err, IfSome}
 use Rattle.std.proofs.Common.{subst, sym, refl}
 use Rattle.mpm_port.specs.Calls.{Calls, one_more, next_is_listed, after_call, listing}
-use Rattle.mpm_port.specs.Causes.{names_with}
+use Rattle.mpm_port.specs.Causes.{names_with, Rose}
 use Rattle.mpm_port.specs.Disks.{Disks, ToldImage, Missing, Bytes, Brings, with_sector}
 use Rattle.mpm_port.specs.Named.{contents_of, with_contents, name_of_drive, with_drive}
 use Rattle.mpm_port.specs.declared.named.Named.{Named}
@@ -89,6 +89,17 @@ after_access table = record table {
   calls = after_call table.calls;
   faults = if next_is_listed table.calls then one_more table.faults else table.faults;
 }
+
+-- a call of size, read, write or sync begins: it is to fail where its number is listed, and then it is a fault
+pub record BeginsAccess (old new : MemoryDisks) (fails : Bool) : Type 0 where
+  pub after : new ≡ after_access old
+  pub listed : fails ≡ next_is_listed old.calls
+  pub rose : IsTrue fails → Rose old.faults new.faults × (old.faults ≤ new.faults)
+  pub stays : fails ≡ false → new.faults ≡ old.faults
+  pub names : new.failed ≡ old.failed
+  pub images : new.images ≡ old.images
+  pub links : new.links ≡ old.links
+  pub unsynced : new.unsynced ≡ old.unsynced
 
 -- the images with other bytes in a sector of an attached drive
 unfoldable pub images_with_sector : MemoryDisks → ℕ → ℕ → List ℕ → List Named

@@ -1,5 +1,5 @@
 -- The sink over memory: a text that grows in a fixed room.
-use Rattle.std.specs.Prelude.{ℕ, ◌+◌, Bool, ◌||◌, nat_lt, if◌then◌else◌, List, [], ◌++◌, length}
+use Rattle.std.specs.Prelude.{◌≡◌, ℕ, ◌+◌, Bool, false, IsTrue, ◌||◌, nat_lt, if◌then◌else◌, List, [], ◌++◌, length}
 use Rattle.mpm_port.specs.Calls.{Calls, one_more, next_is_listed, after_call, listing}
 
 -- what was written, the bytes that there is room for in all, the calls, and the count of faults
@@ -22,6 +22,13 @@ unfoldable pub after_put : MemoryText → List ℕ → MemoryText
 after_put sink bytes = if put_fails sink bytes
     then record sink { calls = after_call sink.calls; faults = one_more sink.faults }
     else record sink { calls = after_call sink.calls; text = sink.text ++ bytes }
+
+-- a put of these bytes took them, or dropped them, where it fails
+abbrev pub HasTaken : MemoryText → List ℕ → MemoryText → Type 0
+HasTaken old bytes new = (put_fails old bytes ≡ false) × (new ≡ after_put old bytes)
+
+abbrev pub HasDropped : MemoryText → List ℕ → MemoryText → Type 0
+HasDropped old bytes new = IsTrue (put_fails old bytes) × (new ≡ after_put old bytes)
 
 -- one more number is listed
 abbrev pub listing_put : MemoryText → ℕ → MemoryText

@@ -1,6 +1,5 @@
-ghost use Rattle.std.specs.Prelude.{◌≡◌, ◌↔◌, ℕ, List, Option, IsErr};
-ghost use Rattle.mpm_port.specs.Causes.{names_after};
-ghost use Rattle.mpm_port.specs.Fetches.{Fetches};
+ghost use Rattle.std.specs.Prelude.{ℕ, List, Option};
+ghost use Rattle.mpm_port.specs.Fetches.{AnswersFetch};
 
 /// How much of a file came.
 #[derive(Clone, Copy, Debug, PartialEq, Eq)]
@@ -33,10 +32,5 @@ pub trait Files {
 
     /// Appends the file's bytes to `out`, at most `limit` of them.
     fn fetch(&mut self, name: &str, limit: usize, out: &mut Vec<u8>) -> Result<Fetched, FetchError>
-        ensures bytes { Fetches (contents self.old name.now) limit out.old.items out.new.items result }
-        ensures names { failed_names self.new ≡ names_after (failed_names self.old) name.now result }
-        ensures missing { missing self.old name.now → IsErr result }
-        ensures nothing { missing self.old name.now → out.new.items ≡ out.old.items }
-        ensures stays_missing { (other : List ℕ) → missing self.new other ↔ missing self.old other }
-        ensures stays { (other : List ℕ) → contents self.new other ≡ contents self.old other };
+        ensures { AnswersFetch contents missing failed_names name.now limit out.old.items out.new.items self.old self.new result };
 }

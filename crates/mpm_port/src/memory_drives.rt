@@ -1,8 +1,9 @@
-ghost use Rattle.std.specs.Prelude.{◌≡◌, ◌≢◌, ◌⊎◌, ◌↔◌, ◌≤◌, ℕ, true, false, List, Some, IsSome, IfSome, IfOk, OnOk, OnErr, Err, is_ok, IsErr, IsTrue, if◌then◌else◌};
+ghost use Rattle.std.specs.Prelude.{◌≡◌, ◌≢◌, ◌↔◌, ℕ, List, Some, IsSome, OnOk, OnErr, is_ok, IsErr, IsTrue, if◌then◌else◌};
 ghost use Rattle.mpm_port.specs.Calls.{next_is_listed};
-ghost use Rattle.mpm_port.specs.Causes.{HasCause, Rose, names_after};
-ghost use Rattle.mpm_port.specs.Disks.{IsInsideDrive, Attaches, WritesSector, KeepsTold, size_of, sector_of};
-ghost use Rattle.mpm_port.specs.MemoryDisks.{no_disks, disks_of, told_of, is_unsynced, IsFree, with_image, listing_call, attach_fails, after_attach, after_access, after_write, after_sync, memory_agrees};
+ghost use Rattle.mpm_port.specs.Causes.{FailsWhere};
+ghost use Rattle.mpm_port.specs.Disks.{IsInsideDrive, size_of};
+ghost use Rattle.mpm_port.specs.DriveCalls.{AnswersAttach, AnswersSize, AnswersRead, AnswersWrite, AnswersSync};
+ghost use Rattle.mpm_port.specs.MemoryDisks.{no_disks, disks_of, told_of, is_unsynced, IsFree, with_image, listing_call, attach_fails, after_attach, after_access, BeginsAccess, after_write, after_sync, memory_agrees};
 ghost use Rattle.mpm_port.specs.Named.{contents_of};
 
 use crate::calls::Schedule;
@@ -73,14 +74,7 @@ impl MemoryDrives {
     /// Counts a call, and says whether it is to fail; where it is, a fault is counted too.
     #[tactic(auto, using(crate::proofs::Faults::rose), unfolding(crate::specs::MemoryDisks::after_access))]
     fn is_failing(&mut self) -> bool
-        ensures after { self.new ≡ after_access self.old }
-        ensures listed { result ≡ next_is_listed self.old.calls }
-        ensures rose { IsTrue result → Rose self.old.faults self.new.faults × (self.old.faults ≤ self.new.faults) }
-        ensures stays { result ≡ false → self.new.faults ≡ self.old.faults }
-        ensures names { self.new.failed ≡ self.old.failed }
-        ensures images { self.new.images ≡ self.old.images }
-        ensures links { self.new.links ≡ self.old.links }
-        ensures unsynced { self.new.unsynced ≡ self.old.unsynced }
+        ensures { BeginsAccess self.old self.new result }
     {
         let listed = self.calls.begin();
         if listed {
@@ -120,16 +114,8 @@ impl Drives for MemoryDrives {
     #[tactic(auto, using(crate::proofs::Attached::attaches, crate::proofs::Shelves::name_of_other, crate::proofs::Flags::flag_here, crate::proofs::Flags::flag_other), unfolding(crate::specs::MemoryDisks::after_attach, crate::specs::MemoryDisks::attach_fails))]
     fn attach(&mut self, drive: u8, name: &str) -> Result<(), FetchError>
         ensures after { self.new ≡ after_attach self.old drive name.now result }
-        ensures failed { result ≡ Err FetchError.Failed → IsTrue (attach_fails self.old name.now) }
-        ensures fails { IsTrue (attach_fails self.old name.now) → IsErr result }
-        ensures ok { OnOk result (Attaches drive name.now (told_of self.old name.now) (disks_of self.old) (disks_of self.new)) }
-        ensures err { OnErr result (disks_of self.new ≡ disks_of self.old) }
-        ensures told { told_of self.new ≡ told_of self.old }
-        ensures names { self.new.failed ≡ names_after self.old.failed name.now result }
-        ensures count { self.new.faults ≡ self.old.faults }
-        ensures fresh { OnOk result (is_unsynced self.new drive ≡ false) }
-        ensures unsynced { OnErr result (is_unsynced self.new drive ≡ is_unsynced self.old drive) }
-        ensures beside { (other : ℕ) → other ≢ drive → is_unsynced self.new other ≡ is_unsynced self.old other }
+        ensures cause { FailsWhere (attach_fails self.old name.now) result }
+        ensures answers { AnswersAttach disks_of told_of is_unsynced (λ d. d.faults) (λ d. d.failed) drive name.now self.old self.new result }
     {
         let listed = self.calls.begin();
         if listed || self.images.get(name.as_bytes()).is_none() {
@@ -148,12 +134,7 @@ impl Drives for MemoryDrives {
         requires { IsSome (size_of (disks_of self.old) drive) }
         ensures after { self.new ≡ after_access self.old }
         ensures fails { IsErr result ↔ IsTrue (next_is_listed self.old.calls) }
-        ensures size { IfOk result (λ bytes. size_of (disks_of self.old) drive ≡ Some bytes) }
-        ensures cause { HasCause self.old.faults self.new.faults result }
-        ensures names { self.new.failed ≡ self.old.failed }
-        ensures disks { disks_of self.new ≡ disks_of self.old }
-        ensures told { told_of self.new ≡ told_of self.old }
-        ensures unsynced { is_unsynced self.new ≡ is_unsynced self.old }
+        ensures answers { AnswersSize disks_of told_of is_unsynced (λ d. d.faults) (λ d. d.failed) drive self.old self.new result }
     {
         if self.is_failing() {
             return Err(Failed);
@@ -165,13 +146,8 @@ impl Drives for MemoryDrives {
         requires { IsInsideDrive (size_of (disks_of self.old) drive) sector }
         ensures after { self.new ≡ after_access self.old }
         ensures fails { IsErr result ↔ IsTrue (next_is_listed self.old.calls) }
-        ensures bytes { OnOk result (IfSome ((disks_of self.old).image drive) (λ image. out.new ≡ sector_of image sector)) }
         ensures err { OnErr result (out.new ≡ out.old) }
-        ensures cause { HasCause self.old.faults self.new.faults result }
-        ensures names { self.new.failed ≡ self.old.failed }
-        ensures disks { disks_of self.new ≡ disks_of self.old }
-        ensures told { told_of self.new ≡ told_of self.old }
-        ensures unsynced { is_unsynced self.new ≡ is_unsynced self.old }
+        ensures answers { AnswersRead disks_of told_of is_unsynced (λ d. d.faults) (λ d. d.failed) drive sector out.new self.old self.new result }
     {
         if self.is_failing() {
             return Err(Failed);
@@ -186,13 +162,7 @@ impl Drives for MemoryDrives {
         requires { IsInsideDrive (size_of (disks_of self.old) drive) sector }
         ensures after { self.new ≡ after_write self.old drive sector bytes.now }
         ensures fails { IsErr result ↔ IsTrue (next_is_listed self.old.calls) }
-        ensures ok { OnOk result (WritesSector drive sector bytes.now (disks_of self.old) (disks_of self.new)) }
-        ensures err { OnErr result ((disks_of self.new ≡ disks_of self.old) ⊎ WritesSector drive sector bytes.now (disks_of self.old) (disks_of self.new)) }
-        ensures told { KeepsTold ((disks_of self.old).name_of drive) (told_of self.old) (told_of self.new) }
-        ensures cause { HasCause self.old.faults self.new.faults result }
-        ensures names { self.new.failed ≡ self.old.failed }
-        ensures unsynced { is_unsynced self.new drive ≡ true }
-        ensures beside { (other : ℕ) → other ≢ drive → is_unsynced self.new other ≡ is_unsynced self.old other }
+        ensures answers { AnswersWrite disks_of told_of is_unsynced (λ d. d.faults) (λ d. d.failed) drive sector bytes.now self.old self.new result }
     {
         self.unsynced[usize::from(drive)] = true;
         if self.is_failing() {
@@ -210,13 +180,7 @@ impl Drives for MemoryDrives {
         requires { IsSome (size_of (disks_of self.old) drive) }
         ensures after { self.new ≡ after_sync self.old drive }
         ensures fails { IsErr result ↔ IsTrue (next_is_listed self.old.calls) }
-        ensures cause { HasCause self.old.faults self.new.faults result }
-        ensures names { self.new.failed ≡ self.old.failed }
-        ensures disks { disks_of self.new ≡ disks_of self.old }
-        ensures told { told_of self.new ≡ told_of self.old }
-        ensures synced { OnOk result (is_unsynced self.new drive ≡ false) }
-        ensures unsynced { OnErr result (is_unsynced self.new drive ≡ is_unsynced self.old drive) }
-        ensures beside { (other : ℕ) → other ≢ drive → is_unsynced self.new other ≡ is_unsynced self.old other }
+        ensures answers { AnswersSync disks_of told_of is_unsynced (λ d. d.faults) (λ d. d.failed) drive self.old self.new result }
     {
         if self.is_failing() {
             return Err(Failed);

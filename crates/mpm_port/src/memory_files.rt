@@ -1,6 +1,6 @@
-ghost use Rattle.std.specs.Prelude.{◌≡◌, ◌≢◌, ◌+◌, ◌≤◌, ℕ, List, Some, None, ◌↔◌, OnOk, Err, is_ok, IsOk, IsErr, IsTrue, false, if◌then◌else◌, vec_len, vec_capacity};
-ghost use Rattle.mpm_port.specs.Causes.{names_after};
-ghost use Rattle.mpm_port.specs.Fetches.{Fetches};
+ghost use Rattle.std.specs.Prelude.{◌≡◌, ◌≢◌, ◌+◌, ◌≤◌, ℕ, List, Some, None, OnOk, Err, is_ok, IsOk, IsTrue, false, if◌then◌else◌, vec_len, vec_capacity};
+ghost use Rattle.mpm_port.specs.Causes.{FailsWhere};
+ghost use Rattle.mpm_port.specs.Fetches.{Fetches, AnswersFetch};
 ghost use Rattle.mpm_port.specs.MemoryTable.{empty_table, with_file, listing_fetch, fetch_fails, after_fetch};
 ghost use Rattle.mpm_port.specs.Named.{contents_of};
 
@@ -69,16 +69,10 @@ impl Files for MemoryFiles {
     #[tactic(auto, unfolding(crate::specs::MemoryTable::after_fetch, crate::specs::MemoryTable::fetch_fails))]
     fn fetch(&mut self, name: &str, limit: usize, out: &mut Vec<u8>) -> Result<Fetched, FetchError>
         ensures after { self.new ≡ after_fetch self.old name.now result }
-        ensures failed { result ≡ Err FetchError.Failed → IsTrue (fetch_fails self.old name.now) }
-        ensures fails { IsTrue (fetch_fails self.old name.now) → IsErr result }
+        ensures cause { FailsWhere (fetch_fails self.old name.now) result }
         ensures room { fetch_fails self.old name.now ≡ false → vec_len out.old + limit ≤ vec_capacity out.old → IsOk result }
-        ensures bytes { Fetches (contents_of self.old.files name.now) limit out.old.items out.new.items result }
-        ensures names { self.new.failed ≡ names_after self.old.failed name.now result }
-        ensures missing { contents_of self.old.files name.now ≡ None → IsErr result }
-        ensures nothing { contents_of self.old.files name.now ≡ None → out.new.items ≡ out.old.items }
         ensures refused { IsTrue (fetch_fails self.old name.now) → out.new.items ≡ out.old.items }
-        ensures stays_missing { (other : List ℕ) → (contents_of self.new.files other ≡ None) ↔ (contents_of self.old.files other ≡ None) }
-        ensures stays { (other : List ℕ) → contents_of self.new.files other ≡ contents_of self.old.files other }
+        ensures answers { AnswersFetch (λ f. contents_of f.files) (λ f missing. contents_of f.files missing ≡ None) (λ f. f.failed) name.now limit out.old.items out.new.items self.old self.new result }
     {
         let listed = self.calls.begin();
         match self.files.get(name.as_bytes()) {

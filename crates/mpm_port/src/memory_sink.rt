@@ -1,7 +1,6 @@
-ghost use Rattle.std.specs.Prelude.{◌≡◌, ◌≤◌, ◌↔◌, ◌++◌, false, OnOk, OnErr, IfOk, IsErr, IsTrue, is_ok, if◌then◌else◌, vec_capacity};
-ghost use Rattle.mpm_port.specs.Causes.{HasCause};
-ghost use Rattle.mpm_port.specs.Texts.{AppendsPart};
-ghost use Rattle.mpm_port.specs.MemoryText.{empty_text, put_fails, after_put, listing_put};
+ghost use Rattle.std.specs.Prelude.{◌≡◌, ◌↔◌, IfOk, IsErr, IsTrue, is_ok, if◌then◌else◌};
+ghost use Rattle.mpm_port.specs.Puts.{AnswersPut};
+ghost use Rattle.mpm_port.specs.MemoryText.{empty_text, put_fails, after_put, HasTaken, HasDropped, listing_put};
 
 use crate::calls::Schedule;
 use crate::{Failed, OutOfMemory, Sink};
@@ -65,19 +64,15 @@ impl Sink for MemorySink {
 
     ghost faults = { λ s. s.faults };
 
-    ghost took = { λ old bytes new. (put_fails old bytes ≡ false) × (new ≡ after_put old bytes) };
+    ghost took = { HasTaken };
 
-    ghost dropped = { λ old bytes new. IsTrue (put_fails old bytes) × (new ≡ after_put old bytes) };
+    ghost dropped = { HasDropped };
 
     #[tactic(auto, using(crate::proofs::Faults::rose), unfolding(crate::specs::MemoryText::after_put, crate::specs::MemoryText::put_fails))]
     fn put(&mut self, bytes: &[u8]) -> Result<(), Failed>
         ensures after { self.new ≡ after_put self.old bytes.now }
         ensures fails { IsErr result ↔ IsTrue (put_fails self.old bytes.now) }
-        ensures took { OnOk result ((put_fails self.old bytes.now ≡ false) × (self.new ≡ after_put self.old bytes.now)) }
-        ensures dropped { OnErr result (IsTrue (put_fails self.old bytes.now) × (self.new ≡ after_put self.old bytes.now)) }
-        ensures cause { HasCause self.old.faults self.new.faults result }
-        ensures ok { OnOk result (self.new.text ≡ self.old.text ++ bytes.now) }
-        ensures err { OnErr result (AppendsPart self.old.text bytes.now self.new.text) }
+        ensures answers { AnswersPut HasTaken HasDropped (λ s. s.text) (λ s. s.faults) bytes.now self.old self.new result }
     {
         let listed = self.calls.begin();
         if listed || self.room - self.text.len() < bytes.len() {

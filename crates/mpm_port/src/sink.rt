@@ -1,6 +1,5 @@
-ghost use Rattle.std.specs.Prelude.{◌≡◌, ◌++◌, ℕ, List, OnOk, OnErr};
-ghost use Rattle.mpm_port.specs.Causes.{HasCause};
-ghost use Rattle.mpm_port.specs.Texts.{AppendsPart};
+ghost use Rattle.std.specs.Prelude.{ℕ, List};
+ghost use Rattle.mpm_port.specs.Puts.{AnswersPut};
 
 use crate::Failed;
 
@@ -20,9 +19,5 @@ pub trait Sink {
 
     /// Writes the bytes after what was written before. A failed call has written some first part of them.
     fn put(&mut self, bytes: &[u8]) -> Result<(), Failed>
-        ensures took { OnOk result (took self.old bytes.now self.new) }
-        ensures dropped { OnErr result (dropped self.old bytes.now self.new) }
-        ensures cause { HasCause (faults self.old) (faults self.new) result }
-        ensures ok { OnOk result (written self.new ≡ written self.old ++ bytes.now) }
-        ensures err { OnErr result (AppendsPart (written self.old) bytes.now (written self.new)) };
+        ensures { AnswersPut took dropped written faults bytes.now self.old self.new result };
 }

@@ -61,11 +61,12 @@ gate_stands : (gate : Option Gate) → is_some gate ≡ true → gate ≡ None �
 gate_stands None some none = absurd (cc some)
 gate_stands (Some gate) some none = absurd (cc none)
 
-pub paused_halted : {Fetched : Type 0} (opcode_of : Fetched → ℕ) (inside : Bool) (most : ℕ) (here : Option Fetched) (old new : View) → 0 < most → new ≡ old → old.regs.halted ≡ true
-    → IfSome here (λ fetched. opcode_of fetched ≡ byte_at old.memory 0 old.regs.pc)
+pub paused_halted : {Fetched : Type 0} (Is : Fetched → Type 0) (opcode_of : Fetched → ℕ) (inside : Bool) (most : ℕ) (here : Option Fetched) (old new : View)
+    → ((fetched : Fetched) → Is fetched → opcode_of fetched ≡ byte_at old.memory 0 old.regs.pc)
+    → 0 < most → new ≡ old → old.regs.halted ≡ true → IfSome here Is
     → is_none here ≡ is_some (gate_of inside old.memory 0 old.regs.pc)
     → IsPaused inside most old new (record { done = 0; opcode = option_map opcode_of here })
-paused_halted opcode_of inside most None old new some is halted byte gate =
+paused_halted Is opcode_of inside most None old new byte some is halted fetched gate =
     let P : View → Type 0 = λ view. IsPaused inside most old view (record { done = 0; opcode = None }) in
     subst P (sym is) (record {
       count = omega arith;
@@ -75,15 +76,15 @@ paused_halted opcode_of inside most None old new some is halted byte gate =
       gate = λ one. absurd (cc one);
       rare = search rules;
     })
-paused_halted opcode_of inside most (Some fetched) old new some is halted byte gate =
-    let P : View → Type 0 = λ view. IsPaused inside most old view (record { done = 0; opcode = Some (opcode_of fetched) }) in
+paused_halted Is opcode_of inside most (Some here) old new byte some is halted fetched gate =
+    let P : View → Type 0 = λ view. IsPaused inside most old view (record { done = 0; opcode = Some (opcode_of here) }) in
     subst P (sym is) (record {
       count = omega arith;
       moved = moves_none inside 0 old;
       stopped = λ none. absurd (cc none);
       below = λ one. some;
       gate = λ one. none_there (gate_of inside old.memory 0 old.regs.pc) (sym gate);
-      rare = rare_halted (opcode_of fetched) old.regs (byte_at old.memory 0) halted byte;
+      rare = rare_halted (opcode_of here) old.regs (byte_at old.memory 0) halted (byte here fetched);
     })
 
 -- the opcode that was answered

@@ -1,14 +1,14 @@
-ghost use Rattle.std.specs.Prelude.{◌≡◌, ◌↔◌, ◌<◌, ◌≤◌, ◌+◌, ◌-◌, ◌*◌, ℕ, List, true, false, length, None, IsNone, IsSome, IfSome, MatchOption, is_none, is_some, option_map};
-ghost use Rattle.z80_regs.specs.Words.{onward};
+ghost use Rattle.std.specs.Prelude.{◌≡◌, ◌<◌, ◌≤◌, ◌+◌, ◌-◌, ◌*◌, ℕ, List, true, None, IsSome, IfSome, is_none, is_some, option_map};
 ghost use Rattle.z80_regs.specs.declared.regs.Regs.{Regs};
-ghost use Rattle.z80_ext.specs.Instruction.{IsRareAt, IsLoadUpAt, is_plain_at, unbegun, instruction, registers_after, actions_of};
+ghost use Rattle.z80_ext.specs.Instruction.{IsRareAt, IsLoadUpAt, instruction, registers_after, actions_of};
+ghost use Rattle.z80_ext.specs.Steps.{IsFetched};
 ghost use Rattle.mpm_banks.specs.Allocations.{FitsBelowCommon};
 ghost use Rattle.mpm_banks.specs.Memory.{byte_at};
 ghost use Rattle.mpm_banks.specs.Sides.{alone};
 ghost use Rattle.mpm_banks.specs.Ports.{port_byte};
 ghost use Rattle.mpm_banks.specs.Actions.{memory_after, devices_after};
 ghost use Rattle.mpm_gate.specs.Gates.{IsHome, gate_in, gate_of};
-ghost use Rattle.mpm_processor.specs.Moving.{CanMove, Moves, IsPaused, view_of};
+ghost use Rattle.mpm_processor.specs.Moving.{CanMove, Moves, Bursts, Executes, ExecutesUnbegun, MayExecute, IsPaused, view_of};
 
 use mpm_banks::{Banks, Burst, SliceBus, last_page};
 use mpm_base::{Devices, Seg, SegmentSpec};
@@ -48,9 +48,7 @@ fn opcode_below_gates(spec: SegmentSpec, address: u16, segment: &[u8]) -> Option
 #[tactic(auto, unfolding(mpm_banks::specs::Memory::place_of, mpm_banks::specs::Memory::byte_at))]
 fn fetch_below_gates(spec: SegmentSpec, address: u16, segment: &[u8]) -> Option<Fetched>
     requires { FitsBelowCommon spec }
-    ensures opcode { (common : List ℕ) → IfSome result (λ fetched. fetched.opcode ≡ byte_at (alone spec segment.now common) 0 address) }
-    ensures first { (common : List ℕ) → IfSome result (λ fetched. fetched.first ≡ byte_at (alone spec segment.now common) 0 (onward address 1)) }
-    ensures second { (common : List ℕ) → IfSome result (λ fetched. fetched.second ≡ byte_at (alone spec segment.now common) 0 (onward address 2)) }
+    ensures fetched { (common : List ℕ) → IfSome result (λ fetched. IsFetched (byte_at (alone spec segment.now common) 0) address fetched) }
     ensures below { IsSome result → address < 256 * (spec.base + spec.pages - 1) }
 {
     let first = 256 * usize::from(spec.base);
@@ -79,9 +77,7 @@ fn fetch(
     devices: &mut Devices,
 ) -> Option<Fetched>
     requires { FitsBelowCommon spec }
-    ensures opcode { IfSome result (λ fetched. fetched.opcode ≡ byte_at (alone spec segment.old common.old) 0 address) }
-    ensures first { IfSome result (λ fetched. fetched.first ≡ byte_at (alone spec segment.old common.old) 0 (onward address 1)) }
-    ensures second { IfSome result (λ fetched. fetched.second ≡ byte_at (alone spec segment.old common.old) 0 (onward address 2)) }
+    ensures fetched { IfSome result (λ fetched. IsFetched (byte_at (alone spec segment.old common.old) 0) address fetched) }
     ensures gate { is_none result ≡ is_some (gate_in inside (spec.base + spec.pages - 1) address) }
     ensures segment { segment.new ≡ segment.old }
     ensures common { common.new ≡ common.old }
@@ -117,14 +113,9 @@ fn execute_unbegun(
     common: &mut [u8],
     devices: &mut Devices,
 ) -> Option<u8>
-    requires opcode { fetched.opcode ≡ byte_at (alone spec segment.old common.old) 0 regs.old.pc }
-    requires first { fetched.first ≡ byte_at (alone spec segment.old common.old) 0 (onward regs.old.pc 1) }
-    requires second { fetched.second ≡ byte_at (alone spec segment.old common.old) 0 (onward regs.old.pc 2) }
-    ensures plain { is_none result ≡ is_plain_at regs.old (byte_at (alone spec segment.old common.old) 0) }
-    ensures rare { IfSome result (λ rare. IsRareAt rare regs.old (byte_at (alone spec segment.old common.old) 0)) }
-    ensures registers { MatchOption result (regs.new ≡ (unbegun regs.old (byte_at (alone spec segment.old common.old) 0) (port_byte devices.old)).registers) (λ rare. regs.new ≡ regs.old) }
-    ensures memory { MatchOption result (alone spec segment.new common.new ≡ memory_after (unbegun regs.old (byte_at (alone spec segment.old common.old) 0) (port_byte devices.old)).actions 0 (alone spec segment.old common.old)) (λ rare. alone spec segment.new common.new ≡ alone spec segment.old common.old) }
-    ensures devices { MatchOption result (devices.new ≡ devices_after (unbegun regs.old (byte_at (alone spec segment.old common.old) 0) (port_byte devices.old)).actions devices.old) (λ rare. devices.new ≡ devices.old) }
+    requires { IsFetched (byte_at (alone spec segment.old common.old) 0) regs.old.pc fetched }
+    ensures { ExecutesUnbegun (view_of spec regs.old segment.old common.old devices.old)
+        (view_of spec regs.new segment.new common.new devices.new) result }
 {
     let mut bus = SliceBus {
         spec,
@@ -146,10 +137,8 @@ fn execute_other(
     devices: &mut Devices,
 ) -> Stepped
     requires { IsRareAt opcode regs.old (byte_at (alone spec segment.old common.old) 0) }
-    ensures illegal { (result ≡ Stepped.Illegal) ↔ IsNone (instruction regs.old (byte_at (alone spec segment.old common.old) 0) (port_byte devices.old)) }
-    ensures registers { regs.new ≡ registers_after (instruction regs.old (byte_at (alone spec segment.old common.old) 0) (port_byte devices.old)) regs.old }
-    ensures memory { alone spec segment.new common.new ≡ memory_after (actions_of (instruction regs.old (byte_at (alone spec segment.old common.old) 0) (port_byte devices.old))) 0 (alone spec segment.old common.old) }
-    ensures devices { devices.new ≡ devices_after (actions_of (instruction regs.old (byte_at (alone spec segment.old common.old) 0) (port_byte devices.old))) devices.old }
+    ensures { Executes (view_of spec regs.old segment.old common.old devices.old)
+        (view_of spec regs.new segment.new common.new devices.new) result }
 {
     let mut bus = SliceBus {
         spec,
@@ -218,8 +207,6 @@ fn execute_loads(
     ensures count { result ≤ most }
     ensures moved { Moves inside result 0 (view_of spec regs.old segment.old common.old devices.old)
         (view_of spec regs.new segment.new common.new devices.new) }
-    ensures segment { length segment.new ≡ length segment.old }
-    ensures common { length common.new ≡ length common.old }
 {
     for done in 0..most {
         if !is_load_up(spec, regs, segment) {
@@ -242,16 +229,11 @@ fn execute_others(
     common: &mut [u8],
     devices: &mut Devices,
 ) -> u64
-    requires fits { FitsBelowCommon spec }
-    requires some { 0 < burst.most }
-    requires rare { IsRareAt opcode regs.old (byte_at (alone spec segment.old common.old) 0) }
-    requires gate { gate_of burst.inside (alone spec segment.old common.old) 0 regs.old.pc ≡ None }
+    requires { MayExecute opcode burst spec (view_of spec regs.old segment.old common.old devices.old) }
     ensures count { result ≤ burst.most }
     ensures moved { Moves burst.inside result 0 (view_of spec regs.old segment.old common.old devices.old)
         (view_of spec regs.new segment.new common.new devices.new) }
     ensures stopped { result ≡ 0 → CanMove burst.inside 0 (view_of spec regs.new segment.new common.new devices.new) → ⊥ }
-    ensures segment { length segment.new ≡ length segment.old }
-    ensures common { length common.new ≡ length common.old }
 {
     let pc = regs.pc;
     match execute_other(opcode, spec, regs, segment, common, devices) {
@@ -308,10 +290,8 @@ fn pause_in_halt(
     requires fits { FitsBelowCommon spec }
     requires some { 0 < most }
     requires halted { regs.now.halted ≡ true }
-    ensures paused { IsPaused inside most (view_of spec regs.now segment.old common.old devices.old)
+    ensures { IsPaused inside most (view_of spec regs.now segment.old common.old devices.old)
         (view_of spec regs.now segment.new common.new devices.new) result }
-    ensures segment { length segment.new ≡ length segment.old }
-    ensures common { length common.new ≡ length common.old }
 {
     let here = fetch(inside, spec, regs.pc, segment, common, devices);
     Paused {
@@ -334,10 +314,8 @@ fn execute_plain(
 ) -> Paused
     requires fits { FitsBelowCommon spec }
     requires some { 0 < most }
-    ensures paused { IsPaused inside most (view_of spec regs.old segment.old common.old devices.old)
+    ensures { IsPaused inside most (view_of spec regs.old segment.old common.old devices.old)
         (view_of spec regs.new segment.new common.new devices.new) result }
-    ensures segment { length segment.new ≡ length segment.old }
-    ensures common { length common.new ≡ length common.old }
 {
     if regs.halted {
         return pause_in_halt(inside, most, spec, regs, segment, common, devices);
@@ -380,16 +358,11 @@ fn execute_from(
     common: &mut [u8],
     devices: &mut Devices,
 ) -> u64
-    requires fits { FitsBelowCommon spec }
-    requires some { 0 < burst.most }
-    requires rare { IsRareAt opcode regs.old (byte_at (alone spec segment.old common.old) 0) }
-    requires gate { gate_of burst.inside (alone spec segment.old common.old) 0 regs.old.pc ≡ None }
+    requires { MayExecute opcode burst spec (view_of spec regs.old segment.old common.old devices.old) }
     ensures count { result ≤ burst.most }
     ensures moved { Moves burst.inside result 0 (view_of spec regs.old segment.old common.old devices.old)
         (view_of spec regs.new segment.new common.new devices.new) }
     ensures stopped { result < burst.most → CanMove burst.inside 0 (view_of spec regs.new segment.new common.new devices.new) → ⊥ }
-    ensures segment { length segment.new ≡ length segment.old }
-    ensures common { length common.new ≡ length common.old }
 {
     let Instructions { inside, most } = burst;
     let mut rare = opcode;
@@ -459,10 +432,8 @@ fn run_instructions(
     most: u64,
 ) -> u64
     requires { IsHome banks.old seg }
-    ensures count { result ≤ most }
-    ensures moved { Moves inside result seg (record { regs = regs.old; memory = banks.old; devices = devices.old })
+    ensures { Bursts inside most seg result (record { regs = regs.old; memory = banks.old; devices = devices.old })
         (record { regs = regs.new; memory = banks.new; devices = devices.new }) }
-    ensures stopped { result < most → CanMove inside seg (record { regs = regs.new; memory = banks.new; devices = devices.new }) → ⊥ }
 {
     banks.run(&Instructions { inside, most }, seg, regs, devices)
 }

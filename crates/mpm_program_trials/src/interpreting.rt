@@ -100,7 +100,7 @@ fn is_ask(act: &Act) -> bool {
 fn places(driven: &mut Driven, at: u16, bytes: &[u8]) -> bool {
     let act = driven.cli.next(&mut driven.call);
     let expected = match act {
-        Act::Place {
+        Act::PlaceBytes {
             seg,
             address,
             length,
@@ -115,7 +115,7 @@ fn places(driven: &mut Driven, at: u16, bytes: &[u8]) -> bool {
 fn moves(driven: &mut Driven, at: u16, count: u16, marks: &[u8]) -> bool {
     let act = driven.cli.next(&mut driven.call);
     let expected = match act {
-        Act::Patch {
+        Act::MoveCode {
             seg,
             address,
             length,
@@ -131,7 +131,7 @@ fn moves(driven: &mut Driven, at: u16, count: u16, marks: &[u8]) -> bool {
 fn gives(driven: &mut Driven, given: u8) -> bool {
     let act = driven.cli.next(&mut driven.call);
     let expected = match act {
-        Act::Give { console } => console == given,
+        Act::GiveConsole { console } => console == given,
         _ => false,
     };
     expected && answer(driven, 0, b"")
@@ -141,7 +141,7 @@ fn gives(driven: &mut Driven, given: u8) -> bool {
 fn begins(driven: &mut Driven, base: u8, last_page: u8, drive: u8, value: u16) -> bool {
     let act = driven.cli.next(&mut driven.call);
     let expected = match act {
-        Act::Begin { seg, new } => seg == Seg(2) && is_program(&new, base, last_page, drive),
+        Act::BeginProcess { seg, new } => seg == Seg(2) && is_program(&new, base, last_page, drive),
         _ => false,
     };
     expected && answer(driven, value, b"")

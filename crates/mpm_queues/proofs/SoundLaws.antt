@@ -15,7 +15,7 @@ use Rattle.mpm_ready.proofs.OrderLaws.{first_is_in}
 use Rattle.mpm_procs.specs.Table.{Table, call_of}
 use Rattle.mpm_queues.specs.Queue.{Queue, new_queue, no_queue, is_drained, is_full, first_message, held_by, read_by, with_message, message_of, IsProperQueue}
 use Rattle.mpm_queues.specs.Queues.{Queues, waits_at, IsMade, is_made, is_free, is_named, found, lowest_free, queue_in, readers_of, writers_of, no_queues, made, may_end, without, without_queue, AreSoundQueues}
-use Rattle.mpm_queues.specs.Handling.{let_in, delivered, first_reader, first_writer, message_read, message_written, written_by, read_by_waiter, delivered_to, procs_after_write, queues_without_waiter, enlisted, may_wait}
+use Rattle.mpm_queues.specs.Handling.{let_in, delivered, first_reader, first_writer, message_read, message_written, written_by, read_by_waiter, delivered_to, procs_after_write, queues_without_waiter, enlisted, must_wait}
 use Rattle.mpm_queues.proofs.QueueLaws.{length_message, proper_none, proper_new, new_count, new_name, proper_read, proper_held, proper_written, room_after, full_again, read_at_once, first_written}
 
 -- a number that names a queue is below 32
@@ -339,7 +339,7 @@ enlisted_in t list member sound below small nowhere reads writes = record {
 }
 
 -- a process waits
-pub sound_enlisted : (t : Queues) (p priority q : ℕ) (reader : Bool) → AreSoundQueues t → IsMade t q → p < 32 → list_of t.waiters p ≡ None → may_wait t q reader ≡ true → AreSoundQueues (enlisted t p priority q reader)
+pub sound_enlisted : (t : Queues) (p priority q : ℕ) (reader : Bool) → AreSoundQueues t → IsMade t q → p < 32 → list_of t.waiters p ≡ None → must_wait t q reader ≡ true → AreSoundQueues (enlisted t p priority q reader)
 unfolding enlisted
 sound_enlisted t p priority q true sound is small nowhere may =
     let low = made_below t q sound is in

@@ -1,13 +1,14 @@
 -- Messages read and written. A reader of a queue without messages and a writer to a full one wait, or learn that it can't be
 -- done now. (MP/M II Programmer's Guide, "Function 137: Read Queue", "Function 138: Conditional Read Queue", "Function 139:
 -- Write Queue", "Function 140: Conditional Write Queue", "Mutual Exclusion Queues".)
-use Rattle.std.specs.Prelude.{ℕ, ◌+◌, Bool, List, Option, Some, None, slice_set, if◌then◌else◌}
+use Rattle.std.specs.Prelude.{◌≡◌, ℕ, ◌+◌, ◌<◌, Bool, true, false, List, Option, Some, None, ◌&&◌, is_none, slice_set, if◌then◌else◌}
+use Rattle.std.specs.Option.{ForSome}
 use Rattle.mpm_base.specs.Calls.{Answer}
-use Rattle.mpm_ready.specs.Order.{first_of}
-use Rattle.mpm_ready.specs.Tables.{inserted, removed, dequeued}
-use Rattle.mpm_procs.specs.Table.{Table, call_of, with_call}
+use Rattle.mpm_ready.specs.Order.{Member, first_of}
+use Rattle.mpm_ready.specs.Tables.{list_at, list_of, inserted, removed, dequeued}
+use Rattle.mpm_procs.specs.Table.{Table, Lives, call_of, with_call}
 use Rattle.mpm_queues.specs.Queue.{Queue, is_drained, is_full, first_message, held_by, read_by, with_message, message_of, with_given}
-use Rattle.mpm_queues.specs.Queues.{Queues, queue_in, readers_of, writers_of}
+use Rattle.mpm_queues.specs.Queues.{Queues, is_made, IsMade, WaitsAtNoQueue, waits_at, queue_in, readers_of, writers_of}
 use Rattle.mpm_queues.specs.declared.queues.QueueOutcome.{QueueOutcome}
 use Rattle.mpm_queues.specs.declared.queues.QueueOutcome.TheVariants.{Done, NotNow}
 
@@ -88,9 +89,40 @@ unfoldable pub enlisted : Queues → ℕ → ℕ → ℕ → Bool → Queues
 enlisted t p priority q reader =
     record t { waiters = inserted t.waiters (place_for q reader) (record { slot = p; priority = priority }) }
 
--- where a process may wait: as a reader where there is no message, as a writer where there is no room
-abbrev pub may_wait : Queues → ℕ → Bool → Bool
-may_wait t q reader = if reader then is_drained (queue_in t q) else is_full (queue_in t q)
+-- who must wait at a queue: a reader where there is no message, a writer where there is no room
+abbrev pub must_wait : Queues → ℕ → Bool → Bool
+must_wait t q reader = if reader then is_drained (queue_in t q) else is_full (queue_in t q)
+
+-- and a process may, where the queue is there and it waits at none
+abbrev pub may_wait : Queues → ℕ → ℕ → Bool → Bool
+may_wait t p q reader = is_made t q && (is_none (list_of t.waiters p) && must_wait t q reader)
+
+pub record MayEnlist (p q : ℕ) (reader : Bool) (t : Queues) : Type 0 where
+  pub queue : IsMade t q
+  pub nowhere : WaitsAtNoQueue t p
+  pub must : must_wait t q reader ≡ true
+
+-- a queue is there, and those who wait at it live
+pub record MayRead (q : ℕ) (procs : Table) (t : Queues) : Type 0 where
+  pub queue : IsMade t q
+  pub waiting : (w : ℕ) → waits_at t q w ≡ true → Lives procs w
+
+-- and so does the process that writes
+pub record MayWrite (p q : ℕ) (procs : Table) (t : Queues) : Type 0 where
+  pub queue : IsMade t q
+  pub lives : Lives procs p
+  pub waiting : (w : ℕ) → waits_at t q w ≡ true → Lives procs w
+
+-- the process that waits first in a list of a queue may be served, if there is one: it lives, and need not wait any more
+pub record MayServeFirst (q list : ℕ) (must : Bool) (waiters : List (List Member)) (procs : Table) : Type 0 where
+  pub below : q < 32
+  pub free : must ≡ false
+  pub lives : ForSome (first_of (list_at waiters list)) (λ w. Lives procs w)
+
+-- and waits no more
+pub record ServesFirst (list : ℕ) (waiters after : List (List Member)) (result : Option ℕ) : Type 0 where
+  pub first : result ≡ first_of (list_at waiters list)
+  pub fewer : after ≡ dequeued result waiters
 
 -- the process whose wait was ended, if any
 abbrev pub woken_by : QueueOutcome → Option ℕ

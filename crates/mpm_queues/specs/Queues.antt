@@ -1,6 +1,6 @@
 -- The queues as a finite map from 32 numbers, and the processes that wait at them. (MP/M II Programmer's Guide, "Function
 -- 134: Make Queue", "Function 135: Open Queue", "Function 136: Delete Queue".)
-use Rattle.std.specs.Prelude.{◌≡◌, ℕ, ◌+◌, ◌*◌, ◌<◌, ◌≤◌, Bool, true, false, not, List, Option, Some, None, ◌&&◌, ◌||◌, ◌==◌, nat_lt, is_some, is_none, length, bytes_eq, replicate, slice_index_or, slice_set, if◌then◌else◌}
+use Rattle.std.specs.Prelude.{◌≡◌, ℕ, ◌+◌, ◌*◌, ◌<◌, ◌≤◌, Bool, true, false, not, List, Option, Some, None, ◌&&◌, ◌||◌, ◌==◌, nat_lt, is_some, is_none, Result, IfOk, IfErr, IfSome, length, bytes_eq, replicate, slice_index_or, slice_set, if◌then◌else◌}
 use Rattle.std.specs.Option.{option_map_or}
 use Rattle.mpm_base.specs.declared.number.Name8.{Name8}
 unfoldable pub use Rattle.mpm_procs.specs.Finding.{lowest}
@@ -100,6 +100,14 @@ unfoldable pub may_end : Queues → ℕ → Bool
 may_end t q =
     is_none (first_of (readers_of t q)) && (is_none (first_of (writers_of t q)) && (is_none (queue_in t q).holder))
 
+-- what comes of a queue to be made: with the lowest free number it is there, or nothing changed, and why
+pub record MakesQueue (name : Name8) (width count : ℕ) (t new : Queues) (result : Result ℕ MakeRefused) : Type 0 where
+  pub number : IfOk result (λ q. lowest_free t ≡ Some q)
+  pub more : IfOk result (λ q. new ≡ made t q name width count)
+  pub accepted : IfOk result (λ q. make_error t name width count ≡ None)
+  pub refused : IfErr result (λ why. make_error t name width count ≡ Some why)
+  pub unchanged : IfErr result (λ why. new ≡ t)
+
 -- a queue fewer
 unfoldable pub without : Queues → ℕ → Queues
 without t q = record t {
@@ -122,3 +130,14 @@ pub record AreSoundQueues (t : Queues) : Type 0 where
   pub names : (a b : ℕ) → IsMade t a → IsMade t b → (queue_in t a).name ≡ (queue_in t b).name → a ≡ b
   pub readers : (q p : ℕ) → q < 32 → in_list p (readers_of t q) ≡ true → IsMade t q × (is_drained (queue_in t q) ≡ true)
   pub writers : (q p : ℕ) → q < 32 → in_list p (writers_of t q) ≡ true → IsMade t q × (is_full (queue_in t q) ≡ true)
+
+-- the number that is sought, if there is one, is a queue's
+pub record FindsQueue (sought : Option ℕ) (t : Queues) (result : Option ℕ) : Type 0 where
+  pub number : result ≡ sought
+  pub there : IfSome result (λ q. IsMade t q)
+  pub sound : AreSoundQueues t
+
+-- a call makes other queues of these, and answers something
+pub record Yields {A : Type 0} (t : Queues) (answer : A) (new : Queues) (result : A) : Type 0 where
+  pub queues : new ≡ t
+  pub answered : result ≡ answer

@@ -4,7 +4,7 @@ use Rattle.std.specs.Prelude.{◌≡◌, ℕ, ◌<◌, Bool, true, List, [], ◌
 use Rattle.mpm_procs.specs.Table.{Table}
 use Rattle.mpm_queues.specs.Queue.{is_drained, is_full, first_message}
 use Rattle.mpm_queues.specs.Queues.{Queues, WaitsAtNoQueue, queue_in}
-use Rattle.mpm_queues.specs.Handling.{first_reader, first_writer, written_by, message_read, message_written, enlisted, queues_without_waiter, may_wait}
+use Rattle.mpm_queues.specs.Handling.{first_reader, first_writer, written_by, message_read, message_written, enlisted, queues_without_waiter, must_wait}
 
 -- the message that a read takes out, and that of a waiting writer, which it lets in
 unfoldable pub out_by_read : Queues → ℕ → List (List ℕ)
@@ -64,7 +64,7 @@ in_by t q (Leaves p) = []
 abbrev pub MayBe : Queues → ℕ → QueueOperation → Type 0
 MayBe t q (Reads p procs) = ⊤
 MayBe t q (Writes p procs) = ⊤
-MayBe t q (Waits p priority reader) = (p < 32) × WaitsAtNoQueue t p × (may_wait t q reader ≡ true)
+MayBe t q (Waits p priority reader) = (p < 32) × WaitsAtNoQueue t p × (must_wait t q reader ≡ true)
 MayBe t q (Leaves p) = ⊤
 
 -- the same for operations in order

@@ -1,10 +1,6 @@
-ghost use Rattle.std.specs.Prelude.{◌≡◌, ◌↔◌, ℕ, ◌+◌, ◌<◌, Some, None, true, false, IfOk, IfErr, IfSome, IsSome, replicate};
-ghost use Rattle.std.specs.Option.{ForSome};
-ghost use Rattle.mpm_ready.specs.Order.{first_of};
-ghost use Rattle.mpm_ready.specs.Tables.{list_at, dequeued};
-ghost use Rattle.mpm_procs.specs.Table.{Lives as LivesProcess};
+ghost use Rattle.std.specs.Prelude.{◌≡◌, ◌↔◌, ◌+◌, ◌<◌, false, IfOk, IfSome, IsSome, replicate};
 ghost use Rattle.mpm_queues.specs.Queue.{no_queue, is_drained, is_full, first_message};
-ghost use Rattle.mpm_queues.specs.Handling.{place_for, let_in as message_let_in, read_by_waiter, delivered_to};
+ghost use Rattle.mpm_queues.specs.Handling.{place_for, let_in as message_let_in, read_by_waiter, delivered_to, MayServeFirst, ServesFirst};
 
 use crate::OutOfMemory;
 use crate::store::{ROOM, Store};
@@ -59,11 +55,11 @@ impl Model for Queues {
 }
 
 impl Queues {
-    ghost use Rattle.std.specs.Prelude.{is_some, is_none, ◌&&◌};
+    ghost use Rattle.std.specs.Prelude.{is_some};
     ghost use Rattle.mpm_ready.specs.Tables.{list_of};
     ghost use Rattle.mpm_queues.specs.Queue.{is_drained, is_full};
-    ghost use Rattle.mpm_queues.specs.Queues.{no_queues, IsMade, is_made, AreSoundQueues, WaitsAtNoQueue, waits_at, queue_in, found, is_named, lowest_free, is_free, holds, width_of, lowest_held, make_error, made, may_end, without_queue};
-    ghost use Rattle.mpm_queues.specs.Handling.{message_read, read_outcome, read_reply, message_written, write_outcome, procs_after_write, enlisted, queues_without_waiter, may_wait};
+    ghost use Rattle.mpm_queues.specs.Queues.{no_queues, IsMade, AreSoundQueues, FindsQueue, MakesQueue, found, is_named, lowest_free, is_free, holds, width_of, lowest_held, may_end, without_queue, Yields};
+    ghost use Rattle.mpm_queues.specs.Handling.{message_read, read_outcome, read_reply, message_written, write_outcome, procs_after_write, MayRead, MayWrite, MayEnlist, enlisted, queues_without_waiter, may_wait};
     ghost use Rattle.mpm_queues.specs.Runs.{ConservesMessages, out_by_read, in_by_read, out_by_write, in_by_write};
 
     /// No queues. All memory that they will need is taken here.
@@ -88,11 +84,7 @@ impl Queues {
     /// or the messages have more than 2,048 bytes together. Then nothing changes.
     #[tactic(auto, using(crate::proofs::SoundLaws::sound_made), unfolding(crate::specs::Queues::make_error, crate::specs::Queues::made))]
     pub fn make(&mut self, name: Name8, message_length: u16, count: u16) -> Result<u8, MakeRefused>
-        ensures number { IfOk result (λ q. lowest_free self.old ≡ Some q) }
-        ensures made { IfOk result (λ q. self.new ≡ made self.old q name message_length count) }
-        ensures accepted { IfOk result (λ q. make_error self.old name message_length count ≡ None) }
-        ensures refused { IfErr result (λ why. make_error self.old name message_length count ≡ Some why) }
-        ensures unchanged { IfErr result (λ why. self.new ≡ self.old) }
+        ensures { MakesQueue name message_length count self.old self.new result }
     {
         if count == 0 {
             return Err(MakeRefused::BadCount);
@@ -114,9 +106,7 @@ impl Queues {
     /// The number of the queue of that name. (MP/M II Programmer's Guide, "Function 135: Open Queue".)
     #[tactic(auto, using(crate::proofs::Finding::failed_none, crate::proofs::Finding::failed_more, crate::proofs::Finding::found_lowest, crate::proofs::Finding::found_none, crate::proofs::WaitLaws::named_made))]
     pub fn find(&self, name: Name8) -> Option<u8>
-        ensures number { result ≡ found self.now name }
-        ensures made { IfSome result (λ q. IsMade self.now q) }
-        ensures sound { AreSoundQueues self.now }
+        ensures { FindsQueue (found self.now name) self.now result }
     {
         let _ = &self.alive;
         for q in 0..QUEUES {
@@ -162,8 +152,7 @@ impl Queues {
     #[tactic(auto, using(crate::proofs::SoundLaws::sound_without), unfolding(crate::specs::Queues::without_queue, crate::specs::Queues::without))]
     pub fn delete(&mut self, q: u8) -> bool
         requires { IsMade self.old q }
-        ensures answer { result ≡ may_end self.old q }
-        ensures queues { self.new ≡ without_queue self.old q }
+        ensures { Yields (without_queue self.old q) (may_end self.old q) self.new result }
     {
         if !self.may_end(q) {
             return false;
@@ -191,10 +180,8 @@ impl Queues {
     /// Conditional Read Queue".)
     #[tactic(auto, using(crate::proofs::RunLaws::conserves_read))]
     pub fn read(&mut self, p: Pid, q: u8, procs: &mut Procs, reply: &mut Reply) -> QueueOutcome
-        requires queue { IsMade self.old q }
-        requires waiting { (w : ℕ) → waits_at self.old q w ≡ true → LivesProcess procs.old w }
-        ensures outcome { result ≡ read_outcome self.old q }
-        ensures queues { self.new ≡ message_read self.old p q procs.old }
+        requires { MayRead q procs.old self.old }
+        ensures yields { Yields (message_read self.old p q procs.old) (read_outcome self.old q) self.new result }
         ensures reply { reply.new ≡ read_reply self.old q reply.old }
         ensures procs { procs.new ≡ procs.old }
         ensures messages { ConservesMessages self.old self.new q (out_by_read self.old q) (in_by_read self.old q procs.old) }
@@ -205,10 +192,8 @@ impl Queues {
     /// A process reads the first message of a queue, and the writer that waits first is let in.
     #[tactic(auto, unfolding(crate::specs::Handling::message_read, crate::specs::Handling::read_outcome, crate::specs::Handling::read_reply))]
     fn take_message(&mut self, p: Pid, q: u8, procs: &Procs, reply: &mut Reply) -> QueueOutcome
-        requires queue { IsMade self.old q }
-        requires waiting { (w : ℕ) → waits_at self.old q w ≡ true → LivesProcess procs.now w }
-        ensures outcome { result ≡ read_outcome self.old q }
-        ensures queues { self.new ≡ message_read self.old p q procs.now }
+        requires { MayRead q procs.now self.old }
+        ensures yields { Yields (message_read self.old p q procs.now) (read_outcome self.old q) self.new result }
         ensures reply { reply.new ≡ read_reply self.old q reply.old }
         ensures sound { AreSoundQueues self.old }
     {
@@ -226,11 +211,8 @@ impl Queues {
     /// no room. (MP/M II Programmer's Guide, "Function 139: Write Queue", "Function 140: Conditional Write Queue".)
     #[tactic(auto, using(crate::proofs::RunLaws::conserves_write))]
     pub fn write(&mut self, p: Pid, q: u8, procs: &mut Procs) -> QueueOutcome
-        requires queue { IsMade self.old q }
-        requires lives { LivesProcess procs.old p }
-        requires waiting { (w : ℕ) → waits_at self.old q w ≡ true → LivesProcess procs.old w }
-        ensures outcome { result ≡ write_outcome self.old q }
-        ensures queues { self.new ≡ message_written self.old p q procs.old }
+        requires { MayWrite p q procs.old self.old }
+        ensures yields { Yields (message_written self.old p q procs.old) (write_outcome self.old q) self.new result }
         ensures procs { procs.new ≡ procs_after_write self.old p q procs.old }
         ensures messages { ConservesMessages self.old self.new q (out_by_write self.old p q procs.old) (in_by_write self.old p q procs.old) }
     {
@@ -240,9 +222,7 @@ impl Queues {
     /// A process writes a message to a queue, or to the reader that waits first.
     #[tactic(auto, unfolding(crate::specs::Handling::message_written, crate::specs::Handling::write_outcome, crate::specs::Handling::procs_after_write))]
     fn put_message(&mut self, p: Pid, q: u8, procs: &mut Procs) -> QueueOutcome
-        requires queue { IsMade self.old q }
-        requires lives { LivesProcess procs.old p }
-        requires waiting { (w : ℕ) → waits_at self.old q w ≡ true → LivesProcess procs.old w }
+        requires { MayWrite p q procs.old self.old }
         ensures outcome { result ≡ write_outcome self.old q }
         ensures queues { self.new ≡ message_written self.old p q procs.old }
         ensures procs { procs.new ≡ procs_after_write self.old p q procs.old }
@@ -261,9 +241,7 @@ impl Queues {
     /// read where there is no message, or to write where there is no room.
     #[tactic(auto, using(crate::proofs::SoundLaws::sound_enlisted), unfolding(crate::specs::Handling::enlisted))]
     pub fn enlist(&mut self, p: Pid, priority: u8, q: u8, reader: bool)
-        requires queue { IsMade self.old q }
-        requires nowhere { WaitsAtNoQueue self.old p }
-        requires waits { may_wait self.old q reader ≡ true }
+        requires { MayEnlist p q reader self.old }
         ensures { self.new ≡ enlisted self.old p priority q reader }
     {
         let _slot = p.0;
@@ -273,7 +251,7 @@ impl Queues {
     /// Whether a process may wait at a queue: it is there, the process waits at none, and there is no message to be read, or no
     /// room for one to be written.
     pub fn may_wait(&self, p: Pid, q: u8, reader: bool) -> bool
-        ensures { result ≡ (is_made self.now q && (is_none (list_of self.now.waiters p) && may_wait self.now q reader)) }
+        ensures { result ≡ may_wait self.now p q reader }
     {
         let place = usize::from(q);
         if place >= QUEUES || !self.alive[place] || self.waits(p) {
@@ -319,9 +297,7 @@ impl Queues {
     /// "Mutual Exclusion Queues".)
     #[tactic(auto, using(crate::proofs::Finding::failed_none, crate::proofs::Finding::failed_more, crate::proofs::Finding::found_lowest, crate::proofs::Finding::found_none, crate::proofs::WaitLaws::holds_made))]
     pub fn held(&self, p: Pid) -> Option<u8>
-        ensures number { result ≡ lowest_held self.now p }
-        ensures made { IfSome result (λ q. IsMade self.now q) }
-        ensures sound { AreSoundQueues self.now }
+        ensures { FindsQueue (lowest_held self.now p) self.now result }
     {
         let _ = &self.alive;
         for q in 0..QUEUES {
@@ -363,12 +339,9 @@ fn list_for(q: u8, reader: bool) -> u8
 
 /// Where a process waits to write to a queue, the message of the first one goes in, and it waits no more.
 fn let_in(store: &mut Store, waiters: &mut Lists, q: u8, procs: &Procs) -> Option<Pid>
-    requires below { q < 32 }
-    requires room { is_full store.old ≡ false }
-    requires lives { ForSome (first_of (list_at waiters.old (32 + q))) (λ w. LivesProcess procs.now w) }
-    ensures first { result ≡ first_of (list_at waiters.old (32 + q)) }
+    requires { MayServeFirst q (32 + q) (is_full store.old) waiters.old procs.now }
+    ensures first { ServesFirst (32 + q) waiters.old waiters.new result }
     ensures queue { store.new ≡ message_let_in procs.now result store.old }
-    ensures waiters { waiters.new ≡ dequeued result waiters.old }
 {
     let other = waiters.first(WRITERS + q);
     if let Some(writer) = other {
@@ -380,13 +353,10 @@ fn let_in(store: &mut Store, waiters: &mut Lists, q: u8, procs: &Procs) -> Optio
 
 /// Where a process waits to read from a queue, the first message goes to the first one, and it waits no more.
 fn hand_over(store: &mut Store, waiters: &mut Lists, q: u8, procs: &mut Procs) -> Option<Pid>
-    requires below { q < 32 }
-    requires some { is_drained store.old ≡ false }
-    requires lives { ForSome (first_of (list_at waiters.old q)) (λ r. LivesProcess procs.old r) }
-    ensures first { result ≡ first_of (list_at waiters.old q) }
+    requires { MayServeFirst q q (is_drained store.old) waiters.old procs.old }
+    ensures first { ServesFirst q waiters.old waiters.new result }
     ensures queue { store.new ≡ read_by_waiter result store.old }
     ensures procs { procs.new ≡ delivered_to result (first_message store.old) procs.old }
-    ensures waiters { waiters.new ≡ dequeued result waiters.old }
 {
     let other = waiters.first(q);
     if let Some(reader) = other {

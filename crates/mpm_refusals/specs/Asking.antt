@@ -1,5 +1,5 @@
 -- What a call names, looked up once: its open file, by number; what its search finds; and all by which its refusals are asked
--- where its drive is mounted.
+-- where its drive is mounted (`asks`: the same as the rule `applies` in Refusals.antt, which looks it up itself).
 use Rattle.std.specs.Option.{option_or}
 use Rattle.std.specs.Prelude.{ℕ, ◌||◌, not, Bool, false, List, Option, Some, None, is_some, option_map, option_and_then, find, if◌then◌else◌, ◌≡◌, ⊤}
 use Rattle.mpm_base.specs.declared.kind.Kind.{Kind}

@@ -1,7 +1,6 @@
-ghost use Rattle.std.specs.Prelude.{◌≡◌, ℕ, List, option_map, find};
+ghost use Rattle.std.specs.Prelude.{◌≡◌, option_map, find};
 ghost use Rattle.mpm_dirent.specs.Names.{plain};
-ghost use Rattle.mpm_mount.specs.Drives.{Drive};
-ghost use Rattle.mpm_mount.specs.Directories.{Stands};
+ghost use Rattle.mpm_mount.specs.Standing.{OnItsDrive};
 ghost use Rattle.mpm_refusals.specs.Subjects.{is_there as file_is_there};
 ghost use Rattle.mpm_refusals.specs.Refusals as spec;
 ghost use Rattle.mpm_marks.specs.Busy as in_use;
@@ -68,7 +67,7 @@ fn is_open_read_only(item: Option<OpenItem>, function: FileFunction) -> bool
 
 /// Whether the file is read-only, or was opened so.
 fn is_file_read_only(mounted: &Mounted, asked: &Asked) -> bool
-    ensures { (image : List ℕ) (drive : Drive) → Stands image mounted.now drive → result ≡ asking.is_read_only_asked drive asked.now }
+    ensures { OnItsDrive mounted.now (λ drive. result ≡ asking.is_read_only_asked drive asked.now) }
 {
     if is_open_read_only(asked.item, asked.function) {
         return true;
@@ -88,8 +87,7 @@ fn existing_name(block: &ControlBlock, function: FileFunction) -> [u8; 11]
 
 /// Whether a file is there that must not be.
 fn does_exist(mounted: &Mounted, asked: &Asked) -> bool
-    ensures { (image : List ℕ) (drive : Drive) → Stands image mounted.now drive
-        → result ≡ file_is_there drive (record { user = asked.now.caller.user; name = plain (spec.existing_name asked.now.block asked.now.function) }) }
+    ensures { OnItsDrive mounted.now (λ drive. result ≡ file_is_there drive (record { user = asked.now.caller.user; name = plain (spec.existing_name asked.now.block asked.now.function) })) }
 {
     let name = existing_name(&asked.block, asked.function);
     is_there(mounted, asked.caller.user, &name)
@@ -109,7 +107,7 @@ pub fn subject_key(asked: &Asked) -> FileKey
 
 /// The mode in which an opening or a making asks for its file.
 pub fn mode_needed(mounted: &Mounted, asked: &Asked) -> Mode
-    ensures { (image : List ℕ) (drive : Drive) → Stands image mounted.now drive → result ≡ asking.mode_needed drive asked.now }
+    ensures { OnItsDrive mounted.now (λ drive. result ≡ asking.mode_needed drive asked.now) }
 {
     mode_in(
         mounted,
@@ -123,7 +121,7 @@ pub fn mode_needed(mounted: &Mounted, asked: &Asked) -> Mode
 
 /// Why the list of open files refuses an opening or a making, if it does.
 fn opening_refusal(mounted: &Mounted, opens: &Opens, asked: &Asked) -> Option<OpenRefused>
-    ensures { (image : List ℕ) (drive : Drive) → Stands image mounted.now drive → result ≡ asking.opening_asked drive opens.now asked.now }
+    ensures { OnItsDrive mounted.now (λ drive. result ≡ asking.opening_asked drive opens.now asked.now) }
 {
     let mode = mode_needed(mounted, asked);
     opens.refusal(asked.caller.process, subject_key(asked), mode)
@@ -153,7 +151,7 @@ fn is_refused_for(refusal: Option<OpenRefused>, reason: OpenRefused) -> bool
 
 /// Whether the list of open files refuses an opening or a making for a reason.
 fn does_list_refuse(mounted: &Mounted, opens: &Opens, asked: &Asked, reason: OpenRefused) -> bool
-    ensures { (image : List ℕ) (drive : Drive) → Stands image mounted.now drive → result ≡ spec.is_refused_for reason (asking.opening_asked drive opens.now asked.now) }
+    ensures { OnItsDrive mounted.now (λ drive. result ≡ spec.is_refused_for reason (asking.opening_asked drive opens.now asked.now)) }
 {
     is_refused_for(opening_refusal(mounted, opens, asked), reason)
 }
@@ -167,7 +165,7 @@ fn have_others(opens: &Opens, asked: &Asked) -> bool
 
 /// Whether the file is in use: open to another process, or for an opening in a mode that excludes it.
 fn is_in_use(mounted: &Mounted, opens: &Opens, asked: &Asked) -> bool
-    ensures { (image : List ℕ) (drive : Drive) → Stands image mounted.now drive → result ≡ asking.is_used_asked drive opens.now asked.now }
+    ensures { OnItsDrive mounted.now (λ drive. result ≡ asking.is_used_asked drive opens.now asked.now) }
 {
     match asked.function {
         FileFunction::OpenFile => does_list_refuse(
@@ -182,7 +180,7 @@ fn is_in_use(mounted: &Mounted, opens: &Opens, asked: &Asked) -> bool
 
 /// Whether nothing is found that a call needs.
 fn is_not_found(mounted: &Mounted, asked: &Asked) -> bool
-    ensures { (image : List ℕ) (drive : Drive) → Stands image mounted.now drive → result ≡ asking.is_missing_asked drive asked.now }
+    ensures { OnItsDrive mounted.now (λ drive. result ≡ asking.is_missing_asked drive asked.now) }
 {
     is_missing(
         mounted,
@@ -197,8 +195,7 @@ fn is_not_found(mounted: &Mounted, asked: &Asked) -> bool
 
 /// Whether a call lacks the password that it needs.
 fn has_wrong_password(mounted: &Mounted, asked: &Asked) -> bool
-    ensures { (image : List ℕ) (drive : Drive) → Stands image mounted.now drive
-        → result ≡ spec.lacks_password drive (asking.file_asked asked.now) asked.now.function asked.now.given asked.now.caller.password }
+    ensures { OnItsDrive mounted.now (λ drive. result ≡ spec.lacks_password drive (asking.file_asked asked.now) asked.now.function asked.now.given asked.now.caller.password) }
 {
     lacks_password(
         mounted,
@@ -226,7 +223,7 @@ fn is_busy(opens: &Opens, marks: &Marks, asked: &Asked) -> bool
 
 /// Whether a refusal applies to a call on a drive that is mounted. (MP/M II Programmer's Guide, "BDOS Error Handling".)
 fn applies(mounted: &Mounted, opens: &Opens, marks: &Marks, asked: &Asked, refusal: Refusal) -> bool
-    ensures { (image : List ℕ) (drive : Drive) → Stands image mounted.now drive → result ≡ asking.asks drive opens.now marks.now asked.now refusal }
+    ensures { OnItsDrive mounted.now (λ drive. result ≡ asking.asks drive opens.now marks.now asked.now refusal) }
 {
     match refusal {
         Refusal::NotMounted => false,
@@ -256,7 +253,7 @@ pub(crate) fn first_refusal(
     asked: &Asked,
     refusals: &[Refusal],
 ) -> Option<Refusal>
-    ensures { (image : List ℕ) (drive : Drive) → Stands image mounted.now drive → result ≡ find (asking.asks drive opens.now marks.now asked.now) refusals.now }
+    ensures { OnItsDrive mounted.now (λ drive. result ≡ find (asking.asks drive opens.now marks.now asked.now) refusals.now) }
 {
     for place in 0..refusals.len() {
         let refusal = refusals[place];
@@ -284,15 +281,14 @@ fn deleter(asked: &Asked) -> Deleter
 
 /// Why the files of a pattern aren't deleted, if one of them isn't.
 fn pattern_refusal(mounted: &Mounted, opens: &Opens, asked: &Asked) -> Option<Refusal>
-    ensures { (image : List ℕ) (drive : Drive) → Stands image mounted.now drive
-        → result ≡ spec.deletion_refusal drive opens.now (asking.deleter_asked asked.now) asked.now.block.name }
+    ensures { OnItsDrive mounted.now (λ drive. result ≡ spec.deletion_refusal drive opens.now (asking.deleter_asked asked.now) asked.now.block.name) }
 {
     deletion_refusal(mounted, opens, &deleter(asked), &asked.block.name)
 }
 
 /// The refusal of the files that a call names, of which a deletion alone has any.
 pub(crate) fn each_refusal(mounted: &Mounted, opens: &Opens, asked: &Asked) -> Option<Refusal>
-    ensures { (image : List ℕ) (drive : Drive) → Stands image mounted.now drive → result ≡ asking.each_asked drive opens.now asked.now }
+    ensures { OnItsDrive mounted.now (λ drive. result ≡ asking.each_asked drive opens.now asked.now) }
 {
     match asked.function {
         FileFunction::DeleteFile => pattern_refusal(mounted, opens, asked),

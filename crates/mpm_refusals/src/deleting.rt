@@ -1,7 +1,6 @@
-ghost use Rattle.std.specs.Prelude.{◌≡◌, ℕ, List};
+ghost use Rattle.std.specs.Prelude.{◌≡◌};
 ghost use Rattle.mpm_dirent.specs.Names.{plain};
-ghost use Rattle.mpm_mount.specs.Drives.{Drive};
-ghost use Rattle.mpm_mount.specs.Directories.{Stands};
+ghost use Rattle.mpm_mount.specs.Standing.{OnItsDrive};
 ghost use Rattle.mpm_refusals.specs.Refusals as spec;
 
 use crate::files::is_read_only;
@@ -30,8 +29,7 @@ pub struct Deleter {
 /// Why a file of the user isn't deleted, if it isn't.
 #[tactic(auto, unfolding(crate::specs::Refusals::file_refusal, mpm_file_functions::specs::Refusals::refusals_of_each))]
 fn file_refusal(mounted: &Mounted, opens: &Opens, by: &Deleter, name: &[u8; 11]) -> Option<Refusal>
-    ensures { (image : List ℕ) (drive : Drive) → Stands image mounted.now drive
-        → result ≡ spec.file_refusal drive opens.now by.now (record { user = by.now.user; name = plain name.now }) }
+    ensures { OnItsDrive mounted.now (λ drive. result ≡ spec.file_refusal drive opens.now by.now (record { user = by.now.user; name = plain name.now })) }
 {
     let key = FileKey {
         drive: by.drive,
@@ -66,8 +64,7 @@ pub(crate) fn deletion_refusal(
     by: &Deleter,
     pattern: &[u8; 11],
 ) -> Option<Refusal>
-    ensures { (image : List ℕ) (drive : Drive) → Stands image mounted.now drive
-        → result ≡ spec.deletion_refusal drive opens.now by.now pattern.now }
+    ensures { OnItsDrive mounted.now (λ drive. result ≡ spec.deletion_refusal drive opens.now by.now pattern.now) }
 {
     let mut last = None;
     while let Some(found) = mounted.next(by.user, pattern, last) {

@@ -1,7 +1,6 @@
-ghost use Rattle.std.specs.Prelude.{◌≡◌, ◌<◌, ℕ, List};
+ghost use Rattle.std.specs.Prelude.{◌≡◌, ◌<◌};
 ghost use Rattle.mpm_dirent.specs.Names.{plain};
-ghost use Rattle.mpm_mount.specs.Drives.{Drive};
-ghost use Rattle.mpm_mount.specs.Directories.{Stands};
+ghost use Rattle.mpm_mount.specs.Standing.{OnItsDrive};
 ghost use Rattle.mpm_refusals.specs.Subjects as spec;
 
 use mpm_mount::{Mounted, attributes};
@@ -22,16 +21,14 @@ fn is_set(attributes: Option<[bool; 11]>, place: usize) -> bool
 
 /// Whether a user's file is there.
 pub(crate) fn is_there(mounted: &Mounted, user: u8, name: &[u8; 11]) -> bool
-    ensures { (image : List ℕ) (drive : Drive) → Stands image mounted.now drive
-        → result ≡ spec.is_there drive (record { user = user; name = plain name.now }) }
+    ensures { OnItsDrive mounted.now (λ drive. result ≡ spec.is_there drive (record { user = user; name = plain name.now })) }
 {
     attributes(mounted, user, name).is_some()
 }
 
 /// Whether a user's file is read-only. (MP/M II Programmer's Guide, "File Attributes".)
 pub(crate) fn is_read_only(mounted: &Mounted, user: u8, name: &[u8; 11]) -> bool
-    ensures { (image : List ℕ) (drive : Drive) → Stands image mounted.now drive
-        → result ≡ spec.has_attribute drive (record { user = user; name = plain name.now }) 8 }
+    ensures { OnItsDrive mounted.now (λ drive. result ≡ spec.has_attribute drive (record { user = user; name = plain name.now }) 8) }
 {
     is_set(attributes(mounted, user, name), READ_ONLY)
 }

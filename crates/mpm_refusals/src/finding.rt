@@ -1,8 +1,7 @@
-ghost use Rattle.std.specs.Prelude.{◌≡◌, ℕ, List, option_map};
+ghost use Rattle.std.specs.Prelude.{◌≡◌, option_map};
 ghost use Rattle.mpm_base.specs.declared.kind.Kind.{Kind};
 ghost use Rattle.mpm_dirent.specs.Names.{plain};
-ghost use Rattle.mpm_mount.specs.Drives.{Drive};
-ghost use Rattle.mpm_mount.specs.Directories.{Stands};
+ghost use Rattle.mpm_mount.specs.Standing.{OnItsDrive};
 ghost use Rattle.mpm_refusals.specs.Looking.{entry_found};
 ghost use Rattle.mpm_refusals.specs.Searches.{searched, search_of};
 ghost use Rattle.mpm_refusals.specs.Asking.{found_as};
@@ -20,7 +19,7 @@ use mpm_mount::{Found, Mounted};
 pub struct FoundEntry {
     /// The user.
     pub user: u8,
-    /// The entry, and its place in the directory.
+    /// The entry: its name, and an extent that it covers. No call goes by its slot.
     pub found: Found,
 }
 
@@ -37,8 +36,7 @@ fn with_user(user: u8, found: Option<Found>) -> Option<FoundEntry>
 /// The first entry of a user that a block seeks, by its name and its EX. (MP/M II Programmer's Guide, "Function 17: Search for
 /// First".)
 fn found_first(mounted: &Mounted, user: u8, block: &ControlBlock) -> Option<FoundEntry>
-    ensures { (image : List ℕ) (drive : Drive) → Stands image mounted.now drive
-        → option_map (found_as mounted.now.kind) result ≡ spec.found_in drive user (plain block.now.name) block.now.ex None }
+    ensures { OnItsDrive mounted.now (λ drive. option_map (found_as mounted.now.kind) result ≡ spec.found_in drive user (plain block.now.name) block.now.ex None) }
 {
     let pattern = plain_name(&block.name);
     with_user(user, found_in(mounted, user, &pattern, block.ex, None))
@@ -46,8 +44,7 @@ fn found_first(mounted: &Mounted, user: u8, block: &ControlBlock) -> Option<Foun
 
 /// The next entry that a search finds. (MP/M II Programmer's Guide, "Function 18: Search for Next".)
 fn found_behind(mounted: &Mounted, search: &LastSearch) -> Option<FoundEntry>
-    ensures { (image : List ℕ) (drive : Drive) → Stands image mounted.now drive
-        → option_map (found_as mounted.now.kind) result ≡ spec.found_behind drive (search_of search.now) }
+    ensures { OnItsDrive mounted.now (λ drive. option_map (found_as mounted.now.kind) result ≡ spec.found_behind drive (search_of search.now)) }
 {
     let found = found_in(
         mounted,
@@ -68,8 +65,7 @@ pub fn found(
     search: Option<LastSearch>,
     function: FileFunction,
 ) -> Option<FoundEntry>
-    ensures { (image : List ℕ) (drive : Drive) → Stands image mounted.now drive
-        → option_map (found_as mounted.now.kind) result ≡ spec.found_by drive user block.now (searched search) function }
+    ensures { OnItsDrive mounted.now (λ drive. option_map (found_as mounted.now.kind) result ≡ spec.found_by drive user block.now (searched search) function) }
 {
     match function {
         FileFunction::SearchFirst => found_first(mounted, user, block),

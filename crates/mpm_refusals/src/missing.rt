@@ -1,7 +1,6 @@
-ghost use Rattle.std.specs.Prelude.{◌≡◌, ◌==◌, ℕ, List, length};
+ghost use Rattle.std.specs.Prelude.{◌≡◌, ◌==◌, length};
 ghost use Rattle.mpm_dirent.specs.Names.{plain};
-ghost use Rattle.mpm_mount.specs.Drives.{Drive};
-ghost use Rattle.mpm_mount.specs.Directories.{Stands};
+ghost use Rattle.mpm_mount.specs.Standing.{OnItsDrive};
 ghost use Rattle.mpm_refusals.specs.Subjects.{deleted_in};
 ghost use Rattle.mpm_refusals.specs.Refusals as spec;
 
@@ -13,8 +12,7 @@ use mpm_mount::{Mounted, extent_count};
 
 /// Whether a deletion of a user's files of a pattern names none.
 fn deletes_nothing(mounted: &Mounted, user: u8, pattern: &[u8; 11]) -> bool
-    ensures { (image : List ℕ) (drive : Drive) → Stands image mounted.now drive
-        → result ≡ (length (deleted_in drive user pattern.now) == 0) }
+    ensures { OnItsDrive mounted.now (λ drive. result ≡ (length (deleted_in drive user pattern.now) == 0)) }
 {
     found_in(mounted, user, pattern, b'?', None).is_none()
 }
@@ -30,8 +28,7 @@ pub(crate) fn is_missing(
     is_open: bool,
     is_found: bool,
 ) -> bool
-    ensures { (image : List ℕ) (drive : Drive) → Stands image mounted.now drive
-        → result ≡ spec.is_missing_in drive (record { user = owner; name = plain block.now.name }) user block.now is_open is_found function }
+    ensures { OnItsDrive mounted.now (λ drive. result ≡ spec.is_missing_in drive (record { user = owner; name = plain block.now.name }) user block.now is_open is_found function) }
 {
     match function {
         FileFunction::OpenFile => extent_count(

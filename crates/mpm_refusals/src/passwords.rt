@@ -1,7 +1,6 @@
-ghost use Rattle.std.specs.Prelude.{◌≡◌, ℕ, List};
+ghost use Rattle.std.specs.Prelude.{◌≡◌};
 ghost use Rattle.mpm_dirent.specs.Names.{plain};
-ghost use Rattle.mpm_mount.specs.Drives.{Drive};
-ghost use Rattle.mpm_mount.specs.Directories.{Stands};
+ghost use Rattle.mpm_mount.specs.Standing.{OnItsDrive};
 ghost use Rattle.mpm_refusals.specs.Subjects.{file_admits};
 ghost use Rattle.mpm_refusals.specs.Refusals as spec;
 
@@ -31,7 +30,7 @@ fn is_of_label(function: FileFunction) -> bool
 
 /// Whether the label may be changed, if there is one, by a password.
 fn label_admits(mounted: &Mounted, given: &[u8; 8], default: &[u8; 8]) -> bool
-    ensures { (image : List ℕ) (drive : Drive) → Stands image mounted.now drive → result ≡ spec.label_admits given.now default.now drive.label }
+    ensures { OnItsDrive mounted.now (λ drive. result ≡ spec.label_admits given.now default.now drive.label) }
 {
     match label(mounted) {
         Some(label) => admits_label(&label, given, default),
@@ -49,8 +48,7 @@ pub(crate) fn file_admits(
     given: &[u8; 8],
     default: &[u8; 8],
 ) -> bool
-    ensures { (image : List ℕ) (drive : Drive) → Stands image mounted.now drive
-        → result ≡ file_admits drive (record { user = user; name = plain name.now }) need given.now default.now }
+    ensures { OnItsDrive mounted.now (λ drive. result ≡ file_admits drive (record { user = user; name = plain name.now }) need given.now default.now) }
 {
     match xfcb(mounted, user, name) {
         Some(xfcb) => admits(label_byte(mounted), &xfcb, need, given, default),
@@ -68,8 +66,7 @@ pub(crate) fn lacks_password(
     given: &[u8; 8],
     default: &[u8; 8],
 ) -> bool
-    ensures { (image : List ℕ) (drive : Drive) → Stands image mounted.now drive
-        → result ≡ spec.lacks_password drive (record { user = user; name = plain name.now }) function given.now default.now }
+    ensures { OnItsDrive mounted.now (λ drive. result ≡ spec.lacks_password drive (record { user = user; name = plain name.now }) function given.now default.now) }
 {
     if is_of_label(function) {
         return !label_admits(mounted, given, default);

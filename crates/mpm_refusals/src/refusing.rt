@@ -3,6 +3,7 @@ ghost use Rattle.std.specs.Option.{option_copied};
 ghost use Rattle.mpm_fcb.specs.Blocks.{block_of};
 ghost use Rattle.mpm_mount.specs.Drives.{Drive};
 ghost use Rattle.mpm_mount.specs.Directories.{Stands};
+ghost use Rattle.mpm_mount.specs.Standing.{OnItsDrive};
 ghost use Rattle.mpm_file_functions.specs.declared.refusals.Refusal.TheVariants.{Busy};
 ghost use Rattle.mpm_refusals.specs.Subjects.{drive_named as named, drive_at, drive_by};
 ghost use Rattle.mpm_refusals.specs.Refusals as spec;
@@ -22,7 +23,7 @@ use mpm_opens::Opens;
 
 /// Why a call is refused by what it names on a drive that is mounted, if it is.
 fn refusal_asked(mounted: &Mounted, opens: &Opens, marks: &Marks, asked: &Asked) -> Option<Refusal>
-    ensures { (image : List ℕ) (drive : Drive) → Stands image mounted.now drive → result ≡ asking.refused_asked drive opens.now marks.now asked.now }
+    ensures { OnItsDrive mounted.now (λ drive. result ≡ asking.refused_asked drive opens.now marks.now asked.now) }
 {
     match first_refusal(mounted, opens, marks, asked, refusals_of(asked.function)) {
         Some(refusal) => Some(refusal),

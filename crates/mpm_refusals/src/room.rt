@@ -1,7 +1,6 @@
-ghost use Rattle.std.specs.Prelude.{◌≡◌, ℕ, List};
+ghost use Rattle.std.specs.Prelude.{◌≡◌};
 ghost use Rattle.mpm_dirent.specs.Names.{plain};
-ghost use Rattle.mpm_mount.specs.Drives.{Drive};
-ghost use Rattle.mpm_mount.specs.Directories.{Stands};
+ghost use Rattle.mpm_mount.specs.Standing.{OnItsDrive};
 ghost use Rattle.mpm_refusals.specs.Refusals as spec;
 
 use mpm_fcb::ControlBlock;
@@ -23,15 +22,14 @@ pub fn makes_xfcb(label: u8, block: &ControlBlock) -> bool
 
 /// Whether a user's file has no XFCB.
 fn lacks_xfcb(mounted: &Mounted, user: u8, name: &[u8; 11]) -> bool
-    ensures { (image : List ℕ) (drive : Drive) → Stands image mounted.now drive
-        → result ≡ spec.lacks_xfcb drive (record { user = user; name = plain name.now }) }
+    ensures { OnItsDrive mounted.now (λ drive. result ≡ spec.lacks_xfcb drive (record { user = user; name = plain name.now })) }
 {
     xfcb(mounted, user, name).is_none()
 }
 
 /// Whether there is no label.
 fn lacks_label(mounted: &Mounted) -> bool
-    ensures { (image : List ℕ) (drive : Drive) → Stands image mounted.now drive → result ≡ spec.lacks_label drive }
+    ensures { OnItsDrive mounted.now (λ drive. result ≡ spec.lacks_label drive) }
 {
     label(mounted).is_none()
 }
@@ -50,8 +48,7 @@ fn needed_by(function: FileFunction, makes: bool, no_xfcb: bool, no_label: bool)
 
 /// How many directory entries a call needs.
 fn entries_needed(mounted: &Mounted, user: u8, block: &ControlBlock, function: FileFunction) -> u16
-    ensures { (image : List ℕ) (drive : Drive) → Stands image mounted.now drive
-        → result ≡ spec.entries_needed drive (record { user = user; name = plain block.now.name }) block.now function }
+    ensures { OnItsDrive mounted.now (λ drive. result ≡ spec.entries_needed drive (record { user = user; name = plain block.now.name }) block.now function) }
 {
     needed_by(
         function,
@@ -68,8 +65,7 @@ pub(crate) fn is_directory_full(
     block: &ControlBlock,
     function: FileFunction,
 ) -> bool
-    ensures { (image : List ℕ) (drive : Drive) → Stands image mounted.now drive
-        → result ≡ spec.is_directory_full drive (record { user = user; name = plain block.now.name }) block.now function }
+    ensures { OnItsDrive mounted.now (λ drive. result ≡ spec.is_directory_full drive (record { user = user; name = plain block.now.name }) block.now function) }
 {
     mounted.free_entries() < entries_needed(mounted, user, block, function)
 }

@@ -10,7 +10,7 @@ use std::marker::Model;
 pub struct LastSearch {
     /// 0 to 15 for A to P.
     pub drive: u8,
-    /// Of all entries, that which was found among them.
+    /// The user whose entries are sought.
     pub user: u8,
     /// The name and the type that are sought, without bit 7.
     pub pattern: [u8; 11],

@@ -1,7 +1,7 @@
-ghost use Rattle.std.specs.Prelude.{◌≡◌, ◌≤◌, ◌&&◌, ℕ, List, Some, option_map};
+ghost use Rattle.std.specs.Prelude.{◌≡◌, ◌≤◌, ◌&&◌, ℕ, Some, option_map};
 ghost use Rattle.mpm_dirent.specs.Names as names;
-ghost use Rattle.mpm_mount.specs.Drives.{Drive, covered, entry_number};
-ghost use Rattle.mpm_mount.specs.Directories.{Stands};
+ghost use Rattle.mpm_mount.specs.Drives.{covered, entry_number};
+ghost use Rattle.mpm_mount.specs.Standing.{OnItsDrive};
 ghost use Rattle.mpm_refusals.specs.Looking.{at_place, entry_found, MissesNothing};
 ghost use Rattle.mpm_refusals.specs.Subjects as spec;
 
@@ -125,9 +125,7 @@ pub(crate) fn found_in(
     extent: u8,
     behind: Option<EntryPlace>,
 ) -> Option<Found>
-    ensures { (image : List ℕ) (drive : Drive) → Stands image mounted.now drive
-        → option_map (entry_found mounted.now.kind user) result
-        ≡ spec.found_in drive user pattern.now extent (option_map (at_place user) behind) }
+    ensures { OnItsDrive mounted.now (λ drive. option_map (entry_found mounted.now.kind user) result ≡ spec.found_in drive user pattern.now extent (option_map (at_place user) behind)) }
 {
     let kind = mounted.kind();
     let mut last = start_of(kind, behind);

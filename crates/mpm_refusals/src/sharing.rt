@@ -1,7 +1,6 @@
-ghost use Rattle.std.specs.Prelude.{◌≡◌, ℕ, List};
+ghost use Rattle.std.specs.Prelude.{◌≡◌};
 ghost use Rattle.mpm_dirent.specs.Names.{plain};
-ghost use Rattle.mpm_mount.specs.Drives.{Drive};
-ghost use Rattle.mpm_mount.specs.Directories.{Stands};
+ghost use Rattle.mpm_mount.specs.Standing.{OnItsDrive};
 ghost use Rattle.mpm_refusals.specs.Subjects as spec;
 
 use crate::passwords::file_admits;
@@ -26,8 +25,7 @@ fn shared_by(own: Option<[bool; 11]>, shared: Option<[bool; 11]>) -> bool
 /// Whether a file that the user lacks is a system file of user 0. (MP/M II Programmer's Guide, "Function
 /// 15: Open File".)
 pub(crate) fn is_shared(mounted: &Mounted, user: u8, name: &[u8; 11]) -> bool
-    ensures { (image : List ℕ) (drive : Drive) → Stands image mounted.now drive
-        → result ≡ spec.is_shared drive (record { user = user; name = plain name.now }) }
+    ensures { OnItsDrive mounted.now (λ drive. result ≡ spec.is_shared drive (record { user = user; name = plain name.now })) }
 {
     shared_by(
         attributes(mounted, user, name),
@@ -43,8 +41,7 @@ pub(crate) fn mode_asked(
     given: &[u8; 8],
     default: &[u8; 8],
 ) -> Mode
-    ensures { (image : List ℕ) (drive : Drive) → Stands image mounted.now drive
-        → result ≡ spec.mode_asked drive (record { user = user; name = plain block.now.name }) block.now given.now default.now }
+    ensures { OnItsDrive mounted.now (λ drive. result ≡ spec.mode_asked drive (record { user = user; name = plain block.now.name }) block.now given.now default.now) }
 {
     if is_shared(mounted, user, &block.name) {
         return Mode::ReadOnly;
@@ -65,8 +62,7 @@ pub(crate) fn mode_in(
     default: &[u8; 8],
     function: FileFunction,
 ) -> Mode
-    ensures { (image : List ℕ) (drive : Drive) → Stands image mounted.now drive
-        → result ≡ spec.mode_in drive (record { user = user; name = plain block.now.name }) block.now given.now default.now function }
+    ensures { OnItsDrive mounted.now (λ drive. result ≡ spec.mode_in drive (record { user = user; name = plain block.now.name }) block.now given.now default.now function) }
 {
     match function {
         FileFunction::MakeFile => block.made_mode(),

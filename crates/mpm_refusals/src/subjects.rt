@@ -1,9 +1,7 @@
 ghost use Rattle.std.specs.Prelude.{◌≡◌, ◌<◌, ℕ, List, option_map, option_and_then, IfSome};
 ghost use Rattle.mpm_dirent.specs.Names.{plain};
-ghost use Rattle.mpm_mount.specs.Drives.{Drive};
-ghost use Rattle.mpm_mount.specs.Directories.{Stands};
+ghost use Rattle.mpm_mount.specs.Standing.{OnItsDrive};
 ghost use Rattle.mpm_opens.specs.Items.{file_named};
-ghost use Rattle.mpm_opens.specs.Opens.{IsLive};
 ghost use Rattle.mpm_refusals.specs.Searches.{searched};
 ghost use Rattle.mpm_refusals.specs.Asking.{opened_as, key_of_item, IsOwnItem};
 ghost use Rattle.mpm_refusals.specs.Subjects as spec;
@@ -83,7 +81,6 @@ pub(crate) fn open_item(
     name: &[u8; 11],
 ) -> Option<OpenItem>
     ensures item { result ≡ option_and_then (λ n. option_map (opened_as opens.now n) (file_named opens.now.items p n drive (plain name.now))) number }
-    ensures live { IfSome result (λ item. IsLive opens.now item.number) }
     ensures own { IfSome result (λ item. IsOwnItem opens.now p item) }
 {
     match number {
@@ -96,7 +93,6 @@ pub(crate) fn open_item(
 fn named_item(opens: &Opens, p: Pid, number: u8, drive: u8, name: &[u8; 11]) -> Option<OpenItem>
     requires { plain name.now ≡ name.now }
     ensures item { result ≡ option_map (opened_as opens.now number) (file_named opens.now.items p number drive name.now) }
-    ensures live { IfSome result (λ item. IsLive opens.now item.number) }
     ensures own { IfSome result (λ item. IsOwnItem opens.now p item) }
 {
     match opens.named(p, number, drive, name) {
@@ -123,8 +119,7 @@ fn user_of(item: Option<OpenItem>, user: u8) -> u8
 /// The user whose file is opened: the caller, or user 0 where it is shared.
 #[tactic(auto, unfolding(crate::specs::Subjects::opened_in))]
 fn user_opened(mounted: &Mounted, user: u8, name: &[u8; 11]) -> u8
-    ensures user { (image : List ℕ) (drive : Drive) → Stands image mounted.now drive
-        → result ≡ (spec.opened_in drive (record { user = user; name = plain name.now })).user }
+    ensures user { OnItsDrive mounted.now (λ drive. result ≡ (spec.opened_in drive (record { user = user; name = plain name.now })).user) }
     ensures low { user < 16 → result < 16 }
 {
     if is_shared(mounted, user, name) {
@@ -143,8 +138,7 @@ pub(crate) fn owner(
     item: Option<OpenItem>,
     function: FileFunction,
 ) -> u8
-    ensures user { (image : List ℕ) (drive : Drive) → Stands image mounted.now drive
-        → result ≡ (spec.subject_by drive (record { user = user; name = plain name.now }) (option_map key_of_item item) function).user }
+    ensures user { OnItsDrive mounted.now (λ drive. result ≡ (spec.subject_by drive (record { user = user; name = plain name.now }) (option_map key_of_item item) function).user) }
     ensures low { user < 16 → IfSome item (λ item. item.file.user < 16) → result < 16 }
 {
     match function {

@@ -188,7 +188,7 @@ ok_completed (Ok x) kept written now first call text os is writes s =
     }
 
 -- a failed write of a record's text stops between the texts before and after it
-pub err_completed : {A E : Type 0} (result : Result A E) (kept : KeptLines) (written now first : List ℕ) (call : Completion) (text : List ℕ) (os : List Output) → text ≡ record_text kept.trace call → OnErr result (AppendsPart written text now) → 0 < length text → Shows kept written os first → OnErr result (EndsBetween now first (rendered kept.trace os) (rendered kept.trace (Completed call ∷ os)))
+pub err_completed : {A E : Type 0} (result : Result A E) (kept : KeptLines) (written now first : List ℕ) (call : Completion) (text : List ℕ) (os : List Output) → text ≡ record_text kept.trace call → OnErr result (AppendsPart written text now) → OnErr result (0 < length text) → Shows kept written os first → OnErr result (EndsBetween now first (rendered kept.trace os) (rendered kept.trace (Completed call ∷ os)))
 err_completed (Ok x) kept written now first call text os is part some s = tt
 err_completed (Err e) kept written now first call text os is part some s =
     let before = rendered kept.trace os in

@@ -1,10 +1,11 @@
 -- Laws on the puts that write lines.
 use Rattle.std.proofs.Common.{◌≡◌, ℕ, ◌+◌, ◌<◌, ◌≤◌, List, [], ◌∷◌, ◌++◌, Result, Ok, Err, OnErr, length, take, get_or, refl, sym, ap, ◌∙◌, subst, arith}
-use Rattle.std.proofs.lemmas.List.{take_more}
+use Rattle.std.proofs.lemmas.List.{append-nil, take_more}
 use Rattle.std.proofs.lemmas.List.FromFn.{get_or-map-range_with_len}
 use Rattle.mpm_render.specs.Outputs.{closing}
 use Rattle.mpm_render.specs.Shown.{KeptLines, line_of}
-use Rattle.mpm_render.specs.Puts.{PutsLine, PutsEach, StopsClosing, texts_closed}
+use Rattle.mpm_port.specs.declared.sink.Sink.{Ghosts}
+use Rattle.mpm_render.specs.Puts.{PutsLine, WritesText, PutsEach, StopsClosing, texts_closed}
 
 pub puts_none : {S : Type 0} (took : S → List ℕ → S → Type 0) (text : List ℕ) (old new : S) → text ≡ [] → new ≡ old → PutsLine took text old new
 unfolding PutsLine
@@ -15,6 +16,17 @@ pub puts_some : {S : Type 0} (took : S → List ℕ → S → Type 0) (text : Li
 unfolding PutsLine
 puts_some took [] old new some put = absurd (omega arith)
 puts_some took (byte ∷ text) old new some put = put
+
+-- where there is no text nothing is written
+pub writes_none : {S A E : Type 0} (of : Ghosts S) (text : List ℕ) (sink : S) (value : A) → text ≡ [] → WritesText {E = E} of text sink sink (Ok value)
+writes_none of text sink value none = record {
+  ok = sym (ap (λ t. of.written sink ++ t) none ∙ append-nil (of.written sink));
+  err = tt;
+  some = tt;
+  puts = puts_none of.took text sink sink none refl;
+  drops = tt;
+  cause = record { later = omega arith; stays = refl; failed = tt };
+}
 
 pub each_none : {S : Type 0} (took : S → List ℕ → S → Type 0) (texts : List (List ℕ)) (s : S) → PutsEach took (take 0 texts) s s
 unfolding PutsEach

@@ -1,5 +1,5 @@
 -- The lines of the output text: a label, the bytes as they are written, and how the line ends.
-use Rattle.std.specs.Prelude.{ℕ, ◌+◌, ◌-◌, ◌/◌, ◌%◌, List, [], ◌∷◌, ◌++◌, ◌<◌, ◌==◌, ◌&&◌, nat_lt, nat_le, length, flat_map, codes, if◌then◌else◌}
+use Rattle.std.specs.Prelude.{◌≡◌, ◌≤◌, ℕ, ◌+◌, ◌-◌, ◌/◌, ◌%◌, List, [], ◌∷◌, ◌++◌, ◌==◌, ◌&&◌, nat_lt, nat_le, length, flat_map, codes, if◌then◌else◌}
 
 -- all the places, in the order in which unfinished lines are closed
 abbrev pub places : List ℕ
@@ -48,3 +48,8 @@ unfoldable pub line_with : ℕ → List ℕ → List ℕ
 line_with byte kept =
     if byte == 10 then []
     else (if length kept == 199 then [] else (kept ++ (byte ∷ [])))
+
+-- a text has another one after it, of so many bytes at most
+pub record Appends (more : List ℕ) (most : ℕ) (old new : List ℕ) : Type 0 where
+  pub text : new ≡ old ++ more
+  pub size : length new ≤ length old + most

@@ -1,7 +1,7 @@
-ghost use Rattle.std.specs.Prelude.{◌≡◌, ◌≢◌, ℕ, ◌<◌, List, [], ◌∷◌, ◌++◌, OnOk, OnErr, length};
+ghost use Rattle.std.specs.Prelude.{◌≡◌, ℕ, ◌<◌, List, [], ◌++◌, OnOk, OnErr};
 ghost use Rattle.mpm_port.specs.Causes.{HasCause};
-ghost use Rattle.mpm_port.specs.Texts.{AppendsPart};
 ghost use Rattle.mpm_render.specs.Completions.{completion, trace_line};
+ghost use Rattle.mpm_render.specs.Puts.{WritesText};
 
 use crate::line::Line;
 use crate::text::LineText;
@@ -30,7 +30,7 @@ impl Render {
     ghost use Rattle.mpm_render.specs.Completions.{completion};
     ghost use Rattle.mpm_render.specs.Outputs.{Output, Said, Completed, rendered, closed};
     ghost use Rattle.mpm_render.specs.Shown.{Shows, EndsBetween, line_of};
-    ghost use Rattle.mpm_render.specs.Puts.{PutsLine, PutsEach, StopsClosing, text_put, text_traced, texts_closed};
+    ghost use Rattle.mpm_render.specs.Puts.{WritesText, ShowsOutput, PutsEach, StopsClosing, text_put, text_traced, texts_closed};
 
     /// Empty lines; `trace` says whether the records of completed calls are written.
     pub fn new(trace: bool) -> Render
@@ -54,14 +54,8 @@ impl Render {
     /// writes the line with one `put`; any other byte puts nothing. If the `put` fails, the lines stay as they were.
     pub fn put<S: Sink>(&mut self, stream: Unit, byte: u8, sink: &mut S) -> Result<(), Failed>
         requires { IsUnit stream }
-        ensures ok { (os : List Output) (first : List ℕ) → Shows self.old (S.written sink.old) os first
-            → OnOk result (Shows self.new (S.written sink.new) (Said stream byte ∷ os) first) }
-        ensures err { (os : List Output) (first : List ℕ) → Shows self.old (S.written sink.old) os first
-            → OnErr result (EndsBetween (S.written sink.new) first (rendered self.old.trace os) (rendered self.old.trace (Said stream byte ∷ os))) }
-        ensures puts { OnOk result (PutsLine S.took (text_put stream byte self.old) sink.old sink.new) }
-        ensures drops { OnErr result (S.dropped sink.old (text_put stream byte self.old) sink.new) }
-        ensures some { OnErr result (text_put stream byte self.old ≢ []) }
-        ensures cause { HasCause (S.faults sink.old) (S.faults sink.new) result }
+        ensures shown { ShowsOutput S.Sink (Said stream byte) self.old self.new sink.old sink.new result }
+        ensures text { WritesText S.Sink (text_put stream byte self.old) sink.old sink.new result }
         ensures lines { OnErr result (self.new ≡ self.old) }
         ensures trace { self.new.trace ≡ self.old.trace }
     {
@@ -73,7 +67,7 @@ impl Render {
     /// Writes the record of a completed call with one `put`, where the renderer was made to trace; else puts nothing. The
     /// record has the step in which the call completed, the process `p` that made it, its function's number, and the
     /// registers as the reply left them. The unfinished lines stay as they were.
-    #[tactic(auto, using(crate::proofs::Laws::pending_completed, crate::proofs::Laws::rendered_unasked, crate::proofs::Putting::puts_none, crate::proofs::Putting::puts_some))]
+    #[tactic(auto, using(crate::proofs::Laws::pending_completed, crate::proofs::Laws::rendered_unasked))]
     pub fn trace<S: Sink>(
         &mut self,
         step: u64,
@@ -85,15 +79,8 @@ impl Render {
         hl: u16,
         sink: &mut S,
     ) -> Result<(), Failed>
-        ensures ok { (os : List Output) (first : List ℕ) → Shows self.old (S.written sink.old) os first
-            → OnOk result (Shows self.new (S.written sink.new) (Completed (completion step p function a bc de hl) ∷ os) first) }
-        ensures err { (os : List Output) (first : List ℕ) → Shows self.old (S.written sink.old) os first
-            → OnErr result (EndsBetween (S.written sink.new) first (rendered self.old.trace os)
-            (rendered self.old.trace (Completed (completion step p function a bc de hl) ∷ os))) }
-        ensures puts { OnOk result (PutsLine S.took (text_traced (completion step p function a bc de hl) self.old) sink.old sink.new) }
-        ensures drops { OnErr result (S.dropped sink.old (text_traced (completion step p function a bc de hl) self.old) sink.new) }
-        ensures some { OnErr result (text_traced (completion step p function a bc de hl) self.old ≢ []) }
-        ensures cause { HasCause (S.faults sink.old) (S.faults sink.new) result }
+        ensures shown { ShowsOutput S.Sink (Completed (completion step p function a bc de hl)) self.old self.new sink.old sink.new result }
+        ensures text { WritesText S.Sink (text_traced (completion step p function a bc de hl) self.old) sink.old sink.new result }
         ensures lines { self.new ≡ self.old }
     {
         if !self.trace {
@@ -125,6 +112,7 @@ impl Render {
 
 /// Writes the record of a completed call. It is code of its own, so that a call that isn't recorded takes little.
 #[inline(never)]
+#[tactic(auto, using(crate::proofs::Putting::puts_some))]
 fn write_record<S: Sink>(
     step: u64,
     p: u8,
@@ -135,12 +123,7 @@ fn write_record<S: Sink>(
     hl: u16,
     sink: &mut S,
 ) -> Result<(), Failed>
-    ensures some { 0 < length (trace_line (completion step p function a bc de hl)) }
-    ensures took { OnOk result (S.took sink.old (trace_line (completion step p function a bc de hl)) sink.new) }
-    ensures dropped { OnErr result (S.dropped sink.old (trace_line (completion step p function a bc de hl)) sink.new) }
-    ensures cause { HasCause (S.faults sink.old) (S.faults sink.new) result }
-    ensures ok { OnOk result (S.written sink.new ≡ S.written sink.old ++ trace_line (completion step p function a bc de hl)) }
-    ensures err { OnErr result (AppendsPart (S.written sink.old) (trace_line (completion step p function a bc de hl)) (S.written sink.new)) }
+    ensures { WritesText S.Sink (trace_line (completion step p function a bc de hl)) sink.old sink.new result }
 {
     let text = LineText::traced(step, p, function, a, bc, de, hl);
     sink.put(text.as_slice())

@@ -1,5 +1,5 @@
 ghost use Rattle.std.specs.Prelude.{◌≡◌, ℕ, ◌+◌, ◌*◌, ◌/◌, ◌%◌, ◌<◌, ◌≤◌, List, [], ◌∷◌, ◌++◌, length, flat_map, decimal};
-ghost use Rattle.mpm_render.specs.Lines.{escaped, label, hex_digit, hex_byte, hex_word as word_text, cut_line};
+ghost use Rattle.mpm_render.specs.Lines.{Appends, escaped, label, hex_digit, hex_byte, hex_word as word_text, cut_line};
 ghost use Rattle.mpm_render.specs.Completions.{completion, trace_line};
 
 use arrayvec::ArrayVec;
@@ -104,8 +104,7 @@ impl LineText {
     #[tactic(auto, unfolding(crate::specs::Lines::escaped))]
     pub fn push_escaped(&mut self, byte: u8)
         requires { length self.old + 4 ≤ 805 }
-        ensures text { self.new ≡ self.old ++ escaped byte }
-        ensures size { length self.new ≤ length self.old + 4 }
+        ensures { Appends (escaped byte) 4 self.old self.new }
     {
         match byte {
             b'\\' => self.push_pair(b'\\'),
@@ -149,8 +148,7 @@ impl LineText {
     /// The text with a space and a number after it, in decimal.
     fn push_decimal(&mut self, number: u64)
         requires { length self.old + 21 ≤ 805 }
-        ensures text { self.new ≡ self.old ++ (32 ∷ decimal number) }
-        ensures size { length self.new ≤ length self.old + 21 }
+        ensures { Appends (32 ∷ decimal number) 21 self.old self.new }
     {
         self.bytes.push(b' ');
         let mut buffer = Buffer::new();
@@ -161,8 +159,7 @@ impl LineText {
     /// The text with a space and a byte after it, in two hexadecimal digits.
     fn push_byte(&mut self, byte: u8)
         requires { length self.old + 3 ≤ 805 }
-        ensures text { self.new ≡ self.old ++ (32 ∷ hex_byte byte) }
-        ensures size { length self.new ≡ length self.old + 3 }
+        ensures { Appends (32 ∷ hex_byte byte) 3 self.old self.new }
     {
         self.bytes.push(b' ');
         self.push_hex(byte);
@@ -171,8 +168,7 @@ impl LineText {
     /// The text with a space and a word of 16 bits after it, in four hexadecimal digits.
     fn push_word(&mut self, word: u16)
         requires { length self.old + 5 ≤ 805 }
-        ensures text { self.new ≡ self.old ++ (32 ∷ word_text word) }
-        ensures size { length self.new ≡ length self.old + 5 }
+        ensures { Appends (32 ∷ word_text word) 5 self.old self.new }
     {
         self.bytes.push(b' ');
         self.bytes.try_extend_from_slice(&hex_word(word)).unwrap();
@@ -182,8 +178,7 @@ impl LineText {
     #[tactic(auto, unfolding(crate::specs::Lines::hex_byte))]
     fn push_hex(&mut self, byte: u8)
         requires { length self.old + 2 ≤ 805 }
-        ensures text { self.new ≡ self.old ++ hex_byte byte }
-        ensures size { length self.new ≡ length self.old + 2 }
+        ensures { Appends (hex_byte byte) 2 self.old self.new }
     {
         self.bytes.push(digit_of(byte / 16));
         self.bytes.push(digit_of(byte % 16));

@@ -1,11 +1,9 @@
 -- Worked examples: entries whose blocks clash.
-use Rattle.std.proofs.Common.{◌≡◌, ℕ, List, [], ◌∷◌, Some, None, refl}
-use Rattle.mpm_base.specs.declared.kind.Kind.TheVariants.{Ibm3740, Hd4, Hd8}
+use Rattle.std.proofs.Common.{◌≡◌, ℕ, [], ◌∷◌, Some, refl}
+use Rattle.mpm_base.specs.declared.kind.Kind.TheVariants.{Hd4}
 use Rattle.mpm_dirent.specs.declared.kinds.Entry.{Entry}
-use Rattle.mpm_dirent.specs.declared.kinds.Entry.TheVariants.{Free, File, Xfcb, Label, Kept}
-use Rattle.mpm_dirent.specs.declared.kinds.FileEntry.{FileEntry}
+use Rattle.mpm_dirent.specs.declared.kinds.Entry.TheVariants.{Free, File}
 use Rattle.mpm_mount.specs.Faults.{has_at, some_place, file_cause}
-use Rattle.mpm_fault_lines.specs.declared.fault.SlotFault.{SlotFault}
 use Rattle.mpm_repair.specs.FaultLists.{staying, shares_block, clash_of, fault_list}
 
 -- the entry of a file that is named by a letter, with two blocks

@@ -1,7 +1,7 @@
 -- What an image stands for with some slots free, and how that agrees with its list.
-use Rattle.std.proofs.Common.{◌≡◌, ℕ, zero, suc, ◌+◌, ◌-◌, ◌*◌, ◌/◌, ◌%◌, ◌<◌, ◌≤◌, ◌==◌, Bool, List, [], ◌∷◌, ◌++◌, Option, Some, None, map, length, get_or, take, drop, refl, sym, ap, subst, ◌∙◌, arith, eq-eqb}
+use Rattle.std.proofs.Common.{◌≡◌, ℕ, ◌+◌, ◌-◌, ◌*◌, ◌/◌, ◌%◌, ◌<◌, ◌≤◌, ◌==◌, Bool, List, [], ◌∷◌, ◌++◌, Option, Some, None, length, take, drop, refl, sym, ap, subst, ◌∙◌, arith, eq-eqb}
 use Rattle.std.specs.Prelude.{slice_set, Result, Ok, Err, if◌then◌else◌}
-use Rattle.std.proofs.lemmas.List.{length-append, length-take-le, length-drop, length-set, append_assoc, take-append-drop, drop-drop, set-append_left, set-append_right}
+use Rattle.std.proofs.lemmas.List.{length-take-le, length-drop, length-set, take-append-drop, drop-drop, set-append_left, set-append_right}
 use Rattle.mpm_base.specs.declared.kind.Kind.{Kind}
 use Rattle.mpm_blocks.specs.Geometries.{geometry_of, place_of, logical_sectors}
 use Rattle.mpm_blocks.specs.Sectors.{Sectors, sectors_of, with_slot, SectorWritten}
@@ -16,9 +16,9 @@ use Rattle.mpm_mount.specs.Drives.{Drive}
 use Rattle.mpm_mount.specs.Faults.{first_fault}
 use Rattle.mpm_mount.specs.Images.{entries_of, drive_of, unless, files_of}
 use Rattle.mpm_mount.proofs.EntryWritten.{directory_within, slot_room, entries_set, drive_behind}
-use Rattle.mpm_repair.specs.FaultLists.{fault_list, faults_of, slot_of, first_of}
+use Rattle.mpm_repair.specs.FaultLists.{faults_of, first_of}
 use Rattle.mpm_repair.specs.Freeing.{AllSlots, freed, byte_of, freed_image}
-use Rattle.mpm_repair.proofs.Staying.{first_listed, own_list_suffices}
+use Rattle.mpm_repair.proofs.Staying.{first_listed}
 
 -- what an image of its kind's size stands for, by its list
 pub files_by_list : (image : List ℕ) (kind : Kind) → length image ≡ (geometry_of kind).bytes

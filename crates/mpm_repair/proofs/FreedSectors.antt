@@ -1,5 +1,5 @@
 -- Slots of one sector of a directory that are freed as it is written, and those of one sector after another.
-use Rattle.std.proofs.Common.{◌≡◌, ℕ, zero, suc, ◌+◌, ◌-◌, ◌*◌, ◌/◌, ◌%◌, ◌<◌, ◌≤◌, ◌⊎◌, inl, inr, Bool, true, false, List, [], ◌∷◌, ◌++◌, length, take, drop, cond, refl, sym, ap, subst, ◌∙◌, arith, add-one}
+use Rattle.std.proofs.Common.{◌≡◌, ℕ, zero, suc, ◌+◌, ◌*◌, ◌/◌, ◌%◌, ◌<◌, ◌≤◌, ◌⊎◌, inl, inr, Bool, true, false, List, [], ◌∷◌, ◌++◌, length, take, drop, cond, refl, sym, ap, subst, ◌∙◌, arith, add-one}
 use Rattle.std.specs.Prelude.{Option, Some, Result, Ok, Err, OnOk, OnErr, IfSome, option_map, slice_set, slice_index_or}
 use Rattle.std.specs.List.{range_with_len, filter}
 use Rattle.std.proofs.lemmas.List.{length-set, length-take-le, length-drop, take-append-drop, drop-drop}
@@ -7,9 +7,8 @@ use Rattle.std.proofs.lemmas.Option.{same_Some}
 use Rattle.mpm_base.specs.declared.kind.Kind.{Kind}
 use Rattle.mpm_base.specs.declared.kind.Kind.TheVariants.{Ibm3740, Hd4, Hd8}
 use Rattle.mpm_blocks.specs.Geometries.{geometry_of, place_of, logical_sectors}
-use Rattle.mpm_blocks.proofs.Written.{spliced, spliced_size, spliced_here, spliced_again, from_to, place_inside}
+use Rattle.mpm_blocks.proofs.Written.{spliced, spliced_here, spliced_again, from_to, place_inside}
 use Rattle.mpm_port.specs.Disks.{Disks, WritesSector, with_sector, sector_of, size_of}
-use Rattle.mpm_sectors.specs.Writes.{Elsewhere}
 use Rattle.mpm_sectors.proofs.OtherImages.{elsewhere_same, elsewhere_written, elsewhere_over}
 use Rattle.mpm_fault_lines.specs.Lists.{listed, listed_at}
 use Rattle.mpm_repair.specs.Freeing.{byte_of, freed_image, freed_within, listed_from, FreesOn, FreesFirst}

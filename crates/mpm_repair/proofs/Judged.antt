@@ -1,5 +1,5 @@
 -- What is reported of an entry by what is found of it.
-use Rattle.std.proofs.Common.{◌≡◌, ℕ, ◌<◌, ◌==◌, Bool, true, false, ◌||◌, List, Option, Some, None, refl, sym, ap, ◌∙◌}
+use Rattle.std.proofs.Common.{◌≡◌, ℕ, true, false, ◌||◌, List, Option, Some, None, refl, ap, ◌∙◌}
 use Rattle.std.specs.Prelude.{option_map, is_some, nat_lt, position, if◌then◌else◌}
 use Rattle.std.specs.List.{list_any}
 use Rattle.mpm_base.specs.declared.kind.Kind.{Kind}
@@ -10,7 +10,7 @@ use Rattle.mpm_dirent.specs.declared.kinds.XfcbEntry.{XfcbEntry}
 use Rattle.mpm_dirent.specs.declared.kinds.LabelEntry.{LabelEntry}
 use Rattle.mpm_dirent.specs.Names.{plain}
 use Rattle.mpm_fault_lines.specs.declared.fault.SlotFault.{SlotFault}
-use Rattle.mpm_mount.specs.Faults.{name_of, is_named, is_label, is_xfcb, is_outside, is_taken, some_place, name_cause, file_cause, cause_of}
+use Rattle.mpm_mount.specs.Faults.{name_of, is_named, is_label, is_xfcb, is_outside, is_taken, some_place, file_cause, cause_of}
 use Rattle.mpm_repair.specs.FaultLists.{shared_in, clash_of, told_of}
 use Rattle.mpm_repair.proofs.Shared.{any_at_place, shared_is}
 

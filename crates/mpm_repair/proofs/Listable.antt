@@ -1,5 +1,5 @@
 -- What a directory's list has can be listed: its slots and causes keep within their bounds.
-use Rattle.std.proofs.Common.{◌≡◌, ℕ, zero, suc, ◌+◌, ◌<◌, ◌≤◌, ◌==◌, Bool, true, false, ◌||◌, List, [], ◌∷◌, ◌++◌, Option, Some, None, length, refl, arith}
+use Rattle.std.proofs.Common.{◌≡◌, ℕ, zero, suc, ◌+◌, ◌≤◌, ◌==◌, Bool, true, false, ◌||◌, List, Option, Some, None, length, refl, arith}
 use Rattle.std.specs.Prelude.{option_map, position, nat_lt, slice_index_or, IfSome, if◌then◌else◌}
 use Rattle.std.specs.List.{All, range_with_len, filter_map, cons_option, list_any}
 use Rattle.std.proofs.lemmas.List.Elements.{All-nil, All-cons}
@@ -7,7 +7,6 @@ use Rattle.std.proofs.lemmas.List.Quantifiers.{position-Some}
 use Rattle.mpm_base.specs.declared.kind.Kind.{Kind}
 use Rattle.mpm_dirent.specs.declared.kinds.Entry.{Entry}
 use Rattle.mpm_dirent.specs.declared.kinds.Entry.TheVariants.{Free, File, Xfcb, Label, Kept}
-use Rattle.mpm_dirent.specs.declared.kinds.FileEntry.{FileEntry}
 use Rattle.mpm_dirent.specs.Names.{plain}
 use Rattle.mpm_mount.specs.Faults.{some_place, is_outside, is_taken, is_named, name_of, is_label, is_xfcb, file_cause, cause_of}
 use Rattle.mpm_fault_lines.specs.declared.fault.SlotFault.{SlotFault}

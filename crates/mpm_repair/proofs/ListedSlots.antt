@@ -1,5 +1,5 @@
 -- The slots of a directory's own list are different and rising, so that they are what a text of it names.
-use Rattle.std.proofs.Common.{◌≡◌, ℕ, zero, suc, ◌+◌, ◌<◌, ◌≤◌, ◌==◌, Bool, true, false, ◌&&◌, List, [], ◌∷◌, Option, Some, None, map, length, get_or, refl, sym, ap, ◌∙◌, arith, eq-eqb}
+use Rattle.std.proofs.Common.{◌≡◌, ℕ, zero, suc, ◌+◌, ◌==◌, Bool, true, false, ◌&&◌, List, ◌∷◌, Option, Some, None, map, length, get_or, refl, sym, ap, ◌∙◌, arith, eq-eqb}
 use Rattle.std.specs.Prelude.{option_map, is_some, cond}
 use Rattle.std.specs.List.{range_with_len, filter, filter_map, cons_option, list_any}
 use Rattle.std.proofs.lemmas.Bool.{eqb-true}

@@ -1,6 +1,6 @@
 -- What the entries are that stay, and how the list of the others agrees with the first fault of a directory.
 use Rattle.std.proofs.Common.{◌≡◌, ℕ, zero, suc, ◌+◌, ◌-◌, ◌<◌, ◌≤◌, inl, inr, List, [], ◌∷◌, ◌++◌, Option, Some, None, map, length, get_or, take, drop, refl, sym, ap, ◌∙◌, arith, add-one}
-use Rattle.std.specs.Prelude.{option_map, is_some, slice_set, Result, Ok, Err, if◌then◌else◌, ◌==◌, Bool}
+use Rattle.std.specs.Prelude.{option_map, is_some, slice_set}
 use Rattle.std.specs.List.{range_with_len, filter_map, cons_option}
 use Rattle.std.proofs.lemmas.Bool.{true≢false, cases_lt}
 use Rattle.std.proofs.lemmas.List.{length-append, append-nil, append_assoc, take_all, take-append-le, take_more, drop_all, drop_more, get_or_append_left, get_or-append-add, set-append_right}

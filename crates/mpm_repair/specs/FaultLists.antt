@@ -1,7 +1,7 @@
 -- Which entries of a directory are at fault beside those that stay: slot by slot, each judged after the earlier ones that stay. What
 -- doesn't stay leaves its slot free, so that nothing clashes with it any more.
-use Rattle.std.specs.Prelude.{ℕ, zero, suc, ◌==◌, ◌&&◌, not, Bool, true, false, List, [], ◌∷◌, ◌++◌, Option, Some, None, option_map, length, position, take, slice_index_or, if◌then◌else◌}
-use Rattle.std.specs.List.{range_with_len, filter_map}
+use Rattle.std.specs.Prelude.{◌≡◌, ◌<◌, ◌≤◌, ℕ, zero, suc, ◌==◌, ◌&&◌, not, Bool, true, false, List, [], ◌∷◌, ◌++◌, Option, Some, None, option_map, length, position, take, slice_index_or, slice_set, if◌then◌else◌}
+use Rattle.std.specs.List.{range_with_len, filter_map, cons_option}
 use Rattle.mpm_base.specs.declared.kind.Kind.{Kind}
 use Rattle.mpm_blocks.specs.Sectors.{sectors_of}
 use Rattle.mpm_dirent.specs.declared.kinds.Entry.{Entry}
@@ -72,6 +72,16 @@ fault_at kind entries slot = option_map (told_of kind (take slot entries) slot (
 abbrev pub left_at : Kind → List Entry → ℕ → Entry
 left_at kind entries slot = unless_at_fault (cause_of kind (take slot entries) (slice_index_or entries slot Free)) (slice_index_or entries slot Free)
 
+-- an entry of a directory of at most 65,535
+pub record IsEntry (slot : ℕ) (entries : List Entry) : Type 0 where
+  pub within : slot < length entries
+  pub few : length entries ≤ 65535
+
+-- it is listed where it is at fault, and is free then
+pub record JudgesSlot (kind : Kind) (slot : ℕ) (old new : List Entry) (before after : List SlotFault) : Type 0 where
+  pub faults : after ≡ before ++ cons_option (fault_at kind old slot) []
+  pub entries : new ≡ slice_set old slot (left_at kind old slot)
+
 abbrev pub fault_in : Kind → List Entry → ℕ → Option SlotFault
 fault_in kind entries slot =
     option_map (told_of kind (staying kind entries slot) slot (slice_index_or entries slot Free)) (cause_in kind entries slot)
@@ -91,3 +101,8 @@ slot_of fault = fault.slot
 abbrev pub first_of : List SlotFault → Option ImageFault
 first_of [] = None
 first_of (fault ∷ faults) = Some (record { cause = fault.cause; place = fault.slot })
+
+-- the entries of a directory at fault are listed, and those that stay are left
+pub record ListsFaults (kind : Kind) (old new : List Entry) (faults : List SlotFault) : Type 0 where
+  pub list : faults ≡ fault_list kind old
+  pub stay : new ≡ staying kind old (length old)

@@ -1,6 +1,6 @@
-ghost use Rattle.std.specs.Prelude.{◌≡◌, ◌≤◌, ◌<◌, length};
+ghost use Rattle.std.specs.Prelude.{◌≤◌, ◌<◌, length};
 ghost use Rattle.mpm_fault_lines.specs.Lists.{listed, listed_at};
-ghost use Rattle.mpm_repair.specs.Freeing as spec;
+ghost use Rattle.mpm_repair.specs.Freeing.{FreesEntries};
 
 use mpm_dirent::Entry;
 use mpm_fault_lines::Slots;
@@ -8,8 +8,7 @@ use mpm_fault_lines::Slots;
 /// Frees some slots of a directory's entries; a slot that is free already counts too. The number of these slots.
 pub fn free_entries(slots: &Slots, entries: &mut [Entry]) -> u16
     requires { length entries.old ≤ 512 }
-    ensures freed { entries.new ≡ spec.freed (listed slots.now (length entries.old)) entries.old }
-    ensures count { result ≡ length (listed slots.now (length entries.old)) }
+    ensures { FreesEntries (listed slots.now (length entries.old)) entries.old entries.new result }
 {
     let mut count = 0;
     for slot in 0..entries.len() {
@@ -22,8 +21,7 @@ pub fn free_entries(slots: &Slots, entries: &mut [Entry]) -> u16
 #[tactic(auto, unfolding(crate::specs::Freeing::freed))]
 fn free_at(slots: &Slots, slot: u16, entries: &mut [Entry]) -> u16
     requires { slot < length entries.old }
-    ensures freed { entries.new ≡ spec.freed (listed_at slots.now slot) entries.old }
-    ensures count { result ≡ length (listed_at slots.now slot) }
+    ensures { FreesEntries (listed_at slots.now slot) entries.old entries.new result }
 {
     if slots.has(slot) {
         entries[usize::from(slot)] = Entry::Free;

@@ -46,7 +46,7 @@ fn judge_file(kind: Kind, earlier: &[Entry], slot: u16, file: &FileEntry) -> Opt
     if is_far(file) { fault(slot, 6) } else { None }
 }
 
-/// Whether an entry's extent is after the last that a file has. (MP/M II Programmer's Guide, "File Control Block Definition": EX, S2.)
+/// Whether an entry's S2 or EX is one that no file has. (MP/M II Programmer's Guide, "File Control Block Definition": EX, S2.)
 fn is_far(file: &FileEntry) -> bool
     ensures { result ≡ (nat_lt 63 file.now.s2 || nat_lt 31 file.now.ex) }
 {

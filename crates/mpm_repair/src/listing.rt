@@ -1,6 +1,5 @@
-ghost use Rattle.std.specs.Prelude.{◌≡◌, ◌≤◌, ◌<◌, [], ◌∷◌, ◌++◌, IfOk, OnOk, length, slice_set};
-ghost use Rattle.std.specs.List.{cons_option};
-ghost use Rattle.mpm_repair.specs.FaultLists as spec;
+ghost use Rattle.std.specs.Prelude.{◌≡◌, ◌≤◌, IfOk, OnOk, length};
+ghost use Rattle.mpm_repair.specs.FaultLists.{ListsFaults, IsEntry, JudgesSlot, fault_at};
 
 use crate::OutOfMemory;
 use crate::judging::judge;
@@ -18,8 +17,7 @@ pub fn fault_list(
     entries: &mut [Entry],
 ) -> Result<Vec<SlotFault>, OutOfMemory>
     requires { length entries.old ≤ 65535 }
-    ensures list { IfOk result (λ list. list.items ≡ spec.fault_list kind entries.old) }
-    ensures stay { OnOk result (entries.new ≡ spec.staying kind entries.old (length entries.old)) }
+    ensures { IfOk result (λ faults. ListsFaults kind entries.old entries.new faults.items) }
 {
     let mut faults = Vec::new(alloc);
     for slot in 0..entries.len() {
@@ -35,10 +33,8 @@ fn judge_slot(
     entries: &mut [Entry],
     faults: &mut Vec<SlotFault>,
 ) -> Result<(), OutOfMemory>
-    requires within { slot < length entries.old }
-    requires few { length entries.old ≤ 65535 }
-    ensures faults { OnOk result (faults.new.items ≡ faults.old.items ++ cons_option (spec.fault_at kind entries.old slot) []) }
-    ensures entries { OnOk result (entries.new ≡ slice_set entries.old slot (spec.left_at kind entries.old slot)) }
+    requires { IsEntry slot entries.old }
+    ensures { OnOk result (JudgesSlot kind slot entries.old entries.new faults.old.items faults.new.items) }
 {
     match judge_at(kind, entries, slot) {
         Some(fault) => {
@@ -52,9 +48,8 @@ fn judge_slot(
 
 /// What is wrong with the entry in a slot, after all before it.
 fn judge_at(kind: Kind, entries: &[Entry], slot: usize) -> Option<SlotFault>
-    requires within { slot < length entries.now }
-    requires few { length entries.now ≤ 65535 }
-    ensures { result ≡ spec.fault_at kind entries.now slot }
+    requires { IsEntry slot entries.now }
+    ensures { result ≡ fault_at kind entries.now slot }
 {
     judge(kind, &entries[..slot], slot as u16, &entries[slot])
 }

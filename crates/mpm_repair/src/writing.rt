@@ -1,7 +1,6 @@
-ghost use Rattle.std.specs.Prelude.{◌≡◌, ◌≢◌, ◌⊎◌, ℕ, ◌+◌, ◌*◌, ◌%◌, ◌≤◌, [], Some, false, length, OnOk, OnErr, IsFalse};
+ghost use Rattle.std.specs.Prelude.{◌≡◌, ◌+◌, ◌*◌, ◌≤◌, [], Some, false, OnOk, IsFalse};
 ghost use Rattle.mpm_blocks.specs.Geometries.{geometry_of};
-ghost use Rattle.mpm_port.specs.Causes.{HasCause};
-ghost use Rattle.mpm_port.specs.Disks.{KeepsTold, size_of};
+ghost use Rattle.mpm_port.specs.Disks.{size_of};
 ghost use Rattle.mpm_fault_lines.specs.Lists.{listed, listed_at};
 ghost use Rattle.mpm_repair.specs.Freeing as spec;
 
@@ -22,13 +21,8 @@ pub fn free_slots<D: Drives>(
     slots: &Slots,
 ) -> Result<(), Failed>
     requires { size_of (D.disks drives.old) drive ≡ Some (geometry_of kind).bytes }
-    ensures ok { OnOk result (spec.FreesOn drive kind (listed slots.now ((geometry_of kind).drm + 1)) (D.disks drives.old) (D.disks drives.new)) }
-    ensures err { OnErr result (spec.FreesFirst drive kind slots.now (D.disks drives.old) (D.disks drives.new)) }
-    ensures told { KeepsTold ((D.disks drives.old).name_of drive) (D.told drives.old) (D.told drives.new) }
-    ensures cause { HasCause (D.faults drives.old) (D.faults drives.new) result }
-    ensures names { D.failed_names drives.new ≡ D.failed_names drives.old }
+    ensures frees { spec.Frees D.Drives drive (spec.FreesOn drive kind (listed slots.now ((geometry_of kind).drm + 1))) (spec.FreesFirst drive kind slots.now) drives.old drives.new result }
     ensures synced { OnOk result (D.unsynced drives.new drive ≡ false) }
-    ensures beside { (other : ℕ) → other ≢ drive → D.unsynced drives.new other ≡ D.unsynced drives.old other }
 {
     match free_sectors(drives, drive, kind, slots) {
         Ok(()) => drives.sync(drive),
@@ -44,12 +38,7 @@ fn free_sectors<D: Drives>(
     slots: &Slots,
 ) -> Result<(), Failed>
     requires { size_of (D.disks drives.old) drive ≡ Some (geometry_of kind).bytes }
-    ensures ok { OnOk result (spec.FreesOn drive kind (listed slots.now ((geometry_of kind).drm + 1)) (D.disks drives.old) (D.disks drives.new)) }
-    ensures err { OnErr result (spec.FreesFirst drive kind slots.now (D.disks drives.old) (D.disks drives.new)) }
-    ensures told { KeepsTold ((D.disks drives.old).name_of drive) (D.told drives.old) (D.told drives.new) }
-    ensures cause { HasCause (D.faults drives.old) (D.faults drives.new) result }
-    ensures names { D.failed_names drives.new ≡ D.failed_names drives.old }
-    ensures beside { (other : ℕ) → other ≢ drive → D.unsynced drives.new other ≡ D.unsynced drives.old other }
+    ensures { spec.Frees D.Drives drive (spec.FreesOn drive kind (listed slots.now ((geometry_of kind).drm + 1))) (spec.FreesFirst drive kind slots.now) drives.old drives.new result }
 {
     for sector in 0..(u32::from(geometry(kind).drm) + 1) / 4 {
         match free_sector(drives, drive, kind, sector, slots) {
@@ -70,12 +59,7 @@ fn free_sector<D: Drives>(
 ) -> Result<(), Failed>
     requires size { size_of (D.disks drives.old) drive ≡ Some (geometry_of kind).bytes }
     requires within { 4 * sector + 4 ≤ (geometry_of kind).drm + 1 }
-    ensures ok { OnOk result (spec.FreesOn drive kind (spec.listed_from slots.now (4 * sector) 4) (D.disks drives.old) (D.disks drives.new)) }
-    ensures err { OnErr result ((D.disks drives.new ≡ D.disks drives.old) ⊎ spec.FreesOn drive kind (spec.listed_from slots.now (4 * sector) 4) (D.disks drives.old) (D.disks drives.new)) }
-    ensures told { KeepsTold ((D.disks drives.old).name_of drive) (D.told drives.old) (D.told drives.new) }
-    ensures cause { HasCause (D.faults drives.old) (D.faults drives.new) result }
-    ensures names { D.failed_names drives.new ≡ D.failed_names drives.old }
-    ensures beside { (other : ℕ) → other ≢ drive → D.unsynced drives.new other ≡ D.unsynced drives.old other }
+    ensures { spec.Frees D.Drives drive (spec.FreesOn drive kind (spec.listed_from slots.now (4 * sector) 4)) (spec.FreesPerhaps drive kind (spec.listed_from slots.now (4 * sector) 4)) drives.old drives.new result }
 {
     if !has_any(slots, sector) {
         return Ok(());
@@ -109,19 +93,18 @@ fn free_in(slots: &Slots, sector: u32, bytes: &mut [u8; 128])
     ensures { bytes.new ≡ spec.freed_within (spec.listed_from slots.now (4 * sector) 4) bytes.old }
 {
     for place in 0..4 {
-        free_one(slots, (4 * sector) as u16, place, bytes);
+        free_one(slots, sector, place, bytes);
     }
 }
 
-/// Frees one of them, by its place in the sector of which the first slot is given.
+/// Frees one of them, by its place in the sector.
 #[tactic(auto, unfolding(crate::specs::Freeing::freed_within))]
-fn free_one(slots: &Slots, first: u16, place: u16, bytes: &mut [u8; 128])
-    requires few { first ≤ 508 }
+fn free_one(slots: &Slots, sector: u32, place: u32, bytes: &mut [u8; 128])
+    requires sector { sector ≤ 127 }
     requires place { place ≤ 3 }
-    requires begins { first % 4 ≡ 0 }
-    ensures { bytes.new ≡ spec.freed_within (listed_at slots.now (first + place)) bytes.old }
+    ensures { bytes.new ≡ spec.freed_within (listed_at slots.now (4 * sector + place)) bytes.old }
 {
-    if slots.has(first + place) {
-        bytes[32 * usize::from(place)] = FREE;
+    if slots.has((4 * sector + place) as u16) {
+        bytes[32 * place as usize] = FREE;
     }
 }

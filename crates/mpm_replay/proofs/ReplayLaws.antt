@@ -1,6 +1,6 @@
 -- A replay, instruction by instruction.
 use Rattle.std.proofs.Common.{◌≡◌, ◌∙◌, ℕ, ◌+◌, ◌<◌, Bool, List, Option, Some, None, true, false, inl, inr, refl, sym, ap, arith, add-one}
-use Rattle.std.specs.Prelude.{◌↔◌, IsNone, IsSome, replicate}
+use Rattle.std.specs.Prelude.{IsNone, IsSome, replicate}
 use Rattle.std.proofs.lemmas.Bool.{cases_eq, false≢true}
 use Rattle.z80_decode.specs.declared.instr.Instr.{Instr}
 use Rattle.z80_decode.specs.Decoding.{instr_of}
@@ -17,7 +17,7 @@ use Rattle.mpm_processor.proofs.MovingLaws.{unmoved, ran_or_not}
 use Rattle.mpm_replay.specs.declared.stopping.Why.{Why}
 use Rattle.mpm_replay.specs.declared.stopping.Why.TheVariants.{Steps, Illegal}
 use Rattle.mpm_replay.specs.Ports.{reads_of, reads_unless}
-use Rattle.mpm_replay.specs.Replays.{no_devices, bytes_at, stop_of, stop_by, stop_unless, stop_at, input_if, held_by, held_at, left_by, Advances, IsReplay}
+use Rattle.mpm_replay.specs.Replays.{no_devices, bytes_at, stop_of, stop_by, stop_unless, stop_at, input_if, held_by, held_at, left_by, Executes, Advances, IsReplay}
 
 pub no_devices_yet : (devices : Devices) → devices.ready ≡ replicate 16 false → devices.last ≡ replicate 16 0 → devices ≡ no_devices
 no_devices_yet devices ready last = ap (λ r. record devices { ready = r }) ready ∙ ap (λ l. record no_devices { last = l }) last
@@ -62,37 +62,33 @@ holds inside old new held why is same some = record {
   left = same;
 }
 
--- what a step of the processor answers
-pub record Answers (view : View) (stepped : Stepped) : Type 0 where
-  pub illegal : (stepped ≡ Unlisted) ↔ IsNone (instruction_in 0 view)
-  pub unlisted : (stepped ≡ Unlisted) ↔ ((view.regs.halted ≡ false) × IsNone (instr_of (bytes_at view)))
-
 -- a transfer of LDIR is an instruction
-pub loaded : (view : View) → IsSome (instruction_in 0 view) → Answers view Ran
-loaded view listed = record {
-  illegal = ((λ is. absurd (ran_or_not Ran refl is)), (λ none. absurd (false≢true (sym none ∙ listed))));
+pub loaded : (old new : View) → IsSome (instruction_in 0 old) → new ≡ moved 0 old → Executes old new Ran
+loaded old new listed is = record {
+  illegal = ((λ unlisted. absurd (ran_or_not Ran refl unlisted)), (λ none. absurd (false≢true (sym none ∙ listed))));
   unlisted = (
-    (λ is. absurd (ran_or_not Ran refl is)),
-    (λ none. absurd (false≢true (sym ((unlisted_exactly view.regs (byte_at view.memory 0) (port_byte view.devices)).1 none) ∙ listed))),
+    (λ unlisted. absurd (ran_or_not Ran refl unlisted)),
+    (λ none. absurd (false≢true (sym ((unlisted_exactly old.regs (byte_at old.memory 0) (port_byte old.devices)).1 none) ∙ listed))),
   );
+  moves = is;
 }
 
-pub ran_on : (inside : Bool) (now new : View) (stepped : Stepped) → held_at inside now ≡ None → Answers now stepped → new ≡ moved 0 now → stepped ≡ Ran
+pub ran_on : (inside : Bool) (now new : View) (stepped : Stepped) → held_at inside now ≡ None → Executes now new stepped → stepped ≡ Ran
     → Advances inside now new None
 unfolding held_at stop_at
-ran_on inside now new stepped free answers is ran = record {
-  stop = sym (free_goes (gate_of inside now.memory 0 now.regs.pc) now.regs.halted (bytes_at now) free (λ runs none. ran_or_not stepped ran (answers.unlisted.1 (runs, none))));
-  left = is;
+ran_on inside now new stepped free executes ran = record {
+  stop = sym (free_goes (gate_of inside now.memory 0 now.regs.pc) now.regs.halted (bytes_at now) free (λ runs none. ran_or_not stepped ran (executes.unlisted.1 (runs, none))));
+  left = executes.moves;
 }
 
-pub ran_none : (inside : Bool) (now new : View) (stepped : Stepped) → held_at inside now ≡ None → Answers now stepped → new ≡ moved 0 now → stepped ≡ Unlisted
+pub ran_none : (inside : Bool) (now new : View) (stepped : Stepped) → held_at inside now ≡ None → Executes now new stepped → stepped ≡ Unlisted
     → Advances inside now new (Some Illegal)
 unfolding held_at stop_at
-ran_none inside now new stepped free answers is unlisted =
-    let none = answers.unlisted.0 unlisted in
+ran_none inside now new stepped free executes unlisted =
+    let none = executes.unlisted.0 unlisted in
     record {
       stop = sym (unlisted_stops (gate_of inside now.memory 0 now.regs.pc) now.regs.halted (bytes_at now) free none.0 none.1);
-      left = is ∙ unmoved 0 now (answers.illegal.0 unlisted);
+      left = executes.moves ∙ unmoved 0 now (executes.illegal.0 unlisted);
     }
 
 -- so many were done, and there was no reason to stop before any of them

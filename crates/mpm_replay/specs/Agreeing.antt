@@ -38,3 +38,8 @@ pub record Agrees (seg count : ℕ) (view : View) (regs : Regs) (memory : Memory
   pub why : replayed.why ≡ Steps
   pub registers : regs ≡ view.regs
   pub reached : memory ≡ reach_of view.memory seg
+
+-- so it is with each row of views that begins with what the process reaches
+abbrev pub AgreesWithAll : Bool → ℕ → View → Regs → Memory → Replayed → Type 0
+AgreesWithAll inside count old regs memory replayed = (seg : ℕ) (views : ℕ → View) → old ≡ own_of seg (views 0) → FollowEach inside seg count views
+    → Agrees seg count (views count) regs memory replayed

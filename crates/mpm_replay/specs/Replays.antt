@@ -1,16 +1,18 @@
 -- What the instructions of one process make of it alone, one after another, until one can't be done here: registers, and memory as
 -- the process reaches it. (This project's own.)
-use Rattle.std.specs.Prelude.{◌≡◌, ◌⊎◌, ℕ, ◌<◌, List, Option, Some, None, Bool, true, false, replicate, if◌then◌else◌}
+use Rattle.std.specs.Prelude.{◌≡◌, ◌⊎◌, ◌↔◌, IsNone, ℕ, ◌<◌, List, Option, Some, None, Bool, true, false, replicate, if◌then◌else◌}
 use Rattle.z80_regs.specs.declared.regs.Regs.{Regs}
 use Rattle.z80_decode.specs.declared.instr.Instr.{Instr}
 use Rattle.z80_decode.specs.Decoding.{instr_of}
-use Rattle.z80_ext.specs.Instruction.{four_from}
+use Rattle.z80_ext.specs.Instruction.{IsLoadUpAt, four_from}
+use Rattle.z80_ext.specs.declared.stepped.Stepped.{Stepped}
+use Rattle.z80_ext.specs.declared.stepped.Stepped.TheVariants as stepped
 use Rattle.mpm_base.specs.declared.devices.Devices.{Devices}
 use Rattle.mpm_base.specs.declared.segment.SegmentSpec.{SegmentSpec}
 use Rattle.mpm_banks.specs.Memory.{Memory, byte_at}
 use Rattle.mpm_gate.specs.Gates.{gate_of}
 use Rattle.mpm_gate.specs.declared.gate.Gate.{Gate as GateThere}
-use Rattle.mpm_processor.specs.Moving.{View, view_of, moved, moves}
+use Rattle.mpm_processor.specs.Moving.{View, view_of, instruction_in, moved, moves}
 use Rattle.mpm_replay.specs.Ports.{reads_port, reads_unless}
 use Rattle.mpm_replay.specs.declared.stopping.Why.{Why}
 use Rattle.mpm_replay.specs.declared.stopping.Why.TheVariants.{Steps, Gate, Illegal, Input}
@@ -67,6 +69,33 @@ abbrev pub stopped_by : Next → Option Why
 stopped_by (next.Stops why) = Some why
 stopped_by next.Loads = None
 stopped_by next.Steps = None
+
+-- what stops it that is at no gate
+abbrev pub input_at : View → Option Why
+input_at view = input_if (reads_unless view.regs.halted (instr_of (bytes_at view)))
+
+-- what a process reaches beside its registers: the bytes of its segment, those of common memory, and devices
+pub record Reach : Type 0 where
+  pub segment : List ℕ
+  pub common : List ℕ
+  pub devices : Devices
+
+abbrev pub reach : List ℕ → List ℕ → Devices → Reach
+reach segment common devices = record { segment = segment; common = common; devices = devices }
+
+-- what a process does next was found: what stops it, or that it is a transfer of LDIR. Nothing has changed
+pub record FindsNext (stop : View → Option Why) (view : View) (old new : Reach) (found : Next) : Type 0 where
+  pub stops : stopped_by found ≡ stop view
+  pub loads : found ≡ next.Loads → IsLoadUpAt view.regs (byte_at view.memory 0)
+  pub segment : new.segment ≡ old.segment
+  pub common : new.common ≡ old.common
+  pub devices : new.devices ≡ old.devices
+
+-- one instruction was done, or none is listed and nothing has changed
+pub record Executes (old new : View) (answer : Stepped) : Type 0 where
+  pub illegal : (answer ≡ stepped.Illegal) ↔ IsNone (instruction_in 0 old)
+  pub unlisted : (answer ≡ stepped.Illegal) ↔ ((old.regs.halted ≡ false) × IsNone (instr_of (bytes_at old)))
+  pub moves : new ≡ moved 0 old
 
 -- what is left of a view: what an instruction leaves, where there was no reason to stop
 abbrev pub left_by : Option Why → View → View

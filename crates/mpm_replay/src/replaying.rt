@@ -1,14 +1,10 @@
-ghost use Rattle.std.specs.Prelude.{◌≡◌, ◌↔◌, ℕ, false, IsNone, IsSome, length};
-ghost use Rattle.z80_decode.specs.Decoding.{instr_of};
-ghost use Rattle.z80_ext.specs.Instruction.{IsLoadUpAt, four_from, instruction, registers_after, actions_of};
+ghost use Rattle.z80_ext.specs.Instruction.{IsLoadUpAt};
 ghost use Rattle.mpm_banks.specs.Allocations.{FitsBelowCommon};
 ghost use Rattle.mpm_banks.specs.Memory.{byte_at};
-ghost use Rattle.mpm_banks.specs.Ports.{port_byte};
 ghost use Rattle.mpm_banks.specs.Sides.{alone};
-ghost use Rattle.mpm_banks.specs.Actions.{memory_after, devices_after};
-ghost use Rattle.mpm_processor.specs.Moving.{View, view_of};
-ghost use Rattle.mpm_replay.specs.Replays.{IsReplay, Advances, portless};
-ghost use Rattle.mpm_replay.specs.Agreeing.{own_of, FollowEach, Agrees};
+ghost use Rattle.mpm_processor.specs.Moving.{view_of};
+ghost use Rattle.mpm_replay.specs.Replays.{IsReplay, Advances, Executes, portless};
+ghost use Rattle.mpm_replay.specs.Agreeing.{AgreesWithAll};
 
 use crate::stopping::{Next, Why, find_next};
 use mpm_banks::SliceBus;
@@ -32,12 +28,7 @@ fn execute(
     common: &mut [u8],
     devices: &mut Devices,
 ) -> Stepped
-    ensures illegal { (result ≡ Stepped.Illegal) ↔ IsNone (instruction regs.old (byte_at (alone spec segment.old common.old) 0) (port_byte devices.old)) }
-    ensures unlisted { (result ≡ Stepped.Illegal)
-        ↔ ((regs.old.halted ≡ false) × IsNone (instr_of (four_from (byte_at (alone spec segment.old common.old) 0) regs.old.pc))) }
-    ensures registers { regs.new ≡ registers_after (instruction regs.old (byte_at (alone spec segment.old common.old) 0) (port_byte devices.old)) regs.old }
-    ensures memory { alone spec segment.new common.new ≡ memory_after (actions_of (instruction regs.old (byte_at (alone spec segment.old common.old) 0) (port_byte devices.old))) 0 (alone spec segment.old common.old) }
-    ensures devices { devices.new ≡ devices_after (actions_of (instruction regs.old (byte_at (alone spec segment.old common.old) 0) (port_byte devices.old))) devices.old }
+    ensures { Executes (view_of spec regs.old segment.old common.old devices.old) (view_of spec regs.new segment.new common.new devices.new) result }
 {
     let mut bus = SliceBus {
         spec,
@@ -58,10 +49,7 @@ fn execute_load(
     devices: &mut Devices,
 )
     requires { IsLoadUpAt regs.old (byte_at (alone spec segment.old common.old) 0) }
-    ensures listed { IsSome (instruction regs.old (byte_at (alone spec segment.old common.old) 0) (port_byte devices.old)) }
-    ensures registers { regs.new ≡ registers_after (instruction regs.old (byte_at (alone spec segment.old common.old) 0) (port_byte devices.old)) regs.old }
-    ensures memory { alone spec segment.new common.new ≡ memory_after (actions_of (instruction regs.old (byte_at (alone spec segment.old common.old) 0) (port_byte devices.old))) 0 (alone spec segment.old common.old) }
-    ensures devices { devices.new ≡ devices_after (actions_of (instruction regs.old (byte_at (alone spec segment.old common.old) 0) (port_byte devices.old))) devices.old }
+    ensures { Executes (view_of spec regs.old segment.old common.old devices.old) (view_of spec regs.new segment.new common.new devices.new) Stepped.Ran }
 {
     let mut bus = SliceBus {
         spec,
@@ -83,10 +71,7 @@ fn advance(
     devices: &mut Devices,
 ) -> Option<Why>
     requires { FitsBelowCommon spec }
-    ensures advances { Advances inside (view_of spec regs.old segment.old common.old devices.old)
-        (view_of spec regs.new segment.new common.new devices.new) result }
-    ensures segment { length segment.new ≡ length segment.old }
-    ensures common { length common.new ≡ length common.old }
+    ensures { Advances inside (view_of spec regs.old segment.old common.old devices.old) (view_of spec regs.new segment.new common.new devices.new) result }
 {
     match find_next(inside, spec, regs, segment, common, devices) {
         Next::Stops(why) => Some(why),
@@ -111,9 +96,7 @@ fn advance_on(
     most: u64,
 ) -> Replayed
     requires { FitsBelowCommon spec }
-    ensures replayed { IsReplay inside most (portless spec regs.old segment.old common.old) regs.new (alone spec segment.new common.new) result }
-    ensures segment { length segment.new ≡ length segment.old }
-    ensures common { length common.new ≡ length common.old }
+    ensures { IsReplay inside most (portless spec regs.old segment.old common.old) regs.new (alone spec segment.new common.new) result }
 {
     let mut devices = Devices::new();
     for done in 0..most {
@@ -141,10 +124,7 @@ pub fn replay(
 ) -> Replayed
     requires { FitsBelowCommon spec }
     ensures replayed { IsReplay inside most (portless spec regs.old segment.old common.old) regs.new (alone spec segment.new common.new) result }
-    ensures agrees { (seg : ℕ) (views : ℕ → View) → portless spec regs.old segment.old common.old ≡ own_of seg (views 0) → FollowEach inside seg most views
-        → Agrees seg most (views most) regs.new (alone spec segment.new common.new) result }
-    ensures segment { length segment.new ≡ length segment.old }
-    ensures common { length common.new ≡ length common.old }
+    ensures agrees { AgreesWithAll inside most (portless spec regs.old segment.old common.old) regs.new (alone spec segment.new common.new) result }
 {
     advance_on(inside, spec, regs, segment, common, most)
 }

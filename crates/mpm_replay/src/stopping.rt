@@ -1,12 +1,6 @@
-ghost use Rattle.std.specs.Prelude.{◌≡◌};
-ghost use Rattle.z80_decode.specs.Decoding.{instr_of};
-ghost use Rattle.z80_ext.specs.Instruction.{IsLoadUpAt};
 ghost use Rattle.mpm_banks.specs.Allocations.{FitsBelowCommon};
-ghost use Rattle.mpm_banks.specs.Memory.{byte_at};
-ghost use Rattle.mpm_banks.specs.Sides.{alone};
 ghost use Rattle.mpm_processor.specs.Moving.{view_of};
-ghost use Rattle.mpm_replay.specs.Ports.{reads_unless};
-ghost use Rattle.mpm_replay.specs.Replays.{input_if, stopped_by, held_at, bytes_at};
+ghost use Rattle.mpm_replay.specs.Replays.{FindsNext, input_at, held_at, reach};
 
 use crate::ports::next_at;
 use mpm_banks::{SliceBus, last_page};
@@ -47,11 +41,7 @@ fn next_off_gates(
     common: &mut [u8],
     devices: &mut Devices,
 ) -> Next
-    ensures stops { stopped_by result ≡ input_if (reads_unless regs.now.halted (instr_of (bytes_at (view_of spec regs.now segment.old common.old devices.old)))) }
-    ensures loads { result ≡ Next.Loads → IsLoadUpAt regs.now (byte_at (alone spec segment.old common.old) 0) }
-    ensures segment { segment.new ≡ segment.old }
-    ensures common { common.new ≡ common.old }
-    ensures devices { devices.new ≡ devices.old }
+    ensures { FindsNext input_at (view_of spec regs.now segment.old common.old devices.old) (reach segment.old common.old devices.old) (reach segment.new common.new devices.new) result }
 {
     if regs.halted {
         return Next::Steps;
@@ -77,11 +67,7 @@ pub(crate) fn find_next(
     devices: &mut Devices,
 ) -> Next
     requires { FitsBelowCommon spec }
-    ensures held { stopped_by result ≡ held_at inside (view_of spec regs.now segment.old common.old devices.old) }
-    ensures loads { result ≡ Next.Loads → IsLoadUpAt regs.now (byte_at (alone spec segment.old common.old) 0) }
-    ensures segment { segment.new ≡ segment.old }
-    ensures common { common.new ≡ common.old }
-    ensures devices { devices.new ≡ devices.old }
+    ensures { FindsNext (held_at inside) (view_of spec regs.now segment.old common.old devices.old) (reach segment.old common.old devices.old) (reach segment.new common.new devices.new) result }
 {
     if is_gate(inside, last_page(spec), regs.pc) {
         return Next::Stops(Why::Gate);

@@ -6,6 +6,7 @@ use Rattle.z80_regs.specs.Words.{low, high, word_of}
 use Rattle.mpm_base.specs.Lists.{zeros, in_width}
 use Rattle.mpm_base.specs.Calls.{Taken, Answer}
 pub use Rattle.mpm_base.specs.Calls.{asking}
+pub use Rattle.mpm_messages.specs.Asking.{asking_file, block_after}
 use Rattle.mpm_base.specs.declared.functions.TheConstants.{PRINT_STRING, OPEN_FILE, CLOSE_FILE, READ_SEQUENTIAL, SET_GET_USER_CODE, COMPUTE_FILE_SIZE, ABSOLUTE_MEMORY_REQUEST, RELOCATABLE_MEMORY_REQUEST, MEMORY_FREE, OPEN_QUEUE, READ_QUEUE, CONDITIONAL_WRITE_QUEUE}
 use Rattle.mpm_base.specs.declared.segment.SegmentSpec.{SegmentSpec}
 use Rattle.mpm_procs.specs.declared.process.NewProcess.{NewProcess}
@@ -16,7 +17,7 @@ use Rattle.mpm_loader.specs.Plans.{pages_of, absolute_plan}
 use Rattle.mpm_loader.specs.Pieces.{Loading, nothing, begun, with_piece, has_all, code_in, code_place, marks_in, marked_place, marked_length}
 use Rattle.mpm_residents.specs.Messages.{message_of}
 use Rattle.mpm_residents.specs.declared.cli.act.Act.{Act}
-use Rattle.mpm_residents.specs.declared.cli.act.Act.TheVariants.{Ask, Place as PlaceBytes, Patch as MoveCode, Begin as BeginProcess, Give as GiveConsole}
+use Rattle.mpm_residents.specs.declared.cli.act.Act.TheVariants.{Ask, PlaceBytes, MoveCode, BeginProcess, GiveConsole}
 use Rattle.mpm_residents.specs.declared.cli.table.Message.TheVariants.{NotFound, BadLoad, NoMemory, NoProcess, QueueFull}
 use Rattle.mpm_residents.specs.declared.cli.table.Row.{Row}
 use Rattle.mpm_residents.specs.declared.cli.table.Row.TheVariants.{ReadCommand, OpenQueue, WriteQueue, SetUser, OpenRelocatable, OpenAbsolute, ReadHeader, ComputeSize, SetUserZero, Reserve, Place, Patch, ReadOn, Free, CloseAfter, Close, Tell, Give, PlaceBasePage, Begin}
@@ -40,7 +41,7 @@ pub record Interpreter : Type 0 where
 abbrev pub no_command : Command
 no_command = record { user = 0; drive = 0; names_drive = false; name = record { 0 = zeros 8 }; password = zeros 8 }
 
--- it begins to read commands
+-- it begins to read commands; of a segment it has none yet, and this one is any that programs can have
 unfoldable pub opening : ℕ → Interpreter
 opening consoles = record {
   consoles = consoles;
@@ -55,17 +56,13 @@ opening consoles = record {
   spec = record { base = 0; pages = 2 };
 }
 
--- a call on a file has its control block
-abbrev pub asking_file : ℕ → List ℕ → List ℕ → Taken
-asking_file function fcb bytes = record { function = function; word = 0; dma = 0; fcb = fcb; bytes = bytes }
-
 -- bytes to place or to move code by, and no call
 abbrev pub handing : List ℕ → Taken
 handing bytes = asking 0 0 bytes
 
 -- the user queue control block of the queue of commands, which is queue 0, so that its pointer is 1
-abbrev pub command_queue : List ℕ
-command_queue = 1 ∷ 0 ∷ 0 ∷ 0 ∷ codes "CliQ    "
+abbrev pub command_block : List ℕ
+command_block = 1 ∷ 0 ∷ 0 ∷ 0 ∷ codes "CliQ    "
 
 -- that of the queue of the command's name
 abbrev pub queue_block : ℕ → Command → List ℕ
@@ -92,7 +89,7 @@ last_page spec = spec.base + spec.pages - 1
 
 -- the call of each row, or the bytes that it hands over
 abbrev pub call_at : Row → Interpreter → Taken
-call_at ReadCommand cli = asking READ_QUEUE 0 command_queue
+call_at ReadCommand cli = asking READ_QUEUE 0 command_block
 call_at OpenQueue cli = asking OPEN_QUEUE 0 (queue_block 0 cli.command)
 call_at WriteQueue cli = asking CONDITIONAL_WRITE_QUEUE 0 (queue_block cli.pointer cli.command ++ cli.tail)
 call_at SetUser cli = asking SET_GET_USER_CODE cli.command.user []
@@ -164,14 +161,16 @@ CountsBytes bytes (PlaceBytes seg address count) = count ≡ length bytes
 CountsBytes bytes (MoveCode seg address count page) = (0 < count) × (count ≤ 8 * length bytes)
 CountsBytes bytes _ = Unit {0}
 
+-- by its row it fills in a call and acts: within the bounds of its acts, by the bytes that it filled in
+pub record ActsBy {A : Type 0} (call_of : A → Taken) (act_of : A → Act) (IsItsAct : Act → Type 0) (resident : A) (filled : Taken) (done : Act) : Type 0 where
+  pub call : filled ≡ call_of resident
+  pub act : done ≡ act_of resident
+  pub bounds : IsItsAct done
+  pub counts : CountsBytes filled.bytes done
+
 -- a file that isn't found
 abbrev pub not_found : ℕ
 not_found = 255
-
--- the file control block as a call answers it
-abbrev pub block_after : Option (List ℕ) → List ℕ → List ℕ
-block_after None fcb = fcb
-block_after (Some block) fcb = block
 
 -- a command comes: it goes to a queue of its name, or, where it names a drive, to a program at once
 abbrev pub followed : Option Command → List ℕ → Interpreter → Interpreter
@@ -245,7 +244,7 @@ pub record IsSegmentOf (pages : ℕ) (reply : Answer) : Type 0 where
   pub enough : pages ≤ byte_at reply 1
   pub below : byte_at reply 0 + byte_at reply 1 ≤ 192
 
--- a segment is reserved, or none is there
+-- a segment is reserved, or none is there; a descriptor off these bounds can't come from functions 128 and 129, and counts as none
 abbrev pub reserved : ℕ → Answer → Interpreter → Interpreter
 reserved pages reply cli =
     if reply.hl == 0 && is_segment_of pages reply then record cli { row = row_for_piece cli.load; seg = byte_at reply 3; spec = record { base = byte_at reply 0; pages = byte_at reply 1 } }

@@ -5,7 +5,7 @@ use Rattle.mpm_loader.specs.Plans.{FitsIn}
 use Rattle.mpm_loader.specs.declared.plan.Plan.{Plan}
 use Rattle.mpm_residents.specs.Interpreters.{Interpreter, IsInterpreterRow}
 use Rattle.mpm_residents.specs.declared.cli.act.Act.{Act}
-use Rattle.mpm_residents.specs.declared.cli.act.Act.TheVariants.{Ask, Place as PlaceBytes, Patch as MoveCode, Begin as BeginProcess, Give as GiveConsole}
+use Rattle.mpm_residents.specs.declared.cli.act.Act.TheVariants.{Ask, PlaceBytes, MoveCode, BeginProcess, GiveConsole}
 use Rattle.mpm_residents.specs.declared.cli.table.Row.{Row}
 use Rattle.mpm_residents.specs.declared.cli.table.Row.TheVariants.{Place, Patch, ReadOn, Free, Close, PlaceBasePage, Begin}
 

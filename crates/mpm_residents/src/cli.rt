@@ -1,16 +1,15 @@
-ghost use Rattle.std.specs.Prelude.{◌≡◌, ◌≤◌, [], length};
+ghost use Rattle.std.specs.Prelude.{◌≡◌, [], length};
 ghost use Rattle.mpm_command.specs.Commands.{IsCommand, tail_in};
 ghost use Rattle.mpm_residents.specs.Interpreters.{no_command as command_of_nobody, request as request_for, records_in as records_of, byte_at as byte_of_reply, is_segment_of as is_segment_with, IsSegmentOf};
 ghost use Rattle.std.specs.Bool.{OnTrue};
+ghost use Rattle.mpm_names.specs.Readings.{IsBytes, IsSuch};
 
 mod act;
 mod asking;
 mod table;
 
 pub use crate::cli::act::Act;
-use crate::cli::asking::{
-    ask, ask_file, code_address, file_block, hand, message_in, queue_block, size_in,
-};
+use crate::cli::asking::{code_address, file_block, hand, message_in, queue_block, size_in};
 use crate::cli::table::{
     Message, Row, row_after_begin, row_after_write, row_behind_code, row_behind_marks,
     row_for_memory, row_for_piece,
@@ -18,6 +17,7 @@ use crate::cli::table::{
 use mpm_base::{Call, FAILURE_CODE, Name8, Reply, Seg, SegmentSpec, functions};
 use mpm_command::{BadName, Command, base_page, command_of, console_of, tail_of};
 use mpm_loader::{BadHeader, Load};
+use mpm_messages::{ask, ask_file};
 use mpm_procs::NewProcess;
 use std::marker::Model;
 
@@ -25,7 +25,7 @@ use std::marker::Model;
 const MOST: usize = 2048;
 
 /// The user queue control block of the queue of commands, which is queue 0, so that its pointer is 1.
-const COMMAND_QUEUE: [u8; 12] = *b"\x01\x00\x00\x00CliQ    ";
+const COMMAND_BLOCK: [u8; 12] = *b"\x01\x00\x00\x00CliQ    ";
 
 /// The answer of a call on a file that isn't found.
 const NOT_FOUND: u16 = FAILURE_CODE;
@@ -70,9 +70,10 @@ impl Model for Cli {
 impl Cli {
     ghost use Rattle.std.specs.Prelude.{◌≡◌, ◌≤◌, ◌<◌, ◌*◌, ◌++◌, length, false, if◌then◌else◌};
     ghost use Rattle.mpm_base.specs.declared.functions.TheConstants.{CONDITIONAL_WRITE_QUEUE, OPEN_FILE};
+    ghost use Rattle.mpm_names.specs.Readings.{IsSuch};
     ghost use Rattle.mpm_command.specs.Commands.{IsCommand, tail_in};
     ghost use Rattle.mpm_loader.specs.Pieces.{has_all, marks_in, marked_length};
-    ghost use Rattle.mpm_residents.specs.Interpreters.{opening, asking, asking_file, queue_block as block_of_queue, file_block as block_of_file, descriptor as descriptor_of, last_page as page_of_gates, next_call, next_act, act_at, process_of, took as behind, took_at, message_in as message_of_bytes, commanded, with_block, reserved, IsAct, IsNew, CountsBytes, IsInterpreterRow, IsFilled};
+    ghost use Rattle.mpm_residents.specs.Interpreters.{opening, asking, asking_file, queue_block as block_of_queue, file_block as block_of_file, descriptor as descriptor_of, last_page as page_of_gates, next_call, next_act, act_at, process_of, took as behind, took_at, message_in as message_of_bytes, commanded, with_block, reserved, IsAct, IsNew, ActsBy, IsInterpreterRow, IsFilled};
     ghost use Rattle.mpm_residents.specs.Standing.{InterpreterStands, HandsIn};
     ghost use Rattle.mpm_residents.specs.declared.cli.table.Row.TheVariants.{Place, Patch, SetUser, OpenQueue, OpenRelocatable, OpenAbsolute, ReadHeader, ComputeSize, ReadOn};
 
@@ -100,11 +101,8 @@ impl Cli {
     /// answer is taken. What it hands over comes into its segment alone.
     #[tactic(auto, using(crate::proofs::StandingLaws::hands_by))]
     pub fn next(&mut self, call: &mut Call) -> Act
-        ensures cli { self.new ≡ self.old }
-        ensures call { call.new ≡ next_call self.old }
-        ensures act { result ≡ next_act self.old }
-        ensures bounds { IsAct self.old.consoles result }
-        ensures counts { CountsBytes call.new.bytes result }
+        ensures stays { self.new ≡ self.old }
+        ensures acts { ActsBy next_call next_act (IsAct self.old.consoles) self.old call.new result }
         ensures hands { InterpreterStands self.old → HandsIn self.old.seg self.old.spec result }
     {
         self.act(call)
@@ -142,25 +140,22 @@ impl Cli {
     /// The call of its row is filled in, or the bytes that it hands over. Answers what it does.
     #[tactic(auto, unfolding(crate::specs::Interpreters::next_act, crate::specs::Interpreters::next_call))]
     fn act(&self, call: &mut Call) -> Act
-        ensures call { call.new ≡ next_call self.now }
-        ensures act { result ≡ next_act self.now }
-        ensures bounds { IsAct self.now.consoles result }
-        ensures counts { CountsBytes call.new.bytes result }
+        ensures { ActsBy next_call next_act (IsAct self.now.consoles) self.now call.new result }
     {
         self.fill(call);
         match self.row {
             Row::Place => self.place_code(),
             Row::Patch => self.move_code(),
-            Row::PlaceBasePage => Act::Place {
+            Row::PlaceBasePage => Act::PlaceBytes {
                 seg: self.seg,
                 address: u16::from_le_bytes([0, self.spec.base]),
                 length: 256,
             },
-            Row::Begin => Act::Begin {
+            Row::Begin => Act::BeginProcess {
                 seg: self.seg,
                 new: self.process(),
             },
-            Row::Give => Act::Give {
+            Row::Give => Act::GiveConsole {
                 console: self.console,
             },
             _ => Act::Ask,
@@ -203,7 +198,7 @@ impl Cli {
         ensures filled { IsFilled self.now.row call.new.bytes }
     {
         match self.row {
-            Row::ReadCommand => ask(call, functions::READ_QUEUE, 0, &COMMAND_QUEUE),
+            Row::ReadCommand => ask(call, functions::READ_QUEUE, 0, &COMMAND_BLOCK),
             Row::OpenQueue => ask(
                 call,
                 functions::OPEN_QUEUE,
@@ -287,8 +282,7 @@ impl Cli {
 
     /// The last page of its segment.
     fn last_page(&self) -> u8
-        ensures page { result ≡ page_of_gates self.now.spec }
-        ensures above { 0 < result }
+        ensures { IsSuch (page_of_gates self.now.spec) (λ page. 0 < page) result }
     {
         self.spec.base + self.spec.pages - 1
     }
@@ -296,8 +290,7 @@ impl Cli {
     /// The process of the program.
     #[tactic(auto, unfolding(crate::specs::Interpreters::process_of))]
     fn process(&self) -> NewProcess
-        ensures process { result ≡ process_of self.now }
-        ensures bounds { IsNew self.now.consoles result }
+        ensures { IsSuch (process_of self.now) (IsNew self.now.consoles) result }
     {
         NewProcess {
             name: self.command.name,
@@ -316,7 +309,7 @@ impl Cli {
     fn place_code(&self) -> Act
         ensures { result ≡ act_at Place self.now }
     {
-        Act::Place {
+        Act::PlaceBytes {
             seg: self.seg,
             address: code_address(self.spec, self.load.code_place()),
             length: self.load.code().len() as u16,
@@ -329,7 +322,7 @@ impl Cli {
         ensures act { result ≡ act_at Patch self.now }
         ensures bounds { (0 < marked_length self.now.load) × (marked_length self.now.load ≤ 8 * length (marks_in self.now.load)) }
     {
-        Act::Patch {
+        Act::MoveCode {
             seg: self.seg,
             address: code_address(self.spec, self.load.marked_place()),
             length: self.load.marked_length() as u16,
@@ -490,8 +483,7 @@ impl Cli {
 /// No command.
 #[tactic(auto, unfolding(mpm_base::specs::Lists::zeros))]
 fn no_command() -> Command
-    ensures command { result ≡ command_of_nobody }
-    ensures bounds { IsCommand result }
+    ensures { IsSuch command_of_nobody IsCommand result }
 {
     Command {
         user: 0,
@@ -523,8 +515,7 @@ fn request(relocatable: bool) -> u8
 
 /// Whether the descriptor that was answered is one of a segment of so many pages at least.
 fn is_segment_of(pages: u8, reply: &Reply) -> bool
-    ensures test { result ≡ is_segment_with pages reply.now }
-    ensures segment { OnTrue result (IsSegmentOf pages reply.now) }
+    ensures { IsSuch (is_segment_with pages reply.now) (λ is. OnTrue is (IsSegmentOf pages reply.now)) result }
 {
     let [base, size, seg] = [byte_at(reply, 0), byte_at(reply, 1), byte_at(reply, 3)];
     seg < 16 && pages <= size && u16::from(base) + u16::from(size) <= 192
@@ -532,8 +523,7 @@ fn is_segment_of(pages: u8, reply: &Reply) -> bool
 
 /// The records that a call read, sixteen at most.
 fn records_in(reply: &Reply) -> &[u8]
-    ensures records { result.now ≡ records_of reply.now }
-    ensures few { length result.now ≤ 2048 }
+    ensures { IsBytes (records_of reply.now) 2048 result.now }
 {
     let bytes = reply.placed();
     if bytes.len() <= MOST {

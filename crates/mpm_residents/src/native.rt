@@ -1,6 +1,6 @@
 ghost use Rattle.std.specs.Prelude.{◌≡◌};
 ghost use Rattle.mpm_residents.specs.Natives.{native_act, native_call, native_took, interprets as is_interpreter, IsNativeAct};
-ghost use Rattle.mpm_residents.specs.Interpreters.{CountsBytes};
+ghost use Rattle.mpm_residents.specs.Interpreters.{ActsBy};
 
 use crate::{Act, Cli, Tmp};
 use mpm_base::{Call, Reply};
@@ -24,11 +24,8 @@ impl Native {
     /// What it does next. It fills in the call that it makes, or the bytes that it hands over; a call that is held, or has to be
     /// made again, is filled in again.
     pub fn next(&mut self, call: &mut Call) -> Act
-        ensures native { self.new ≡ self.old }
-        ensures call { call.new ≡ native_call self.old }
-        ensures act { result ≡ native_act self.old }
-        ensures bounds { IsNativeAct self.old result }
-        ensures counts { CountsBytes call.new.bytes result }
+        ensures stays { self.new ≡ self.old }
+        ensures acts { ActsBy native_call native_act (IsNativeAct self.old) self.old call.new result }
     {
         match self {
             Native::Tmp { tmp } => {

@@ -33,7 +33,7 @@ impl Residents {
     ghost use Rattle.mpm_residents.specs.Terminals.{opening};
     ghost use Rattle.mpm_residents.specs.Natives.{native_act, native_call, native_in, interprets_if_there, answer_taken, IsNativeAct};
     ghost use Rattle.mpm_residents.specs.declared.native.Native.TheVariants.{Tmp as Terminal, Cli as Interpreter, Spool as Spooler, Sched as Scheduler};
-    ghost use Rattle.mpm_residents.specs.Interpreters.{opening as opening_interpreter, CountsBytes};
+    ghost use Rattle.mpm_residents.specs.Interpreters.{opening as opening_interpreter, ActsBy};
     ghost use Rattle.mpm_sched.specs.Schedulers.{opening as opening_scheduler};
     ghost use Rattle.mpm_spool.specs.Spoolers.{opening as opening_spooler};
 
@@ -119,10 +119,7 @@ impl Residents {
     pub fn ask(&mut self, p: Pid, call: &mut Call) -> Act
         requires { is_some (native_in self.old p) ≡ true }
         ensures residents { self.new ≡ self.old }
-        ensures call { IfSome (native_in self.old p) (λ native. call.new ≡ native_call native) }
-        ensures act { IfSome (native_in self.old p) (λ native. result ≡ native_act native) }
-        ensures bounds { IfSome (native_in self.old p) (λ native. IsNativeAct native result) }
-        ensures counts { CountsBytes call.new.bytes result }
+        ensures acts { IfSome (native_in self.old p) (λ native. ActsBy native_call native_act (IsNativeAct native) native call.new result) }
     {
         self.natives[usize::from(p.0)].next(call)
     }

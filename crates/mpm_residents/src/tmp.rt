@@ -64,6 +64,8 @@ impl Tmp {
     ghost use Rattle.mpm_base.specs.declared.functions.TheConstants.{PRINT_STRING, SEND_CLI_COMMAND};
     ghost use Rattle.mpm_residents.specs.Lines.{form_of};
     ghost use Rattle.mpm_base.specs.Calls.{asking};
+    ghost use Rattle.mpm_messages.specs.Asking.{Asks};
+    ghost use Rattle.mpm_names.specs.Readings.{IsSuch};
     ghost use Rattle.mpm_residents.specs.Terminals.{opening, prompt, command_of, next_call, took as behind, line_in, row_after as row_of, IsTerminalRow};
 
     /// The processor of a console: user 0 on drive A, and no console attached yet.
@@ -84,8 +86,7 @@ impl Tmp {
     /// Fills in the call that it makes next. It stays the same until its answer is taken.
     #[tactic(auto, unfolding(crate::specs::Terminals::next_call))]
     pub fn next(&mut self, call: &mut Call)
-        ensures tmp { self.new ≡ self.old }
-        ensures call { call.new ≡ next_call self.old }
+        ensures { Asks next_call self.old self.new call.new }
     {
         match self.row {
             Row::Attach => call.begin(functions::ATTACH_CONSOLE, 0, 0),
@@ -184,8 +185,7 @@ impl Tmp {
 
     /// Where it goes by its line.
     fn row_after_line(&self) -> Row
-        ensures row { result ≡ row_of (form_of self.now.line) }
-        ensures bound { IsTerminalRow result }
+        ensures { IsSuch (row_of (form_of self.now.line)) IsTerminalRow result }
     {
         match form_of(&self.line[..usize::from(self.length)]) {
             LineForm::Empty => Row::Attach,

@@ -1,16 +1,14 @@
-ghost use Rattle.std.specs.Prelude.{◌≡◌, ◌≤◌, ◌<◌, ◌+◌, pos, ◌≤ℤ◌};
+ghost use Rattle.std.specs.Prelude.{◌≡◌, ◌+◌, pos, ◌≤ℤ◌};
 ghost use Rattle.jiff_core.specs.Calendar.{day_count};
 ghost use Rattle.mpm_sched.specs.Dates.{date_of as date_number_of};
+ghost use Rattle.mpm_sched.specs.Forms.{AreOfForm};
 
 use jiff::civil::{Date, date};
 
 /// The number of a date of the years 1978 to 2077, of which 1 is 1 January 1978; None where the calendar has no such day.
 #[tactic(auto, unfolding(crate::specs::Dates::date_of))]
 pub(crate) fn date_of(year: u16, month: u8, day: u8) -> Option<u16>
-    requires first { 1978 ≤ year }
-    requires last { year ≤ 2077 }
-    requires month { month < 100 }
-    requires day { day < 100 }
+    requires { AreOfForm year month day }
     ensures { result ≡ date_number_of year month day }
 {
     match Date::new(year as i16, month as i8, day as i8) {

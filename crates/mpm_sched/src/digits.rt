@@ -1,4 +1,5 @@
-ghost use Rattle.std.specs.Prelude.{◌≡◌, ◌≤◌, ◌<◌, true, slice_index};
+ghost use Rattle.std.specs.Prelude.{◌≡◌, ◌≤◌, true, slice_index};
+ghost use Rattle.mpm_names.specs.Readings.{IsNumber};
 ghost use Rattle.mpm_sched.specs.Entries.{is_digit as is_digit_byte, has_two as has_two_at, two_at as two_digits_at};
 
 /// The byte at a place; 00h after the text's end.
@@ -27,8 +28,7 @@ pub(crate) fn has_two(text: &[u8], place: usize) -> bool
 pub(crate) fn two_at(text: &[u8], place: usize) -> u8
     requires place { place ≤ 128 }
     requires digits { has_two_at text.now place ≡ true }
-    ensures number { result ≡ two_digits_at text.now place }
-    ensures below { result < 100 }
+    ensures { IsNumber (two_digits_at text.now place) 99 result }
 {
     10 * (byte_at(text, place) - b'0') + (byte_at(text, place + 1) - b'0')
 }

@@ -1,6 +1,7 @@
-ghost use Rattle.std.specs.Prelude.{◌≡◌, ◌≤◌, ◌<◌, true, length, drop, Some, None, IfOk, OnErr};
-ghost use Rattle.mpm_sched.specs.Dates.{year_of};
+ghost use Rattle.std.specs.Prelude.{◌≡◌, ◌<◌, true, drop};
+ghost use Rattle.mpm_names.specs.Readings.{IsBytes, Reads, ReadsForm};
 ghost use Rattle.mpm_sched.specs.Entries.{entry_of, entry_in, is_form as is_form_of, is_time as is_time_of_day, date_written, entry_of_parts, written, has_date as has_date_at, has_time as has_time_at, has_console as has_console_at, SpellsEntry, HasNoEntryForm};
+ghost use Rattle.mpm_sched.specs.Forms.{IsEntryText, IsYearOf};
 
 use crate::date::date_of;
 use crate::digits::{byte_at, has_two, two_at};
@@ -23,7 +24,8 @@ pub struct SchedEntry {
 }
 
 impl SchedEntry {
-    ghost use Rattle.std.specs.Prelude.{◌≡◌, ◌≤◌, length, take};
+    ghost use Rattle.std.specs.Prelude.{◌≡◌, take};
+    ghost use Rattle.mpm_names.specs.Readings.{IsBytes};
     ghost use Rattle.mpm_sched.specs.Schedules.{time_of};
 
     /// Its moment in minutes.
@@ -35,8 +37,7 @@ impl SchedEntry {
 
     /// Its command.
     pub(crate) fn text(&self) -> &[u8]
-        ensures text { result.now ≡ take self.now.length self.now.command }
-        ensures few { length result.now ≤ 128 }
+        ensures { IsBytes (take self.now.length self.now.command) 128 result.now }
     {
         &self.command[..usize::from(self.length).min(128)]
     }
@@ -73,10 +74,7 @@ pub struct BadSchedEntry;
 /// Exactly where that form isn't met, the calendar has no such day, or the day no such time.
 #[tactic(auto, using(crate::proofs::Formed::entry_spelled, crate::proofs::Formed::none_spelled), unfolding(crate::specs::Entries::entry_of))]
 pub fn read_entry(text: &[u8; 128]) -> Result<SchedEntry, BadSchedEntry>
-    ensures ok { IfOk result (λ entry. entry_of text.now ≡ Some entry) }
-    ensures err { OnErr result (entry_of text.now ≡ None) }
-    ensures form { IfOk result (λ entry. SpellsEntry text.now entry) }
-    ensures formless { OnErr result (HasNoEntryForm text.now) }
+    ensures { ReadsForm (entry_of text.now) (SpellsEntry text.now) (HasNoEntryForm text.now) result }
 {
     let text = without_leading_spaces(text_of(text));
     if !is_form(text) {
@@ -87,10 +85,8 @@ pub fn read_entry(text: &[u8; 128]) -> Result<SchedEntry, BadSchedEntry>
 
 /// The entry of a text in the form.
 fn read_moment(text: &[u8]) -> Result<SchedEntry, BadSchedEntry>
-    requires form { is_form_of text.now ≡ true }
-    requires few { length text.now ≤ 128 }
-    ensures ok { IfOk result (λ entry. entry_in text.now ≡ Some entry) }
-    ensures err { OnErr result (entry_in text.now ≡ None) }
+    requires { IsEntryText text.now }
+    ensures { Reads (entry_in text.now) result }
 {
     let hour = two_at(text, 9);
     let minute = two_at(text, 12);
@@ -120,8 +116,7 @@ fn date_in(text: &[u8]) -> Option<u16>
 
 /// The entry of a text in the form, of a date and a time.
 fn entry_at(text: &[u8], date: u16, hour: u8, minute: u8) -> SchedEntry
-    requires form { is_form_of text.now ≡ true }
-    requires few { length text.now ≤ 128 }
+    requires { IsEntryText text.now }
     ensures { result ≡ entry_of_parts date hour minute (written text.now) }
 {
     let command = command_in(text);
@@ -137,10 +132,8 @@ fn entry_at(text: &[u8], date: u16, hour: u8, minute: u8) -> SchedEntry
 
 /// The command of a text in the form.
 fn command_in(text: &[u8]) -> &[u8]
-    requires few { length text.now ≤ 128 }
-    requires some { 17 ≤ length text.now }
-    ensures command { result.now ≡ drop 17 text.now }
-    ensures size { length result.now ≤ 111 }
+    requires { IsEntryText text.now }
+    ensures { IsBytes (drop 17 text.now) 111 result.now }
 {
     &text[17..]
 }
@@ -148,9 +141,7 @@ fn command_in(text: &[u8]) -> &[u8]
 /// The year of two digits, 1978 to 2077.
 fn year(digits: u8) -> u16
     requires { digits < 100 }
-    ensures year { result ≡ year_of digits }
-    ensures first { 1978 ≤ result }
-    ensures last { result ≤ 2077 }
+    ensures { IsYearOf digits result }
 {
     if digits >= 78 {
         1900 + u16::from(digits)

@@ -1,5 +1,5 @@
 -- Numbers of a script: decimal ones without needless zeros, and bytes of two hexadecimal digits.
-use Rattle.std.specs.Prelude.{ℕ, ◌+◌, ◌-◌, ◌*◌, Bool, true, false, not, ◌&&◌, ◌==◌, nat_le, if◌then◌else◌, List, [], ◌∷◌, Option, Some, None, option_and_then}
+use Rattle.std.specs.Prelude.{◌≡◌, ◌≤◌, IfSome, ℕ, ◌+◌, ◌-◌, ◌*◌, Bool, true, false, not, ◌&&◌, ◌==◌, nat_le, if◌then◌else◌, List, [], ◌∷◌, Option, Some, None, option_and_then}
 use Rattle.std.specs.List.{list_all}
 use Rattle.std.specs.Char.{is_ascii_digit}
 
@@ -41,3 +41,8 @@ hex_byte high low = do
   first ← hex_digit high
   second ← hex_digit low
   Some (16 * first + second)
+
+-- what a reader answers: the number that is known, if there is one, which is no greater than that
+pub record IsNumber (known : Option ℕ) (greatest : ℕ) (read : Option ℕ) : Type 0 where
+  pub number : read ≡ known
+  pub limit : IfSome read (λ n. n ≤ greatest)

@@ -1,5 +1,4 @@
-ghost use Rattle.std.specs.Prelude.{◌≡◌, ◌<◌, ◌≤◌, List, [], length, Some, slice_get};
-ghost use Rattle.mpm_script.specs.declared.line.TheConstants.{GREATEST_STEP};
+ghost use Rattle.std.specs.Prelude.{◌≡◌, ◌<◌, List, [], length, Some, slice_get};
 
 use crate::event::Timed;
 use std::alloc::Global;
@@ -24,7 +23,7 @@ impl Model for Script {
 }
 
 impl Script {
-    ghost use Rattle.mpm_script.specs.Events.{IsEvent};
+    ghost use Rattle.mpm_script.specs.Events.{IsTimed};
     ghost use Rattle.mpm_script.specs.Scripts.{IsScript};
 
     /// No events. It takes no memory.
@@ -54,8 +53,7 @@ impl Script {
     pub fn at(&self, i: usize) -> Timed
         requires { i < length self.now }
         ensures timed { slice_get self.now i ≡ Some result }
-        ensures step { result.step ≤ GREATEST_STEP }
-        ensures event { IsEvent result.event }
+        ensures of_script { IsTimed result }
     {
         self.events[i]
     }

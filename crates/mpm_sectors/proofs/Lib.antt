@@ -3,3 +3,4 @@ pub mod OtherImages
 pub mod WriteLaws
 pub mod LeavesLaws
 pub mod SlotLaws
+pub mod SlotPuts

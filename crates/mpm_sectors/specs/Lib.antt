@@ -1,3 +1,4 @@
 pub mod Writes
 pub mod Slots
 pub mod Disks
+pub mod Calling

@@ -1,14 +1,9 @@
-ghost use Rattle.std.specs.Prelude.{◌≡◌, ℕ, ◌+◌, ◌/◌, ◌<◌, ◌≤◌, [], ◌∷◌, true, List, Some, IsSome, IsOk, OnOk, OnErr, is_some, if◌then◌else◌};
-ghost use Rattle.mpm_port.specs.Causes.{HasCause};
+ghost use Rattle.std.specs.Prelude.{◌≡◌, ◌+◌, ◌/◌, ◌<◌, ◌≤◌, Some};
 ghost use Rattle.mpm_port.specs.Disks.{size_of};
-ghost use Rattle.mpm_blocks.specs.Geometries.{geometry_of, last_block, block_records, logical_sectors, place_of};
+ghost use Rattle.mpm_blocks.specs.Geometries.{geometry_of, last_block, block_records, logical_sectors};
 ghost use Rattle.mpm_dirent.specs.Proper.{IsProper};
-ghost use Rattle.mpm_cache.specs.Cached.{cached_at};
 ghost use Rattle.mpm_cache.specs.Coherent.{IsCoherent};
-ghost use Rattle.mpm_blocks.specs.Sectors.{sectors_of};
-ghost use Rattle.mpm_sectors.specs.Writes.{Puts, zeros_from, block_writes, block_calls};
-ghost use Rattle.mpm_sectors.specs.Slots.{IsReadBack, slot_write, slots_write};
-ghost use Rattle.mpm_sectors.specs.Disks.{IsReadyDisk, TakesCalls, slot_calls, LeavesDisks};
+ghost use Rattle.mpm_sectors.specs.Disks.{IsReadyDisk};
 
 use crate::slots::{entry_bytes, put_entry};
 use mpm_base::{Kind, Steps};
@@ -51,6 +46,8 @@ pub struct Disk {
 }
 
 impl Disk {
+    ghost use Rattle.mpm_sectors.specs.Calling.{ReadsSector, PutsSector, ClearsSectors, PutsBlock, PutsSlot, PutsSlots};
+
     /// Reads a sector, which costs no call of the drives where it is cached, and one where it isn't.
     #[tactic(auto, using(crate::proofs::Bounds::sector_inside, crate::proofs::OtherImages::elsewhere_same, crate::proofs::OtherImages::told_same, mpm_cache::proofs::AliasLaws::alone_after))]
     pub fn read<D: Drives, L: Ledger>(
@@ -64,16 +61,7 @@ impl Disk {
         requires size { size_of (D.disks drives.old) self.now.drive ≡ Some (geometry_of self.now.kind).bytes }
         requires within { sector < logical_sectors self.now.kind }
         requires coherent { IsCoherent cache.old (D.disks drives.old) }
-        ensures bytes { (image : List ℕ) → (D.disks drives.old).image self.now.drive ≡ Some image
-            → OnOk result (out.new ≡ sectors_of image self.now.kind sector) }
-        ensures calls { steps.new ≡ (if is_some (cached_at cache.old self.now.drive (place_of self.now.kind sector)) then steps.old else steps.old + 1) }
-        ensures succeeds { IsSome (cached_at cache.old self.now.drive (place_of self.now.kind sector)) → IsOk result }
-        ensures uncalled { IsSome (cached_at cache.old self.now.drive (place_of self.now.kind sector)) → drives.new ≡ drives.old }
-        ensures leaves { LeavesDisks D.disks D.told D.failed_names D.unsynced self.now.drive cache.old cache.new drives.old drives.new }
-        ensures disks { D.disks drives.new ≡ D.disks drives.old }
-        ensures told { D.told drives.new ≡ D.told drives.old }
-        ensures unsynced { D.unsynced drives.new ≡ D.unsynced drives.old }
-        ensures cause { HasCause (D.faults drives.old) (D.faults drives.new) result }
+        ensures { ReadsSector D.Drives self.now sector out.new cache.old cache.new drives.old drives.new steps.old steps.new result }
     {
         cache.read(drives, self.drive, place(self.kind, sector), out, steps)
     }
@@ -90,11 +78,7 @@ impl Disk {
     ) -> Result<(), Failed>
         requires ready { IsReadyDisk (D.disks drives.old) self.now.drive self.now.kind cache.old }
         requires within { sector < logical_sectors self.now.kind }
-        ensures puts { Puts self.now.drive self.now.kind (record { sector = sector; bytes = bytes.now } ∷ []) (D.disks drives.old) (D.disks drives.new) result }
-        ensures calls { steps.new ≡ steps.old + 1 }
-        ensures leaves { LeavesDisks D.disks D.told D.failed_names D.unsynced self.now.drive cache.old cache.new drives.old drives.new }
-        ensures unsynced { D.unsynced drives.new self.now.drive ≡ true }
-        ensures cause { HasCause (D.faults drives.old) (D.faults drives.new) result }
+        ensures { PutsSector D.Drives self.now sector bytes.now cache.old cache.new drives.old drives.new steps.old steps.new result }
     {
         cache.write(drives, self.drive, place(self.kind, sector), bytes, steps)
     }
@@ -111,12 +95,7 @@ impl Disk {
     ) -> Result<(), Failed>
         requires ready { IsReadyDisk (D.disks drives.old) self.now.drive self.now.kind cache.old }
         requires within { first + count ≤ logical_sectors self.now.kind }
-        ensures puts { Puts self.now.drive self.now.kind (zeros_from first count) (D.disks drives.old) (D.disks drives.new) result }
-        ensures calls { TakesCalls steps.old steps.new count result }
-        ensures leaves { LeavesDisks D.disks D.told D.failed_names D.unsynced self.now.drive cache.old cache.new drives.old drives.new }
-        ensures unsynced { OnErr result (D.unsynced drives.new self.now.drive ≡ true) }
-        ensures owed { 0 < count → D.unsynced drives.new self.now.drive ≡ true }
-        ensures cause { HasCause (D.faults drives.old) (D.faults drives.new) result }
+        ensures { ClearsSectors D.Drives self.now first count cache.old cache.new drives.old drives.new steps.old steps.new result }
     {
         for number in 0..count {
             match self.put(cache, drives, first + number, &[0; 128], steps) {
@@ -143,11 +122,7 @@ impl Disk {
         requires block { block.number ≤ last_block self.now.kind }
         requires clear { block.clear ≤ block_records self.now.kind }
         requires index { index < block_records self.now.kind }
-        ensures puts { Puts self.now.drive self.now.kind (block_writes self.now.kind block.number block.clear index bytes.now) (D.disks drives.old) (D.disks drives.new) result }
-        ensures calls { TakesCalls steps.old steps.new (block_calls self.now.kind block.clear index) result }
-        ensures leaves { LeavesDisks D.disks D.told D.failed_names D.unsynced self.now.drive cache.old cache.new drives.old drives.new }
-        ensures unsynced { D.unsynced drives.new self.now.drive ≡ true }
-        ensures cause { HasCause (D.faults drives.old) (D.faults drives.new) result }
+        ensures { PutsBlock D.Drives self.now block index bytes.now cache.old cache.new drives.old drives.new steps.old steps.new result }
     {
         let records = u32::from(geometry(self.kind).block) / 128;
         let first = u32::from(block.number) * records;
@@ -185,13 +160,7 @@ impl Disk {
         requires ready { IsReadyDisk (D.disks drives.old) self.now.drive self.now.kind cache.old }
         requires within { slot ≤ (geometry_of self.now.kind).drm }
         requires proper { IsProper (geometry_of self.now.kind).wide entry.now }
-        ensures puts { (image : List ℕ) → (D.disks drives.old).image self.now.drive ≡ Some image
-            → Puts self.now.drive self.now.kind (slot_write self.now.kind image slot entry.now ∷ []) (D.disks drives.old) (D.disks drives.new) result }
-        ensures read { IsReadBack (geometry_of self.now.kind).wide entry.now }
-        ensures calls { TakesCalls steps.old steps.new (slot_calls cache.old self.now.drive self.now.kind (slot / 4)) result }
-        ensures leaves { LeavesDisks D.disks D.told D.failed_names D.unsynced self.now.drive cache.old cache.new drives.old drives.new }
-        ensures unsynced { OnOk result (D.unsynced drives.new self.now.drive ≡ true) }
-        ensures cause { HasCause (D.faults drives.old) (D.faults drives.new) result }
+        ensures { PutsSlot D.Drives self.now slot entry.now cache.old cache.new drives.old drives.new steps.old steps.new result }
     {
         let wide = geometry(self.kind).wide;
         let bytes = entry_bytes(entry, wide);
@@ -219,14 +188,7 @@ impl Disk {
         requires same { second.now.slot / 4 ≡ first.now.slot / 4 }
         requires proper { IsProper (geometry_of self.now.kind).wide first.now.entry }
         requires second { IsProper (geometry_of self.now.kind).wide second.now.entry }
-        ensures puts { (image : List ℕ) → (D.disks drives.old).image self.now.drive ≡ Some image
-            → Puts self.now.drive self.now.kind (slots_write self.now.kind image first.now.slot first.now.entry second.now.slot second.now.entry ∷ []) (D.disks drives.old) (D.disks drives.new) result }
-        ensures read { IsReadBack (geometry_of self.now.kind).wide first.now.entry }
-        ensures second_read { IsReadBack (geometry_of self.now.kind).wide second.now.entry }
-        ensures calls { TakesCalls steps.old steps.new (slot_calls cache.old self.now.drive self.now.kind (first.now.slot / 4)) result }
-        ensures leaves { LeavesDisks D.disks D.told D.failed_names D.unsynced self.now.drive cache.old cache.new drives.old drives.new }
-        ensures unsynced { OnOk result (D.unsynced drives.new self.now.drive ≡ true) }
-        ensures cause { HasCause (D.faults drives.old) (D.faults drives.new) result }
+        ensures { PutsSlots D.Drives self.now first.now second.now cache.old cache.new drives.old drives.new steps.old steps.new result }
     {
         let wide = geometry(self.kind).wide;
         let bytes = entry_bytes(&first.entry, wide);

@@ -8,7 +8,7 @@ use Rattle.mpm_ready.proofs.OrderLaws.{in_list_put_in, all_put_in, in_list_witho
 use Rattle.mpm_service.specs.declared.service.Served.{Served}
 use Rattle.mpm_service.specs.declared.service.Turn.{Turn}
 use Rattle.mpm_service.specs.declared.service.Turn.TheVariants.{Idle, Passing, Work, Starts}
-use Rattle.mpm_service.specs.Disk.{DiskService, left_by, starting, after_step, step_answer, HasBegun, IsAfter, IsSoundService}
+use Rattle.mpm_service.specs.Disk.{DiskService, left_by, starting, after_step, step_answer, HasBegun, IsAfter, IsSoundService, Leaves}
 
 absent_with : (served : Option Served) (waiting : List Member) (p priority : ℕ) → IfSome served (λ call. call.p ≢ p) → IfSome served (λ call. in_list call.p waiting ≡ false)
     → IfSome served (λ call. in_list call.p (put_in waiting (record { slot = p; priority = priority })) ≡ false)
@@ -60,16 +60,30 @@ sound_starting service p waiting sound first is =
     })
 
 -- who doesn't wait doesn't leave
-pub nothing_left : (service : DiskService) (p : ℕ) → in_list p service.waiting ≡ false → left_by service p ≡ service
+nothing_left : (service : DiskService) (p : ℕ) → in_list p service.waiting ≡ false → left_by service p ≡ service
 unfolding left_by
 nothing_left service p absent = ap (λ (ms : List Member). record service { waiting = ms }) (without_slot_absent service.waiting p absent)
 
-pub served_stays : (service : DiskService) (p : ℕ) → IsSoundService service → IfSome service.served (λ call. call.p ≡ p → in_list p service.waiting ≡ false)
+served_stays : (service : DiskService) (p : ℕ) → IsSoundService service → IfSome service.served (λ call. call.p ≡ p → in_list p service.waiting ≡ false)
 served_stays service p sound = by_case service.served service.waiting p sound.apart
   where
     by_case : (served : Option Served) (waiting : List Member) (p : ℕ) → IfSome served (λ call. in_list call.p waiting ≡ false) → IfSome served (λ call. call.p ≡ p → in_list p waiting ≡ false)
     by_case None waiting p absent = tt
     by_case (Some call) waiting p absent = λ same. subst (λ (k : ℕ). in_list k waiting ≡ false) same absent
+
+-- a call that waits is dropped
+pub leaves_left : (p : ℕ) (service : DiskService) → IsSoundService service → Leaves p service (left_by service p) (in_list p service.waiting)
+unfolding left_by
+leaves_left p service sound = record {
+  service = refl;
+  answer = refl;
+  gone = without_slot_gone p service.waiting;
+  nothing = λ absent. nothing_left service p absent;
+  served = served_stays service p sound;
+  same = refl;
+  steps = refl;
+  begun = λ begun. begun;
+}
 
 -- a call after a step is the same process's, and within its turn
 of_same : (b c : Bool) (turn_steps : ℕ) (waiting : List Member) (call : Served) → in_list call.p waiting ≡ false → 0 < turn_steps → (b ≡ false → call.passed + 1 < turn_steps)

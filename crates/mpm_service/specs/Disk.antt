@@ -1,6 +1,6 @@
 -- Disk service: the file calls that wait for the disk, in ready order, and the one that is served, in turns of so many steps.
 -- The turns are this project's own; the order is that of the dispatcher (MP/M II Programmer's Guide, "Dispatcher").
-use Rattle.std.specs.Prelude.{◌≡◌, ℕ, ◌+◌, ◌-◌, ◌<◌, ◌==◌, Bool, false, List, [], Option, Some, None, IfSome, IsSomeAnd, option_map, if◌then◌else◌}
+use Rattle.std.specs.Prelude.{◌≡◌, ◌≢◌, ℕ, ◌+◌, ◌-◌, ◌<◌, ◌==◌, Bool, false, List, [], Option, Some, None, IfSome, IsSomeAnd, option_map, if◌then◌else◌}
 use Rattle.std.specs.List.{AllByRecursion}
 use Rattle.mpm_ready.specs.Order.{Member, put_in, without_slot, in_list, first_of}
 use Rattle.mpm_service.specs.declared.service.Served.{Served}
@@ -98,3 +98,33 @@ pub record IsSoundService (service : DiskService) : Type 0 where
   pub apart : IfSome service.served (λ call. in_list call.p service.waiting ≡ false)
   pub within : IfSome service.served (λ call. call.passed < service.turn_steps)
   pub steps : AllByRecursion (λ m. 0 < service.turn_steps) service.waiting
+
+-- a call of a process may wait: turns have steps, and no call of it waits or is in service
+pub record MayEnter (p : ℕ) (service : DiskService) : Type 0 where
+  pub steps : 0 < service.turn_steps
+  pub absent : in_list p service.waiting ≡ false
+  pub other : IfSome service.served (λ call. call.p ≢ p)
+
+-- the service becomes another one, whose turns are as long; a call in service that has turns left still has some
+pub record Becomes (value old new : DiskService) : Type 0 where
+  pub service : new ≡ value
+  pub steps : new.turn_steps ≡ old.turn_steps
+  pub begun : HasBegun old → HasBegun new
+
+-- a step of the disk is made, and answers what it is
+pub record Turns (old new : DiskService) (result : Turn) : Type 0 where
+  pub service : new ≡ turned old
+  pub answer : result ≡ turn_answer old
+  pub after : IsAfter result new
+  pub steps : new.turn_steps ≡ old.turn_steps
+
+-- the call of a process waits no more; where none of it waits, as where it is in service, nothing changes
+pub record Leaves (p : ℕ) (old new : DiskService) (result : Bool) : Type 0 where
+  pub service : new ≡ left_by old p
+  pub answer : result ≡ in_list p old.waiting
+  pub gone : in_list p new.waiting ≡ false
+  pub nothing : result ≡ false → new ≡ old
+  pub served : IfSome old.served (λ call. call.p ≡ p → result ≡ false)
+  pub same : new.served ≡ old.served
+  pub steps : new.turn_steps ≡ old.turn_steps
+  pub begun : HasBegun old → HasBegun new

@@ -1,5 +1,4 @@
-ghost use Rattle.std.specs.Prelude.{◌≡◌, ◌≢◌, ℕ, ◌+◌, ◌<◌, ◌≤◌, true, false, None, IfSome, unwrap_or};
-ghost use Rattle.mpm_ready.specs.Order.{in_list};
+ghost use Rattle.std.specs.Prelude.{◌≡◌, ℕ, ◌+◌, ◌<◌, ◌≤◌, true, None, IfSome, unwrap_or};
 ghost use Rattle.mpm_service.specs.Waiting.{IsWaitList};
 ghost use Rattle.mpm_service.specs.Places.{served_without};
 
@@ -50,7 +49,7 @@ impl Model for Service {
 }
 
 impl Service {
-    ghost use Rattle.mpm_service.specs.Disk.{no_service, entered, left_by, served_process, turned, turn_answer, begun, HasBegun, HasEntered, IsAfter, IsSoundService};
+    ghost use Rattle.mpm_service.specs.Disk.{no_service, entered, served_process, turn_answer, begun, HasBegun, HasEntered, IsSoundService, MayEnter, Becomes, Turns, Leaves};
     ghost use Rattle.mpm_service.specs.Turns.{TakesTurns};
     ghost use Rattle.mpm_service.specs.Places.{without_call};
     ghost use Rattle.mpm_service.specs.Ahead.{turned_by, quiet_steps, passed_by, turns_left, unserved};
@@ -72,13 +71,9 @@ impl Service {
     /// A process's call waits from now on, after all of equal or better priority (0 is best, 255 worst).
     #[tactic(auto, using(crate::proofs::SoundLaws::stays_begun), unfolding(crate::specs::Disk::entered))]
     pub fn enter(&mut self, p: Pid, priority: u8)
-        requires steps { 0 < self.old.turn_steps }
-        requires waits { in_list p self.old.waiting ≡ false }
-        requires served { IfSome self.old.served (λ call. call.p ≢ p) }
-        ensures service { self.new ≡ entered self.old p priority }
-        ensures steps { self.new.turn_steps ≡ self.old.turn_steps }
+        requires { MayEnter p self.old }
+        ensures becomes { Becomes (entered self.old p priority) self.old self.new }
         ensures same { self.new.served ≡ self.old.served }
-        ensures begun { HasBegun self.old → HasBegun self.new }
     {
         self.waiting.put(p, priority);
     }
@@ -89,11 +84,8 @@ impl Service {
     #[tactic(auto, using(crate::proofs::SoundLaws::has_begun, crate::proofs::SoundLaws::after_answer, crate::proofs::SoundLaws::last_ends), unfolding(crate::specs::Disk::turned, crate::specs::Disk::turn_answer))]
     pub fn turn(&mut self) -> Turn
         requires begun { HasBegun self.old }
-        ensures service { self.new ≡ turned self.old }
-        ensures answer { result ≡ turn_answer self.old }
-        ensures after { IsAfter result self.new }
+        ensures turns { Turns self.old self.new result }
         ensures last { (p : ℕ) → result ≡ Turn.Work p true → self.new.served ≡ None }
-        ensures steps { self.new.turn_steps ≡ self.old.turn_steps }
     {
         match self.served {
             Some(call) => {
@@ -109,10 +101,7 @@ impl Service {
     #[tactic(auto, unfolding(crate::specs::Disk::turned, crate::specs::Disk::turn_answer))]
     fn start(&mut self) -> Turn
         requires { self.old.served ≡ None }
-        ensures service { self.new ≡ turned self.old }
-        ensures answer { result ≡ turn_answer self.old }
-        ensures after { IsAfter result self.new }
-        ensures steps { self.new.turn_steps ≡ self.old.turn_steps }
+        ensures { Turns self.old self.new result }
     {
         let Some(p) = self.waiting.first() else {
             return Turn::Idle;
@@ -147,16 +136,8 @@ impl Service {
 
     /// Drops the call of a process that waits; false, and nothing changes, exactly where it doesn't wait: the one that is served
     /// doesn't.
-    #[tactic(auto, using(mpm_ready::proofs::OrderLaws::without_slot_gone, crate::proofs::SoundLaws::nothing_left, crate::proofs::SoundLaws::served_stays, crate::proofs::SoundLaws::stays_begun), unfolding(crate::specs::Disk::left_by))]
     pub fn leave(&mut self, p: Pid) -> bool
-        ensures service { self.new ≡ left_by self.old p }
-        ensures answer { result ≡ in_list p self.old.waiting }
-        ensures gone { in_list p self.new.waiting ≡ false }
-        ensures nothing { result ≡ false → self.new ≡ self.old }
-        ensures served { IfSome self.old.served (λ call. call.p ≡ p → result ≡ false) }
-        ensures steps { self.new.turn_steps ≡ self.old.turn_steps }
-        ensures same { self.new.served ≡ self.old.served }
-        ensures begun { HasBegun self.old → HasBegun self.new }
+        ensures { Leaves p self.old self.new result }
     {
         self.waiting.remove(p)
     }
@@ -205,10 +186,8 @@ impl Service {
     #[tactic(auto, using(crate::proofs::AheadLaws::many_pass), unfolding(crate::specs::Ahead::passed_by))]
     pub fn pass(&mut self, steps: u32)
         requires few { IfSome self.old.served (λ call. call.passed + steps < self.old.turn_steps) }
-        ensures service { self.new ≡ passed_by steps self.old }
+        ensures becomes { Becomes (passed_by steps self.old) self.old self.new }
         ensures turned { IfSome self.old.served (λ _. self.new ≡ turned_by steps self.old) }
-        ensures steps { self.new.turn_steps ≡ self.old.turn_steps }
-        ensures begun { HasBegun self.old → HasBegun self.new }
     {
         if let Some(call) = self.served {
             self.served = Some(Served {

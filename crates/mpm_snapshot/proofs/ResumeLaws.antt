@@ -1,5 +1,5 @@
 -- What came of a file that was fetched.
-use Rattle.std.proofs.Common.{◌≡◌, ◌∙◌, ℕ, ◌≤◌, List, [], Option, Some, None, Ok, length, refl, sym, subst}
+use Rattle.std.proofs.Common.{◌∙◌, ℕ, ◌≤◌, List, [], Option, Some, None, Ok, length, sym, subst}
 use Rattle.std.proofs.lemmas.List.{take_all}
 use Rattle.mpm_port.specs.declared.files.Fetched.{Fetched}
 use Rattle.mpm_port.specs.declared.files.Fetched.TheVariants.{Whole, Longer}

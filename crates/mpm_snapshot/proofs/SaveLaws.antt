@@ -1,5 +1,6 @@
 -- How a save ends, by how its run ended.
-use Rattle.std.proofs.Common.{◌≡◌, ◌∙◌, ℕ, ◌≤◌, List, [], Some, length, refl, sym, subst, inl, inr}
+use Rattle.std.proofs.Common.{◌≡◌, ◌∙◌, ℕ, ◌≤◌, Bool, true, List, [], Some, length, refl, sym, subst}
+use Rattle.std.specs.Bool.{OnTrue}
 use Rattle.mpm_base.proofs.Options.{none_there}
 use Rattle.mpm_system.specs.declared.system.System.{System}
 use Rattle.mpm_top.specs.declared.status.Status.{Status}
@@ -13,28 +14,27 @@ use Rattle.mpm_snapshot.specs.declared.status.SnapStatus.{SnapStatus}
 use Rattle.mpm_snapshot.specs.declared.status.SnapStatus.TheVariants.{Done, Usage, MachineFault, ScriptFault, ImageFault, TooLong, ReadFault, DiskFault, WriteFault, OutOfMemory, NoProcess, CoreFault}
 use Rattle.mpm_snapshot.specs.declared.saving.Taker.{Taker}
 use Rattle.mpm_snapshot.specs.Endings.{unheard, Saves, FailsSnapshot}
-use Rattle.mpm_snapshot.specs.Parts.{Took, WritesTaken, RunsUnheard, status_of}
+use Rattle.mpm_snapshot.specs.Parts.{Took, WritesTaken, status_of}
 
 -- a run whose output is heard by nobody keeps the promises of one
 
-pub runs_unheard : (missing : List ℕ → Type 0) (command : Command) (Saw : System → Type 0) (old new : Seen) (first text : List ℕ) (status : Status) → first ≡ []
+pub runs_unheard : (missing : List ℕ → Type 0) (command : Command) (old new : Seen) (first text : List ℕ) (status : Status) → first ≡ []
     → Writes (text ≡ first) command (unheard old first) (unheard new text) status → Ends new.disks old.host command.form command.name old.failed new.failed status
     → Fails (unheard old first) (unheard new text) status → (missing command.name → EndsAs run.ReadFault status)
     → ((bytes script : List ℕ) → old.host.contents command.name ≡ Some bytes → length bytes ≤ room_for (input_of command.form)
     → script_name command.form bytes ≡ Some script → missing script → EndsAs run.ReadFault status)
-    → (status ≡ run.Ran → SeesLast Saw command (unheard old first) (unheard new text))
-    → RunsUnheard missing command Saw old new status
-runs_unheard missing command Saw old new first text status none writes reason fails file script sees =
+    → Promises (text ≡ []) missing command (unheard old []) (unheard new text) status
+runs_unheard missing command old new first text status none writes reason fails file script =
     let promises : Promises (text ≡ first) missing command (unheard old first) (unheard new text) status = record {
       writes = writes;
       reason = reason;
       known = known_ending missing command (unheard old first) (unheard new text) status reason fails.write file script;
     } in
-    record {
-      text = text;
-      promises = subst (λ (f : List ℕ). Promises (text ≡ f) missing command (unheard old f) (unheard new text) status) none promises;
-      saw = λ is. subst (λ (f : List ℕ). SeesLast Saw command (unheard old f) (unheard new text)) none (sees is);
-    }
+    subst (λ (f : List ℕ). Promises (text ≡ f) missing command (unheard old f) (unheard new text) status) none promises
+
+pub sees_unheard : (command : Command) (Saw : System → Type 0) (old new : Seen) (first text : List ℕ) → first ≡ []
+    → SeesLast Saw command (unheard old first) (unheard new text) → SeesLast Saw command (unheard old []) (unheard new text)
+sees_unheard command Saw old new first text none sees = subst (λ (f : List ℕ). SeesLast Saw command (unheard old f) (unheard new text)) none sees
 
 -- the run stopped
 
@@ -70,17 +70,23 @@ saves_stopped missing command process old new text (run.WriteFault step) stops p
 saves_stopped missing command process old new text run.OutOfMemory stops promises = record { text = text; run = promises; last = tt }
 
 pub fails_stopped : (old new : Seen) (status : Status) → Stops status → UnlessReadFault status (new.failed.files ≡ old.failed.files)
-    → UnlessDiskFault status (new.failed.drives ≡ old.failed.drives) → new.printed.faults ≡ old.printed.faults → FailsSnapshot old new (status_of status)
-fails_stopped old new run.Ran stops files drives same = record { files = files; drives = drives; output = same }
-fails_stopped old new run.Usage stops files drives same = record { files = files; drives = drives; output = same }
-fails_stopped old new run.MachineFault stops files drives same = record { files = files; drives = drives; output = same }
-fails_stopped old new (run.ScriptFault line) stops files drives same = record { files = files; drives = drives; output = same }
-fails_stopped old new (run.ImageFault drive cause place) stops files drives same = record { files = files; drives = drives; output = same }
-fails_stopped old new (run.TooLong what) stops files drives same = record { files = files; drives = drives; output = same }
-fails_stopped old new run.ReadFault stops files drives same = record { files = files; drives = drives; output = same }
-fails_stopped old new (run.DiskFault step) stops files drives same = record { files = files; drives = drives; output = same }
-fails_stopped old new (run.WriteFault step) stops files drives same = absurd (stops.heard step refl)
-fails_stopped old new run.OutOfMemory stops files drives same = record { files = files; drives = drives; output = same }
+    → UnlessDiskFault status (new.failed.drives ≡ old.failed.drives) → new.printed.faults ≡ old.printed.faults
+    → ((other : List ℕ) → new.host.contents other ≡ old.host.contents other) → FailsSnapshot old new (status_of status)
+fails_stopped old new run.Ran stops files drives same stays = record { files = files; drives = drives; output = same; contents = stays }
+fails_stopped old new run.Usage stops files drives same stays = record { files = files; drives = drives; output = same; contents = stays }
+fails_stopped old new run.MachineFault stops files drives same stays = record { files = files; drives = drives; output = same; contents = stays }
+fails_stopped old new (run.ScriptFault line) stops files drives same stays = record { files = files; drives = drives; output = same; contents = stays }
+fails_stopped old new (run.ImageFault drive cause place) stops files drives same stays = record { files = files; drives = drives; output = same; contents = stays }
+fails_stopped old new (run.TooLong what) stops files drives same stays = record { files = files; drives = drives; output = same; contents = stays }
+fails_stopped old new run.ReadFault stops files drives same stays = record { files = files; drives = drives; output = same; contents = stays }
+fails_stopped old new (run.DiskFault step) stops files drives same stays = record { files = files; drives = drives; output = same; contents = stays }
+fails_stopped old new (run.WriteFault step) stops files drives same stays = absurd (stops.heard step refl)
+fails_stopped old new run.OutOfMemory stops files drives same stays = record { files = files; drives = drives; output = same; contents = stays }
+
+-- what is so of a core that was taken
+
+pub of_taken : (taker : Taker) (P : Type 0) → taker.taken ≡ true → OnTrue taker.taken P → P
+of_taken taker P taken so = subst (λ (b : Bool). OnTrue b P) taken so
 
 -- the run went well: the core that was taken after its last step was written, if one was
 
@@ -93,7 +99,7 @@ saves_taken missing command old new text before taker Done promises sees wrote =
   run = promises;
   last = record {
     writes = sees.writes;
-    saw = record { core = taker.core; taken = sees.saw.core wrote.0; is = sees.saw.is wrote.0; wrote = wrote.1 };
+    saw = record { core = taker.core; taken = of_taken taker _ wrote.0 sees.saw.takes.core; is = of_taken taker _ wrote.0 sees.saw.takes.is; wrote = wrote.1 };
   };
 }
 saves_taken missing command old new text before taker WriteFault promises sees wrote = record {
@@ -101,13 +107,13 @@ saves_taken missing command old new text before taker WriteFault promises sees w
   run = promises;
   last = record {
     writes = sees.writes;
-    saw = record { core = taker.core; taken = sees.saw.core wrote.0; is = sees.saw.is wrote.0; wrote = wrote.1 };
+    saw = record { core = taker.core; taken = of_taken taker _ wrote.0 sees.saw.takes.core; is = of_taken taker _ wrote.0 sees.saw.takes.is; wrote = wrote.1 };
   };
 }
 saves_taken missing command old new text before taker NoProcess promises sees wrote = record {
   text = text;
   run = promises;
-  last = record { writes = sees.writes; saw = none_there _ (sym sees.saw.answer ∙ wrote) };
+  last = record { writes = sees.writes; saw = none_there _ (sym sees.saw.takes.answer_is ∙ wrote) };
 }
 saves_taken missing command old new text before taker Usage promises sees wrote = absurd wrote
 saves_taken missing command old new text before taker MachineFault promises sees wrote = absurd wrote

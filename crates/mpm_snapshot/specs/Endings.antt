@@ -1,5 +1,6 @@
 -- How the program ends, and why; what is written then, and what failed.
 use Rattle.std.specs.Prelude.{◌≡◌, ℕ, List, [], ◌∷◌, ◌++◌, Option, Some, None, ⊤, MatchOption, take}
+use Rattle.mpm_port.specs.declared.sink.Sink as sink
 use Rattle.mpm_port.specs.Causes.{Rose}
 use Rattle.mpm_port.specs.Texts.{AppendsPart}
 use Rattle.mpm_system.specs.declared.system.System.{System}
@@ -85,12 +86,16 @@ pub record Runs (most : ℕ) (core : CoreContents) (Writes : List ℕ → Type 0
   pub agrees : Agree most core left replayed
   pub wrote : Writes (line left.head replayed)
 
--- it is the file of a core, which was run on so
-pub record RunsOn (missing : Type 0) (contents : Option (List ℕ)) (most : ℕ) (Writes : List ℕ → Type 0) : Type 0 where
-  pub core : CoreContents
+-- it is the file of a core
+pub record IsReadCore (missing : Type 0) (contents : Option (List ℕ)) (core : CoreContents) : Type 0 where
   pub is : IsCore core
   pub came : Came missing contents (core_bytes core)
   pub sound : fault_of (core_bytes core) ≡ None
+
+-- which was run on so
+pub record RunsOn (missing : Type 0) (contents : Option (List ℕ)) (most : ℕ) (Writes : List ℕ → Type 0) : Type 0 where
+  pub core : CoreContents
+  pub read : IsReadCore missing contents core
   pub run : Runs most core Writes
 
 -- it is none of a core, as is seen at a place
@@ -120,7 +125,8 @@ EndsSnapshot missing (Save command process) old new status = Saves missing comma
 EndsSnapshot missing (Resume name most) old new status =
     Resumes (missing name) (old.host.contents name) (new.failed.files ≡ old.failed.files ++ (name ∷ [])) most old.printed.text new.printed.text status
 
--- What failed: a file's name joins the failed ones, a drive fails, and the output fails, only where that ended the program
+-- What failed: a file's name joins the failed ones, a drive fails, and the output fails, only where that ended the program. What files hold
+-- stays
 abbrev pub FailsOutput : ℕ → ℕ → SnapStatus → Type 0
 FailsOutput before now WriteFault = Rose before now
 FailsOutput before now status = now ≡ before
@@ -129,9 +135,15 @@ pub record FailsSnapshot (old new : Seen) (status : SnapStatus) : Type 0 where
   pub files : UnlessReadFault (run_of status) (new.failed.files ≡ old.failed.files)
   pub drives : UnlessDiskFault (run_of status) (new.failed.drives ≡ old.failed.drives)
   pub output : FailsOutput old.printed.faults new.printed.faults status
+  pub contents : (other : List ℕ) → new.host.contents other ≡ old.host.contents other
 
 -- the endings at which nothing is written
 abbrev pub WritesNothing : SnapStatus → Type 0
 WritesNothing Done = ⊥
 WritesNothing WriteFault = ⊥
 WritesNothing status = ⊤
+
+-- the output fails only where that ended the program, and is as it was where nothing is written
+pub record LeavesOutput {S : Type 0} (by : sink.Ghosts S) (old new : S) (status : SnapStatus) : Type 0 where
+  pub output : FailsOutput (by.faults old) (by.faults new) status
+  pub nothing : WritesNothing status → new ≡ old

@@ -1,6 +1,7 @@
 -- What is said of a core that was run on by itself.
 use Rattle.std.specs.Prelude.{ℕ, List, [], ◌∷◌, ◌++◌, codes, decimal}
 use Rattle.z80_regs.specs.Words.{word_of}
+use Rattle.mpm_lines.specs.Lines.{field}
 use Rattle.z80_regs.specs.declared.regs.Regs.{Regs}
 use Rattle.mpm_render.specs.Lines.{hex_word}
 use Rattle.mpm_core_file.specs.declared.head.Head.{Head}
@@ -14,10 +15,6 @@ word_for Steps = codes "steps"
 word_for Gate = codes "gate"
 word_for Illegal = codes "illegal"
 word_for Input = codes "input"
-
--- a word after a space
-abbrev pub field : List ℕ → List ℕ
-field word = 32 ∷ word
 
 -- AF, BC, DE and HL in hexadecimal digits
 unfoldable pub pairs : Regs → List ℕ

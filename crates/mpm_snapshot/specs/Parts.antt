@@ -1,17 +1,17 @@
 -- What the parts of the program leave: who looks at the machine of a save, the run of a save, and the parts of running a core on.
-use Rattle.std.specs.Prelude.{◌≡◌, ℕ, Bool, true, false, List, [], ◌++◌, Option, Some, ⊤, is_some}
-use Rattle.mpm_port.specs.Disks.{Disks}
+use Rattle.std.specs.Prelude.{◌≡◌, ◌≢◌, ℕ, true, false, List, [], ◌∷◌, ◌++◌, Option, ⊤, Result, IfOk, IfErr, MatchResult}
+use Rattle.mpm_port.specs.declared.files.Files as files
+use Rattle.mpm_port.specs.declared.drives.Drives as drives
 use Rattle.mpm_port.specs.Texts.{AppendsPart}
-use Rattle.mpm_drives.specs.Images.{Images}
 use Rattle.mpm_system.specs.declared.system.System.{System}
-use Rattle.mpm_core_file.specs.CoreFiles.{CoreContents, IsCore, core_bytes}
-use Rattle.mpm_core.specs.Taking.{core_at}
+use Rattle.mpm_core_file.specs.CoreFiles.{CoreContents, core_bytes}
+use Rattle.mpm_core.specs.Taking.{Takes, core_at}
 use Rattle.mpm_top.specs.declared.status.Status.{Status}
 use Rattle.mpm_top.specs.declared.status.Status.TheVariants as run
 use Rattle.mpm_top.specs.Words.{Command}
-use Rattle.mpm_top.specs.Beginnings.{Contents}
+use Rattle.mpm_top.specs.declared.words.Form.TheVariants.{Program}
 use Rattle.mpm_top.specs.Endings.{UnlessReadFault}
-use Rattle.mpm_top.specs.Promises.{Seen, seen, Promises, SeesLast}
+use Rattle.mpm_top.specs.Promises.{Seen, seen, Fails, Promises, SeesLast}
 use Rattle.mpm_snapshot.specs.declared.status.SnapStatus.{SnapStatus}
 use Rattle.mpm_snapshot.specs.declared.status.SnapStatus.TheVariants.{Done, Usage, MachineFault, ScriptFault, ImageFault, TooLong, ReadFault, DiskFault, WriteFault, OutOfMemory, NoProcess, CoreFault}
 use Rattle.mpm_snapshot.specs.declared.saving.Taker.{Taker}
@@ -20,9 +20,7 @@ use Rattle.mpm_snapshot.specs.Endings.{Runs, HasFault, unheard, run_of}
 -- Who looked at a machine for the core of a process: it has it, exactly where there is one.
 pub record Took (old : Taker) (system : System) (new : Taker) : Type 0 where
   pub process : new.process ≡ old.process
-  pub answer : new.taken ≡ is_some (core_at old.process system)
-  pub core : new.taken ≡ true → core_at old.process system ≡ Some new.core
-  pub is : new.taken ≡ true → IsCore new.core
+  pub takes : Takes (core_at old.process system) old.core new.core new.taken
 
 -- the core that was taken, if one was, was written so
 abbrev pub WritesTaken : Taker → List ℕ → List ℕ → SnapStatus → Type 0
@@ -32,15 +30,20 @@ WritesTaken taker first written NoProcess = taker.taken ≡ false
 WritesTaken taker first written status = ⊥
 
 -- what is seen of files and drives, before there is an output
-abbrev pub silent : {F D : Type 0} → (F → Contents) → (F → List (List ℕ)) → (D → Disks) → (D → Images) → (D → ℕ → Bool) → (D → ℕ) → (D → List (List ℕ)) → F → D → Seen
-silent contents unfetched disks told unsynced faults unattached files drives =
-    seen contents unfetched disks told unsynced faults unattached (λ text. text) (λ text. 0) files drives []
+abbrev pub silent : {F D : Type 0} → files.Ghosts F → drives.Ghosts D → F → D → Seen
+silent of on files_now drives_now =
+    seen of.contents of.failed_names on.disks on.told on.unsynced on.faults on.failed_names (λ text. text) (λ text. 0) files_now drives_now []
 
--- the run of a save: it keeps all promises of `run_words`, its output is heard by nobody, and that was seen after its last step
-pub record RunsUnheard (missing : List ℕ → Type 0) (command : Command) (Saw : System → Type 0) (old new : Seen) (status : Status) : Type 0 where
+-- the run of a save: it keeps all promises of `run_words`, its output is heard by nobody, and that was seen after its last step; a program's
+-- leaves drives as they are (`Still`)
+pub record RunsUnheard (Still : Type 0) (missing : List ℕ → Type 0) (command : Command) (Saw : System → Type 0) (old new : Seen) (status : Status) : Type 0 where
+  pub usage : status ≢ run.Usage
   pub text : List ℕ
   pub promises : Promises (text ≡ []) missing command (unheard old []) (unheard new text) status
   pub saw : status ≡ run.Ran → SeesLast Saw command (unheard old []) (unheard new text)
+  pub fails : Fails old new status
+  pub program : command.form ≡ Program → Still
+  pub files : (other : List ℕ) → new.host.contents other ≡ old.host.contents other
 
 -- how a save ends whose run ended so, and after which nothing more comes
 abbrev pub status_of : Status → SnapStatus
@@ -71,3 +74,10 @@ Refuses missing contents unread status = ⊥
 -- a file's name joins the failed ones only where that ended the program
 abbrev pub KeepsNames : List (List ℕ) → List (List ℕ) → SnapStatus → Type 0
 KeepsNames old new status = UnlessReadFault (run_of status) (new ≡ old)
+
+-- a file was read, and that holds of what came of it (`Has`), or none came; what files hold stays
+pub record ReadsFile {F A : Type 0} (of : files.Ghosts F) (name : List ℕ) (Has : A → Type 0) (old new : F) (result : Result A SnapStatus) : Type 0 where
+  pub ok : IfOk result Has
+  pub refuses : IfErr result (Refuses (of.missing old name) (of.contents old name) (of.failed_names new ≡ of.failed_names old ++ (name ∷ [])))
+  pub names : MatchResult result (λ _. of.failed_names new ≡ of.failed_names old) (KeepsNames (of.failed_names old) (of.failed_names new))
+  pub files : (other : List ℕ) → of.contents new other ≡ of.contents old other

@@ -55,3 +55,12 @@ pub record IsSave (request : Option Request) (name : List ℕ) (said : ToSave) :
 abbrev pub UsesNoDrive : Request → Type 0
 UsesNoDrive (Save command process) = command.form ≡ Program
 UsesNoDrive (Resume name most) = ⊤
+
+-- words ask to save what was made of them, or nothing; or to run the core of a name on so far
+abbrev pub AsksToSave : Option Request → List ℕ → Option ToSave → Type 0
+AsksToSave request name None = request ≡ None
+AsksToSave request name (Some said) = IsSave request name said
+
+abbrev pub AsksToResume : Option Request → List ℕ → Option ℕ → Type 0
+AsksToResume request name None = request ≡ None
+AsksToResume request name (Some most) = request ≡ Some (Resume name most)

@@ -1,11 +1,12 @@
-ghost use Rattle.std.specs.Prelude.{◌≡◌, ◌≤◌, ◌+◌, ◌++◌, length, decimal};
+ghost use Rattle.std.specs.Prelude.{◌≡◌, ◌≤◌, ◌+◌, length};
+ghost use Rattle.mpm_lines.specs.Lines.{Appends, field};
 ghost use Rattle.z80_regs.specs.Words.{word_of};
 ghost use Rattle.mpm_render.specs.Lines.{hex_word as hex_digits};
-ghost use Rattle.mpm_snapshot.specs.Lines.{line as line_said, registers, pairs, word_for, field};
+ghost use Rattle.mpm_snapshot.specs.Lines.{line as line_said, registers, pairs, word_for};
 
 use arrayvec::ArrayVec;
-use itoa::Buffer;
 use mpm_core_file::Head;
+use mpm_lines::{push_number, push_word};
 use mpm_render::hex_word;
 use mpm_replay::{Replayed, Why};
 use z80_regs::Regs;
@@ -29,31 +30,10 @@ pub(crate) fn line(head: &Head, replayed: Replayed) -> Line
     line
 }
 
-/// Puts a space and a word after the line.
-fn push_word(word: &[u8], line: &mut Line)
-    requires { length line.old.items + length word.now + 1 ≤ 128 }
-    ensures text { line.new.items ≡ line.old.items ++ field word.now }
-    ensures size { length line.new.items ≡ length line.old.items + length word.now + 1 }
-{
-    line.push(b' ');
-    line.try_extend_from_slice(word).unwrap();
-}
-
-/// Puts a space and a decimal number after it.
-fn push_number(number: u64, line: &mut Line)
-    requires { length line.old.items + 21 ≤ 128 }
-    ensures text { line.new.items ≡ line.old.items ++ field (decimal number) }
-    ensures size { length line.new.items ≤ length line.old.items + 21 }
-{
-    let mut buffer = Buffer::new();
-    push_word(buffer.format(number).as_bytes(), line);
-}
-
 /// Puts a space and the word for why a replay ended after it.
 fn push_why(why: Why, line: &mut Line)
     requires { length line.old.items + 8 ≤ 128 }
-    ensures text { line.new.items ≡ line.old.items ++ field (word_for why) }
-    ensures size { length line.new.items ≤ length line.old.items + 8 }
+    ensures { Appends 8 (field (word_for why)) line.old.items line.new.items }
 {
     match why {
         Why::Steps => push_word(b"steps", line),
@@ -66,8 +46,7 @@ fn push_why(why: Why, line: &mut Line)
 /// Puts a space and a word of 16 bits in hexadecimal digits after it.
 fn push_hex(word: u16, line: &mut Line)
     requires { length line.old.items + 5 ≤ 128 }
-    ensures text { line.new.items ≡ line.old.items ++ field (hex_digits word) }
-    ensures size { length line.new.items ≡ length line.old.items + 5 }
+    ensures { Appends 5 (field (hex_digits word)) line.old.items line.new.items }
 {
     push_word(&hex_word(word), line);
 }
@@ -75,8 +54,7 @@ fn push_hex(word: u16, line: &mut Line)
 /// Puts a pair of registers after it.
 fn push_pair(high: u8, low: u8, line: &mut Line)
     requires { length line.old.items + 5 ≤ 128 }
-    ensures text { line.new.items ≡ line.old.items ++ field (hex_digits (word_of low high)) }
-    ensures size { length line.new.items ≡ length line.old.items + 5 }
+    ensures { Appends 5 (field (hex_digits (word_of low high))) line.old.items line.new.items }
 {
     push_hex(u16::from_le_bytes([low, high]), line);
 }
@@ -85,8 +63,7 @@ fn push_pair(high: u8, low: u8, line: &mut Line)
 #[tactic(auto, unfolding(crate::specs::Lines::pairs))]
 fn push_pairs(regs: &Regs, line: &mut Line)
     requires { length line.old.items + 20 ≤ 128 }
-    ensures text { line.new.items ≡ line.old.items ++ pairs regs.now }
-    ensures size { length line.new.items ≡ length line.old.items + 20 }
+    ensures { Appends 20 (pairs regs.now) line.old.items line.new.items }
 {
     push_pair(regs.a, regs.f, line);
     push_pair(regs.b, regs.c, line);
@@ -98,8 +75,7 @@ fn push_pairs(regs: &Regs, line: &mut Line)
 #[tactic(auto, unfolding(crate::specs::Lines::registers))]
 fn push_registers(regs: &Regs, line: &mut Line)
     requires { length line.old.items + 40 ≤ 128 }
-    ensures text { line.new.items ≡ line.old.items ++ registers regs.now }
-    ensures size { length line.new.items ≡ length line.old.items + 40 }
+    ensures { Appends 40 (registers regs.now) line.old.items line.new.items }
 {
     push_hex(regs.pc, line);
     push_hex(regs.sp, line);

@@ -1,7 +1,7 @@
-ghost use Rattle.std.specs.Prelude.{◌≡◌, ◌≢◌, None, ℕ, List, [], ◌∷◌, ◌++◌, OnOk, IfOk, IfErr, MatchResult};
-ghost use Rattle.mpm_core_file.specs.CoreFiles.{IsCore, core_bytes, fault_of};
-ghost use Rattle.mpm_snapshot.specs.Parts.{Refuses, KeepsNames, EndsRun};
-ghost use Rattle.mpm_snapshot.specs.Endings.{Came, Resumes, FailsOutput, WritesNothing};
+ghost use Rattle.std.specs.Prelude.{◌≡◌, ◌≢◌, ℕ, List, [], ◌∷◌, ◌++◌};
+ghost use Rattle.mpm_core_file.specs.CoreFiles.{IsCore};
+ghost use Rattle.mpm_snapshot.specs.Parts.{ReadsFile, KeepsNames, EndsRun};
+ghost use Rattle.mpm_snapshot.specs.Endings.{Came, IsReadCore, Resumes, LeavesOutput};
 
 use crate::lines::line;
 use crate::status::SnapStatus;
@@ -13,10 +13,7 @@ use std::alloc::Global;
 /// The first bytes of a file, as many as the largest core has, and one more.
 #[tactic(auto, using(crate::proofs::ResumeLaws::came))]
 fn fetch_core<F: Files>(alloc: Global, name: &str, files: &mut F) -> Result<Vec<u8>, SnapStatus>
-    ensures came { IfOk result (λ text. Came (F.missing files.old name.now) (F.contents files.old name.now) text.items) }
-    ensures refuses { IfErr result (Refuses (F.missing files.old name.now) (F.contents files.old name.now) (F.failed_names files.new ≡ F.failed_names files.old ++ (name.now ∷ []))) }
-    ensures names { MatchResult result (λ _. F.failed_names files.new ≡ F.failed_names files.old) (KeepsNames (F.failed_names files.old) (F.failed_names files.new)) }
-    ensures files { (other : List ℕ) → F.contents files.new other ≡ F.contents files.old other }
+    ensures { ReadsFile F.Files name.now (λ text. Came (F.missing files.old name.now) (F.contents files.old name.now) text.items) files.old files.new result }
 {
     let mut text = Vec::new(alloc);
     match files.fetch(name, LARGEST_SIZE + 1, &mut text) {
@@ -33,12 +30,7 @@ fn read_core<F: Files>(
     files: &mut F,
     core: &mut Core,
 ) -> Result<(), SnapStatus>
-    ensures is { OnOk result (IsCore core.new) }
-    ensures sound { OnOk result (fault_of (core_bytes core.new) ≡ None) }
-    ensures came { OnOk result (Came (F.missing files.old name.now) (F.contents files.old name.now) (core_bytes core.new)) }
-    ensures refuses { IfErr result (Refuses (F.missing files.old name.now) (F.contents files.old name.now) (F.failed_names files.new ≡ F.failed_names files.old ++ (name.now ∷ []))) }
-    ensures names { MatchResult result (λ _. F.failed_names files.new ≡ F.failed_names files.old) (KeepsNames (F.failed_names files.old) (F.failed_names files.new)) }
-    ensures files { (other : List ℕ) → F.contents files.new other ≡ F.contents files.old other }
+    ensures { ReadsFile F.Files name.now (λ _. IsReadCore (F.missing files.old name.now) (F.contents files.old name.now) core.new) files.old files.new result }
 {
     let text = match fetch_core(alloc, name, files) {
         Ok(text) => text,
@@ -59,11 +51,9 @@ pub(crate) fn resume<F: Files, S: Sink>(
     sink: &mut S,
 ) -> SnapStatus
     ensures usage { result ≢ SnapStatus.Usage }
-    ensures resumes { Resumes (F.missing files.old name.now) (F.contents files.old name.now) (F.failed_names files.new ≡ F.failed_names files.old ++ (name.now ∷ []))
-        most (S.written sink.old) (S.written sink.new) result }
+    ensures resumes { Resumes (F.missing files.old name.now) (F.contents files.old name.now) (F.failed_names files.new ≡ F.failed_names files.old ++ (name.now ∷ [])) most (S.written sink.old) (S.written sink.new) result }
     ensures names { KeepsNames (F.failed_names files.old) (F.failed_names files.new) result }
-    ensures output { FailsOutput (S.faults sink.old) (S.faults sink.new) result }
-    ensures nothing { WritesNothing result → sink.new ≡ sink.old }
+    ensures leaves { LeavesOutput S.Sink sink.old sink.new result }
     ensures files { (other : List ℕ) → F.contents files.new other ≡ F.contents files.old other }
 {
     let mut core = match Core::new(alloc) {
@@ -80,8 +70,7 @@ pub(crate) fn resume<F: Files, S: Sink>(
 fn run_on<S: Sink>(core: &mut Core, most: u64, sink: &mut S) -> SnapStatus
     requires { IsCore core.old }
     ensures ends { EndsRun most core.old (S.written sink.old) (S.written sink.new) result }
-    ensures output { FailsOutput (S.faults sink.old) (S.faults sink.new) result }
-    ensures nothing { WritesNothing result → sink.new ≡ sink.old }
+    ensures leaves { LeavesOutput S.Sink sink.old sink.new result }
 {
     let replayed = core.replay(most);
     match sink.put(line(core.head(), replayed).as_slice()) {

@@ -1,10 +1,10 @@
-ghost use Rattle.std.specs.Prelude.{◌≡◌, ◌≢◌, ◌≤◌, ℕ, List, [], true, IfOk};
+ghost use Rattle.std.specs.Prelude.{◌≡◌, ◌≢◌, ◌≤◌, true, IfOk};
 ghost use Rattle.mpm_script.specs.declared.line.TheConstants.{GREATEST_STEP};
 ghost use Rattle.mpm_core_file.specs.CoreFiles.{IsCore};
 ghost use Rattle.mpm_top.specs.Beginnings.{command_on};
-ghost use Rattle.mpm_top.specs.Promises.{seen, Fails};
+ghost use Rattle.mpm_top.specs.Promises.{seen_by};
 ghost use Rattle.mpm_snapshot.specs.Parts.{Took, RunsUnheard, WritesTaken, silent, status_of};
-ghost use Rattle.mpm_snapshot.specs.Endings.{Saves, FailsSnapshot, FailsOutput, WritesNothing};
+ghost use Rattle.mpm_snapshot.specs.Endings.{Saves, FailsSnapshot, LeavesOutput, WritesNothing};
 
 use crate::status::SnapStatus;
 use crate::words::ToSave;
@@ -55,8 +55,7 @@ impl Taker {
     fn write<S: Sink>(&self, sink: &mut S) -> SnapStatus
         requires { self.now.taken ≡ true → IsCore self.now.core }
         ensures wrote { WritesTaken self.now (S.written sink.old) (S.written sink.new) result }
-        ensures output { FailsOutput (S.faults sink.old) (S.faults sink.new) result }
-        ensures nothing { WritesNothing result → sink.new ≡ sink.old }
+        ensures leaves { LeavesOutput S.Sink sink.old sink.new result }
     {
         if !self.taken {
             return SnapStatus::NoProcess;
@@ -104,14 +103,7 @@ fn run_unheard<F: Files, D: Drives>(
     taker: &mut Taker,
 ) -> Status
     requires { asked.steps ≤ GREATEST_STEP }
-    ensures usage { result ≢ Status.Usage }
-    ensures runs { RunsUnheard (F.missing files.old) (command_on name.now asked) (λ system. Took taker.old system taker.new)
-        (silent F.contents F.failed_names D.disks D.told D.unsynced D.faults D.failed_names files.old drives.old)
-        (silent F.contents F.failed_names D.disks D.told D.unsynced D.faults D.failed_names files.new drives.new) result }
-    ensures fails { Fails (silent F.contents F.failed_names D.disks D.told D.unsynced D.faults D.failed_names files.old drives.old)
-        (silent F.contents F.failed_names D.disks D.told D.unsynced D.faults D.failed_names files.new drives.new) result }
-    ensures program { asked.form ≡ Form.Program → drives.new ≡ drives.old }
-    ensures files { (other : List ℕ) → F.contents files.new other ≡ F.contents files.old other }
+    ensures { RunsUnheard (drives.new ≡ drives.old) (F.missing files.old) (command_on name.now asked) (λ system. Took taker.old system taker.new) (silent F.Files D.Drives files.old drives.old) (silent F.Files D.Drives files.new drives.new) result }
 {
     let Ok(passage) = Passage::new(alloc) else {
         return Status::OutOfMemory;
@@ -131,15 +123,10 @@ pub(crate) fn save<F: Files, D: Drives, S: Sink>(
 ) -> SnapStatus
     requires { asked.asked.steps ≤ GREATEST_STEP }
     ensures usage { result ≢ SnapStatus.Usage }
-    ensures saves { Saves (F.missing files.old) (command_on name.now asked.asked) asked.process
-        (seen F.contents F.failed_names D.disks D.told D.unsynced D.faults D.failed_names S.written S.faults files.old drives.old sink.old)
-        (seen F.contents F.failed_names D.disks D.told D.unsynced D.faults D.failed_names S.written S.faults files.new drives.new sink.new) result }
+    ensures saves { Saves (F.missing files.old) (command_on name.now asked.asked) asked.process (seen_by F.Files D.Drives S.Sink files.old drives.old sink.old) (seen_by F.Files D.Drives S.Sink files.new drives.new sink.new) result }
     ensures program { asked.asked.form ≡ Form.Program → drives.new ≡ drives.old }
-    ensures fails { FailsSnapshot
-        (seen F.contents F.failed_names D.disks D.told D.unsynced D.faults D.failed_names S.written S.faults files.old drives.old sink.old)
-        (seen F.contents F.failed_names D.disks D.told D.unsynced D.faults D.failed_names S.written S.faults files.new drives.new sink.new) result }
+    ensures fails { FailsSnapshot (seen_by F.Files D.Drives S.Sink files.old drives.old sink.old) (seen_by F.Files D.Drives S.Sink files.new drives.new sink.new) result }
     ensures nothing { WritesNothing result → sink.new ≡ sink.old }
-    ensures files { (other : List ℕ) → F.contents files.new other ≡ F.contents files.old other }
 {
     let mut taker = match Taker::new(alloc, asked.process) {
         Ok(taker) => taker,

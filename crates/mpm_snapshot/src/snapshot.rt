@@ -1,6 +1,6 @@
-ghost use Rattle.std.specs.Prelude.{◌≡◌, ◌↔◌, ℕ, List, Some, None};
+ghost use Rattle.std.specs.Prelude.{◌≡◌, ◌↔◌, Some, None};
 ghost use Rattle.mpm_top.specs.Words.{texts};
-ghost use Rattle.mpm_top.specs.Promises.{seen};
+ghost use Rattle.mpm_top.specs.Promises.{seen_by};
 ghost use Rattle.mpm_snapshot.specs.Requests.{Request, request_of, UsesNoDrive};
 ghost use Rattle.mpm_snapshot.specs.Endings.{EndsSnapshot, FailsSnapshot, WritesNothing};
 
@@ -26,17 +26,12 @@ pub fn snapshot_words<F: Files, D: Drives, S: Sink>(
     ensures usage_drives { result ≡ SnapStatus.Usage → drives.new ≡ drives.old }
 
     // Each ending has its reason, and says what was written: of a save also all that a run of the machine promises.
-    ensures ends { (request : Request) → request_of (texts words.now) ≡ Some request → EndsSnapshot (F.missing files.old) request
-        (seen F.contents F.failed_names D.disks D.told D.unsynced D.faults D.failed_names S.written S.faults files.old drives.old sink.old)
-        (seen F.contents F.failed_names D.disks D.told D.unsynced D.faults D.failed_names S.written S.faults files.new drives.new sink.new) result }
+    ensures ends { (request : Request) → request_of (texts words.now) ≡ Some request → EndsSnapshot (F.missing files.old) request (seen_by F.Files D.Drives S.Sink files.old drives.old sink.old) (seen_by F.Files D.Drives S.Sink files.new drives.new sink.new) result }
     ensures no_drive { (request : Request) → request_of (texts words.now) ≡ Some request → UsesNoDrive request → drives.new ≡ drives.old }
 
     // What failed, that nothing is written where no core is saved and none run on, and that what the files hold stays.
-    ensures fails { FailsSnapshot
-        (seen F.contents F.failed_names D.disks D.told D.unsynced D.faults D.failed_names S.written S.faults files.old drives.old sink.old)
-        (seen F.contents F.failed_names D.disks D.told D.unsynced D.faults D.failed_names S.written S.faults files.new drives.new sink.new) result }
+    ensures fails { FailsSnapshot (seen_by F.Files D.Drives S.Sink files.old drives.old sink.old) (seen_by F.Files D.Drives S.Sink files.new drives.new sink.new) result }
     ensures nothing { WritesNothing result → sink.new ≡ sink.old }
-    ensures files { (other : List ℕ) → F.contents files.new other ≡ F.contents files.old other }
 {
     match words {
         [word, name, most] => {

@@ -1,7 +1,6 @@
-ghost use Rattle.std.specs.Prelude.{◌≡◌, Some, None, false, MatchOption};
+ghost use Rattle.std.specs.Prelude.{◌≡◌, false};
 ghost use Rattle.mpm_top.specs.Words.{steps_of as steps_said, form_of as form_said, command_with};
 ghost use Rattle.mpm_snapshot.specs.Requests as spec;
-ghost use Rattle.mpm_snapshot.specs.Requests.{IsSave, Resume};
 
 use mpm_base::Pid;
 use mpm_top::{Asked, asked_by, steps_of};
@@ -32,9 +31,7 @@ pub(crate) fn asked_to_save(
     steps: &str,
     process: &str,
 ) -> Option<ToSave>
-    ensures { MatchOption result
-        (spec.save_by word.now (command_with (form_said form.now) name.now (steps_said steps.now) false) (spec.process_of process.now) ≡ None)
-        (IsSave (spec.save_by word.now (command_with (form_said form.now) name.now (steps_said steps.now) false) (spec.process_of process.now)) name.now) }
+    ensures { spec.AsksToSave (spec.save_by word.now (command_with (form_said form.now) name.now (steps_said steps.now) false) (spec.process_of process.now)) name.now result }
 {
     if word != "save" {
         return None;
@@ -45,9 +42,7 @@ pub(crate) fn asked_to_save(
 /// What the four words after `save` ask.
 #[tactic(auto, using(crate::proofs::RequestLaws::no_command, crate::proofs::RequestLaws::no_process, crate::proofs::RequestLaws::saves))]
 fn save_of(form: &str, name: &str, steps: &str, process: &str) -> Option<ToSave>
-    ensures { MatchOption result
-        (spec.save_of (command_with (form_said form.now) name.now (steps_said steps.now) false) (spec.process_of process.now) ≡ None)
-        (IsSave (spec.save_of (command_with (form_said form.now) name.now (steps_said steps.now) false) (spec.process_of process.now)) name.now) }
+    ensures { spec.AsksToSave (spec.save_of (command_with (form_said form.now) name.now (steps_said steps.now) false) (spec.process_of process.now)) name.now result }
 {
     let Some(asked) = asked_by(form, name, steps, false) else {
         return None;
@@ -60,8 +55,7 @@ fn save_of(form: &str, name: &str, steps: &str, process: &str) -> Option<ToSave>
 
 /// The most instructions that are to be done, where three words ask to run a core on.
 pub(crate) fn asked_to_resume(word: &str, name: &str, most: &str) -> Option<u64>
-    ensures { MatchOption result (spec.resume_by word.now name.now (steps_said most.now) ≡ None)
-        (λ said. spec.resume_by word.now name.now (steps_said most.now) ≡ Some (Resume name.now said)) }
+    ensures { spec.AsksToResume (spec.resume_by word.now name.now (steps_said most.now)) name.now result }
 {
     if word != "resume" {
         return None;
@@ -72,8 +66,7 @@ pub(crate) fn asked_to_resume(word: &str, name: &str, most: &str) -> Option<u64>
 /// The number of instructions that a word says, of a core whose file has a name.
 #[tactic(auto, using(crate::proofs::RequestLaws::unnamed, crate::proofs::RequestLaws::no_most, crate::proofs::RequestLaws::resumes))]
 fn most_of_named(name: &str, most: &str) -> Option<u64>
-    ensures { MatchOption result (spec.resume_of name.now (steps_said most.now) ≡ None)
-        (λ said. spec.resume_of name.now (steps_said most.now) ≡ Some (Resume name.now said)) }
+    ensures { spec.AsksToResume (spec.resume_of name.now (steps_said most.now)) name.now result }
 {
     if name.is_empty() {
         return None;

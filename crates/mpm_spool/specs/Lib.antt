@@ -1,2 +1,3 @@
 pub mod SpoolLists
+pub mod Listing
 pub mod Spoolers

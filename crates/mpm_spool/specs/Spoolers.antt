@@ -6,6 +6,7 @@ use Rattle.std.specs.Prelude.{◌<◌, ℕ, ◌+◌, ◌-◌, ◌^◌, Bool, tru
 use Rattle.mpm_base.specs.Lists.{zeros, in_width}
 use Rattle.mpm_base.specs.Calls.{Taken, Answer, asking}
 use Rattle.mpm_base.specs.declared.functions.TheConstants.{READ_QUEUE, OPEN_FILE, ATTACH_LIST, CONDITIONAL_READ_QUEUE, READ_SEQUENTIAL, LIST_OUTPUT, DETACH_LIST, CLOSE_FILE, DELETE_FILE}
+pub use Rattle.mpm_messages.specs.Asking.{asking_file, block_after}
 use Rattle.mpm_spool.specs.SpoolLists.{list_of, no_item}
 use Rattle.mpm_spool.specs.declared.list.SpoolItem.{SpoolItem}
 use Rattle.mpm_spool.specs.declared.table.Row.{Row}
@@ -27,16 +28,12 @@ pub record Spooler : Type 0 where
 unfoldable pub opening : Spooler
 opening = record { row = ReadList; left = []; item = no_item; fcb = zeros 36; bytes = zeros 128; place = 0; printed = 0; is_unprinted = false }
 
--- a call on a file has its control block
-abbrev pub asking_file : ℕ → List ℕ → List ℕ → Taken
-asking_file function fcb bytes = record { function = function; word = 0; dma = 0; fcb = fcb; bytes = bytes }
-
 -- the user queue control blocks of its queues, which are queues 1 and 2, so that their pointers are 2 and 3
-abbrev pub spool_queue : List ℕ
-spool_queue = 2 ∷ 0 ∷ 0 ∷ 0 ∷ codes "SPOOL   "
+abbrev pub spool_block : List ℕ
+spool_block = 2 ∷ 0 ∷ 0 ∷ 0 ∷ codes "SPOOL   "
 
-abbrev pub stop_queue : List ℕ
-stop_queue = 3 ∷ 0 ∷ 0 ∷ 0 ∷ codes "STOPSPLR"
+abbrev pub stop_block : List ℕ
+stop_block = 3 ∷ 0 ∷ 0 ∷ 0 ∷ codes "STOPSPLR"
 
 -- the file control block of a file, and the one with which it is opened, read-only: F6' is set
 abbrev pub file_block : SpoolItem → List ℕ
@@ -50,10 +47,10 @@ read_only_block item = read_only (file_block item)
 
 -- the call of each row
 abbrev pub call_at : Row → Spooler → Taken
-call_at ReadList s = asking READ_QUEUE 0 spool_queue
+call_at ReadList s = asking READ_QUEUE 0 spool_block
 call_at Open s = asking_file OPEN_FILE (read_only_block s.item) s.item.password
 call_at Attach s = asking ATTACH_LIST 0 []
-call_at AskStop s = asking CONDITIONAL_READ_QUEUE 0 stop_queue
+call_at AskStop s = asking CONDITIONAL_READ_QUEUE 0 stop_block
 call_at Read s = asking_file READ_SEQUENTIAL s.fcb []
 call_at Print s = asking LIST_OUTPUT (slice_index s.bytes s.place) []
 call_at Detach s = asking DETACH_LIST 0 []
@@ -77,10 +74,6 @@ with_list None s = s
 with_list (Some items) s = begun_next (record s { left = items })
 
 -- with the file control block that was answered
-abbrev pub block_after : Option (List ℕ) → List ℕ → List ℕ
-block_after None fcb = fcb
-block_after (Some block) fcb = block
-
 abbrev pub with_block : Answer → Spooler → Spooler
 with_block reply s = record s { fcb = block_after reply.fcb s.fcb }
 

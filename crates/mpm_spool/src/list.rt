@@ -1,5 +1,7 @@
-ghost use Rattle.std.specs.Prelude.{◌≡◌, ◌≤◌, ◌<◌, ◌+◌, ◌-◌, List, [], ◌∷◌, ◌++◌, length, take, drop, true, if◌then◌else◌, Some, None, IfOk, OnErr, option_map};
+ghost use Rattle.std.specs.Prelude.{◌≡◌, ◌≤◌, ◌<◌, ◌+◌, ◌-◌, List, [], ◌∷◌, ◌++◌, length, take, drop, true, if◌then◌else◌};
 ghost use Rattle.std.specs.List.{position_or_len};
+ghost use Rattle.mpm_names.specs.Readings.{IsBytes, IsNumber, Reads};
+ghost use Rattle.mpm_spool.specs.Listing.{ListsFiles};
 ghost use Rattle.mpm_spool.specs.SpoolLists.{is_comma, is_mark as is_mark_text, asks_deletion as asks, is_item as is_item_named, is_ambiguous as has_mark, item_named as named, item_of, parts_of, listed, list_of, list_with, no_item as item_of_nobody};
 ghost use Rattle.mpm_spool.specs.declared.list.SpoolItem.{SpoolItem as Item};
 
@@ -38,9 +40,7 @@ pub struct BadSpoolList;
 /// Exactly where that form isn't met.
 #[tactic(auto, unfolding(crate::specs::SpoolLists::list_of))]
 pub fn read_list(text: &[u8; 128]) -> Result<SpoolList, BadSpoolList>
-    ensures ok { IfOk result (λ list. option_map list_with (list_of text.now) ≡ Some list) }
-    ensures few { IfOk result (λ list. list.count ≤ 8) }
-    ensures err { OnErr result (list_of text.now ≡ None) }
+    ensures { ListsFiles (list_of text.now) result }
 {
     read_items(strip(text_of(text)))
 }
@@ -48,9 +48,7 @@ pub fn read_list(text: &[u8; 128]) -> Result<SpoolList, BadSpoolList>
 /// The items of a text, of at most 128 bytes.
 fn read_items(text: &[u8]) -> Result<SpoolList, BadSpoolList>
     requires { length text.now ≤ 128 }
-    ensures ok { IfOk result (λ list. option_map list_with (listed (parts_of text.now)) ≡ Some list) }
-    ensures few { IfOk result (λ list. list.count ≤ 8) }
-    ensures err { OnErr result (listed (parts_of text.now) ≡ None) }
+    ensures { ListsFiles (listed (parts_of text.now)) result }
 {
     let mut list = no_files();
     let mut rest = text;
@@ -102,8 +100,7 @@ pub(crate) fn no_item() -> SpoolItem
 
 /// The place of a text's first comma, or its length.
 fn comma_place(text: &[u8]) -> usize
-    ensures place { result ≡ position_or_len is_comma text.now }
-    ensures within { result ≤ length text.now }
+    ensures { IsNumber (position_or_len is_comma text.now) (length text.now) result }
 {
     for (place, byte) in text.iter().enumerate() {
         if *byte == b',' {
@@ -125,8 +122,7 @@ fn after(text: &[u8], place: usize) -> &[u8]
 #[tactic(auto, unfolding(crate::specs::SpoolLists::item_of))]
 fn read_item(text: &[u8]) -> Result<SpoolItem, BadSpoolList>
     requires { length text.now ≤ 128 }
-    ensures ok { IfOk result (λ item. item_of text.now ≡ Some item) }
-    ensures err { OnErr result (item_of text.now ≡ None) }
+    ensures { Reads (item_of text.now) result }
 {
     let delete = asks_deletion(text);
     match parse_filename(name_part(text, delete)) {
@@ -173,8 +169,7 @@ fn asks_deletion(text: &[u8]) -> bool
 /// A text without that mark.
 fn name_part(text: &[u8], delete: bool) -> &[u8]
     requires { delete ≡ true → 3 ≤ length text.now }
-    ensures name { result.now ≡ (if delete then take (length text.now - 3) text.now else text.now) }
-    ensures size { length result.now ≤ length text.now }
+    ensures { IsBytes (if delete then take (length text.now - 3) text.now else text.now) (length text.now) result.now }
 {
     if delete {
         &text[..text.len() - 3]

@@ -1,17 +1,18 @@
-ghost use Rattle.std.specs.Prelude.{◌≡◌, ◌≤◌, ◌<◌, length};
-ghost use Rattle.mpm_base.specs.Calls.{asking as call_asking};
-ghost use Rattle.mpm_spool.specs.Spoolers.{asking_file as file_asking, file_block as file_block_of, read_only as block_read_only, row_at as row_of_bytes, IsSpoolerRow};
+ghost use Rattle.std.specs.Prelude.{◌≡◌, ◌≤◌};
+ghost use Rattle.mpm_names.specs.Readings.{IsSuch};
+ghost use Rattle.mpm_spool.specs.Spoolers.{file_block as file_block_of, read_only as block_read_only, row_at as row_of_bytes, IsSpoolerRow};
 
 use crate::list::{SpoolItem, SpoolList, no_item, read_list};
 use crate::table::Row;
 use crate::waiting::Waiting;
 use mpm_base::{Call, Reply, functions, in_width};
+use mpm_messages::{ask, ask_file};
 use std::marker::Model;
 
 /// The user queue control blocks of the spooler's two queues, which are queues 1 and 2, so that their pointers are 2 and 3.
-const SPOOL_QUEUE: [u8; 12] = *b"\x02\x00\x00\x00SPOOL   ";
+const SPOOL_BLOCK: [u8; 12] = *b"\x02\x00\x00\x00SPOOL   ";
 
-const STOP_QUEUE: [u8; 12] = *b"\x03\x00\x00\x00STOPSPLR";
+const STOP_BLOCK: [u8; 12] = *b"\x03\x00\x00\x00STOPSPLR";
 
 /// The byte that ends a text.
 const END_OF_TEXT: u8 = 0x1A;
@@ -49,10 +50,10 @@ impl Model for Spool {
 }
 
 impl Spool {
-    ghost use Rattle.std.specs.Prelude.{◌≡◌, ◌≤◌, [], take, slice_index, true};
-    ghost use Rattle.mpm_base.specs.Calls.{asking, no_reply};
-    ghost use Rattle.mpm_base.specs.declared.functions.TheConstants.{OPEN_FILE, DELETE_FILE, LIST_OUTPUT};
-    ghost use Rattle.mpm_spool.specs.Spoolers.{opening, asking_file, next_call, took as behind, took_at, file_block as block_of_file, read_only_block, with_block, record_in, row_at as row_of, begun_next, IsSpoolerRow};
+    ghost use Rattle.std.specs.Prelude.{◌≡◌, ◌≤◌, [], take, true};
+    ghost use Rattle.mpm_base.specs.Calls.{no_reply};
+    ghost use Rattle.mpm_messages.specs.Asking.{Asks};
+    ghost use Rattle.mpm_spool.specs.Spoolers.{opening, next_call, took as behind, took_at, with_block, row_at as row_of, begun_next, IsSpoolerRow};
     ghost use Rattle.mpm_spool.specs.declared.table.Row.TheVariants.{ReadList, Open, Read, Print, Detach};
 
     /// The spooler at its first row.
@@ -75,19 +76,33 @@ impl Spool {
     /// Fills in the call that it makes next. It stays the same until its answer is taken.
     #[tactic(auto, unfolding(crate::specs::Spoolers::next_call))]
     pub fn next(&mut self, call: &mut Call)
-        ensures spool { self.new ≡ self.old }
-        ensures call { call.new ≡ next_call self.old }
+        ensures { Asks next_call self.old self.new call.new }
     {
         match self.row {
-            Row::ReadList => ask(call, functions::READ_QUEUE, 0, &SPOOL_QUEUE),
-            Row::Open => self.fill_open(call),
+            Row::ReadList => ask(call, functions::READ_QUEUE, 0, &SPOOL_BLOCK),
+            Row::Open => ask_file(
+                call,
+                functions::OPEN_FILE,
+                read_only(file_block(&self.item)),
+                &self.item.password,
+            ),
             Row::Attach => ask(call, functions::ATTACH_LIST, 0, &[]),
-            Row::AskStop => ask(call, functions::CONDITIONAL_READ_QUEUE, 0, &STOP_QUEUE),
+            Row::AskStop => ask(call, functions::CONDITIONAL_READ_QUEUE, 0, &STOP_BLOCK),
             Row::Read => ask_file(call, functions::READ_SEQUENTIAL, self.fcb, &[]),
-            Row::Print => self.fill_byte(call),
+            Row::Print => ask(
+                call,
+                functions::LIST_OUTPUT,
+                u16::from(self.bytes[usize::from(self.place)]),
+                &[],
+            ),
             Row::Detach => ask(call, functions::DETACH_LIST, 0, &[]),
             Row::Close => ask_file(call, functions::CLOSE_FILE, self.fcb, &[]),
-            Row::Delete => self.fill_delete(call),
+            Row::Delete => ask_file(
+                call,
+                functions::DELETE_FILE,
+                file_block(&self.item),
+                &self.item.password,
+            ),
         }
     }
 
@@ -119,7 +134,10 @@ impl Spool {
             Row::Open => self.take_opened(reply),
             Row::Attach if reply.hl == 0 => self.row = Row::AskStop,
             Row::Attach => self.leave_unprinted(Row::Close),
-            Row::AskStop if reply.hl == 0 => self.stop(),
+            Row::AskStop if reply.hl == 0 => {
+                self.left = Waiting::none();
+                self.leave_unprinted(Row::Detach);
+            }
             Row::AskStop => self.row = Row::Read,
             Row::Read => self.take_record(reply),
             Row::Print => self.go_on(),
@@ -127,43 +145,6 @@ impl Spool {
             Row::Close if self.item.delete && !self.unprinted => self.row = Row::Delete,
             Row::Close | Row::Delete => self.begin_next(),
         }
-    }
-
-    /// The call that opens its file, read-only.
-    fn fill_open(&self, call: &mut Call)
-        ensures { call.new ≡ asking_file OPEN_FILE (read_only_block self.now.item) self.now.item.password }
-    {
-        ask_file(
-            call,
-            functions::OPEN_FILE,
-            read_only(file_block(&self.item)),
-            &self.item.password,
-        );
-    }
-
-    /// The call that deletes its file.
-    fn fill_delete(&self, call: &mut Call)
-        ensures { call.new ≡ asking_file DELETE_FILE (block_of_file self.now.item) self.now.item.password }
-    {
-        ask_file(
-            call,
-            functions::DELETE_FILE,
-            file_block(&self.item),
-            &self.item.password,
-        );
-    }
-
-    /// The call that prints the next byte.
-    fn fill_byte(&self, call: &mut Call)
-        requires { IsSpoolerRow Print self.now.place }
-        ensures { call.new ≡ asking LIST_OUTPUT (slice_index self.now.bytes self.now.place) [] }
-    {
-        ask(
-            call,
-            functions::LIST_OUTPUT,
-            u16::from(self.bytes[usize::from(self.place)]),
-            &[],
-        );
     }
 
     /// A message came: the files of its list are next. One that names none is dropped.
@@ -230,14 +211,6 @@ impl Spool {
         self.unprinted = true;
     }
 
-    /// A stop was asked for: neither this file nor the rest of the list is printed.
-    fn stop(&mut self)
-        ensures { self.new ≡ record self.old { row = Detach; left = []; is_unprinted = true } }
-    {
-        self.left = Waiting::none();
-        self.leave_unprinted(Row::Detach);
-    }
-
     /// A record came, or there is none.
     fn take_record(&mut self, reply: &Reply)
         ensures { self.new ≡ took_at Read self.old reply.now }
@@ -273,8 +246,7 @@ impl Spool {
 
 /// What comes by the next byte of a record: it is printed, or ends the text; after the last it looks whether it is to stop.
 fn row_at(bytes: &[u8; 128], place: u8) -> Row
-    ensures row { result ≡ row_of_bytes bytes.now place }
-    ensures bound { IsSpoolerRow result place }
+    ensures { IsSuch (row_of_bytes bytes.now place) (λ row. IsSpoolerRow row place) result }
 {
     let place = usize::from(place);
     if place >= 128 {
@@ -284,25 +256,6 @@ fn row_at(bytes: &[u8; 128], place: u8) -> Row
     } else {
         Row::Print
     }
-}
-
-/// Makes a call, of bytes at most 4,096.
-fn ask(call: &mut Call, function: u8, word: u16, bytes: &[u8])
-    requires { length bytes.now ≤ 4096 }
-    ensures { call.new ≡ call_asking function word bytes.now }
-{
-    call.begin(function, word, 0);
-    call.append(bytes);
-}
-
-/// Makes a call on a file, of bytes at most 4,096.
-fn ask_file(call: &mut Call, function: u8, fcb: [u8; 36], bytes: &[u8])
-    requires { length bytes.now ≤ 4096 }
-    ensures { call.new ≡ file_asking function fcb bytes.now }
-{
-    call.begin(function, 0, 0);
-    call.set_control_block(fcb);
-    call.append(bytes);
 }
 
 /// The file control block of a file: its drive, its name and its type.

@@ -23,7 +23,7 @@ pub record Served : Type 0 where
   pub reply : Answer
 
 -- a call gives the system as it is then, the outcome, and the answer
-pub record Gives (served : Served) (after : System) (result : Outcome) (answer : Answer) : Type 0 where
+pub record CallGives (served : Served) (after : System) (result : Outcome) (answer : Answer) : Type 0 where
   pub system : after ≡ served.system
   pub outcome : result ≡ served.outcome
   pub reply : answer ≡ served.reply

@@ -1,5 +1,6 @@
 -- Steps in which no process runs, and steps of the disk that only pass.
-use Rattle.std.specs.Prelude.{◌≡◌, ℕ, ◌+◌, ◌<◌, None, IfSome}
+use Rattle.std.specs.Prelude.{◌≡◌, ℕ, ◌+◌, ◌<◌, None, IfSome, Bool, false}
+use Rattle.std.specs.Bool.{OnTrue}
 use Rattle.mpm_ready.specs.Order.{first_of}
 use Rattle.mpm_ready.specs.Tables.{list_at}
 use Rattle.mpm_dispatcher.specs.Dispatch.{ready}
@@ -17,6 +18,12 @@ pub record CanPass (n : ℕ) (disk : DiskService) : Type 0 where
 pub record IsIdle (system : System) : Type 0 where
   pub running : system.kernel.dispatcher.running ≡ None
   pub nobody : first_of (list_at system.kernel.dispatcher.lists ready) ≡ None
+
+-- where a test says so, no call is at the disk and none waits for it, and no records are written
+pub record IsAlone (traced : Bool) (system : System) (alone : Bool) : Type 0 where
+  pub served : OnTrue alone (system.kernel.disk.served ≡ None)
+  pub nobody : OnTrue alone (first_of system.kernel.disk.waiting ≡ None)
+  pub untraced : OnTrue alone (traced ≡ false)
 
 -- the system so many steps later, in which nothing else changed
 abbrev pub later : System → ℕ → System

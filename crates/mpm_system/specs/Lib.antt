@@ -17,3 +17,8 @@ pub mod Coming
 pub mod FileCalling
 pub mod Idling
 pub mod OwnCalls
+pub mod Quiet
+pub mod Leaving
+pub mod Strings
+pub mod Processes
+pub mod Doing

@@ -17,7 +17,7 @@ use Rattle.mpm_kernel.specs.Kernel.{Kernel, dispatched}
 use Rattle.mpm_kernel.specs.Called.{failure_code}
 use Rattle.mpm_kernel.specs.Consoling.{given}
 use Rattle.mpm_residents.specs.declared.cli.act.Act.{Act}
-use Rattle.mpm_residents.specs.declared.cli.act.Act.TheVariants.{Ask, Place, Patch, Begin, Give}
+use Rattle.mpm_residents.specs.declared.cli.act.Act.TheVariants.{Ask, PlaceBytes, MoveCode, BeginProcess, GiveConsole}
 use Rattle.mpm_system.specs.declared.system.System.{System}
 
 -- bytes come into a segment, from an address on
@@ -81,14 +81,14 @@ beginning seg new p system =
 -- what the interpreter of a slot hands over, by the bytes that go with it, is done
 abbrev pub handed_over : Act → List ℕ → ℕ → System → System
 handed_over Ask bytes p system = system
-handed_over (Place seg address count) bytes p system = placing seg address bytes system
-handed_over (Patch seg address count page) bytes p system = moving seg address count bytes page system
-handed_over (Begin seg new) bytes p system = beginning seg new p system
-handed_over (Give console) bytes p system = giving console p system
+handed_over (PlaceBytes seg address count) bytes p system = placing seg address bytes system
+handed_over (MoveCode seg address count page) bytes p system = moving seg address count bytes page system
+handed_over (BeginProcess seg new) bytes p system = beginning seg new p system
+handed_over (GiveConsole console) bytes p system = giving console p system
 
 -- and it is answered by 0, or by FFh where no process can begin
 abbrev pub handed_value : Act → System → ℕ
-handed_value (Begin seg new) system = if begins seg new system then 0 else failure_code
+handed_value (BeginProcess seg new) system = if begins seg new system then 0 else failure_code
 handed_value _ system = 0
 
 abbrev pub handed_answer : Act → System → Answer

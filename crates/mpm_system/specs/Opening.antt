@@ -15,6 +15,7 @@ use Rattle.mpm_procs.specs.declared.process.NewProcess.{NewProcess}
 use Rattle.mpm_kernel.specs.Kernel.{Kernel, IsSoundKernel, with_changed, new_kernel, dispatched}
 use Rattle.mpm_dispatcher.specs.Dispatch.{admitted, picked}
 use Rattle.mpm_kernel.specs.Disk.{in_turns}
+use Rattle.mpm_service.specs.Disk.{no_service}
 use Rattle.mpm_kernel.specs.Queueing.{with_system_queue, OnlySystems}
 use Rattle.mpm_queues.specs.Queues.{Queues, no_queues, made}
 use Rattle.mpm_kernel.specs.Consoling.{given}
@@ -92,6 +93,12 @@ pub record IsBare (system : System) : Type 0 where
   pub start : system.steps ≡ 0
   pub few : length system.memory.segments ≤ 16
   pub counted : living system.kernel.dispatcher.procs ≤ count_by is_occupied system.memory.segments
+
+-- the machine of a machine file without processes, whose disk serves nobody
+pub record StandsBare (file : MachineFile) (events : List Timed) (system : System) : Type 0 where
+  pub booted : system ≡ booted file events
+  pub bare : IsBare system
+  pub disk : system.kernel.disk ≡ no_service file.disk_turn
 
 -- a program of a length can be placed into a segment in which no process lives, with a console
 pub record MayPlace (system : System) (seg console size : ℕ) : Type 0 where
@@ -274,6 +281,29 @@ pub record AwaitsResidents (count : ℕ) (system : System) : Type 0 where
   pub queues : OnlyHas no_queues system.kernel
   pub nobody : system.residents ≡ []
 
+-- so is the system as the terminals' begin, as one of them does, and what they leave: any queues that there are stay the only ones
+pub record AwaitsTerminals (count : ℕ) (system : System) : Type 0 where
+  pub whole : IsWhole system
+  pub consoles : count ≡ length system.kernel.units.consoles
+  pub first : length system.residents ≤ 1
+
+pub record AwaitsTerminal (n : ℕ) (system : System) : Type 0 where
+  pub whole : IsWhole system
+  pub console : n < length system.kernel.units.consoles
+  pub room : length system.residents < 11
+
+pub record BeginsTerminals (count : ℕ) (old new : System) : Type 0 where
+  pub system : new ≡ with_terminals count old
+  pub begun : Begun old new
+  pub few : length new.residents ≤ length old.residents + count
+  pub queues : (others : Queues) → OnlyHas others old.kernel → OnlyHas others new.kernel
+
+-- and as the spooler or the scheduler begins, beside which there are these queues alone
+pub record AwaitsOneMore (others : Queues) (system : System) : Type 0 where
+  pub whole : IsWhole system
+  pub queues : OnlyHas others system.kernel
+  pub room : length system.residents < 11
+
 -- what a machine has as it is run, beside what its file says: these, a terminal message processor for each console in the slots after
 -- the interpreter's, and then the spooler and the scheduler, where they are asked for
 unfoldable pub begun_residents : ℕ → Bool → Bool → System → System
@@ -284,6 +314,13 @@ begun_residents consoles spool sched system =
 unfoldable pub with_residents : ℕ → Bool → Bool → System → System
 with_residents consoles spool sched system =
     let begun = begun_residents consoles spool sched system in record begun { kernel = dispatched (picked false) begun.kernel }
+
+pub record BeginsResidents (consoles : ℕ) (spool sched : Bool) (old new : System) : Type 0 where
+  pub system : new ≡ with_residents consoles spool sched old
+  pub whole : IsWhole new
+  pub no_completions : NoCompletions new
+  pub disk : new.kernel.disk ≡ old.kernel.disk
+  pub steps : new.steps ≡ old.steps
 
 -- the machine of a machine file and of the events of its script, as it is run
 unfoldable pub opened : MachineFile → List Timed → System

@@ -1,25 +1,38 @@
 -- What a call writes, by its function.
-use Rattle.std.specs.Prelude.{ℕ, ◌<◌, length, List, [], ◌∷◌, ◌==◌, ◌&&◌, nat_lt, if◌then◌else◌}
+use Rattle.std.specs.Prelude.{◌≡◌, ◌≢◌, Result, ℕ, ◌<◌, length, List, [], ◌∷◌, ◌==◌, ◌&&◌, nat_lt, if◌then◌else◌}
 use Rattle.mpm_base.specs.Calls.{Taken}
 use Rattle.mpm_base.specs.declared.functions.TheConstants.{CONSOLE_OUTPUT, LIST_OUTPUT, PRINT_STRING}
 use Rattle.mpm_banks.specs.Memory.{Memory, byte_at}
 use Rattle.mpm_gate.specs.Texts.{text_from}
 use Rattle.mpm_gate.specs.declared.take.TextEnd.TheVariants.{Dollar}
-use Rattle.mpm_procs.specs.Table.{process_in}
+use Rattle.mpm_procs.specs.Table.{process_in, call_of}
 use Rattle.mpm_kernel.specs.Kernel.{Kernel, IsConsole}
 use Rattle.mpm_kernel.specs.Calls.{does_echo}
-use Rattle.mpm_kernel.specs.Columns.{column_of, expanded, tab_text}
+use Rattle.mpm_kernel.specs.Columns.{column_of, expanded, tab_text, spoke}
 use Rattle.mpm_kernel.specs.Called.{low_parameter}
 use Rattle.mpm_kernel.specs.ConsoleInput.{writes}
 use Rattle.mpm_base.specs.declared.unit.Unit.TheVariants.{Printer}
+use Rattle.mpm_port.specs.declared.Failed.{Failed}
 use Rattle.mpm_render.specs.Outputs.{said}
+use Rattle.mpm_render.specs.Shown.{KeptLines}
+use Rattle.mpm_output.specs.Writing.{spoken, WritesAlone}
 use Rattle.mpm_system.specs.declared.system.System.{System}
-use Rattle.mpm_system.specs.Whole.{SystemChange, speaking}
+use Rattle.mpm_system.specs.Whole.{SystemChange, speaking, LivesInSystem}
 
 -- a console is there, and is one of the eight that there may be
 pub record MayShow (n : ℕ) (kernel : Kernel) : Type 0 where
   pub console : n < 8
   pub exists : IsConsole kernel n
+
+-- a process lives in a whole system, whose call is none of function 9
+pub record MaySpeakByte (p : ℕ) (system : System) : Type 0 where
+  pub process : LivesInSystem p system
+  pub byte : (call_of system.kernel.dispatcher.procs p).function ≢ PRINT_STRING
+
+-- bytes come to a console as they are: its column moves in any case, and after an error the sink failed as they came out
+pub record Shows {S A : Type 0} (written : S → List ℕ) (faults : S → ℕ) (console : ℕ) (bytes : List ℕ) (old new : Kernel) (kept : KeptLines) (sink : S) (kept' : KeptLines) (sink' : S) (result : Result A Failed) : Type 0 where
+  pub kernel : new ≡ spoke old console bytes
+  pub wrote : WritesAlone written faults kept sink kept' sink' (spoken console bytes) result
 
 -- what a call writes to its process's console: functions 2 and 9 with tabs expanded, the byte in E or a string, and
 -- functions 4 and 6 the byte in E as it is

@@ -78,7 +78,7 @@ pub record IsWhole (system : System) : Type 0 where
   pub settled : system.abort_deferred ≡ false → NobodyAborted system.kernel
 
 -- a process lives in a whole system
-pub record LivesWithin (p : ℕ) (system : System) : Type 0 where
+pub record LivesInSystem (p : ℕ) (system : System) : Type 0 where
   pub whole : IsWhole system
   pub lives : Lives system.kernel.dispatcher.procs p
 

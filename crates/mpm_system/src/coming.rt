@@ -4,9 +4,8 @@ ghost use Rattle.mpm_script.specs.declared.line.TheConstants.{GREATEST_STEP};
 use crate::system::System;
 
 impl System {
-    ghost use Rattle.std.specs.Prelude.{◌≡◌, None};
-    ghost use Rattle.std.specs.Bool.{OnTrue, OnFalse};
-    ghost use Rattle.mpm_interrupts.specs.Interrupts.{due};
+    ghost use Rattle.std.specs.Prelude.{◌≡◌};
+    ghost use Rattle.mpm_system.specs.Quiet.{TellsOpen};
     ghost use Rattle.mpm_system.specs.Whole.{IsWhole};
     ghost use Rattle.mpm_system.specs.Coming.{lets_in, coming, unhalted, counted};
 
@@ -15,8 +14,7 @@ impl System {
     #[tactic(auto, using(crate::proofs::InterruptLaws::none_due, crate::proofs::InterruptLaws::none_let_in, crate::proofs::InterruptLaws::let_in), unfolding(crate::specs::Coming::coming))]
     pub fn is_open(&self) -> bool
         requires { IsWhole self.now }
-        ensures none { OnFalse result (coming self.now ≡ None) }
-        ensures due { OnTrue result (coming self.now ≡ due self.now.steps self.now.interrupts) }
+        ensures { TellsOpen result self.now }
     {
         if self.steps < self.interrupts.next_step() {
             return false;

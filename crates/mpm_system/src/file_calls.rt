@@ -14,13 +14,13 @@ impl System {
     ghost use Rattle.mpm_gate.specs.Gates.{IsHome};
     ghost use Rattle.mpm_file_functions.specs.declared.refusals.Extended.{Extended};
     ghost use Rattle.mpm_directories.specs.Direct.{Resets};
-    ghost use Rattle.mpm_system.specs.Whole.{LivesWithin, MayRecord};
+    ghost use Rattle.mpm_system.specs.Whole.{LivesInSystem, MayRecord};
     ghost use Rattle.mpm_system.specs.FileCalling.{call_made, made_by, change_of, with_caller, first_dma, file_replied};
 
     /// A step begins in which a process makes its file call, which it keeps.
     #[tactic(auto, unfolding(crate::specs::FileCalling::call_made))]
     pub fn make_file_call(&mut self, p: Pid)
-        requires process { LivesWithin p self.old }
+        requires process { LivesInSystem p self.old }
         requires most { self.old.steps < GREATEST_STEP }
         ensures { self.new ≡ call_made p self.old }
     {
@@ -33,7 +33,7 @@ impl System {
 
     /// A step begins in which a process of a segment makes its file call: its return address is taken from its stack.
     fn take_file_call(&mut self, p: Pid, seg: Seg)
-        requires process { LivesWithin p self.old }
+        requires process { LivesInSystem p self.old }
         requires home { IsHome self.old.memory seg }
         ensures { self.new ≡ made_by (Some seg) p self.old }
     {
@@ -45,7 +45,7 @@ impl System {
     /// is refused.
     #[tactic(auto, unfolding(crate::specs::FileCalling::with_caller, crate::specs::FileCalling::change_of))]
     pub fn change_caller(&mut self, p: Pid, granted: bool)
-        requires { LivesWithin p self.old }
+        requires { LivesInSystem p self.old }
         ensures { (error : Option Extended) → granted ≡ is_none error → self.new ≡ with_caller (change_of (call_of self.old.kernel.dispatcher.procs p) error) p self.old }
     {
         let call = self.kernel.kept_call(p);
@@ -60,7 +60,7 @@ impl System {
     /// A process has the first drive and its first DMA address again.
     #[tactic(auto, unfolding(crate::specs::FileCalling::with_caller))]
     fn reset_caller(&mut self, p: Pid)
-        requires { LivesWithin p self.old }
+        requires { LivesInSystem p self.old }
         ensures { self.new ≡ with_caller Resets p self.old }
     {
         let dma = self.first_dma(p);
@@ -72,7 +72,7 @@ impl System {
     /// The DMA address with which a process begins.
     #[tactic(auto, using(crate::proofs::WholeLaws::segment_is_there))]
     fn first_dma(&self, p: Pid) -> u16
-        requires { LivesWithin p self.now }
+        requires { LivesInSystem p self.now }
         ensures { result ≡ first_dma self.now.memory (process_in self.now.kernel.dispatcher.procs p).seg }
     {
         match self.kernel.segment(p) {

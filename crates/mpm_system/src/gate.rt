@@ -5,7 +5,7 @@ use crate::system::System;
 use mpm_base::{Pid, Reply, Seg};
 
 impl System {
-    ghost use Rattle.mpm_system.specs.Whole.{LivesWithin, MayRecord};
+    ghost use Rattle.mpm_system.specs.Whole.{LivesInSystem, MayRecord};
     ghost use Rattle.mpm_system.specs.Taking.{asked, keeping};
     ghost use Rattle.mpm_system.specs.Answering.{answering_call, popped, replied, recorded};
 
@@ -13,7 +13,7 @@ impl System {
     #[inline(always)]
     #[tactic(auto, using(mpm_procs::proofs::MapLaws::lives_changed), unfolding(crate::specs::Taking::keeping, crate::specs::Taking::asked))]
     pub fn take_call(&mut self, p: Pid, seg: Seg)
-        requires { LivesWithin p self.old }
+        requires { LivesInSystem p self.old }
         ensures { self.new ≡ keeping p (asked p seg self.old) self.old }
     {
         let process = self.kernel.process_mut(p);

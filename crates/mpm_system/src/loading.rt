@@ -1,11 +1,12 @@
 ghost use Rattle.std.specs.Prelude.{◌≡◌, ◌≤◌, ◌<◌, ◌*◌, length, if◌then◌else◌};
-ghost use Rattle.std.specs.Bool.{OnTrue, OnFalse};
+ghost use Rattle.std.specs.Bool.{OnTrue};
 ghost use Rattle.mpm_banks.specs.Ranges.{range_of};
-ghost use Rattle.mpm_procs.specs.Table.{Lives, lowest_free, call_of};
+ghost use Rattle.mpm_procs.specs.Table.{Lives, call_of};
 ghost use Rattle.mpm_kernel.specs.Called.{failure_code};
 ghost use Rattle.mpm_gate.specs.Gates.{IsHome};
 ghost use Rattle.mpm_system.specs.Opening.{MayBegin};
-ghost use Rattle.mpm_system.specs.Loading.{moved, may_live as may_be_lived_in, is_slot, begun_for};
+ghost use Rattle.mpm_system.specs.Loading.{moved, may_live as may_be_lived_in};
+ghost use Rattle.mpm_system.specs.Processes.{BeginsFor};
 
 use crate::system::System;
 use mpm_banks::Banks;
@@ -17,23 +18,23 @@ use mpm_procs::{NewProcess, NoSlot};
 use mpm_residents::Act;
 
 impl System {
-    ghost use Rattle.mpm_system.specs.Whole.{LivesWithin};
+    ghost use Rattle.mpm_system.specs.Whole.{LivesInSystem};
+    ghost use Rattle.mpm_system.specs.Leaving.{Leaves};
     ghost use Rattle.mpm_system.specs.Loading.{placing, moving, giving, beginning, begins, handed_over, handed_value};
 
     /// What the interpreter of a slot hands over is done, with the bytes of the call that its process keeps. Answers 0, or FFh
     /// where no process can begin.
     pub(crate) fn hand_over(&mut self, p: Pid, act: Act) -> u16
-        requires { LivesWithin p self.old }
-        ensures system { self.new ≡ handed_over act (call_of self.old.kernel.dispatcher.procs p).bytes p self.old }
-        ensures value { result ≡ handed_value act self.old }
+        requires { LivesInSystem p self.old }
+        ensures { Leaves (handed_over act (call_of self.old.kernel.dispatcher.procs p).bytes p self.old) (handed_value act self.old) self.new result }
     {
         match act {
             Act::Ask => 0,
-            Act::Place { seg, address, .. } => {
+            Act::PlaceBytes { seg, address, .. } => {
                 self.place_bytes(p, seg, address);
                 0
             }
-            Act::Patch {
+            Act::MoveCode {
                 seg,
                 address,
                 length,
@@ -42,8 +43,8 @@ impl System {
                 self.move_code(p, seg, address, length, page);
                 0
             }
-            Act::Begin { seg, new } => value_of(self.begin_program(p, seg, new)),
-            Act::Give { console } => {
+            Act::BeginProcess { seg, new } => value_of(self.begin_program(p, seg, new)),
+            Act::GiveConsole { console } => {
                 self.give_console(p, console);
                 0
             }
@@ -52,7 +53,7 @@ impl System {
 
     /// The bytes of the call that a process keeps come into a segment, from an address on.
     fn place_bytes(&mut self, p: Pid, seg: Seg, address: u16)
-        requires { LivesWithin p self.old }
+        requires { LivesInSystem p self.old }
         ensures { self.new ≡ placing seg address (call_of self.old.kernel.dispatcher.procs p).bytes self.old }
     {
         let bytes = self.kernel.kept_call(p).from(0);
@@ -62,7 +63,7 @@ impl System {
     /// So many bytes of code in a segment, from an address on, are moved to a page, as the bytes of the call that a process
     /// keeps mark them.
     fn move_code(&mut self, p: Pid, seg: Seg, address: u16, count: u16, page: u8)
-        requires { LivesWithin p self.old }
+        requires { LivesInSystem p self.old }
         ensures { self.new ≡ moving seg address count (call_of self.old.kernel.dispatcher.procs p).bytes page self.old }
     {
         let marks = self.kernel.kept_call(p).from(0);
@@ -73,7 +74,7 @@ impl System {
 
     /// A process gives a console to the one that waits for it first, if it owns it.
     fn give_console(&mut self, p: Pid, console: u8)
-        requires { LivesWithin p self.old }
+        requires { LivesInSystem p self.old }
         ensures { self.new ≡ giving console p self.old }
     {
         if console < self.kernel.consoles() {
@@ -84,9 +85,8 @@ impl System {
     /// The process of a program begins in a segment, and owns its console where the one that hands it over does. Answers
     /// whether a process may live there, its console is there and a slot is free.
     fn begin_program(&mut self, p: Pid, seg: Seg, new: NewProcess) -> bool
-        requires { LivesWithin p self.old }
-        ensures system { self.new ≡ beginning seg new p self.old }
-        ensures answer { result ≡ begins seg new self.old }
+        requires { LivesInSystem p self.old }
+        ensures { Leaves (beginning seg new p self.old) (begins seg new self.old) self.new result }
     {
         if !may_live(&self.memory, seg) || self.kernel.consoles() <= new.console {
             return false;
@@ -143,9 +143,7 @@ fn may_live(banks: &Banks, seg: Seg) -> bool
 fn begin_for(kernel: &mut Kernel, p: Pid, new: NewProcess) -> bool
     requires begins { MayBegin new kernel.old }
     requires lives { Lives kernel.old.dispatcher.procs p }
-    ensures answer { result ≡ is_slot (lowest_free kernel.old.dispatcher.procs) }
-    ensures kernel { kernel.new ≡ begun_for p new (lowest_free kernel.old.dispatcher.procs) kernel.old }
-    ensures same { OnFalse result (kernel.new ≡ kernel.old) }
+    ensures { BeginsFor p new kernel.old kernel.new result }
 {
     let console = new.console;
     match kernel.admit(new) {

@@ -1,13 +1,12 @@
-ghost use Rattle.std.specs.Prelude.{◌≡◌, ◌+◌, ◌<◌, IfOk, false, None, ◌-◌, ◌≤◌, length, Some, IsSome, is_some, []};
+ghost use Rattle.std.specs.Prelude.{◌≡◌, ◌+◌, ◌<◌, IfOk, false, None, ◌-◌, ◌≤◌, length, Some, IsSome};
 ghost use Rattle.mpm_procs.specs.Table.{lowest_free};
-ghost use Rattle.mpm_kernel.specs.Kernel.{IsSoundKernel, dispatched};
-ghost use Rattle.mpm_dispatcher.specs.Dispatch.{admitted, picked};
-ghost use Rattle.mpm_kernel.specs.Consoling.{given};
-ghost use Rattle.mpm_service.specs.Disk.{no_service};
+ghost use Rattle.mpm_kernel.specs.Kernel.{IsSoundKernel};
 ghost use Rattle.mpm_gate.specs.Gates.{IsHome};
 ghost use Rattle.mpm_machine_file.specs.MachineFiles.{IsMachine};
-ghost use Rattle.mpm_queues.specs.Queues.{Queues as QueueTable, no_queues};
-ghost use Rattle.mpm_system.specs.Opening.{terminal_name as name_of_terminal, resident_process as process_of_resident, moment_of as moment_said, program_file as program_said, laid_out, placed_process as process_placed, booted, IsBare, MayPlace, MayBegin, AwaitsResidents, with_placed, OnlyHas, command_queues, spooling_queues, with_residents, begun_residents, begun_by_interpreter, with_interpreting, with_terminals, with_terminal, with_spooler, with_scheduler, with_spool_queues, with_begun, schedule_number as number_of_schedule, Begun};
+ghost use Rattle.mpm_queues.specs.Queues.{no_queues};
+ghost use Rattle.mpm_system.specs.Opening.{terminal_name as name_of_terminal, resident_process as process_of_resident, moment_of as moment_said, program_file as program_said, laid_out, placed_process as process_placed, MayPlace, MayBegin, StandsBare, AwaitsResidents, AwaitsTerminals, AwaitsTerminal, BeginsTerminals, AwaitsOneMore, BeginsResidents, with_placed, OnlyHas, command_queues, spooling_queues, begun_residents, begun_by_interpreter, with_interpreting, with_terminal, with_spooler, with_scheduler, with_spool_queues, schedule_number as number_of_schedule};
+ghost use Rattle.mpm_residents.specs.Interpreters.{IsProgramSegment};
+ghost use Rattle.mpm_system.specs.Processes.{IsProcessAt, BeginsWhereFree, BeginsInSlot, PlacesProgram};
 ghost use Rattle.mpm_system.specs.Whole.{IsWhole, NoCompletions};
 
 use crate::owed::Owed;
@@ -58,9 +57,7 @@ impl System {
     #[tactic(auto, unfolding(crate::specs::Opening::booted))]
     pub fn bare(alloc: Global, file: &MachineFile, script: Script) -> Result<System, AllocError>
         requires { IsMachine file.now }
-        ensures booted { IfOk result (λ system. system ≡ booted file.now script) }
-        ensures bare { IfOk result (λ system. IsBare system) }
-        ensures disk { IfOk result (λ system. system.kernel.disk ≡ no_service file.now.disk_turn) }
+        ensures { IfOk result (StandsBare file.now script) }
     {
         let memory = Banks::new(alloc, file.segments.as_slice())?;
         let mut kernel = Kernel::new(alloc, file.consoles, file.printers, moment_of(file))?;
@@ -82,10 +79,7 @@ impl System {
     #[tactic(auto, using(crate::proofs::PlacedLaws::laid_out_is_there), unfolding(crate::specs::Opening::with_placed))]
     pub fn place(&mut self, seg: Seg, name: Name8, priority: u8, console: u8, program: &[u8]) -> Pid
         requires { MayPlace self.old seg console (length program.now) }
-        ensures slot { lowest_free self.old.kernel.dispatcher.procs ≡ Some result }
-        ensures system { self.new ≡ with_placed self.old result seg name priority console program.now }
-        ensures bare { IsBare self.new }
-        ensures disk { self.new.kernel.disk ≡ self.old.kernel.disk }
+        ensures { PlacesProgram seg name priority console program.now self.old self.new result }
     {
         let spec = self.memory.spec(seg);
         lay_out(&mut self.memory, seg, program);
@@ -100,11 +94,7 @@ impl System {
     pub fn begin_residents(&mut self, consoles: u8, spool: bool, sched: bool)
         requires awaits { AwaitsResidents consoles self.old }
         requires no_completions { NoCompletions self.old }
-        ensures system { self.new ≡ with_residents consoles spool sched self.old }
-        ensures whole { IsWhole self.new }
-        ensures no_completions { NoCompletions self.new }
-        ensures disk { self.new.kernel.disk ≡ self.old.kernel.disk }
-        ensures steps { self.new.steps ≡ self.old.steps }
+        ensures { BeginsResidents consoles spool sched self.old self.new }
     {
         self.begin_all(consoles, spool, sched);
         self.kernel.pick(false);
@@ -123,10 +113,7 @@ impl System {
 
     /// The command line interpreter begins, for so many consoles: its process, and what acts in it.
     fn begin_interpreting(&mut self, consoles: u8)
-        requires whole { IsWhole self.old }
-        requires queues { OnlyHas no_queues self.old.kernel }
-        requires some { 0 < consoles }
-        requires nobody { self.old.residents ≡ [] }
+        requires { AwaitsResidents consoles self.old }
         ensures { self.new ≡ with_interpreting consoles (begun_by_interpreter self.old) }
     {
         self.begin_interpreter();
@@ -151,13 +138,8 @@ impl System {
 
     /// The terminal message processors of the consoles begin.
     fn begin_terminals(&mut self, consoles: u8)
-        requires whole { IsWhole self.old }
-        requires consoles { consoles ≡ length self.old.kernel.units.consoles }
-        requires first { length self.old.residents ≤ 1 }
-        ensures system { self.new ≡ with_terminals consoles self.old }
-        ensures begun { Begun self.old self.new }
-        ensures few { length self.new.residents ≤ length self.old.residents + consoles }
-        ensures queues { (queues : QueueTable) → OnlyHas queues self.old.kernel → OnlyHas queues self.new.kernel }
+        requires { AwaitsTerminals consoles self.old }
+        ensures { BeginsTerminals consoles self.old self.new }
     {
         for console in 0..consoles {
             self.begin_terminal(console);
@@ -166,9 +148,7 @@ impl System {
 
     /// The terminal message processor of a console begins.
     fn begin_terminal(&mut self, console: u8)
-        requires whole { IsWhole self.old }
-        requires console { console < length self.old.kernel.units.consoles }
-        requires room { length self.old.residents < 11 }
+        requires { AwaitsTerminal console self.old }
         ensures { self.new ≡ with_terminal (lowest_free self.old.kernel.dispatcher.procs) console self.old }
     {
         let new = resident_process(terminal_name(console), TERMINAL_PRIORITY, console);
@@ -179,9 +159,7 @@ impl System {
 
     /// The spooler begins, where there is one: its queues are made, and then its process.
     fn begin_spooler(&mut self, spool: bool)
-        requires whole { IsWhole self.old }
-        requires queues { OnlyHas command_queues self.old.kernel }
-        requires room { length self.old.residents < 11 }
+        requires { AwaitsOneMore command_queues self.old }
         ensures { self.new ≡ with_spooler spool self.old }
     {
         if !spool {
@@ -196,9 +174,7 @@ impl System {
 
     /// The scheduler begins, where there is one, beside a spooler or not: its queue is made, and then its process.
     fn begin_scheduler(&mut self, sched: bool, spool: bool)
-        requires whole { IsWhole self.old }
-        requires queues { OnlyHas (spooling_queues spool) self.old.kernel }
-        requires room { length self.old.residents < 11 }
+        requires { AwaitsOneMore (spooling_queues spool) self.old }
         ensures { self.new ≡ with_scheduler sched (number_of_schedule spool) self.old }
     {
         if !sched {
@@ -234,8 +210,7 @@ fn make_spool_queues(kernel: &mut Kernel)
 /// The process of a resident begins, where a slot is free, and takes extended errors as answers.
 fn begin_process(kernel: &mut Kernel, new: NewProcess) -> bool
     requires { MayBegin new kernel.old }
-    ensures kernel { kernel.new ≡ with_begun (lowest_free kernel.old.dispatcher.procs) new kernel.old }
-    ensures begun { result ≡ is_some (lowest_free kernel.old.dispatcher.procs) }
+    ensures { BeginsWhereFree new kernel.old kernel.new result }
 {
     match kernel.admit(new) {
         Ok(p) => {
@@ -257,8 +232,7 @@ fn terminal_name(console: u8) -> Name8
 /// The process of a resident: it has no memory segment.
 #[tactic(auto, unfolding(crate::specs::Opening::resident_process))]
 fn resident_process(name: Name8, priority: u8, console: u8) -> NewProcess
-    ensures process { result ≡ process_of_resident name priority console }
-    ensures console { result.console ≡ console }
+    ensures { IsProcessAt (process_of_resident name priority console) console result }
 {
     NewProcess {
         name,
@@ -328,10 +302,8 @@ fn lay_out(banks: &mut Banks, seg: Seg, program: &[u8])
 /// The process of a program that is laid out in a segment.
 #[tactic(auto, unfolding(crate::specs::Opening::placed_process))]
 fn placed_process(spec: SegmentSpec, seg: Seg, name: Name8, priority: u8, console: u8) -> NewProcess
-    requires pages { 2 ≤ spec.pages }
-    requires end { spec.base + spec.pages ≤ 192 }
-    ensures process { result ≡ process_placed spec seg name priority console }
-    ensures console { result.console ≡ console }
+    requires { IsProgramSegment spec }
+    ensures { IsProcessAt (process_placed spec seg name priority console) console result }
 {
     let page = last_page(spec);
     NewProcess {
@@ -352,8 +324,7 @@ fn placed_process(spec: SegmentSpec, seg: Seg, name: Name8, priority: u8, consol
 fn begin(kernel: &mut Kernel, new: NewProcess) -> Pid
     requires begins { MayBegin new kernel.old }
     requires slot { IsSome (lowest_free kernel.old.dispatcher.procs) }
-    ensures slot { lowest_free kernel.old.dispatcher.procs ≡ Some result }
-    ensures kernel { kernel.new ≡ dispatched (picked false) (given new.console None (Some result) (dispatched (admitted result new) kernel.old)) }
+    ensures { BeginsInSlot new kernel.old kernel.new result }
 {
     let console = new.console;
     match kernel.admit(new) {

@@ -1,11 +1,11 @@
-ghost use Rattle.std.specs.Prelude.{◌≡◌, ◌<◌, OnOk};
+ghost use Rattle.std.specs.Prelude.{◌≡◌, ◌<◌};
 ghost use Rattle.mpm_gate.specs.Texts.{text_from};
 ghost use Rattle.mpm_gate.specs.declared.take.TextEnd.TheVariants.{Dollar};
 ghost use Rattle.mpm_banks.specs.Memory.{byte_at};
 ghost use Rattle.mpm_procs.specs.Table.{Lives, call_of};
-ghost use Rattle.mpm_kernel.specs.Columns.{tab_text, expanded, spoke, column_of};
-ghost use Rattle.mpm_output.specs.Writing.{spoken, WritesAlone};
-ghost use Rattle.mpm_system.specs.Saying.{MayShow};
+ghost use Rattle.mpm_kernel.specs.Columns.{tab_text, spoke, column_of};
+ghost use Rattle.mpm_system.specs.Saying.{MayShow, Shows};
+ghost use Rattle.mpm_system.specs.Strings.{ShowsString};
 
 use mpm_banks::Banks;
 use mpm_base::{Pid, Seg};
@@ -24,8 +24,7 @@ pub fn write_bytes<S: Sink>(
     sink: &mut S,
 ) -> Result<(), Failed>
     requires { MayShow console kernel.old }
-    ensures kernel { kernel.new ≡ spoke kernel.old console bytes.now }
-    ensures wrote { WritesAlone S.written S.faults render.old sink.old render.new sink.new (spoken console bytes.now) result }
+    ensures { Shows S.written S.faults console bytes.now kernel.old kernel.new render.old sink.old render.new sink.new result }
 {
     move_column(kernel, console, bytes);
     put_bytes(console, bytes, render, sink)
@@ -50,8 +49,7 @@ pub(crate) fn write_tabbed<S: Sink>(
     sink: &mut S,
 ) -> Result<(), Failed>
     requires { MayShow console kernel.old }
-    ensures kernel { kernel.new ≡ spoke kernel.old console (tab_text (column_of kernel.old console) byte) }
-    ensures wrote { WritesAlone S.written S.faults render.old sink.old render.new sink.new (spoken console (tab_text (column_of kernel.old console) byte)) result }
+    ensures { Shows S.written S.faults console (tab_text (column_of kernel.old console) byte) kernel.old kernel.new render.old sink.old render.new sink.new result }
 {
     let spaces = kernel.write(Unit::Console { n: console }, byte, true);
     if spaces > 0 {
@@ -73,9 +71,7 @@ pub(crate) fn write_string<S: Sink>(
     sink: &mut S,
 ) -> Result<(), Failed>
     requires { MayShow console kernel.old }
-    ensures kernel { OnOk result (kernel.new ≡ spoke kernel.old console
-        (expanded (column_of kernel.old console) (text_from Dollar (byte_at banks.now seg) address 65536))) }
-    ensures wrote { WritesAlone S.written S.faults render.old sink.old render.new sink.new (spoken console (expanded (column_of kernel.old console) (text_from Dollar (byte_at banks.now seg) address 65536))) result }
+    ensures { ShowsString S.written S.faults console (text_from Dollar (byte_at banks.now seg) address 65536) kernel.old kernel.new render.old sink.old render.new sink.new result }
 {
     for offset in 0..65_536u32 {
         let byte = banks.byte(seg, address.wrapping_add(offset as u16));
@@ -97,8 +93,7 @@ pub(crate) fn write_kept<S: Sink>(
 ) -> Result<(), Failed>
     requires lives { Lives kernel.old.dispatcher.procs p }
     requires console { MayShow console kernel.old }
-    ensures kernel { OnOk result (kernel.new ≡ spoke kernel.old console (expanded (column_of kernel.old console) (call_of kernel.old.dispatcher.procs p).bytes)) }
-    ensures wrote { WritesAlone S.written S.faults render.old sink.old render.new sink.new (spoken console (expanded (column_of kernel.old console) (call_of kernel.old.dispatcher.procs p).bytes)) result }
+    ensures { ShowsString S.written S.faults console (call_of kernel.old.dispatcher.procs p).bytes kernel.old kernel.new render.old sink.old render.new sink.new result }
 {
     for place in 0..kernel.kept_call(p).taken().len() {
         let byte = kernel.kept_call(p).byte(place);

@@ -1,8 +1,8 @@
 ghost use Rattle.std.specs.Prelude.{◌≡◌, true, ℕ};
 ghost use Rattle.z80_regs.specs.Words.{word_of};
-ghost use Rattle.mpm_procs.specs.Table.{Lives, process_in, call_of};
+ghost use Rattle.mpm_procs.specs.Table.{Lives, process_in};
 ghost use Rattle.mpm_base.specs.Calls.{answering, Taken};
-ghost use Rattle.mpm_system.specs.OwnCalls.{is_own};
+ghost use Rattle.mpm_system.specs.OwnCalls.{is_own, KeepsOwnCall};
 
 use crate::system::System;
 use mpm_base::{Pid, functions};
@@ -26,7 +26,7 @@ pub fn is_own(function: u8) -> bool
 }
 
 impl System {
-    ghost use Rattle.mpm_kernel.specs.Calls.{call_done};
+    ghost use Rattle.mpm_system.specs.Doing.{DoesOwnCall};
     ghost use Rattle.mpm_system.specs.Taking.{asked, keeping};
     ghost use Rattle.mpm_system.specs.Answering.{replied};
 
@@ -51,12 +51,8 @@ impl System {
     #[inline(always)]
     #[tactic(auto, using(crate::proofs::OwnCallLaws::version_row), unfolding(mpm_kernel::specs::Calls::call_done))]
     pub fn serve_own(&mut self, p: Pid, function: u8, word: u16) -> u16
-        requires lives { Lives self.old.kernel.dispatcher.procs p }
-        requires own { is_own function ≡ true }
-        requires function { function ≡ (call_of self.old.kernel.dispatcher.procs p).function }
-        requires word { word ≡ (call_of self.old.kernel.dispatcher.procs p).word }
-        ensures system { self.new ≡ record self.old { kernel = (call_done (call_of self.old.kernel.dispatcher.procs p) p (process_in self.old.kernel.dispatcher.procs p) self.old.kernel).kernel } }
-        ensures reply { answering result ≡ (call_done (call_of self.old.kernel.dispatcher.procs p) p (process_in self.old.kernel.dispatcher.procs p) self.old.kernel).reply }
+        requires { KeepsOwnCall p function word self.old }
+        ensures { DoesOwnCall p self.old self.new result }
     {
         let byte = (word % 256) as u8;
         match function {

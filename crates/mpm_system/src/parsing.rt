@@ -9,7 +9,7 @@ use mpm_command::file_block;
 use mpm_names::{BadName, parse_filename};
 
 impl System {
-    ghost use Rattle.mpm_system.specs.Calling.{Gives};
+    ghost use Rattle.mpm_system.specs.Calling.{CallGives};
     ghost use Rattle.mpm_system.specs.Parsing.{parsing};
 
     /// Function 152: parses the file name of which the call gives the address.
@@ -18,7 +18,7 @@ impl System {
     pub fn parse(&mut self, p: Pid, reply: &mut Reply) -> Outcome
         requires lives { Lives self.old.kernel.dispatcher.procs p }
         requires few { length (call_of self.old.kernel.dispatcher.procs p).bytes ≤ 132 }
-        ensures { Gives (parsing (call_of self.old.kernel.dispatcher.procs p) self.old) self.new result reply.new }
+        ensures { CallGives (parsing (call_of self.old.kernel.dispatcher.procs p) self.old) self.new result reply.new }
     {
         answer_name(self.kernel.kept_call(p), reply);
         Outcome::Done

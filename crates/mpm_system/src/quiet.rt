@@ -1,5 +1,4 @@
-ghost use Rattle.std.specs.Prelude.{◌≡◌, Some, None, IfSome, ◌+◌, ◌-◌, ◌≤◌, ◌<◌, ℕ, min, true, false};
-ghost use Rattle.std.specs.Bool.{OnTrue};
+ghost use Rattle.std.specs.Prelude.{◌≡◌, None, IfSome, ◌+◌, ◌≤◌, ◌<◌, ℕ};
 ghost use Rattle.mpm_script.specs.declared.line.TheConstants.{GREATEST_STEP};
 
 use crate::system::System;
@@ -7,17 +6,14 @@ use mpm_base::Pid;
 use mpm_script::GREATEST_STEP;
 
 impl System {
-    ghost use Rattle.mpm_ready.specs.Order.{first_of};
-    ghost use Rattle.mpm_ready.specs.Tables.{list_at};
-    ghost use Rattle.mpm_dispatcher.specs.Dispatch.{ready};
     ghost use Rattle.mpm_interrupts.specs.Interrupts.{due};
     ghost use Rattle.mpm_kernel.specs.Kernel.{IsSoundKernel};
-    ghost use Rattle.mpm_system.specs.Idling.{CanPass, later, IsIdle};
+    ghost use Rattle.mpm_system.specs.Idling.{CanPass, later, IsAlone};
+    ghost use Rattle.mpm_system.specs.Quiet.{IsQuietUntil, IsQuietFor, RunsFirst, TellsIdle};
 
     /// The running process, where it is the first of the ready list, so that it runs on after each instruction.
     pub fn runner(&self) -> Option<Pid>
-        ensures running { IfSome result (λ p. self.now.kernel.dispatcher.running ≡ Some p) }
-        ensures first { IfSome result (λ p. first_of (list_at self.now.kernel.dispatcher.lists ready) ≡ Some p) }
+        ensures { IfSome result (λ p. RunsFirst p self.now) }
     {
         let p = self.kernel.running()?;
         let first = self.kernel.first_ready()?;
@@ -28,8 +24,7 @@ impl System {
     #[inline(always)]
     pub fn last_quiet(&self) -> u64
         requires { self.now.steps ≤ GREATEST_STEP }
-        ensures quiet { (step : ℕ) → step ≤ result → self.now.steps < step → due step self.now.interrupts ≡ None }
-        ensures passing { CanPass (result - self.now.steps) self.now.kernel.disk }
+        ensures { IsQuietUntil result self.now }
     {
         self.steps + self.quiet_for(u64::from(GREATEST_STEP))
     }
@@ -39,9 +34,7 @@ impl System {
     #[tactic(auto, using(crate::proofs::IdlingLaws::fewer_can))]
     pub fn quiet_for(&self, most: u64) -> u64
         requires { most ≤ GREATEST_STEP }
-        ensures few { result ≤ most }
-        ensures quiet { (step : ℕ) → step ≤ self.now.steps + result → self.now.steps < step → due step self.now.interrupts ≡ None }
-        ensures passing { CanPass result self.now.kernel.disk }
+        ensures { IsQuietFor most result self.now }
     {
         self.disk_quiet(most.min(self.quiet()))
     }
@@ -71,9 +64,7 @@ impl System {
     #[inline(always)]
     #[tactic(auto, using(crate::proofs::IdlingLaws::nobody_served, crate::proofs::IdlingLaws::nobody_waits))]
     pub fn is_alone(&self, traced: bool) -> bool
-        ensures served { OnTrue result (self.now.kernel.disk.served ≡ None) }
-        ensures nobody { OnTrue result (first_of self.now.kernel.disk.waiting ≡ None) }
-        ensures untraced { OnTrue result (traced ≡ false) }
+        ensures { IsAlone traced self.now result }
     {
         if traced {
             return false;
@@ -99,8 +90,7 @@ impl System {
 
     /// Whether nothing is done in a step in which nothing is due: no process runs and none is ready, and no end by an abort is put off.
     pub fn is_idle(&self) -> bool
-        ensures idle { OnTrue result (IsIdle self.now) }
-        ensures none_deferred { OnTrue result (self.now.abort_deferred ≡ false) }
+        ensures { TellsIdle result self.now }
     {
         !self.abort_deferred
             && self.kernel.running().is_none()

@@ -1,4 +1,4 @@
-ghost use Rattle.std.specs.Prelude.{◌≡◌, is_some, true, IfSome};
+ghost use Rattle.std.specs.Prelude.{◌≡◌, is_some, true};
 ghost use Rattle.mpm_procs.specs.Table.{Lives, call_of};
 ghost use Rattle.mpm_kernel.specs.Called.{low_parameter};
 
@@ -7,8 +7,9 @@ use mpm_base::{Pid, Reply, functions};
 use mpm_residents::Act;
 
 impl System {
-    ghost use Rattle.mpm_residents.specs.Natives.{native_in, native_act};
-    ghost use Rattle.mpm_system.specs.Whole.{LivesWithin};
+    ghost use Rattle.mpm_residents.specs.Natives.{native_in};
+    ghost use Rattle.mpm_system.specs.Doing.{AsksNext};
+    ghost use Rattle.mpm_system.specs.Whole.{LivesInSystem};
     ghost use Rattle.mpm_system.specs.Residents.{asked_by, tells as is_told, handing_step, taking};
 
     /// The resident of a slot, if one acts there, asks the call that it makes next, and its process keeps it.
@@ -26,8 +27,7 @@ impl System {
     pub fn ask_call(&mut self, p: Pid) -> Act
         requires lives { Lives self.old.kernel.dispatcher.procs p }
         requires has { is_some (native_in self.old.residents p) ≡ true }
-        ensures system { self.new ≡ asked_by (native_in self.old.residents p) p self.old }
-        ensures act { IfSome (native_in self.old.residents p) (λ native. result ≡ native_act native) }
+        ensures { AsksNext p self.old self.new result }
     {
         self.residents.ask(p, self.kernel.call_mut(p))
     }
@@ -51,7 +51,7 @@ impl System {
     /// A resident hands something over, and takes the answer.
     #[tactic(auto, unfolding(crate::specs::Residents::handing_step))]
     pub fn hand(&mut self, p: Pid, act: Act, reply: &mut Reply)
-        requires { LivesWithin p self.old }
+        requires { LivesInSystem p self.old }
         ensures { self.new ≡ handing_step act (call_of self.old.kernel.dispatcher.procs p) p self.old }
     {
         let value = self.hand_over(p, act);

@@ -1,4 +1,4 @@
-ghost use Rattle.std.specs.Prelude.{◌≡◌, Some};
+ghost use Rattle.std.specs.Prelude.{Some};
 ghost use Rattle.mpm_procs.specs.Table.{Lives, call_of};
 
 use crate::system::System;
@@ -7,7 +7,8 @@ use mpm_gate::segment_descriptor;
 
 impl System {
     ghost use Rattle.mpm_banks.specs.Allocations.{released, is_reserved};
-    ghost use Rattle.mpm_system.specs.Calling.{Gives};
+    ghost use Rattle.mpm_system.specs.Calling.{CallGives};
+    ghost use Rattle.mpm_system.specs.Leaving.{Leaves};
     ghost use Rattle.mpm_system.specs.Segments.{reserving, base_asked, releasing};
 
     /// Functions 128 and 129: reserves a segment, of the base page that the call gives or of any.
@@ -15,7 +16,7 @@ impl System {
     #[tactic(auto, using(mpm_banks::proofs::SegmentLaws::reserved_is_there, mpm_banks::proofs::SegmentLaws::spec_of_reserved), unfolding(crate::specs::Segments::reserving))]
     pub fn reserve(&mut self, p: Pid, absolute: bool, reply: &mut Reply) -> Outcome
         requires lives { Lives self.old.kernel.dispatcher.procs p }
-        ensures { Gives (reserving (base_asked absolute (call_of self.old.kernel.dispatcher.procs p)) (call_of self.old.kernel.dispatcher.procs p) p self.old) self.new result reply.new }
+        ensures { CallGives (reserving (base_asked absolute (call_of self.old.kernel.dispatcher.procs p)) (call_of self.old.kernel.dispatcher.procs p) p self.old) self.new result reply.new }
     {
         let call = self.kernel.kept_call(p);
         let word = call.word;
@@ -35,7 +36,7 @@ impl System {
     #[tactic(auto, unfolding(crate::specs::Segments::releasing))]
     pub fn release(&mut self, p: Pid, reply: &mut Reply) -> Outcome
         requires lives { Lives self.old.kernel.dispatcher.procs p }
-        ensures { Gives (releasing (call_of self.old.kernel.dispatcher.procs p) p self.old) self.new result reply.new }
+        ensures { CallGives (releasing (call_of self.old.kernel.dispatcher.procs p) p self.old) self.new result reply.new }
     {
         let bank = self.kernel.kept_call(p).byte(3);
         let answer = if self.give_back(p, bank) {
@@ -50,8 +51,7 @@ impl System {
     /// Frees the segment of a number, where the process reserved it; answers whether it did.
     #[tactic(auto, using(mpm_banks::proofs::SegmentLaws::nobody_reserved, mpm_banks::proofs::SegmentLaws::released_by_another))]
     fn give_back(&mut self, p: Pid, bank: u8) -> bool
-        ensures system { self.new ≡ record self.old { memory = released self.old.memory p bank } }
-        ensures answer { result ≡ is_reserved self.old.memory p bank }
+        ensures { Leaves (record self.old { memory = released self.old.memory p bank }) (is_reserved self.old.memory p bank) self.new result }
     {
         if self.memory.segments() <= bank {
             return false;

@@ -16,8 +16,8 @@ const COMMAND_QUEUE: [u8; 12] = [1, 0, 0, 0, 0, 0, 0, 0, 0, 0, 0, 0];
 const CONSOLE: usize = 13;
 
 impl System {
-    ghost use Rattle.mpm_system.specs.Whole.{LivesWithin};
-    ghost use Rattle.mpm_system.specs.Calling.{asking, served_by, Gives};
+    ghost use Rattle.mpm_system.specs.Whole.{LivesInSystem};
+    ghost use Rattle.mpm_system.specs.Calling.{asking, served_by, CallGives};
     ghost use Rattle.mpm_system.specs.Sending.{IsReadyWithin, framed, renamed, passed, passed_after, sent, has_interpreter, sending, chaining, let_in};
 
     /// Function 150: a process sends a command to the command line interpreter.
@@ -25,7 +25,7 @@ impl System {
     #[tactic(auto, unfolding(crate::specs::Sending::sending))]
     pub fn send_command(&mut self, p: Pid, reply: &mut Reply) -> Outcome
         requires { IsReadyWithin p self.old }
-        ensures { Gives (served_by (sending (has_interpreter self.old) p self.old.kernel) self.old) self.new result reply.new }
+        ensures { CallGives (served_by (sending (has_interpreter self.old) p self.old.kernel) self.old) self.new result reply.new }
     {
         let call = self.kernel.kept_call(p);
         let console = call.byte(1);
@@ -43,7 +43,7 @@ impl System {
     #[tactic(auto, unfolding(crate::specs::Sending::chaining))]
     pub fn chain(&mut self, p: Pid, reply: &mut Reply) -> Outcome
         requires { IsReadyWithin p self.old }
-        ensures { Gives (served_by (chaining (has_interpreter self.old) p self.old.kernel) self.old) self.new result reply.new }
+        ensures { CallGives (served_by (chaining (has_interpreter self.old) p self.old.kernel) self.old) self.new result reply.new }
     {
         if self.residents.interprets(INTERPRETER) {
             let message = chained(self.kernel.living(p), self.kernel.kept_call(p).taken());
@@ -58,7 +58,7 @@ impl System {
     #[tactic(auto, unfolding(crate::specs::Sending::sent))]
     fn send(&mut self, function: u8, message: &[u8; 130], p: Pid, reply: &mut Reply) -> Outcome
         requires { IsReadyWithin p self.old }
-        ensures { Gives (served_by (sent function message.now p self.old.kernel) self.old) self.new result reply.new }
+        ensures { CallGives (served_by (sent function message.now p self.old.kernel) self.old) self.new result reply.new }
     {
         self.frame_call(p, message);
         let outcome = self.kernel.call(p, reply);
@@ -69,7 +69,7 @@ impl System {
 
     /// The interpreter becomes the owner of the console of a command in the step in which that goes in.
     fn pass_after(&mut self, outcome: Outcome, reply: &Reply, p: Pid)
-        requires { LivesWithin p self.old }
+        requires { LivesInSystem p self.old }
         ensures { self.new ≡ record self.old { kernel = passed_after outcome reply.now p self.old.kernel } }
     {
         match outcome {
@@ -100,7 +100,7 @@ impl System {
 
     /// A command went in: where the process that sent it owns the console of the command, the interpreter becomes the owner.
     fn pass_console(&mut self, p: Pid)
-        requires { LivesWithin p self.old }
+        requires { LivesInSystem p self.old }
         ensures { self.new ≡ record self.old { kernel = passed p self.old.kernel } }
     {
         let console = self.kernel.kept_call(p).byte(CONSOLE);
@@ -111,7 +111,7 @@ impl System {
 
     /// The held call of a process was completed: where it sent a command, that went in.
     pub fn let_in(&mut self, p: Pid)
-        requires { LivesWithin p self.old }
+        requires { LivesInSystem p self.old }
         ensures { self.new ≡ record self.old { kernel = let_in p self.old.kernel } }
     {
         match self.kernel.kept_call(p).function {

@@ -1,7 +1,6 @@
-ghost use Rattle.std.specs.Prelude.{◌≡◌, ◌<◌, ◌≢◌, List, ℕ, ◌%◌};
+ghost use Rattle.std.specs.Prelude.{◌≡◌, ◌<◌, List, ℕ, ◌%◌};
 ghost use Rattle.mpm_procs.specs.Table.{call_of, process_in};
 ghost use Rattle.mpm_output.specs.Writing.{WritesAlone, spoken};
-ghost use Rattle.mpm_base.specs.declared.functions.TheConstants.{PRINT_STRING};
 
 use crate::output::{write_bytes, write_kept, write_string, write_tabbed};
 use crate::system::System;
@@ -14,8 +13,8 @@ use mpm_render::{Render, Unit};
 
 impl System {
     ghost use Rattle.mpm_file_functions.specs.declared.refusals.Extended.{Extended};
-    ghost use Rattle.mpm_system.specs.Whole.{LivesWithin, Makes};
-    ghost use Rattle.mpm_system.specs.Saying.{string_of, said_by, echo_of};
+    ghost use Rattle.mpm_system.specs.Whole.{LivesInSystem, Makes};
+    ghost use Rattle.mpm_system.specs.Saying.{string_of, said_by, echo_of, MaySpeakByte};
     ghost use Rattle.mpm_system.specs.Residents.{telling_step, text_told};
     ghost use Rattle.mpm_system.specs.FileCalling.{error_told};
     ghost use Rattle.mpm_system.specs.Written.{records_out};
@@ -29,7 +28,7 @@ impl System {
         render: &mut Render,
         sink: &mut S,
     ) -> Result<(), Failed>
-        requires { LivesWithin p self.old }
+        requires { LivesInSystem p self.old }
         ensures { Makes S.written S.faults (said_by (call_of self.old.kernel.dispatcher.procs p) (string_of (call_of self.old.kernel.dispatcher.procs p) seg self.old.memory) p self.old) self.new render.old sink.old render.new sink.new result }
     {
         let call = self.kernel.kept_call(p);
@@ -49,7 +48,7 @@ impl System {
         render: &mut Render,
         sink: &mut S,
     ) -> Result<(), Failed>
-        requires { LivesWithin p self.old }
+        requires { LivesInSystem p self.old }
         ensures { Makes S.written S.faults (said_by (call_of self.old.kernel.dispatcher.procs p) (string_of (call_of self.old.kernel.dispatcher.procs p) seg self.old.memory) p self.old) self.new render.old sink.old render.new sink.new result }
     {
         let call = self.kernel.kept_call(p);
@@ -77,8 +76,7 @@ impl System {
         render: &mut Render,
         sink: &mut S,
     ) -> Result<(), Failed>
-        requires process { LivesWithin p self.old }
-        requires byte { (call_of self.old.kernel.dispatcher.procs p).function ≢ PRINT_STRING }
+        requires { MaySpeakByte p self.old }
         ensures { (string : List ℕ) → Makes S.written S.faults (said_by (call_of self.old.kernel.dispatcher.procs p) string p self.old) self.new render.old sink.old render.new sink.new result }
     {
         let call = self.kernel.kept_call(p);
@@ -96,8 +94,7 @@ impl System {
         render: &mut Render,
         sink: &mut S,
     ) -> Result<(), Failed>
-        requires process { LivesWithin p self.old }
-        requires byte { (call_of self.old.kernel.dispatcher.procs p).function ≢ PRINT_STRING }
+        requires { MaySpeakByte p self.old }
         ensures { (string : List ℕ) → Makes S.written S.faults (said_by (call_of self.old.kernel.dispatcher.procs p) string p self.old) self.new render.old sink.old render.new sink.new result }
     {
         let process = self.kernel.living(p);
@@ -140,7 +137,7 @@ impl System {
     /// echoes it. Mostly it doesn't.
     #[inline(always)]
     pub fn put_echo<S: Sink>(&self, p: Pid, render: &mut Render, sink: &mut S) -> Result<(), Failed>
-        requires { LivesWithin p self.now }
+        requires { LivesInSystem p self.now }
         ensures wrote { WritesAlone S.written S.faults render.old sink.old render.new sink.new (spoken (process_in self.now.kernel.dispatcher.procs p).console (echo_of (call_of self.now.kernel.dispatcher.procs p) self.now.kernel)) result }
     {
         let call = self.kernel.kept_call(p);
@@ -159,7 +156,7 @@ impl System {
         render: &mut Render,
         sink: &mut S,
     ) -> Result<(), Failed>
-        requires { LivesWithin p self.now }
+        requires { LivesInSystem p self.now }
         ensures wrote { WritesAlone S.written S.faults render.old sink.old render.new sink.new (spoken (process_in self.now.kernel.dispatcher.procs p).console (echo_of (call_of self.now.kernel.dispatcher.procs p) self.now.kernel)) result }
     {
         if !echoes(self.kernel.kept_call(p).function) {
@@ -178,7 +175,7 @@ impl System {
         render: &mut Render,
         sink: &mut S,
     ) -> Result<(), Failed>
-        requires { LivesWithin p self.old }
+        requires { LivesInSystem p self.old }
         ensures { Makes S.written S.faults (telling_step (call_of self.old.kernel.dispatcher.procs p) p self.old) self.new render.old sink.old render.new sink.new result }
     {
         self.put_text(p, render, sink)?;
@@ -189,7 +186,7 @@ impl System {
 
     /// The text of the call that a process keeps comes to the console that its parameter names, where that is there.
     fn put_text<S: Sink>(&mut self, p: Pid, render: &mut Render, sink: &mut S) -> Result<(), Failed>
-        requires { LivesWithin p self.old }
+        requires { LivesInSystem p self.old }
         ensures { Makes S.written S.faults (text_told (call_of self.old.kernel.dispatcher.procs p) self.old) self.new render.old sink.old render.new sink.new result }
     {
         let console = self.console_told(p);
@@ -206,7 +203,7 @@ impl System {
         render: &mut Render,
         sink: &mut S,
     ) -> Result<(), Failed>
-        requires { LivesWithin p self.old }
+        requires { LivesInSystem p self.old }
         ensures { Makes S.written S.faults (said_by (call_of self.old.kernel.dispatcher.procs p) (call_of self.old.kernel.dispatcher.procs p).bytes p self.old) self.new render.old sink.old render.new sink.new result }
     {
         if self.kernel.kept_call(p).function == functions::PRINT_STRING {
@@ -225,7 +222,7 @@ impl System {
         render: &mut Render,
         sink: &mut S,
     ) -> Result<(), Failed>
-        requires { LivesWithin p self.old }
+        requires { LivesInSystem p self.old }
         ensures system { self.new ≡ (error_told error p self.old).system }
         ensures wrote { WritesAlone S.written S.faults render.old sink.old render.new sink.new (error_told error p self.old).emitted result }
     {

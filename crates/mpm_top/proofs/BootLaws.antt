@@ -16,7 +16,7 @@ use Rattle.mpm_top.specs.declared.status.Status.{Status}
 use Rattle.mpm_top.specs.declared.status.Status.TheVariants.{Ran, Usage, MachineFault, ScriptFault, ImageFault, TooLong, ReadFault, DiskFault, WriteFault, OutOfMemory}
 use Rattle.mpm_machine_file.specs.declared.lists.DriveSpec.{DriveSpec}
 use Rattle.mpm_drives.specs.declared.error.BootError.{BootError}
-use Rattle.mpm_drives.specs.declared.error.BootError.TheVariants.{Image, DiskFault as DriveFailed, OutOfMemory as NoMemory}
+use Rattle.mpm_drives.specs.declared.error.BootError.TheVariants.{Image, DiskFault as FailedToMount, OutOfMemory as NoMemory}
 use Rattle.mpm_drives.specs.Images.{Images}
 use Rattle.mpm_mount.specs.Directories.{Directory}
 use Rattle.mpm_drives.specs.Mounted.{NumberedDrive, AreDrivesOf, placed}
@@ -24,15 +24,18 @@ use Rattle.mpm_bdos.specs.Serving.{Kept as Filed, nothing_kept}
 use Rattle.mpm_directories.specs.Places.{in_places}
 use Rattle.mpm_machine.specs.State.{State}
 use Rattle.mpm_machine.specs.Files.{Between, StandsForFiles}
-use Rattle.mpm_machine.specs.Booting.{StandsOnDrives}
+use Rattle.mpm_machine.specs.Booting.{IsBootedOn}
 use Rattle.mpm_machine.specs.Mounting.{HasDrives, HasNoDrive, OpensOn, untouched}
 use Rattle.mpm_machine.proofs.MountedLaws.{none_mounted}
 use Rattle.mpm_machine.proofs.DriveLaws.{nothing_mounted}
 use Rattle.mpm_drives.specs.Stopping.{Failures, IsFaultless, StopsMounting, IsFirst, Stops}
-use Rattle.mpm_top.proofs.StatusLaws.{always_disk}
-use Rattle.mpm_top.specs.Beginnings.{Host, FailedSoFar, system_of, script_name, drives_listed, begun, input_of, Holds, Scripted, Starts, StartsOf, BeginsCommand, BeginsOf}
+use Rattle.mpm_top.proofs.StatusLaws.{always_disk, always_file}
+use Rattle.mpm_top.specs.Beginnings.{Host, FailedSoFar, system_of, script_name, drives_listed, begun, input_of, Holds, Scripted, Starts, StartsOf, BeginsCommand, BeginsOf, IsAtStart}
 use Rattle.mpm_top.specs.Runs.{KeepsUnmounted}
-use Rattle.mpm_top.specs.Endings.{Unread, LacksScript, LacksDrive, Ends, EndsAfter, IsNoMachine, IsRefusal, IsEarly, status_of, UnlessDiskFault}
+use Rattle.mpm_top.specs.Endings.{Unread, LacksScript, LacksDrive, Ends, EndsAfter, IsNoMachine, IsRefusal, IsEarly, status_of, UnlessDiskFault, UnlessReadFault}
+use Rattle.mpm_port.specs.declared.drives.Drives.{Ghosts}
+use Rattle.mpm_bdos.specs.Syncing.{AreMountedSynced}
+use Rattle.mpm_top.specs.Parts.{IsReadyToRun}
 
 pub no_system : (bytes : List ℕ) (events : List Timed) → machine_of_text bytes ≡ None → system_of Run bytes events ≡ None
 unfolding system_of
@@ -143,7 +146,7 @@ ends_by : (disks : Disks) (host : Host) (bytes : List ℕ) (file : MachineFile) 
     → EndsAfter disks host Run (λ content. content ≡ bytes) old new (status_of error)
 ends_by disks host bytes file events old new (Image drive cause place) is scripted stops =
     lacks_drive disks host bytes file events old new (Image drive cause place) is scripted stops
-ends_by disks host bytes file events old new DriveFailed is scripted stops = inl (refl, lacks_drive disks host bytes file events old new DriveFailed is scripted stops)
+ends_by disks host bytes file events old new FailedToMount is scripted stops = inl (refl, lacks_drive disks host bytes file events old new FailedToMount is scripted stops)
 ends_by disks host bytes file events old new NoMemory is scripted stops = tt
 
 pub ends_unmounted : (disks : Disks) (host : Host) (bytes : List ℕ) (file : MachineFile) (events : List Timed) (old new : FailedSoFar) (error : BootError) (status : Status)
@@ -163,7 +166,7 @@ first_same disks images (spec ∷ specs) old new drive cause place (inr later) =
 no_disk_fault : (disks : Disks) (images : Images) (specs : List DriveSpec) (old new : Failures) (error : BootError) (P : Type 0) → Stops disks images specs old new error → (new ≡ old → P)
     → UnlessDiskFault (status_of error) P
 no_disk_fault disks images specs old new (Image drive cause place) P stops p = p (first_same disks images specs old new drive cause place stops)
-no_disk_fault disks images specs old new DriveFailed P stops p = tt
+no_disk_fault disks images specs old new FailedToMount P stops p = tt
 no_disk_fault disks images specs old new NoMemory P stops p = p stops
 
 pub unless_disk : (disks : Disks) (images : Images) (specs : List DriveSpec) (old new : Failures) (error : BootError) (status : Status) (P : Type 0) → status ≡ status_of error
@@ -259,7 +262,7 @@ ends_after disks host form name bytes old new (ScriptFault line) from_file ends 
 ends_after disks host form name bytes old new (ImageFault drive cause place) from_file ends = drive_lacks disks host form name bytes old new (Image drive cause place) from_file ends
 ends_after disks host form name bytes old new (TooLong what) from_file ends = script_lacks host form name bytes old.files new.files (TooLong what) from_file ends
 ends_after disks host form name bytes old new ReadFault from_file ends = script_lacks host form name bytes old.files new.files ReadFault from_file ends
-ends_after disks host form name bytes old new (DiskFault step) from_file (inl ends) = inl (ends.0, drive_lacks disks host form name bytes old new DriveFailed from_file ends.1)
+ends_after disks host form name bytes old new (DiskFault step) from_file (inl ends) = inl (ends.0, drive_lacks disks host form name bytes old new FailedToMount from_file ends.1)
 ends_after disks host form name bytes old new (DiskFault step) from_file (inr loses) = inr (record {
   start = loses.start;
   begins = begins_of_contents host form name bytes loses.start from_file loses.begins;
@@ -309,6 +312,25 @@ pub either_way : {M : Type 0} (result : Result M Status) (P : Type 0) → P → 
 either_way (Ok machine) P p = p
 either_way (Err status) P p = always_disk status P p
 
+pub either_file : {M : Type 0} (result : Result M Status) (P : Type 0) → P → MatchResult result (λ _. P) (λ status. UnlessReadFault status P)
+either_file (Ok machine) P p = p
+either_file (Err status) P p = always_file status P p
+
+pub since_fetched : {M : Type 0} (result : Result M Status) (first between last : List (List ℕ)) → between ≡ first
+    → MatchResult result (λ _. last ≡ between) (λ status. UnlessReadFault status (last ≡ between)) → MatchResult result (λ _. last ≡ first) (λ status. UnlessReadFault status (last ≡ first))
+since_fetched result first between last same names =
+    subst (λ (n : List (List ℕ)). MatchResult result (λ _. last ≡ n) (λ status. UnlessReadFault status (last ≡ n))) same names
+
+pub memory_early : {M : Type 0} (result : Result M Status) → IfErr result (λ status. status ≡ OutOfMemory) → IfErr result (λ status. IsEarly status)
+memory_early (Ok machine) memory = tt
+memory_early (Err status) memory = subst IsEarly (sym memory) tt
+
+pub ready_by : {D E : Type 0} (on : Ghosts D) (old new : D) (result : Result (Box Machine) E) → IfOk result (λ machine. IsAtStart on.disks machine.value new)
+    → IfOk result (λ machine. KeepsUnmounted (on.disks old) (on.disks new) machine.value.bdos.mounted)
+    → IfOk result (λ machine. AreMountedSynced (on.unsynced new) machine.value.bdos.mounted) → IfOk result (λ machine. IsReadyToRun on old new machine.value)
+ready_by on old new (Ok machine) begins beside fresh = record { begins = begins; beside = beside; fresh = fresh }
+ready_by on old new (Err error) begins beside fresh = tt
+
 pub refusal_early : (status : Status) → IsRefusal status → IsEarly status
 refusal_early Ran refusal = absurd refusal
 refusal_early Usage refusal = tt
@@ -334,6 +356,6 @@ pub bare_inside : {lent machine : Machine} → lent ≡ machine → HasNoDrive m
 bare_inside same bare = subst (λ (m : Machine). HasNoDrive m.bdos.mounted) (sym same) bare
 
 pub stands_inside : {D : Type 0} {disks : D → Disks} {images : Images} {owes : ℕ → Bool} {specs : List DriveSpec} {drives : D} {lent machine : Machine} → lent ≡ machine
-    → StandsOnDrives disks images owes specs machine drives → StandsOnDrives disks images owes specs lent drives
+    → IsBootedOn disks images owes specs machine drives → IsBootedOn disks images owes specs lent drives
 stands_inside {disks = disks} {images = images} {owes = owes} {specs = specs} {drives = drives} same stands =
-    subst (λ (m : Machine). StandsOnDrives disks images owes specs m drives) (sym same) stands
+    subst (λ (m : Machine). IsBootedOn disks images owes specs m drives) (sym same) stands

@@ -29,14 +29,14 @@ use Rattle.mpm_mount.proofs.Still.{has_own, file_injective}
 use Rattle.mpm_refusals.specs.Asking.{StandsWhere}
 use Rattle.mpm_bdos.specs.Serving.{StandEach}
 use Rattle.mpm_directories.specs.Places.{directory_at}
-use Rattle.mpm_bdos.specs.Turns.{labelled, images_of}
+use Rattle.mpm_bdos.specs.Turns.{drive_and_kind, images_of}
 use Rattle.mpm_bdos.proofs.NextTurns.{image_told}
 use Rattle.mpm_top.specs.Data.{data_file, data_of, data_on, sector_in, HasDriveA}
 use Rattle.mpm_top.proofs.Naming.{kind_labelled}
 
 -- drive A after a run
 
-drive_by_directory : (x : Disks) (drives : List (Option Drive)) (directory : Option Directory) (drive : Option Drive) → option_map labelled directory ≡ Some (0, Hd4)
+drive_by_directory : (x : Disks) (drives : List (Option Drive)) (directory : Option Directory) (drive : Option Drive) → option_map drive_and_kind directory ≡ Some (0, Hd4)
     → StandsWhere 0 (images_of x 0) directory drive → slice_index_or drives 0 None ≡ drive → HasDriveA x directory drives
 drive_by_directory x drives None drive label stands here = absurd (none-some _ label)
 drive_by_directory x drives (Some d) None label stands here = absurd stands
@@ -48,16 +48,16 @@ drive_by_directory x drives (Some d) (Some files) label stands here = record {
   here = here;
 }
 
-pub has_drive_a : (x : Disks) (mounted : List (Option Directory)) (drives : List (Option Drive)) → option_map labelled (directory_at mounted 0) ≡ Some (0, Hd4)
+pub has_drive_a : (x : Disks) (mounted : List (Option Directory)) (drives : List (Option Drive)) → option_map drive_and_kind (directory_at mounted 0) ≡ Some (0, Hd4)
     → StandEach (images_of x) mounted drives → HasDriveA x (directory_at mounted 0) drives
 has_drive_a x mounted drives label stand = drive_by_directory x drives (directory_at mounted 0) (slice_index_or drives 0 None) label (stand.each 0) refl
 
 -- the directory of the drive is of its kind
-pub kind_there : (directory : Option Directory) (d : Directory) → Some d ≡ directory → option_map labelled directory ≡ Some (0, Hd4) → d.kind ≡ Hd4
-kind_there directory d is label = kind_labelled d 0 Hd4 (ap (option_map labelled) is ∙ label)
+pub kind_there : (directory : Option Directory) (d : Directory) → Some d ≡ directory → option_map drive_and_kind directory ≡ Some (0, Hd4) → d.kind ≡ Hd4
+kind_there directory d is label = kind_labelled d 0 Hd4 (ap (option_map drive_and_kind) is ∙ label)
 
-pub none_there : (directory : Option Directory) → None ≡ directory → option_map labelled directory ≡ Some (0, Hd4) → ⊥
-none_there directory is label = none-some _ (ap (option_map labelled) is ∙ label)
+pub none_there : (directory : Option Directory) → None ≡ directory → option_map drive_and_kind directory ≡ Some (0, Hd4) → ⊥
+none_there directory is label = none-some _ (ap (option_map drive_and_kind) is ∙ label)
 
 -- what its records sum to
 pub summed_on : (on : List (Option Drive)) (files : Drive) → slice_index_or on 0 None ≡ Some files → data_of files ≡ data_on on

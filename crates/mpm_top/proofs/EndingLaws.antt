@@ -21,7 +21,7 @@ use Rattle.mpm_machine_file.specs.declared.lists.DriveSpec.{DriveSpec}
 use Rattle.mpm_mount.specs.declared.errors.ImageFault.{ImageFault as FaultOfImage}
 use Rattle.mpm_mount.specs.Drives.{Drive}
 use Rattle.mpm_mount.specs.Images.{files_of}
-use Rattle.mpm_drives.specs.declared.error.BootError.TheVariants.{Image, DiskFault as DriveFailed}
+use Rattle.mpm_drives.specs.declared.error.BootError.TheVariants.{Image, DiskFault as FailedToMount}
 use Rattle.mpm_port.specs.Disks.{Disks, ToldImage, Untold, Missing, Bytes, Brings}
 use Rattle.mpm_drives.specs.Images.{Images, HasFiles}
 use Rattle.mpm_drives.specs.Mounted.{NumberedDrive, AreDrivesOf, number_of}
@@ -173,7 +173,7 @@ first_never (spec ∷ specs) Before P never (inl stops) = never spec stops
 first_never (spec ∷ specs) Before P never (inr later) = first_never specs Before P never later.1
 
 no_drive_stops : (disks : Disks) (images : Images) (spec : DriveSpec) (old new : Failures) → new.names ≡ old.names → (Rose old.faults new.faults → ⊥)
-    → StopsMounting disks images spec old new DriveFailed → ⊥
+    → StopsMounting disks images spec old new FailedToMount → ⊥
 no_drive_stops disks images spec old new same sound (inl joined) = nothing_joins old.names spec.image (sym same ∙ joined.0)
 no_drive_stops disks images spec old new same sound (inr rose) = sound rose.1
 

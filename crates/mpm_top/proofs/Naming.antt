@@ -15,7 +15,7 @@ use Rattle.mpm_drives.specs.Images.{Images}
 use Rattle.mpm_drives.specs.Mounted.{number_of}
 use Rattle.mpm_refusals.specs.Asking.{StandsWhere}
 use Rattle.mpm_directories.specs.Places.{directory_at}
-use Rattle.mpm_bdos.specs.Turns.{has_directory, labelled, images_of}
+use Rattle.mpm_bdos.specs.Turns.{has_directory, drive_and_kind, images_of}
 use Rattle.mpm_bdos.proofs.NextTurns.{image_told}
 use Rattle.mpm_machine.specs.Mounting.{IsInPlace, HasDrives, KeepsMounted}
 use Rattle.mpm_machine.specs.Failing.{HaveImages}
@@ -29,11 +29,11 @@ Agree disks told = (number : ℕ) (name : List ℕ) → disks.name_of number ≡
 
 -- a drive of a machine file
 
-pub kind_labelled : (d : Directory) (number : ℕ) (kind : Kind) → Some (labelled d) ≡ Some (number, kind) → d.kind ≡ kind
+pub kind_labelled : (d : Directory) (number : ℕ) (kind : Kind) → Some (drive_and_kind d) ≡ Some (number, kind) → d.kind ≡ kind
 kind_labelled d number kind same = ap (λ (label : Option (ℕ × Kind)). (unwrap_or label (number, kind)).1) same
 
 left_by : (x : Disks) (told : Images) (drives : List (Option Drive)) (spec : DriveSpec) (directory : Option Directory) (drive : Option Drive) → Agree x told
-    → option_map labelled directory ≡ Some (number_of spec, spec.kind) → x.name_of (number_of spec) ≡ Some spec.image
+    → option_map drive_and_kind directory ≡ Some (number_of spec, spec.kind) → x.name_of (number_of spec) ≡ Some spec.image
     → StandsWhere (number_of spec) (images_of x (number_of spec)) directory drive → slice_index_or drives (number_of spec) None ≡ drive → IsLeft x told drives spec
 left_by x told drives spec None drive agrees label named stands at = absurd (none-some _ label)
 left_by x told drives spec (Some d) None agrees label named stands at = absurd stands

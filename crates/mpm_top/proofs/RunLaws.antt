@@ -9,7 +9,7 @@ use Rattle.mpm_render.specs.Outputs.{Output, rendered, closed}
 use Rattle.mpm_drives.specs.Mounted.{NumberedDrive}
 use Rattle.mpm_machine.specs.declared.machine.Machine.{Machine}
 use Rattle.mpm_machine.specs.declared.machine.StepFault.{StepFault}
-use Rattle.mpm_machine.specs.declared.machine.StepFault.TheVariants.{WriteFault as SinkFailed, DiskFault as SyncFailed}
+use Rattle.mpm_machine.specs.declared.machine.StepFault.TheVariants.{WriteFault as SinkFailed, DiskFault as DriveFailed}
 use Rattle.mpm_machine.specs.Faults.{FailureCounts, HasFailed}
 use Rattle.mpm_machine.specs.State.{State, StandsWithDrives}
 use Rattle.mpm_machine.specs.Files.{FilesInService, StandsForFiles}
@@ -60,7 +60,7 @@ stops_in_step Stand SinkFailed trace trace' s steps old new written step drives 
     let P : List ℕ → Type 0 = λ w. EndsInStep SinkFailed trace w old.text s steps step in
     let Q : Bool → Type 0 = λ t. EndsInStep SinkFailed t written old.text s steps step in
     inl (subst P (sym (same refl)) (subst Q (sym traces) ends), subst Stand (stops_next (after (step - 1 - s.system.steps) s) drives on ∙ stopped_drives s step ends.later) stand)
-stops_in_step Stand SyncFailed trace trace' s steps old new written step drives same traces ends closes on stand =
+stops_in_step Stand DriveFailed trace trace' s steps old new written step drives same traces ends closes on stand =
     inl (record { later = ends.later; within = ends.within; text = closes; left = record { drives = drives; fails = on; stand = stand } })
 
 -- or at the end: as the sink failed, or a drive in a turn of the call in service, or as it was synced
@@ -72,13 +72,13 @@ stops_at_end Stand SinkFailed trace s steps old new left kept before behind same
     let P : List ℕ → Type 0 = λ w. EndsBetween w old.text (rendered trace (after steps s).outputs) (closed trace (carried (after steps s)).outputs) in
     let Q : Bool → Type 0 = λ t. EndsBetween left.written old.text (rendered t (after steps s).outputs) (closed t (carried (after steps s)).outputs) in
     inr (record { is = refl; text = subst P (sym (same refl)) (subst Q traces stops.0); stand = stand (drives_left (after steps s)) stops.1 })
-stops_at_end Stand SyncFailed trace s steps old new left kept before behind same traces closes stand (inl turn) =
+stops_at_end Stand DriveFailed trace s steps old new left kept before behind same traces closes stand (inl turn) =
     inr (inl (record {
       is = refl;
       text = closes (after steps s) turn.shown;
       left = record { drives = turn.images.drives; fails = turn.images.are; stand = stand turn.images.drives turn.images.images };
     }))
-stops_at_end Stand SyncFailed trace s steps old new left kept before behind same traces closes stand (inr sync) =
+stops_at_end Stand DriveFailed trace s steps old new left kept before behind same traces closes stand (inr sync) =
     inr (inr (record { is = refl; text = closes (carried (after steps s)) sync.shown; stand = stand (drives_left (after steps s)) sync.images }))
 
 -- a drive failed: the unfinished lines are closed, or the sink fails too
@@ -94,19 +94,19 @@ pub closes_after : {A E : Type 0} (r : Result A E) (fault : StepFault) (kept : K
     → ((os : List Output) (f : List ℕ) → Shows kept written os f → OnErr r (EndsBetween new.text f (rendered kept.trace os) (closed kept.trace os)))
     → ClosesAfter fault kept.trace s (record { text = first; faults = before }) new
 closes_after r SinkFailed kept s first written before new shows cause ok err = tt
-closes_after r SyncFailed kept s first written before new shows cause ok err =
+closes_after r DriveFailed kept s first written before new shows cause ok err =
     closes_by r kept.trace s (record { text = first; faults = before }) new cause (ok s.outputs first shows) (err s.outputs first shows)
 
-pub closed_alike : (fault : StepFault) (trace trace' : Bool) (s : State) (first : List ℕ) (before before' : ℕ) (new : Printed) → trace ≡ trace' → (fault ≡ SyncFailed → before ≡ before')
+pub closed_alike : (fault : StepFault) (trace trace' : Bool) (s : State) (first : List ℕ) (before before' : ℕ) (new : Printed) → trace ≡ trace' → (fault ≡ DriveFailed → before ≡ before')
     → ClosesAfter fault trace s (record { text = first; faults = before }) new → ClosesAfter fault trace' s (record { text = first; faults = before' }) new
 closed_alike SinkFailed trace trace' s first before before' new traces counts closes = tt
-closed_alike SyncFailed trace trace' s first before before' new traces counts closes =
+closed_alike DriveFailed trace trace' s first before before' new traces counts closes =
     let P : ℕ → Type 0 = λ n. Closes trace s (record { text = first; faults = n }) new in
     subst (λ t. Closes t s (record { text = first; faults = before' }) new) traces (subst P (counts refl) closes)
 
-pub sink_stays : (fault : StepFault) (old new : FailureCounts) → HasFailed fault old new → fault ≡ SyncFailed → new.sink ≡ old.sink
+pub sink_stays : (fault : StepFault) (old new : FailureCounts) → HasFailed fault old new → fault ≡ DriveFailed → new.sink ≡ old.sink
 sink_stays SinkFailed old new failed is = absurd (cc)
-sink_stays SyncFailed old new failed is = failed.1
+sink_stays DriveFailed old new failed is = failed.1
 
 -- which count rose
 
@@ -114,12 +114,12 @@ pub causes_stopped : (fault : StepFault) (old mid new : FailureCounts) → mid.d
     → HasFailed fault mid new → Causes fault old new
 causes_stopped SinkFailed old mid new drives sink failed =
     (subst (λ n. Rose n new.sink) sink failed.0, failed.1 ∙ drives)
-causes_stopped SyncFailed old mid new drives sink failed = subst (λ n. Rose n new.drives) drives failed.0
+causes_stopped DriveFailed old mid new drives sink failed = subst (λ n. Rose n new.drives) drives failed.0
 
 pub causes_closed : (fault : StepFault) (old new : FailureCounts) (now : ℕ) → (fault ≡ SinkFailed → now ≡ new.sink) → Causes fault old new
     → Causes fault old (record { sink = now; drives = new.drives })
 causes_closed SinkFailed old new now same causes = (subst (λ n. Rose old.sink n) (sym (same refl)) causes.0, causes.1)
-causes_closed SyncFailed old new now same causes = causes
+causes_closed DriveFailed old new now same causes = causes
 
 -- how a command ends whose run stopped, by the fault
 
@@ -131,10 +131,10 @@ ends_stopped : (disks : Disks) (host : Host) (form : Form) (name : List ℕ) (s 
     → (begins.on ≡ [] → fault ≡ SinkFailed) → Causes fault (record { sink = sink; drives = old.drives.faults }) (record { sink = sink'; drives = new.drives.faults })
     → new.drives.names ≡ old.drives.names → Ends disks host form name old new (ended_by fault step)
 ends_stopped disks host form name s old new SinkFailed step sink sink' begins some causes names = inr (s, begins)
-ends_stopped disks host form name s old new SyncFailed step sink sink' begins some causes names =
+ends_stopped disks host form name s old new DriveFailed step sink sink' begins some causes names =
     inr (inr (record { start = s; begins = begins; some = some_drive begins.on (λ none. no_sink (some none)); rose = causes; names = names }))
   where
-    no_sink : SyncFailed ≡ SinkFailed → ⊥
+    no_sink : DriveFailed ≡ SinkFailed → ⊥
     no_sink e = cc
 
 pub ends_by_fault : (disks : Disks) (host : Host) (form : Form) (name : List ℕ) (s : State) (old new : FailedSoFar) (fault : StepFault) (step sink sink' : ℕ) (status : Status)

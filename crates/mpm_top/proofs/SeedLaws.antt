@@ -26,9 +26,9 @@ use Rattle.mpm_drives.specs.Stopping.{Failures, IsFaultless, StopsMounting, IsFi
 use Rattle.mpm_drives.specs.Mounted.{NumberedDrive, AreMounted, IsDriveOf, IsMountedAs, placed}
 use Rattle.mpm_bdos.specs.Serving.{Kept as Filed}
 use Rattle.mpm_directories.specs.Places.{directory_at}
-use Rattle.mpm_bdos.specs.Turns.{labelled}
+use Rattle.mpm_bdos.specs.Turns.{drive_and_kind}
 use Rattle.mpm_machine.specs.declared.machine.StepFault.{StepFault}
-use Rattle.mpm_machine.specs.declared.machine.StepFault.TheVariants.{WriteFault as SinkFailed, DiskFault as SyncFailed}
+use Rattle.mpm_machine.specs.declared.machine.StepFault.TheVariants.{WriteFault as SinkFailed, DiskFault as DriveFailed}
 use Rattle.mpm_machine.specs.Faults.{HasFailed}
 use Rattle.mpm_system.specs.declared.system.System.{System}
 use Rattle.mpm_system.specs.Opening.{opened}
@@ -50,7 +50,7 @@ never_rose (inr last) = absurd (omega (arith, last.0))
 
 pub none_failed : (fault : StepFault) → HasFailed fault (record { sink = 0; drives = 0 }) (record { sink = 0; drives = 0 }) → ⊥
 none_failed SinkFailed failed = never_rose failed.0
-none_failed SyncFailed failed = never_rose failed.0
+none_failed DriveFailed failed = never_rose failed.0
 
 -- what a sink counted that was given the closed text of some steps
 
@@ -160,7 +160,7 @@ no_image_fault seed disks file drives old new error drive cause place is same wa
 
 -- its drive is drive A
 pub first_drive : (x : Disks) (file : MachineFile) (mounted : List (Option Directory)) → file ≡ machine → HasDrives x file.drives mounted
-    → option_map labelled (directory_at mounted 0) ≡ Some (0, Hd4)
+    → option_map drive_and_kind (directory_at mounted 0) ≡ Some (0, Hd4)
 first_drive x file mounted same has =
     let on : HasDrives x machine.drives mounted = subst (λ (f : MachineFile). HasDrives x f.drives mounted) same has in
     on.each.0.label

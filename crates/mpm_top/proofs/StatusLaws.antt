@@ -2,7 +2,7 @@
 use Rattle.std.proofs.Common.{◌≡◌, ◌∙◌, ◌≤◌, ℕ, List, inl, inr, sym, subst}
 use Rattle.mpm_machine.specs.State.{State}
 use Rattle.mpm_machine.specs.declared.machine.StepFault.{StepFault}
-use Rattle.mpm_machine.specs.declared.machine.StepFault.TheVariants.{WriteFault as SinkFailed, DiskFault as SyncFailed}
+use Rattle.mpm_machine.specs.declared.machine.StepFault.TheVariants.{WriteFault as SinkFailed, DiskFault as DriveFailed}
 use Rattle.mpm_top.specs.declared.status.Status.{Status}
 use Rattle.mpm_top.specs.declared.status.Status.TheVariants.{Ran, Usage, MachineFault, ScriptFault, ImageFault, TooLong, ReadFault, DiskFault, WriteFault, OutOfMemory}
 use Rattle.mpm_top.specs.declared.status.Input.TheVariants.{ScriptText}
@@ -28,6 +28,9 @@ each_fault OutOfMemory n f d o = n
 
 pub always_disk : (status : Status) (P : Type 0) → P → UnlessDiskFault status P
 always_disk status P p = each_fault status p p tt p
+
+pub always_file : (status : Status) (P : Type 0) → P → UnlessReadFault status P
+always_file status P p = each_fault status p tt p p
 
 always_write : (status : Status) (P : Type 0) → P → UnlessWriteFault status P
 always_write status P p = each_fault status p p tt tt
@@ -83,15 +86,15 @@ fails_early old new status early files drives same = record {
 
 pub ended_ran : (fault : StepFault) (step : ℕ) (status : Status) → status ≡ ended_by fault step → status ≡ Ran → ⊥
 ended_ran SinkFailed step status is ran = let no : WriteFault step ≡ Ran = sym is ∙ ran in absurd (cc)
-ended_ran SyncFailed step status is ran = let no : DiskFault step ≡ Ran = sym is ∙ ran in absurd (cc)
+ended_ran DriveFailed step status is ran = let no : DiskFault step ≡ Ran = sym is ∙ ran in absurd (cc)
 
 pub ended_usage : (fault : StepFault) (step : ℕ) (status : Status) → status ≡ ended_by fault step → status ≡ Usage → ⊥
 ended_usage SinkFailed step status is usage = let no : WriteFault step ≡ Usage = sym is ∙ usage in absurd (cc)
-ended_usage SyncFailed step status is usage = let no : DiskFault step ≡ Usage = sym is ∙ usage in absurd (cc)
+ended_usage DriveFailed step status is usage = let no : DiskFault step ≡ Usage = sym is ∙ usage in absurd (cc)
 
 refuses : (fault : StepFault) (step : ℕ) → IsRefusal (ended_by fault step) → ⊥
 refuses SinkFailed step refusal = refusal
-refuses SyncFailed step refusal = refusal
+refuses DriveFailed step refusal = refusal
 
 pub ended_refusal : (fault : StepFault) (step : ℕ) (status : Status) → status ≡ ended_by fault step → IsRefusal status → ⊥
 ended_refusal fault step status is refusal = refuses fault step (subst IsRefusal is refusal)
@@ -103,7 +106,7 @@ writes_by : (Same : Type 0) (command : Command) (old new : Seen) (s : State) (fa
     → Writes Same command old new (ended_by fault step)
 writes_by Same command old new s SinkFailed step begins within stops others early =
     record { start = s; begins = begins; within = within; stops = stops; others = others }
-writes_by Same command old new s SyncFailed step begins within stops others early =
+writes_by Same command old new s DriveFailed step begins within stops others early =
     inr (record { start = s; begins = begins; within = within; stops = stops; others = others; early = early })
 
 pub writes_stopped : (Same : Type 0) (command : Command) (old new : Seen) (s : State) (fault : StepFault) (step : ℕ) (status : Status) → status ≡ ended_by fault step
@@ -126,7 +129,7 @@ fails_by old new SinkFailed step files names causes = record {
   output = tt;
   write = λ said is. causes.0;
 }
-fails_by old new SyncFailed step files names causes = record { files = files; drives = tt; output = tt; write = λ said is. absurd (no_write step said is) }
+fails_by old new DriveFailed step files names causes = record { files = files; drives = tt; output = tt; write = λ said is. absurd (no_write step said is) }
 
 pub fails_stopped : (old new : Seen) (fault : StepFault) (step : ℕ) (status : Status) → status ≡ ended_by fault step → new.failed.files ≡ old.failed.files
     → new.failed.drives.names ≡ old.failed.drives.names

@@ -12,7 +12,7 @@ use Rattle.mpm_mount.specs.Directories.{Directory}
 use Rattle.mpm_drives.specs.Mounted.{number_of, SameBeside}
 use Rattle.mpm_directories.specs.Places.{directory_at}
 use Rattle.mpm_bdos.specs.Syncing.{AreMountedSynced}
-use Rattle.mpm_bdos.specs.Turns.{StaysBeside, labelled}
+use Rattle.mpm_bdos.specs.Turns.{StaysBeside, drive_and_kind}
 use Rattle.mpm_machine.specs.declared.machine.Machine.{Machine}
 use Rattle.mpm_machine.specs.Mounting.{HasNoDrive, IsInPlace, HasDrives}
 use Rattle.mpm_top.specs.Runs.{KeepsUnmounted, IsAttachedAs, AreSyncedOf, SyncsAttached}
@@ -23,7 +23,7 @@ unlisted : (disks : Disks) (mounted : List (Option Directory)) (specs : List Dri
     → directory_at mounted number ≡ None → AllByRecursion (λ spec. number_of spec ≢ number) specs
 unlisted disks mounted [] number each free = tt
 unlisted disks mounted (spec ∷ specs) number each free = (
-  (λ same. none-some _ (sym (ap (option_map labelled) (ap (directory_at mounted) same ∙ free)) ∙ each.0.label)),
+  (λ same. none-some _ (sym (ap (option_map drive_and_kind) (ap (directory_at mounted) same ∙ free)) ∙ each.0.label)),
   unlisted disks mounted specs number each.1 free,
 )
 
@@ -39,19 +39,19 @@ keeps_unmounted specs disks now mounted beside has = record {
 
 -- a drive that was mounted is so after steps
 
-if_there : (old new : Option Directory) (P : Type 0) → option_map labelled new ≡ option_map labelled old → IfSome new (λ d. P) → IfSome old (λ d. P)
+if_there : (old new : Option Directory) (P : Type 0) → option_map drive_and_kind new ≡ option_map drive_and_kind old → IfSome new (λ d. P) → IfSome old (λ d. P)
 if_there None new P same p = tt
 if_there (Some d) None P same p = absurd (none-some _ same)
 if_there (Some d) (Some e) P same p = p
 
-pub synced_before : (unsynced : ℕ → Bool) (old new : List (Option Directory)) → ((number : ℕ) → option_map labelled (directory_at new number) ≡ option_map labelled (directory_at old number))
+pub synced_before : (unsynced : ℕ → Bool) (old new : List (Option Directory)) → ((number : ℕ) → option_map drive_and_kind (directory_at new number) ≡ option_map drive_and_kind (directory_at old number))
     → AreMountedSynced unsynced new → AreMountedSynced unsynced old
 synced_before unsynced old new labels synced number =
     if_there (directory_at old number) (directory_at new number) (unsynced number ≡ false) (labels number) (synced number)
 
 -- so each that the machine file lists is synced
 
-where_labelled : (directory : Option Directory) (label : ℕ × Kind) (P : Type 0) → option_map labelled directory ≡ Some label → IfSome directory (λ d. P) → P
+where_labelled : (directory : Option Directory) (label : ℕ × Kind) (P : Type 0) → option_map drive_and_kind directory ≡ Some label → IfSome directory (λ d. P) → P
 where_labelled None label P is p = absurd (none-some _ is)
 where_labelled (Some d) label P is p = p
 

@@ -52,11 +52,8 @@ room_for ScriptText = 1048576
 abbrev pub host : {F D : Type 0} → (F → Contents) → (D → Images) → F → D → Host
 host contents told files drives = record { contents = contents files; images = told drives }
 
-abbrev pub failures : {D : Type 0} → (D → ℕ) → (D → List (List ℕ)) → D → Failures
-failures faults names drives = record { faults = faults drives; names = names drives }
-
 abbrev pub failed : {F D : Type 0} → (F → List (List ℕ)) → (D → ℕ) → (D → List (List ℕ)) → F → D → FailedSoFar
-failed of_files faults names files drives = record { files = of_files files; drives = failures faults names drives }
+failed of_files faults names files drives = record { files = of_files files; drives = record { faults = faults drives; names = names drives } }
 
 -- what is asked of a file of a name
 abbrev pub command_on : List ℕ → Asked → Command

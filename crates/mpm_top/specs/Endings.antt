@@ -9,14 +9,14 @@ use Rattle.mpm_mount.specs.declared.errors.ImageFault.{ImageFault as FaultOfImag
 use Rattle.mpm_mount.specs.Drives.{Drive}
 use Rattle.mpm_mount.specs.Images.{files_of}
 use Rattle.mpm_drives.specs.declared.error.BootError.{BootError}
-use Rattle.mpm_drives.specs.declared.error.BootError.TheVariants.{Image, DiskFault as DriveFailed, OutOfMemory as NoMemory}
+use Rattle.mpm_drives.specs.declared.error.BootError.TheVariants.{Image, DiskFault as FailedToMount, OutOfMemory as NoMemory}
 use Rattle.mpm_drives.specs.Images.{Images}
 use Rattle.mpm_drives.specs.Mounted.{number_of}
 use Rattle.mpm_drives.specs.Stopping.{Stops}
 use Rattle.mpm_system.specs.declared.system.System.{System}
 use Rattle.mpm_machine.specs.State.{State}
 use Rattle.mpm_machine.specs.declared.machine.StepFault.{StepFault}
-use Rattle.mpm_machine.specs.declared.machine.StepFault.TheVariants.{WriteFault as SinkFailed, DiskFault as SyncFailed}
+use Rattle.mpm_machine.specs.declared.machine.StepFault.TheVariants.{WriteFault as SinkFailed, DiskFault as DriveFailed}
 use Rattle.mpm_machine.specs.declared.machine.RunFault.{RunFault}
 use Rattle.mpm_top.specs.declared.words.Form.{Form}
 use Rattle.mpm_top.specs.declared.status.Input.{Input}
@@ -99,7 +99,7 @@ EndsAfter disks host form Of old new (ScriptFault line) = LacksScript host.conte
 EndsAfter disks host form Of old new (ImageFault drive cause place) = LacksDrive disks host form Of old new (Image drive cause place)
 EndsAfter disks host form Of old new (TooLong what) = LacksScript host.contents form Of old.files new.files (TooLong what)
 EndsAfter disks host form Of old new ReadFault = LacksScript host.contents form Of old.files new.files ReadFault
-EndsAfter disks host form Of old new (DiskFault step) = ((step ≡ 0) × LacksDrive disks host form Of old new DriveFailed) ⊎ LosesDrive host form Of old new
+EndsAfter disks host form Of old new (DiskFault step) = ((step ≡ 0) × LacksDrive disks host form Of old new FailedToMount) ⊎ LosesDrive host form Of old new
 EndsAfter disks host form Of old new (WriteFault step) = (s : State) × BeginsOf host form Of s
 EndsAfter disks host form Of old new OutOfMemory = Unit {0}
 
@@ -182,13 +182,13 @@ IsEarly OutOfMemory = Unit {0}
 -- how a command ends whose machine isn't booted
 abbrev pub status_of : BootError → Status
 status_of (Image drive cause place) = ImageFault drive cause place
-status_of DriveFailed = DiskFault 0
+status_of FailedToMount = DiskFault 0
 status_of NoMemory = OutOfMemory
 
 -- how a command ends whose run stopped
 abbrev pub ended_by : StepFault → ℕ → Status
 ended_by SinkFailed step = WriteFault step
-ended_by SyncFailed step = DiskFault step
+ended_by DriveFailed step = DiskFault step
 
 abbrev pub stopped_by : RunFault → Status
 stopped_by error = ended_by error.fault error.step

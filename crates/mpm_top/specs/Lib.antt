@@ -6,3 +6,4 @@ pub mod Promises
 pub mod Data
 pub mod Seeds
 pub mod Messages
+pub mod Parts

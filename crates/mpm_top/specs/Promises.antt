@@ -16,6 +16,9 @@ use Rattle.mpm_top.specs.Words.{Command}
 use Rattle.mpm_top.specs.Beginnings.{Contents, Host, FailedSoFar, host, failed, input_of, room_for, script_name, drives_listed, BeginsCommand}
 use Rattle.mpm_top.specs.Runs.{Printed, printed, StandFor, AreSyncedOf, KeepsOthers, StopsAt, ClosesAt, drives_left}
 use Rattle.mpm_top.specs.Endings.{UnlessReadFault, UnlessDiskFault, UnlessWriteFault, Ends, EndsAs, ending}
+use Rattle.mpm_port.specs.declared.drives.Drives.{Ghosts}
+use Rattle.mpm_port.specs.declared.files.Files.{Ghosts as FileGhosts}
+use Rattle.mpm_port.specs.declared.sink.Sink.{Ghosts as SinkGhosts}
 
 -- what is seen of files, drives and output: what files hold and what is known of images by their names; the images of the drives that are
 -- attached, and which have unsynced writes; what failed so far; and what was written
@@ -35,6 +38,10 @@ seen contents unfetched disks told unsynced faults unattached written failures f
   failed = failed unfetched faults unattached files drives;
   printed = printed written failures sink;
 }
+
+-- so by what the traits tell of themselves
+abbrev pub seen_by : {F D S : Type 0} → FileGhosts F → Ghosts D → SinkGhosts S → F → D → S → Seen
+seen_by of on by files drives sink = seen of.contents of.failed_names on.disks on.told on.unsynced on.faults on.failed_names by.written by.faults files drives sink
 
 -- What was written, and what the images stand for then.
 

@@ -21,7 +21,7 @@ use Rattle.mpm_machine.specs.Faults.{FailureCounts}
 use Rattle.mpm_machine.specs.Mounting.{HasDrives, HasNoDrive}
 use Rattle.mpm_machine.specs.declared.machine.RunFault.{RunFault}
 use Rattle.mpm_machine.specs.declared.machine.StepFault.{StepFault}
-use Rattle.mpm_machine.specs.declared.machine.StepFault.TheVariants.{WriteFault as SinkFailed, DiskFault as SyncFailed}
+use Rattle.mpm_machine.specs.declared.machine.StepFault.TheVariants.{WriteFault as SinkFailed, DiskFault as DriveFailed}
 
 -- what the output has: its text, and the count of its faults
 pub record Printed : Type 0 where
@@ -109,12 +109,12 @@ Closes trace s old new =
 -- where a drive failed, that is so after a state
 abbrev pub ClosesAfter : StepFault → Bool → State → Printed → Printed → Type 0
 ClosesAfter SinkFailed trace s old new = ⊤
-ClosesAfter SyncFailed trace s old new = Closes trace s old new
+ClosesAfter DriveFailed trace s old new = Closes trace s old new
 
 -- a drive failed in the step after a state, and what that left on the drives stands
 pub record LeftBefore (Stand : List (Option Drive) → Type 0) (s : State) : Type 0 where
   pub drives : List (Option Drive)
-  pub fails : StopsOn SyncFailed s.system s.files drives
+  pub fails : StopsOn DriveFailed s.system s.files drives
   pub stand : Stand drives
 
 -- A drive failed in one of the steps, and the unfinished lines of those before it were closed
@@ -148,12 +148,12 @@ ClosesAt Stand trace s steps old new step =
 -- by the fault
 abbrev pub StopsRunBy : (List (Option Drive) → Type 0) → StepFault → Bool → State → ℕ → Printed → Printed → ℕ → Type 0
 StopsRunBy Stand SinkFailed trace s steps old new step = StopsAt Stand trace s steps old new step
-StopsRunBy Stand SyncFailed trace s steps old new step = ClosesAt Stand trace s steps old new step
+StopsRunBy Stand DriveFailed trace s steps old new step = ClosesAt Stand trace s steps old new step
 
 -- which count rose where a run stopped
 abbrev pub Causes : StepFault → FailureCounts → FailureCounts → Type 0
 Causes SinkFailed old new = Rose old.sink new.sink × (new.drives ≡ old.drives)
-Causes SyncFailed old new = Rose old.drives new.drives
+Causes DriveFailed old new = Rose old.drives new.drives
 
 -- a run leaves the names and the sizes of all drives. An image that is no listed drive's is as it was, no name joined the failed ones, and
 -- where no drive is mounted none was called

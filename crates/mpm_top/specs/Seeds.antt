@@ -68,6 +68,11 @@ pub record AreFound (seed steps : ℕ) (found : Found) : Type 0 where
   pub are : files_of (image_of seed) Hd4 ≡ Ok files
   pub found_are : AreOf steps (seeded_start files) found
 
+-- a seed of 31 bits, and so many steps
+pub record MayRunSeeded (asked : Seeded) : Type 0 where
+  pub seed : asked.seed < 2147483648
+  pub steps : asked.steps ≤ GREATEST_STEP
+
 -- a line of a word and a number
 abbrev pub line_with : List ℕ → ℕ → List ℕ
 line_with word number = word ++ (decimal number ++ (10 ∷ []))

@@ -1,10 +1,8 @@
 ghost use Rattle.std.specs.Prelude.{◌≡◌, ◌≤◌, ◌↔◌, ℕ, List, Some, IsSome, IfSome, IfOk, IfErr, MatchResult, length};
-ghost use Rattle.mpm_drives.specs.Mounted.{AsksNoWrite};
-ghost use Rattle.mpm_bdos.specs.Syncing.{AreMountedSynced};
 ghost use Rattle.mpm_machine.specs.Mounting.{HasNoDrive};
-ghost use Rattle.mpm_top.specs.Beginnings.{input_of as input_said, room_for, script_name, Host, host, failures, failed, Holds, HoldsEvents, IsAtStart, Starts, StartsOf, Scripted};
-ghost use Rattle.mpm_top.specs.Runs.{KeepsUnmounted};
-ghost use Rattle.mpm_top.specs.Endings.{status_of, Unfetched, Unread, Ends, EndsAfter, IsRefusal, IsEarly, UnlessReadFault, UnlessDiskFault, EndsAs};
+ghost use Rattle.mpm_top.specs.Beginnings.{input_of as input_said, room_for, script_name, Host, host, failed, Holds, HoldsEvents, IsAtStart, Starts, StartsOf, Scripted};
+ghost use Rattle.mpm_top.specs.Endings.{status_of, Unfetched, Unread, Ends, EndsAfter, EndsAs};
+ghost use Rattle.mpm_top.specs.Parts.{LeavesFiles, LeavesHost, IsReadyToRun};
 
 use crate::status::{Input, Status};
 use crate::words::Form;
@@ -35,22 +33,13 @@ pub(crate) fn boot<F: Files, D: Drives>(
     drives: &mut D,
 ) -> Result<Box<Machine>, Status>
     ensures starts { IfOk result (λ machine. Starts (host F.contents D.told files.old drives.old) form name.now machine.value.system machine.value.bdos (D.disks drives.new)) }
-    ensures begins { IfOk result (λ machine. IsAtStart D.disks machine.value drives.new) }
-    ensures beside { IfOk result (λ machine. KeepsUnmounted (D.disks drives.old) (D.disks drives.new) machine.value.bdos.mounted) }
-    ensures asks { AsksNoWrite (D.unsynced drives.old) (D.unsynced drives.new) }
-    ensures fresh { IfOk result (λ machine. AreMountedSynced (D.unsynced drives.new) machine.value.bdos.mounted) }
-    ensures early { IfErr result (λ status. IsEarly status) }
+    ensures ready { IfOk result (λ machine. IsReadyToRun D.Drives drives.old drives.new machine.value) }
+    ensures leaves { LeavesHost F.Files D.Drives files.old files.new drives.old drives.new result }
     ensures reason { IfErr result (λ status. Ends (D.disks drives.new) (host F.contents D.told files.old drives.old) form name.now
         (failed F.failed_names D.faults D.failed_names files.old drives.old) (failed F.failed_names D.faults D.failed_names files.new drives.new) status) }
-    ensures names { MatchResult result (λ _. F.failed_names files.new ≡ F.failed_names files.old)
-        (λ status. UnlessReadFault status (F.failed_names files.new ≡ F.failed_names files.old)) }
     ensures missing { F.missing files.old name.now → MatchResult result (λ _. ⊥) (λ status. EndsAs Status.ReadFault status) }
     ensures missing_script { (bytes script : List ℕ) → F.contents files.old name.now ≡ Some bytes → length bytes ≤ room_for (input_said form)
         → script_name form bytes ≡ Some script → F.missing files.old script → MatchResult result (λ _. ⊥) (λ status. EndsAs Status.ReadFault status) }
-    ensures files { (other : List ℕ) → F.contents files.new other ≡ F.contents files.old other }
-    ensures drives { MatchResult result (λ _. failures D.faults D.failed_names drives.new ≡ failures D.faults D.failed_names drives.old)
-        (λ status. UnlessDiskFault status (failures D.faults D.failed_names drives.new ≡ failures D.faults D.failed_names drives.old)) }
-    ensures told { D.told drives.new ≡ D.told drives.old }
     ensures program { form ≡ Form.Program → drives.new ≡ drives.old }
     ensures no_drive { form ≡ Form.Program → IfOk result (λ machine. HasNoDrive machine.value.bdos.mounted) }
 {
@@ -72,13 +61,10 @@ fn fetch<F: Files>(
     files: &mut F,
 ) -> Result<Vec<u8>, Status>
     ensures contents_are { IfOk result (λ bytes. Holds (F.contents files.old) input name.now bytes.items) }
-    ensures refusal { IfErr result (λ status. IsRefusal status) }
+    ensures leaves { LeavesFiles F.Files files.old files.new result }
     ensures reason { IfErr result (λ status. Unfetched (F.contents files.old) input name.now (F.failed_names files.old) (F.failed_names files.new) status) }
-    ensures names { MatchResult result (λ _. F.failed_names files.new ≡ F.failed_names files.old)
-        (λ status. UnlessReadFault status (F.failed_names files.new ≡ F.failed_names files.old)) }
     ensures missing { F.missing files.old name.now → MatchResult result (λ _. ⊥) (λ status. EndsAs Status.ReadFault status) }
     ensures stays_missing { (other : List ℕ) → F.missing files.new other ↔ F.missing files.old other }
-    ensures files { (other : List ℕ) → F.contents files.new other ≡ F.contents files.old other }
 {
     let mut bytes = Vec::new(alloc);
     match files.fetch(name, input.room(), &mut bytes) {
@@ -115,21 +101,12 @@ fn boot_machine<F: Files, D: Drives>(
 ) -> Result<Box<Machine>, Status>
     ensures starts { IfOk result (λ machine. StartsOf (host F.contents D.told files.old drives.old) Form.Run (λ content. content ≡ bytes.now)
         machine.value.system machine.value.bdos (D.disks drives.new)) }
-    ensures begins { IfOk result (λ machine. IsAtStart D.disks machine.value drives.new) }
-    ensures beside { IfOk result (λ machine. KeepsUnmounted (D.disks drives.old) (D.disks drives.new) machine.value.bdos.mounted) }
-    ensures asks { AsksNoWrite (D.unsynced drives.old) (D.unsynced drives.new) }
-    ensures fresh { IfOk result (λ machine. AreMountedSynced (D.unsynced drives.new) machine.value.bdos.mounted) }
-    ensures early { IfErr result (λ status. IsEarly status) }
+    ensures ready { IfOk result (λ machine. IsReadyToRun D.Drives drives.old drives.new machine.value) }
+    ensures leaves { LeavesHost F.Files D.Drives files.old files.new drives.old drives.new result }
     ensures reason { IfErr result (λ status. EndsAfter (D.disks drives.new) (host F.contents D.told files.old drives.old) Form.Run (λ content. content ≡ bytes.now)
         (failed F.failed_names D.faults D.failed_names files.old drives.old) (failed F.failed_names D.faults D.failed_names files.new drives.new) status) }
-    ensures names { MatchResult result (λ _. F.failed_names files.new ≡ F.failed_names files.old)
-        (λ status. UnlessReadFault status (F.failed_names files.new ≡ F.failed_names files.old)) }
     ensures missing { (script : List ℕ) → script_name Form.Run bytes.now ≡ Some script → F.missing files.old script
         → MatchResult result (λ _. ⊥) (λ status. EndsAs Status.ReadFault status) }
-    ensures files { (other : List ℕ) → F.contents files.new other ≡ F.contents files.old other }
-    ensures drives { MatchResult result (λ _. failures D.faults D.failed_names drives.new ≡ failures D.faults D.failed_names drives.old)
-        (λ status. UnlessDiskFault status (failures D.faults D.failed_names drives.new ≡ failures D.faults D.failed_names drives.old)) }
-    ensures told { D.told drives.new ≡ D.told drives.old }
 {
     let file = match read_machine(alloc, bytes) {
         Ok(file) => file,
@@ -173,14 +150,11 @@ fn read_script_of<F: Files>(
     files: &mut F,
 ) -> Result<Script, Status>
     ensures scripted { IfOk result (λ script. Scripted (F.contents files.old) file.now.script script) }
-    ensures refusal { IfErr result (λ status. IsRefusal status) }
+    ensures leaves { LeavesFiles F.Files files.old files.new result }
     ensures reason { IfErr result (λ status. IfSome file.now.script (λ name. Unread (F.contents files.old) name (F.failed_names files.old) (F.failed_names files.new) status)) }
     ensures named { IfErr result (λ _. IsSome file.now.script) }
-    ensures names { MatchResult result (λ _. F.failed_names files.new ≡ F.failed_names files.old)
-        (λ status. UnlessReadFault status (F.failed_names files.new ≡ F.failed_names files.old)) }
     ensures missing { (script : List ℕ) → file.now.script ≡ Some script → F.missing files.old script
         → MatchResult result (λ _. ⊥) (λ status. EndsAs Status.ReadFault status) }
-    ensures files { (other : List ℕ) → F.contents files.new other ≡ F.contents files.old other }
 {
     match &file.script {
         Some(name) => read_named(alloc, name.as_str(), files),
@@ -191,12 +165,9 @@ fn read_script_of<F: Files>(
 /// The events of the script of that name, or how the command ends without them.
 fn read_named<F: Files>(alloc: Global, name: &str, files: &mut F) -> Result<Script, Status>
     ensures events { IfOk result (λ script. HoldsEvents (F.contents files.old) name.now script) }
-    ensures refusal { IfErr result (λ status. IsRefusal status) }
+    ensures leaves { LeavesFiles F.Files files.old files.new result }
     ensures reason { IfErr result (λ status. Unread (F.contents files.old) name.now (F.failed_names files.old) (F.failed_names files.new) status) }
-    ensures names { MatchResult result (λ _. F.failed_names files.new ≡ F.failed_names files.old)
-        (λ status. UnlessReadFault status (F.failed_names files.new ≡ F.failed_names files.old)) }
     ensures missing { F.missing files.old name.now → MatchResult result (λ _. ⊥) (λ status. EndsAs Status.ReadFault status) }
-    ensures files { (other : List ℕ) → F.contents files.new other ≡ F.contents files.old other }
 {
     let text = match fetch(alloc, name, Input::ScriptText, files) {
         Ok(text) => text,

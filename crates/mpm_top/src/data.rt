@@ -5,8 +5,8 @@ ghost use Rattle.mpm_port.specs.MemoryDisks.{disks_of};
 ghost use Rattle.mpm_mount.specs.Drives.{Drive, visible_of};
 ghost use Rattle.mpm_mount.specs.Directories.{Stands};
 ghost use Rattle.mpm_directories.specs.Places.{directory_at};
-ghost use Rattle.mpm_bdos.specs.Turns.{labelled};
-ghost use Rattle.mpm_top.specs.Data.{HasDriveA, data_file, first_of, weighed as weighed_said, data_of, data_on, sector_in as sector_within};
+ghost use Rattle.mpm_bdos.specs.Turns.{drive_and_kind};
+ghost use Rattle.mpm_top.specs.Data.{HasDriveA, data_file, first_of, weighed as weighed_said, data_of, data_on, sector_in as sector_within, MayReadData, OnlyRead};
 
 use mpm_devices::SteadyDrives;
 use mpm_dirent::{Entry, FileEntry};
@@ -21,7 +21,7 @@ const NAME: [u8; 11] = *b"DATA    DAT";
 /// record's first byte. A record that isn't there counts as 0. The machine has the drive mounted.
 pub(crate) fn data_sum(machine: &Machine, drives: &mut SteadyDrives) -> u64
     requires size { size_of (disks_of drives.old) 0 ≡ Some 4194304 }
-    requires drive { option_map labelled (directory_at machine.now.bdos.mounted 0) ≡ Some (0, Hd4) }
+    requires drive { option_map drive_and_kind (directory_at machine.now.bdos.mounted 0) ≡ Some (0, Hd4) }
     ensures { (on : List (Option Drive)) → HasDriveA (disks_of drives.old) (directory_at machine.now.bdos.mounted 0) on → result ≡ data_on on }
 {
     match machine.directory(0) {
@@ -46,27 +46,21 @@ fn sum_of(mounted: &Mounted, drives: &mut SteadyDrives) -> u64
 
 /// A record's part of the sum.
 fn weighed(mounted: &Mounted, place: u8, drives: &mut SteadyDrives) -> u64
-    requires size { size_of (disks_of drives.old) 0 ≡ Some 4194304 }
-    requires kind { mounted.now.kind ≡ Hd4 }
-    requires place { place < 32 }
+    requires { MayReadData (disks_of drives.old) mounted.now place }
     ensures part { (image : List ℕ) (files : Drive) → (disks_of drives.old).image 0 ≡ Some image → Stands image mounted.now files
         → result ≡ weighed_said files place }
     ensures small { result ≤ 8160 }
-    ensures size { size_of (disks_of drives.new) 0 ≡ Some 4194304 }
-    ensures same { disks_of drives.new ≡ disks_of drives.old }
+    ensures read { OnlyRead (disks_of drives.old) (disks_of drives.new) }
 {
     (u64::from(place) + 1) * u64::from(first_byte(mounted, place, drives))
 }
 
 /// The first byte of a record, 0 where it isn't there.
 fn first_byte(mounted: &Mounted, place: u8, drives: &mut SteadyDrives) -> u8
-    requires size { size_of (disks_of drives.old) 0 ≡ Some 4194304 }
-    requires kind { mounted.now.kind ≡ Hd4 }
-    requires place { place < 32 }
+    requires { MayReadData (disks_of drives.old) mounted.now place }
     ensures byte { (image : List ℕ) (files : Drive) → (disks_of drives.old).image 0 ≡ Some image → Stands image mounted.now files
         → result ≡ first_of (visible_of files data_file place) }
-    ensures size { size_of (disks_of drives.new) 0 ≡ Some 4194304 }
-    ensures same { disks_of drives.new ≡ disks_of drives.old }
+    ensures read { OnlyRead (disks_of drives.old) (disks_of drives.new) }
 {
     match sector_of(mounted, place) {
         Some(sector) => {
@@ -117,8 +111,7 @@ fn sector_at(sector: u32, drives: &mut SteadyDrives) -> [u8; 128]
     requires size { size_of (disks_of drives.old) 0 ≡ Some 4194304 }
     requires sector { sector < 32768 }
     ensures bytes { (image : List ℕ) → (disks_of drives.old).image 0 ≡ Some image → result ≡ sector_said image sector }
-    ensures size { size_of (disks_of drives.new) 0 ≡ Some 4194304 }
-    ensures same { disks_of drives.new ≡ disks_of drives.old }
+    ensures read { OnlyRead (disks_of drives.old) (disks_of drives.new) }
 {
     let mut bytes = [0; 128];
     match drives.read(0, sector, &mut bytes) {

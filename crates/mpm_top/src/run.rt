@@ -1,19 +1,14 @@
 ghost use Rattle.std.specs.Prelude.{◌≡◌, ◌≢◌, ◌≤◌, ◌<◌, ◌↔◌, [], ℕ, List, Some, None, OnOk, IfErr, MatchResult, length, slice_index_or};
 ghost use Rattle.mpm_script.specs.declared.line.TheConstants.{GREATEST_STEP};
-ghost use Rattle.mpm_machine_file.specs.declared.lists.DriveSpec.{DriveSpec};
-ghost use Rattle.mpm_drives.specs.Mounted.{NumberedDrive, placed};
-ghost use Rattle.mpm_bdos.specs.Syncing.{AreMountedSynced};
 ghost use Rattle.mpm_machine.specs.State.{State};
-ghost use Rattle.mpm_machine.specs.Files.{Between, StandsForFiles};
-ghost use Rattle.mpm_machine.specs.Faults.{counts};
-ghost use Rattle.mpm_machine.specs.Mounting.{HasDrives, untouched};
 ghost use Rattle.mpm_machine.specs.After.{after, ShowsBefore};
 ghost use Rattle.mpm_top.specs.Words.{Command, texts, command_of};
-ghost use Rattle.mpm_top.specs.Beginnings.{command_on, input_of as input_said, room_for, script_name, host, failed, begun, IsAtStart};
-ghost use Rattle.mpm_top.specs.Runs.{printed, StandFor, SyncsAttached, RunsOut, RunLeaves, StopsInRun, StopsRunBy, ClosesAfter, Causes};
-ghost use Rattle.mpm_top.specs.Endings.{stopped_by, Ends, EndsAs, IsRefusal};
-ghost use Rattle.mpm_top.specs.Promises.{seen, Writes, SeesLast, Fails, Promises};
+ghost use Rattle.mpm_top.specs.Beginnings.{command_on, failed, IsAtStart};
+ghost use Rattle.mpm_top.specs.Runs.{printed, SyncsAttached, ClosesAfter};
+ghost use Rattle.mpm_top.specs.Endings.{stopped_by, IsRefusal};
+ghost use Rattle.mpm_top.specs.Promises.{Fails, Promises, seen_by};
 ghost use Rattle.mpm_top.specs.Seeds.{seeded_of, EndsSeeded};
+ghost use Rattle.mpm_top.specs.Parts.{DoesCommand, RunsToEnd};
 
 use crate::boot::boot;
 use crate::looking::{Look, Nobody};
@@ -46,14 +41,12 @@ pub fn run_words<F: Files, D: Drives, S: Sink>(
     // `program` and `run`: what was written, what the images stand for then, and why it ended so.
     ensures command { (command : Command) → command_of (texts words.now) ≡ Some command
         → Promises (sink.new ≡ sink.old) (F.missing files.old) command
-        (seen F.contents F.failed_names D.disks D.told D.unsynced D.faults D.failed_names S.written S.faults files.old drives.old sink.old)
-        (seen F.contents F.failed_names D.disks D.told D.unsynced D.faults D.failed_names S.written S.faults files.new drives.new sink.new) result }
+        (seen_by F.Files D.Drives S.Sink files.old drives.old sink.old) (seen_by F.Files D.Drives S.Sink files.new drives.new sink.new) result }
     ensures program { (command : Command) → command_of (texts words.now) ≡ Some command → command.form ≡ Form.Program → drives.new ≡ drives.old }
 
     // Whatever was asked: what failed, that nothing is written where it is refused, that each drive is synced or attached as it was,
     // and that what the files hold stays.
-    ensures fails { Fails (seen F.contents F.failed_names D.disks D.told D.unsynced D.faults D.failed_names S.written S.faults files.old drives.old sink.old)
-        (seen F.contents F.failed_names D.disks D.told D.unsynced D.faults D.failed_names S.written S.faults files.new drives.new sink.new) result }
+    ensures fails { Fails (seen_by F.Files D.Drives S.Sink files.old drives.old sink.old) (seen_by F.Files D.Drives S.Sink files.new drives.new sink.new) result }
     ensures nothing { IsRefusal result → sink.new ≡ sink.old }
     ensures synced { result ≡ Status.Ran → SyncsAttached (D.disks drives.old) (D.disks drives.new) (D.unsynced drives.new) }
     ensures files { (other : List ℕ) → F.contents files.new other ≡ F.contents files.old other }
@@ -99,24 +92,8 @@ pub fn run_command<F: Files, D: Drives, S: Sink, V: Look>(
     look: &mut V,
 ) -> Status
     requires { asked.steps ≤ GREATEST_STEP }
-    ensures usage { result ≢ Status.Usage }
-    ensures writes { Writes (sink.new ≡ sink.old) (command_on name.now asked)
-        (seen F.contents F.failed_names D.disks D.told D.unsynced D.faults D.failed_names S.written S.faults files.old drives.old sink.old)
-        (seen F.contents F.failed_names D.disks D.told D.unsynced D.faults D.failed_names S.written S.faults files.new drives.new sink.new) result }
-    ensures looked { result ≡ Status.Ran → SeesLast (λ system. V.saw look.old system look.new) (command_on name.now asked)
-        (seen F.contents F.failed_names D.disks D.told D.unsynced D.faults D.failed_names S.written S.faults files.old drives.old sink.old)
-        (seen F.contents F.failed_names D.disks D.told D.unsynced D.faults D.failed_names S.written S.faults files.new drives.new sink.new) }
-    ensures program { asked.form ≡ Form.Program → drives.new ≡ drives.old }
-    ensures fails { Fails (seen F.contents F.failed_names D.disks D.told D.unsynced D.faults D.failed_names S.written S.faults files.old drives.old sink.old)
-        (seen F.contents F.failed_names D.disks D.told D.unsynced D.faults D.failed_names S.written S.faults files.new drives.new sink.new) result }
-    ensures reason { Ends (D.disks drives.new) (host F.contents D.told files.old drives.old) asked.form name.now
-        (failed F.failed_names D.faults D.failed_names files.old drives.old) (failed F.failed_names D.faults D.failed_names files.new drives.new) result }
-    ensures missing { F.missing files.old name.now → EndsAs Status.ReadFault result }
-    ensures missing_script { (bytes script : List ℕ) → F.contents files.old name.now ≡ Some bytes → length bytes ≤ room_for (input_said asked.form)
-        → script_name asked.form bytes ≡ Some script → F.missing files.old script → EndsAs Status.ReadFault result }
-    ensures nothing { IsRefusal result → sink.new ≡ sink.old }
-    ensures synced { result ≡ Status.Ran → SyncsAttached (D.disks drives.old) (D.disks drives.new) (D.unsynced drives.new) }
-    ensures files { (other : List ℕ) → F.contents files.new other ≡ F.contents files.old other }
+    ensures { DoesCommand (sink.new ≡ sink.old) (drives.new ≡ drives.old) (F.missing files.old) (λ system. V.saw look.old system look.new) (command_on name.now asked)
+        (seen_by F.Files D.Drives S.Sink files.old drives.old sink.old) (seen_by F.Files D.Drives S.Sink files.new drives.new sink.new) result }
 {
     match boot(alloc, name, asked.form, files, drives) {
         Ok(mut machine) => {
@@ -175,21 +152,8 @@ fn run_to_end<D: Drives, S: Sink, V: Look, L: Ledger>(
     requires name { blank.name ≡ L.name }
     requires parts { blank.parts ≡ L.parts }
     requires some_part { 0 < L.parts }
-    ensures runs { (specs : List DriveSpec) (on : List NumberedDrive) → HasDrives (D.disks drives.old) specs machine.old.bdos.mounted
-        → StandsForFiles machine.old.system.kernel.disk machine.old.bdos (D.disks drives.old) (Between (untouched (placed on)))
-        → OnOk result (RunsOut (StandFor (D.disks drives.new) (D.told drives.new) specs) asked.trace (begun machine.old.system on) asked.steps
-        (printed S.written S.faults sink.old) (printed S.written S.faults sink.new)) }
-    ensures stops { (specs : List DriveSpec) (on : List NumberedDrive) → HasDrives (D.disks drives.old) specs machine.old.bdos.mounted
-        → StandsForFiles machine.old.system.kernel.disk machine.old.bdos (D.disks drives.old) (Between (untouched (placed on)))
-        → IfErr result (λ error. StopsRunBy (StandFor (D.disks drives.new) (D.told drives.new) specs) error.fault asked.trace (begun machine.old.system on) asked.steps
-        (printed S.written S.faults sink.old) (printed S.written S.faults sink.new) error.step) }
-    ensures looked { (on : List NumberedDrive) → StandsForFiles machine.old.system.kernel.disk machine.old.bdos (D.disks drives.old) (Between (untouched (placed on)))
-        → OnOk result (V.saw look.old (after asked.steps (begun machine.old.system on)).system look.new) }
-    ensures leaves { RunLeaves D.disks D.told D.failed_names machine.old.bdos.mounted drives.old drives.new }
-    ensures synced { OnOk result (AreMountedSynced (D.unsynced drives.new) machine.old.bdos.mounted) }
-    ensures stopped { IfErr result (λ error. StopsInRun D.told machine.old.bdos.mounted asked.steps drives.old drives.new error) }
-    ensures cause { MatchResult result (λ _. counts S.faults D.faults sink.new drives.new ≡ counts S.faults D.faults sink.old drives.old)
-        (λ error. Causes error.fault (counts S.faults D.faults sink.old drives.old) (counts S.faults D.faults sink.new drives.new)) }
+    ensures { RunsToEnd D.Drives (λ system. V.saw look.old system look.new) asked machine.old drives.old drives.new
+        (printed S.written S.faults sink.old) (printed S.written S.faults sink.new) result }
 {
     let mut steps = Steps::<L>::new(blank);
     let mut render = Render::new(asked.trace);

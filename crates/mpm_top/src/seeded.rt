@@ -8,7 +8,7 @@ ghost use Rattle.mpm_render.specs.Outputs.{closed};
 ghost use Rattle.mpm_generator.specs.Machines.{machine as machine_said, script as script_said, drives_of};
 ghost use Rattle.mpm_drives.specs.Mounted.{NumberedDrive, placed};
 ghost use Rattle.mpm_directories.specs.Places.{directory_at};
-ghost use Rattle.mpm_bdos.specs.Turns.{labelled};
+ghost use Rattle.mpm_bdos.specs.Turns.{drive_and_kind};
 ghost use Rattle.mpm_machine.specs.Files.{Between, StandsForFiles};
 ghost use Rattle.mpm_machine.specs.Mounting.{untouched};
 ghost use Rattle.mpm_machine.specs.After.{after};
@@ -18,7 +18,7 @@ ghost use Rattle.mpm_top.specs.Beginnings.{begun, IsAtStart};
 ghost use Rattle.mpm_top.specs.Runs.{drives_left};
 ghost use Rattle.mpm_top.specs.Endings.{IsRefusal, UnlessWriteFault};
 ghost use Rattle.mpm_top.specs.Data.{HasDriveA};
-ghost use Rattle.mpm_top.specs.Seeds.{seeded_of, AreOf, AreFound, EndsSeeded};
+ghost use Rattle.mpm_top.specs.Seeds.{seeded_of, AreOf, AreFound, EndsSeeded, MayRunSeeded};
 
 use crate::data::data_sum;
 use crate::report::put_report;
@@ -53,8 +53,7 @@ pub(crate) fn run_seeded_words<S: Sink>(alloc: Global, words: &[String], sink: &
 
 /// Runs the machine of a seed for so many steps, and reports what was found.
 fn run_seeded<S: Sink>(alloc: Global, asked: Seeded, sink: &mut S) -> Status
-    requires seed { asked.seed < 2147483648 }
-    requires steps { asked.steps ≤ GREATEST_STEP }
+    requires { MayRunSeeded asked }
     ensures usage { result ≢ Status.Usage }
     ensures ends { EndsSeeded asked (S.written sink.old) (S.written sink.new) (S.faults sink.old) (S.faults sink.new) result }
     ensures write { (step : ℕ) → result ≡ Status.WriteFault step → Rose (S.faults sink.old) (S.faults sink.new) }
@@ -75,8 +74,7 @@ fn run_seeded<S: Sink>(alloc: Global, asked: Seeded, sink: &mut S) -> Status
 /// # Errors
 /// Where no memory is found.
 fn find(alloc: Global, asked: Seeded) -> Result<Found, OutOfMemory>
-    requires seed { asked.seed < 2147483648 }
-    requires steps { asked.steps ≤ GREATEST_STEP }
+    requires { MayRunSeeded asked }
     ensures { IfOk result (λ found. AreFound asked.seed asked.steps found) }
 {
     match generated(alloc, asked.seed) {
@@ -87,8 +85,7 @@ fn find(alloc: Global, asked: Seeded) -> Result<Found, OutOfMemory>
 
 /// What is found of a machine that was made of the seed.
 fn find_in(alloc: Global, asked: Seeded, made: Generated) -> Result<Found, OutOfMemory>
-    requires seed { asked.seed < 2147483648 }
-    requires steps { asked.steps ≤ GREATEST_STEP }
+    requires may { MayRunSeeded asked }
     requires machine { made.machine ≡ machine_said }
     requires script { made.script ≡ script_said }
     requires drives { made.drives ≡ drives_of asked.seed }
@@ -136,7 +133,7 @@ fn find_of(
     requires begins { IsAtStart disks_of machine.old drives.old }
     requires limit { steps ≤ GREATEST_STEP }
     requires size { size_of (disks_of drives.old) 0 ≡ Some 4194304 }
-    requires drive { option_map labelled (directory_at machine.old.bdos.mounted 0) ≡ Some (0, Hd4) }
+    requires drive { option_map drive_and_kind (directory_at machine.old.bdos.mounted 0) ≡ Some (0, Hd4) }
     ensures { (on : List NumberedDrive) → StandsForFiles machine.old.system.kernel.disk machine.old.bdos (disks_of drives.old) (Between (untouched (placed on)))
         → IfOk result (λ found. AreOf steps (begun machine.old.system on) found) }
 {
@@ -164,7 +161,7 @@ fn run_counted<L: Ledger>(
 )
     requires begins { IsAtStart disks_of machine.old drives.old }
     requires limit { steps ≤ GREATEST_STEP }
-    requires drive { option_map labelled (directory_at machine.old.bdos.mounted 0) ≡ Some (0, Hd4) }
+    requires drive { option_map drive_and_kind (directory_at machine.old.bdos.mounted 0) ≡ Some (0, Hd4) }
     requires name { blank.name ≡ L.name }
     requires parts { blank.parts ≡ L.parts }
     requires some_part { 0 < L.parts }
@@ -172,7 +169,7 @@ fn run_counted<L: Ledger>(
         → counts.new ≡ counts.old ++ closed true (carried (after steps (begun machine.old.system on))).outputs }
     ensures files { (on : List NumberedDrive) → StandsForFiles machine.old.system.kernel.disk machine.old.bdos (disks_of drives.old) (Between (untouched (placed on)))
         → HasDriveA (disks_of drives.new) (directory_at machine.new.bdos.mounted 0) (drives_left (after steps (begun machine.old.system on))) }
-    ensures drive { option_map labelled (directory_at machine.new.bdos.mounted 0) ≡ Some (0, Hd4) }
+    ensures drive { option_map drive_and_kind (directory_at machine.new.bdos.mounted 0) ≡ Some (0, Hd4) }
     ensures sizes { (number : ℕ) → size_of (disks_of drives.new) number ≡ size_of (disks_of drives.old) number }
 {
     let mut calls = Steps::<L>::new(blank);

@@ -9,12 +9,12 @@ use Rattle.mpm_kernel.specs.Kernel.{Kernel, IsSoundKernel}
 use Rattle.mpm_kernel.specs.Ending.{discharged}
 
 -- a process lives, and memory has its segment, if it has one
-pub record HasSegmentOf (p : ℕ) (kernel : Kernel) (memory : Memory) : Type 0 where
+pub record LivesWithSegment (p : ℕ) (kernel : Kernel) (memory : Memory) : Type 0 where
   pub lives : Lives kernel.dispatcher.procs p
   pub segment : (seg : ℕ) → (process_in kernel.dispatcher.procs p).seg ≡ Some seg → HasSegment memory seg
 
--- the same in a sound kernel
-pub record LivesAt (p : ℕ) (kernel : Kernel) (memory : Memory) : Type 0 where
+-- a process lives in a sound kernel, and memory has its segment, if it has one
+pub record LivesInMemory (p : ℕ) (kernel : Kernel) (memory : Memory) : Type 0 where
   pub sound : IsSoundKernel kernel
   pub lives : Lives kernel.dispatcher.procs p
   pub segment : (seg : ℕ) → (process_in kernel.dispatcher.procs p).seg ≡ Some seg → HasSegment memory seg

@@ -1,7 +1,7 @@
 ghost use Rattle.std.specs.Prelude.{◌≡◌, ◌&&◌, IfSome};
 ghost use Rattle.mpm_procs.specs.Table.{Lives, lives};
 ghost use Rattle.mpm_kernel.specs.Kernel.{IsSoundKernel};
-ghost use Rattle.mpm_xdos.specs.Ending.{LivesAt};
+ghost use Rattle.mpm_xdos.specs.Ending.{LivesInMemory};
 ghost use Rattle.mpm_xdos.specs.Aborting.{copy_address as address_of_copy, has_name as has_name_of, is_described as is_described_by, described as described_by, target as target_of, waits_to_end as waits_to_end_of, abort_done, memory_after_abort};
 
 use crate::ending::end;
@@ -33,7 +33,7 @@ pub fn target(kernel: &Kernel, p: Pid) -> Option<Pid>
 /// of a mutual exclusion queue, and while a call of it is in service, its end is put off: only `abort_due` becomes true. (MP/M
 /// II Programmer's Guide, "Function 157: Abort Specified Process".)
 pub fn abort(kernel: &mut Kernel, banks: &mut Banks, p: Pid)
-    requires { LivesAt p kernel.old banks.old }
+    requires { LivesInMemory p kernel.old banks.old }
     ensures kernel { kernel.new ≡ abort_done kernel.old p }
     ensures memory { banks.new ≡ memory_after_abort banks.old kernel.old p }
     ensures sound { IsSoundKernel kernel.new }
@@ -52,7 +52,7 @@ pub fn waits_to_end(kernel: &Kernel, p: Pid) -> bool
 /// A process that isn't a resident ends, or its end is put off.
 #[tactic(auto, unfolding(crate::specs::Aborting::abort_done, crate::specs::Aborting::memory_after_abort))]
 fn end_or_put_off(kernel: &mut Kernel, banks: &mut Banks, p: Pid)
-    requires { LivesAt p kernel.old banks.old }
+    requires { LivesInMemory p kernel.old banks.old }
     ensures kernel { kernel.new ≡ abort_done kernel.old p }
     ensures memory { banks.new ≡ memory_after_abort banks.old kernel.old p }
 {

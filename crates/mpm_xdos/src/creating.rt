@@ -4,7 +4,7 @@ ghost use Rattle.mpm_banks.specs.Memory.{HasSegment};
 ghost use Rattle.mpm_base.specs.Calls.{answering};
 ghost use Rattle.mpm_procs.specs.Table.{process_in, call_of};
 ghost use Rattle.mpm_kernel.specs.Kernel.{IsSoundKernel};
-ghost use Rattle.mpm_xdos.specs.Ending.{LivesAt};
+ghost use Rattle.mpm_xdos.specs.Ending.{LivesInMemory};
 ghost use Rattle.mpm_xdos.specs.Creating.{child_of as child_asked_for, child_at as child_asked_at, children_of, home_base, created, create_answer, may_create as may_be_created, all_admitted, has_console};
 
 use arrayvec::ArrayVec;
@@ -20,7 +20,7 @@ const DESCRIPTOR: usize = 18;
 /// slot or a console lacks, none.
 #[tactic(auto, unfolding(crate::specs::Creating::created, crate::specs::Creating::create_answer))]
 pub fn create(kernel: &mut Kernel, banks: &Banks, p: Pid, reply: &mut Reply)
-    requires parent { LivesAt p kernel.old banks.now }
+    requires parent { LivesInMemory p kernel.old banks.now }
     requires few { length (call_of kernel.old.dispatcher.procs p).bytes ≤ 576 }
     ensures kernel { kernel.new ≡ created kernel.old p (home_base banks.now (process_in kernel.old.dispatcher.procs p).seg) }
     ensures reply { reply.new ≡ answering (create_answer kernel.old p (home_base banks.now (process_in kernel.old.dispatcher.procs p).seg)) }

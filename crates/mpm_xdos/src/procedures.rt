@@ -2,7 +2,7 @@ ghost use Rattle.std.specs.Prelude.{◌≡◌, ℕ, Some};
 ghost use Rattle.mpm_banks.specs.Memory.{HasSegment};
 ghost use Rattle.mpm_procs.specs.Table.{process_in};
 ghost use Rattle.mpm_kernel.specs.Kernel.{IsSoundKernel};
-ghost use Rattle.mpm_xdos.specs.Ending.{HasSegmentOf};
+ghost use Rattle.mpm_xdos.specs.Ending.{LivesWithSegment};
 ghost use Rattle.mpm_xdos.specs.Procedures.{IsInside, entered, entry_reply, returned_from_procedure, page_of_home as page_of};
 
 use mpm_banks::{Banks, RETURN_GATE, last_page};
@@ -13,7 +13,7 @@ use mpm_kernel::Kernel;
 /// message, with the call's parameter in DE. Its return address is kept; in its place the gate is pushed that ends the
 /// procedure, which the reply places. (MP/M II Programmer's Guide, "Function 151: Call Resident System Procedure".)
 pub fn enter_procedure(kernel: &mut Kernel, banks: &Banks, p: Pid, reply: &mut Reply)
-    requires { HasSegmentOf p kernel.old banks.now }
+    requires { LivesWithSegment p kernel.old banks.now }
     ensures kernel { kernel.new ≡ entered p kernel.old }
     ensures reply { reply.new ≡ entry_reply banks.now (process_in kernel.old.dispatcher.procs p) }
     ensures sound { IsSoundKernel kernel.old → IsSoundKernel kernel.new }
@@ -24,7 +24,7 @@ pub fn enter_procedure(kernel: &mut Kernel, banks: &Banks, p: Pid, reply: &mut R
 /// A process goes on in its procedure.
 #[tactic(auto, unfolding(crate::specs::Procedures::entered, crate::specs::Procedures::entering, crate::specs::Procedures::entry_reply))]
 fn enter(kernel: &mut Kernel, banks: &Banks, p: Pid, reply: &mut Reply)
-    requires { HasSegmentOf p kernel.old banks.now }
+    requires { LivesWithSegment p kernel.old banks.now }
     ensures kernel { kernel.new ≡ entered p kernel.old }
     ensures reply { reply.new ≡ entry_reply banks.now (process_in kernel.old.dispatcher.procs p) }
 {

@@ -51,3 +51,8 @@ with_byte byte flags =
 pub record KeepsUnused (f new : ℕ) : Type 0 where
   pub five : has new 32 ≡ has f 32
   pub three : has new 8 ≡ has f 8
+
+-- a result, and F after it
+pub record Computes (value f : ℕ) (result : ℕ × ℕ) : Type 0 where
+  pub value_is : result.0 ≡ value
+  pub f_is : result.1 ≡ f

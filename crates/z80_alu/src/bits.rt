@@ -1,5 +1,5 @@
 ghost use Rattle.std.specs.Prelude.{◌≡◌};
-ghost use Rattle.z80_alu.specs.Flags.{has};
+ghost use Rattle.z80_alu.specs.Flags.{Computes, has};
 ghost use Rattle.z80_alu.specs.Bits.{
   combined,
   is_and,
@@ -43,8 +43,7 @@ fn is_and_kind(kind: Logic) -> bool
 #[inline(always)]
 #[tactic(auto, unfolding(crate::specs::Bits::logic_flags, crate::specs::Flags::byte_of))]
 pub fn logic(kind: Logic, a: u8, b: u8, f: u8) -> (u8, u8)
-    ensures value { result.0 ≡ combined kind a b }
-    ensures flags { result.1 ≡ logic_flags kind a b f }
+    ensures { Computes (combined kind a b) (logic_flags kind a b f) result }
 {
     let value = combine(kind, a, b);
     let flags = Flags::of(f);
@@ -119,8 +118,7 @@ fn set_moved_out(kind: Rotate, value: u8, flags: Flags) -> Flags
 #[inline(always)]
 #[tactic(auto, unfolding(crate::specs::Bits::rotated_flags, crate::specs::Flags::byte_of))]
 pub fn rotate(kind: Rotate, value: u8, f: u8) -> (u8, u8)
-    ensures value { result.0 ≡ rotated kind value (has f 1) }
-    ensures flags { result.1 ≡ rotated_flags kind value f }
+    ensures { Computes (rotated kind value (has f 1)) (rotated_flags kind value f) result }
 {
     let flags = Flags::of(f);
     let turned = rotate_by_one(kind, value, flags.carry);
@@ -137,8 +135,7 @@ pub fn rotate(kind: Rotate, value: u8, f: u8) -> (u8, u8)
 #[inline(always)]
 #[tactic(auto, unfolding(crate::specs::Bits::rotated_a_flags))]
 pub fn rotate_a(kind: Rotate, a: u8, f: u8) -> (u8, u8)
-    ensures value { result.0 ≡ rotated kind a (has f 1) }
-    ensures flags { result.1 ≡ rotated_a_flags kind a f }
+    ensures { Computes (rotated kind a (has f 1)) (rotated_a_flags kind a f) result }
 {
     let flags = Flags::of(f);
     (

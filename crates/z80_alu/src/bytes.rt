@@ -1,4 +1,5 @@
 ghost use Rattle.std.specs.Prelude.{◌≡◌, false};
+ghost use Rattle.z80_alu.specs.Flags.{Computes};
 ghost use Rattle.z80_alu.specs.Bytes.{
   sum_of,
   sum_flags,
@@ -55,8 +56,7 @@ fn is_sub_overflow(a: u8, b: u8, carry: bool) -> bool
 #[inline(always)]
 #[tactic(auto, unfolding(crate::specs::Bytes::sum_flags))]
 pub fn add8(a: u8, b: u8, carry: bool, f: u8) -> (u8, u8)
-    ensures sum { result.0 ≡ sum_of a b carry }
-    ensures flags { result.1 ≡ sum_flags a b carry f }
+    ensures { Computes (sum_of a b carry) (sum_flags a b carry f) result }
 {
     let total = u16::from(a) + u16::from(b) + u16::from(one_if(carry));
     let sum = (total % 256) as u8;
@@ -74,8 +74,7 @@ pub fn add8(a: u8, b: u8, carry: bool, f: u8) -> (u8, u8)
 #[inline(always)]
 #[tactic(auto, unfolding(crate::specs::Bytes::difference_flags))]
 pub fn sub8(a: u8, b: u8, carry: bool, f: u8) -> (u8, u8)
-    ensures difference { result.0 ≡ difference_of a b carry }
-    ensures flags { result.1 ≡ difference_flags a b carry f }
+    ensures { Computes (difference_of a b carry) (difference_flags a b carry f) result }
 {
     let taken = u16::from(b) + u16::from(one_if(carry));
     let difference = ((u16::from(a) + 256 - taken) % 256) as u8;
@@ -93,8 +92,7 @@ pub fn sub8(a: u8, b: u8, carry: bool, f: u8) -> (u8, u8)
 #[inline(always)]
 #[tactic(auto, unfolding(crate::specs::Bytes::increment_flags))]
 pub fn inc8(a: u8, f: u8) -> (u8, u8)
-    ensures sum { result.0 ≡ sum_of a 1 false }
-    ensures flags { result.1 ≡ increment_flags a f }
+    ensures { Computes (sum_of a 1 false) (increment_flags a f) result }
 {
     let sum = a.wrapping_add(1);
     let flags = Flags {
@@ -110,8 +108,7 @@ pub fn inc8(a: u8, f: u8) -> (u8, u8)
 #[inline(always)]
 #[tactic(auto, unfolding(crate::specs::Bytes::decrement_flags))]
 pub fn dec8(a: u8, f: u8) -> (u8, u8)
-    ensures difference { result.0 ≡ difference_of a 1 false }
-    ensures flags { result.1 ≡ decrement_flags a f }
+    ensures { Computes (difference_of a 1 false) (decrement_flags a f) result }
 {
     let difference = a.wrapping_sub(1);
     let flags = Flags {

@@ -1,4 +1,5 @@
 ghost use Rattle.std.specs.Prelude.{◌≡◌};
+ghost use Rattle.z80_alu.specs.Flags.{Computes};
 ghost use Rattle.z80_alu.specs.Decimal.{
   corrects_low,
   corrects_high,
@@ -66,8 +67,7 @@ fn is_adjusted_half_carry(a: u8, flags: Flags) -> bool
 #[inline]
 #[tactic(auto, unfolding(crate::specs::Decimal::decimal_of, crate::specs::Decimal::decimal_flags))]
 pub fn daa(a: u8, f: u8) -> (u8, u8)
-    ensures value { result.0 ≡ decimal_of a f }
-    ensures flags { result.1 ≡ decimal_flags a f }
+    ensures { Computes (decimal_of a f) (decimal_flags a f) result }
 {
     let before = Flags::of(f);
     let value = adjust(a, before);

@@ -1,5 +1,5 @@
 ghost use Rattle.std.specs.Prelude.{◌≡◌, false};
-ghost use Rattle.z80_alu.specs.Flags.{has};
+ghost use Rattle.z80_alu.specs.Flags.{Computes, has};
 ghost use Rattle.z80_alu.specs.Pairs.{
   word_sum_of,
   word_sum_half_carries,
@@ -68,8 +68,7 @@ fn is_word_sub_overflow(a: u16, b: u16, carry: bool) -> bool
 #[inline(always)]
 #[tactic(auto, unfolding(crate::specs::Pairs::word_add_flags))]
 pub fn add16(a: u16, b: u16, f: u8) -> (u16, u8)
-    ensures sum { result.0 ≡ word_sum_of a b false }
-    ensures flags { result.1 ≡ word_add_flags a b f }
+    ensures { Computes (word_sum_of a b false) (word_add_flags a b f) result }
 {
     let flags = Flags {
         half_carry: is_word_half_carry(a, b, false),
@@ -84,8 +83,7 @@ pub fn add16(a: u16, b: u16, f: u8) -> (u16, u8)
 #[inline(always)]
 #[tactic(auto, unfolding(crate::specs::Pairs::word_sum_flags))]
 pub fn adc16(a: u16, b: u16, f: u8) -> (u16, u8)
-    ensures sum { result.0 ≡ word_sum_of a b (has f 1) }
-    ensures flags { result.1 ≡ word_sum_flags a b (has f 1) f }
+    ensures { Computes (word_sum_of a b (has f 1)) (word_sum_flags a b (has f 1) f) result }
 {
     let before = Flags::of(f);
     let total = u32::from(a) + u32::from(b) + u32::from(one_if(before.carry));
@@ -104,8 +102,7 @@ pub fn adc16(a: u16, b: u16, f: u8) -> (u16, u8)
 #[inline(always)]
 #[tactic(auto, unfolding(crate::specs::Pairs::word_difference_flags))]
 pub fn sbc16(a: u16, b: u16, f: u8) -> (u16, u8)
-    ensures difference { result.0 ≡ word_difference_of a b (has f 1) }
-    ensures flags { result.1 ≡ word_difference_flags a b (has f 1) f }
+    ensures { Computes (word_difference_of a b (has f 1)) (word_difference_flags a b (has f 1) f) result }
 {
     let before = Flags::of(f);
     let taken = u32::from(b) + u32::from(one_if(before.carry));

@@ -5,3 +5,4 @@ pub mod Loads
 pub mod Calculations
 pub mod Flow
 pub mod Performing
+pub mod Leaving

@@ -52,12 +52,16 @@ stack_exchanged regs memory = record {
   actions = top_replaced (hl_of regs) regs;
 }
 
+-- a word is pushed
+abbrev pub word_pushed : ℕ → Regs → StepOutcome
+word_pushed word regs = record {
+  registers = record regs { sp = back regs.sp 2 };
+  actions = pushed word regs;
+}
+
 -- PUSH qq
 abbrev pub pair_pushed : StackPair → Regs → StepOutcome
-pair_pushed pair regs = record {
-  registers = record regs { sp = back regs.sp 2 };
-  actions = pushed (stack_pair_word pair regs) regs;
-}
+pair_pushed pair regs = word_pushed (stack_pair_word pair regs) regs
 
 -- POP qq
 abbrev pub pair_popped : StackPair → Regs → (ℕ → ℕ) → Regs

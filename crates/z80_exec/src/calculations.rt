@@ -1,5 +1,5 @@
 ghost use Rattle.std.specs.Prelude.{◌≡◌};
-ghost use Rattle.z80_regs.specs.Outcome.{LeavesBus};
+ghost use Rattle.z80_exec.specs.Leaving.{Leaves};
 ghost use Rattle.z80_exec.specs.Operands.{operand_byte};
 ghost use Rattle.z80_exec.specs.Calculations.{
   calculated,
@@ -59,8 +59,7 @@ pub fn calculate_operand<B: Bus>(math: Math, from: Operand, regs: &mut Regs, bus
 #[inline(always)]
 #[tactic(auto, unfolding(z80_regs::specs::Outcome::LeavesBus))]
 pub fn increment<B: Bus>(operand: Operand, regs: &mut Regs, bus: &mut B)
-    ensures registers { regs.new ≡ (incremented operand (operand_byte operand regs.old (B.byte bus.old)) regs.old).registers }
-    ensures bus { LeavesBus B.wrote B.took (incremented operand (operand_byte operand regs.old (B.byte bus.old)) regs.old).actions bus.old bus.new }
+    ensures { Leaves B.Bus (incremented operand (operand_byte operand regs.old (B.byte bus.old)) regs.old) regs.new bus.old bus.new }
 {
     match operand {
         Operand::B => (regs.b, regs.f) = z80_alu::inc8(regs.b, regs.f),
@@ -83,8 +82,7 @@ pub fn increment<B: Bus>(operand: Operand, regs: &mut Regs, bus: &mut B)
 #[inline(always)]
 #[tactic(auto, unfolding(z80_regs::specs::Outcome::LeavesBus))]
 pub fn decrement<B: Bus>(operand: Operand, regs: &mut Regs, bus: &mut B)
-    ensures registers { regs.new ≡ (decremented operand (operand_byte operand regs.old (B.byte bus.old)) regs.old).registers }
-    ensures bus { LeavesBus B.wrote B.took (decremented operand (operand_byte operand regs.old (B.byte bus.old)) regs.old).actions bus.old bus.new }
+    ensures { Leaves B.Bus (decremented operand (operand_byte operand regs.old (B.byte bus.old)) regs.old) regs.new bus.old bus.new }
 {
     match operand {
         Operand::B => (regs.b, regs.f) = z80_alu::dec8(regs.b, regs.f),

@@ -1,5 +1,5 @@
 ghost use Rattle.std.specs.Prelude.{◌≡◌};
-ghost use Rattle.z80_regs.specs.Outcome.{LeavesBus};
+ghost use Rattle.z80_exec.specs.Leaving.{Leaves};
 ghost use Rattle.z80_exec.specs.Flow.{relative, jumped_if, decrement_jumped, called, returned, returned_if};
 
 use crate::loads::push;
@@ -39,8 +39,7 @@ pub fn decrement_jump(displacement: u8, regs: &mut Regs)
 /// A call: PC is pushed, and is then an address.
 #[inline(always)]
 pub fn call<B: Bus>(target: u16, regs: &mut Regs, bus: &mut B)
-    ensures registers { regs.new ≡ (called target regs.old).registers }
-    ensures bus { LeavesBus B.wrote B.took (called target regs.old).actions bus.old bus.new }
+    ensures { Leaves B.Bus (called target regs.old) regs.new bus.old bus.new }
 {
     push(regs.pc, regs, bus);
     regs.pc = target;
@@ -49,8 +48,7 @@ pub fn call<B: Bus>(target: u16, regs: &mut Regs, bus: &mut B)
 /// RST p. Each row calls by itself, so that nothing is set for those that join before a step jumps by its opcode.
 #[inline(always)]
 pub fn restart<B: Bus>(address: u8, regs: &mut Regs, bus: &mut B)
-    ensures registers { regs.new ≡ (called address regs.old).registers }
-    ensures bus { LeavesBus B.wrote B.took (called address regs.old).actions bus.old bus.new }
+    ensures { Leaves B.Bus (called address regs.old) regs.new bus.old bus.new }
 {
     match address {
         0x00 => call(0x00, regs, bus),

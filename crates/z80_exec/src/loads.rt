@@ -1,8 +1,8 @@
 ghost use Rattle.std.specs.Prelude.{◌≡◌};
-ghost use Rattle.z80_regs.specs.Words.{back, word_from};
+ghost use Rattle.z80_regs.specs.Words.{word_from};
 ghost use Rattle.z80_regs.specs.Outcome.{LeavesBus};
+ghost use Rattle.z80_exec.specs.Leaving.{Leaves};
 ghost use Rattle.z80_exec.specs.Operands.{stored, operand_byte, with_operand};
-ghost use Rattle.z80_exec.specs.StackPairs.{pushed};
 ghost use Rattle.z80_exec.specs.Loads.{
   word_written,
   af_exchanged,
@@ -10,6 +10,7 @@ ghost use Rattle.z80_exec.specs.Loads.{
   de_exchanged,
   top_replaced,
   stack_exchanged,
+  word_pushed,
   pair_pushed,
   pair_popped,
   a_input,
@@ -57,9 +58,7 @@ pub fn store_operand<B: Bus>(from: Operand, address: u16, regs: &Regs, bus: &mut
 #[inline(always)]
 #[tactic(auto, unfolding(z80_regs::specs::Outcome::LeavesBus))]
 pub fn load<B: Bus>(to: Operand, from: Operand, regs: &mut Regs, bus: &mut B)
-    ensures registers { regs.new ≡ (with_operand to (operand_byte from regs.old (B.byte bus.old)) regs.old).registers }
-    ensures bus { LeavesBus B.wrote B.took (with_operand to (operand_byte from regs.old (B.byte bus.old)) regs.old).actions
-        bus.old bus.new }
+    ensures { Leaves B.Bus (with_operand to (operand_byte from regs.old (B.byte bus.old)) regs.old) regs.new bus.old bus.new }
 {
     match to {
         Operand::B => regs.b = operand(from, regs, bus),
@@ -122,8 +121,7 @@ pub fn replace_top<B: Bus>(word: u16, regs: &Regs, bus: &mut B) -> u16
 /// EX (SP),HL.
 #[inline(always)]
 pub fn exchange_stack<B: Bus>(regs: &mut Regs, bus: &mut B)
-    ensures registers { regs.new ≡ (stack_exchanged regs.old (B.byte bus.old)).registers }
-    ensures bus { LeavesBus B.wrote B.took (stack_exchanged regs.old (B.byte bus.old)).actions bus.old bus.new }
+    ensures { Leaves B.Bus (stack_exchanged regs.old (B.byte bus.old)) regs.new bus.old bus.new }
 {
     let top = replace_top(hl(regs), regs, bus);
     set_pair(regs, Pair::HL, top);
@@ -133,8 +131,7 @@ pub fn exchange_stack<B: Bus>(regs: &mut Regs, bus: &mut B)
 #[inline(always)]
 #[tactic(auto, unfolding(z80_regs::specs::Outcome::LeavesBus))]
 pub fn push<B: Bus>(word: u16, regs: &mut Regs, bus: &mut B)
-    ensures registers { regs.new ≡ record regs.old { sp = back regs.old.sp 2 } }
-    ensures bus { LeavesBus B.wrote B.took (pushed word regs.old) bus.old bus.new }
+    ensures { Leaves B.Bus (word_pushed word regs.old) regs.new bus.old bus.new }
 {
     let [low, high] = word.to_le_bytes();
     bus.write(regs.sp.wrapping_sub(1), high);
@@ -145,8 +142,7 @@ pub fn push<B: Bus>(word: u16, regs: &mut Regs, bus: &mut B)
 /// PUSH qq.
 #[inline(always)]
 pub fn push_pair<B: Bus>(pair: StackPair, regs: &mut Regs, bus: &mut B)
-    ensures registers { regs.new ≡ (pair_pushed pair regs.old).registers }
-    ensures bus { LeavesBus B.wrote B.took (pair_pushed pair regs.old).actions bus.old bus.new }
+    ensures { Leaves B.Bus (pair_pushed pair regs.old) regs.new bus.old bus.new }
 {
     push(stack_pair_at(regs, pair), regs, bus);
 }
@@ -178,8 +174,7 @@ pub fn pop_pair<B: Bus>(pair: StackPair, regs: &mut Regs, bus: &B)
 #[inline(always)]
 #[tactic(auto, unfolding(z80_regs::specs::Outcome::LeavesBus))]
 pub fn input_a<B: Bus>(port: u8, regs: &mut Regs, bus: &mut B)
-    ensures registers { regs.new ≡ (a_input port regs.old (B.port_byte bus.old)).registers }
-    ensures bus { LeavesBus B.wrote B.took (a_input port regs.old (B.port_byte bus.old)).actions bus.old bus.new }
+    ensures { Leaves B.Bus (a_input port regs.old (B.port_byte bus.old)) regs.new bus.old bus.new }
 {
     regs.a = bus.input(port);
 }

@@ -1,5 +1,5 @@
 ghost use Rattle.std.specs.Prelude.{◌≡◌};
-ghost use Rattle.z80_regs.specs.Outcome.{LeavesBus};
+ghost use Rattle.z80_exec.specs.Leaving.{Leaves};
 ghost use Rattle.z80_regs.specs.Words.{word_from};
 ghost use Rattle.z80_exec.specs.Operands.{hl_of, pair_word, with_pair, operand_byte, with_operand};
 ghost use Rattle.z80_exec.specs.StackPairs.{stack_pair_word, with_stack_pair};
@@ -122,8 +122,7 @@ pub fn operand<B: Bus>(operand: Operand, regs: &Regs, bus: &B) -> u8
 #[inline(always)]
 #[tactic(auto, unfolding(z80_regs::specs::Outcome::LeavesBus))]
 pub fn set_operand<B: Bus>(operand: Operand, value: u8, regs: &mut Regs, bus: &mut B)
-    ensures registers { regs.new ≡ (with_operand operand value regs.old).registers }
-    ensures bus { LeavesBus B.wrote B.took (with_operand operand value regs.old).actions bus.old bus.new }
+    ensures { Leaves B.Bus (with_operand operand value regs.old) regs.new bus.old bus.new }
 {
     match operand {
         Operand::B => regs.b = value,

@@ -1,6 +1,5 @@
 ghost use Rattle.std.specs.Prelude.{◌≡◌, true, false, Some};
-ghost use Rattle.std.specs.Bool.{OnTrue, OnFalse};
-ghost use Rattle.z80_regs.specs.Outcome.{LeavesBus};
+ghost use Rattle.z80_exec.specs.Leaving.{Leaves, LeavesWhere};
 ghost use Rattle.z80_exec.specs.Performing.{performed, main_outcome, next_with, is_plain};
 
 use crate::calculations::{
@@ -21,9 +20,7 @@ use z80_regs::{Bus, Regs};
 #[inline(always)]
 #[tactic(auto, unfolding(crate::specs::Performing::performed, z80_regs::specs::Outcome::LeavesBus))]
 fn perform<S: Source, B: Bus>(form: Form, source: &S, regs: &mut Regs, bus: &mut B)
-    ensures registers { regs.new ≡ (performed form (S.instr source.now form) regs.old (B.byte bus.old) (B.port_byte bus.old)).registers }
-    ensures bus { LeavesBus B.wrote B.took (performed form (S.instr source.now form) regs.old (B.byte bus.old) (B.port_byte bus.old)).actions
-        bus.old bus.new }
+    ensures { Leaves B.Bus (performed form (S.instr source.now form) regs.old (B.byte bus.old) (B.port_byte bus.old)) regs.new bus.old bus.new }
 {
     match form {
         Form::Nop => {}
@@ -85,9 +82,7 @@ fn perform<S: Source, B: Bus>(form: Form, source: &S, regs: &mut Regs, bus: &mut
 #[tactic(auto, unfolding(crate::specs::Performing::main_outcome, z80_regs::specs::Outcome::LeavesBus))]
 pub fn main_page<B: Bus>(instr: &Instr, regs: &mut Regs, bus: &mut B)
     requires { instr.now.page ≡ Page.Main }
-    ensures registers { regs.new ≡ (main_outcome instr.now regs.old (B.byte bus.old) (B.port_byte bus.old)).registers }
-    ensures bus { LeavesBus B.wrote B.took (main_outcome instr.now regs.old (B.byte bus.old) (B.port_byte bus.old)).actions
-        bus.old bus.new }
+    ensures { Leaves B.Bus (main_outcome instr.now regs.old (B.byte bus.old) (B.port_byte bus.old)) regs.new bus.old bus.new }
 {
     match main_form(instr.opcode) {
         None => {}
@@ -114,12 +109,9 @@ fn is_plain_form(form: Form) -> bool
 #[inline(always)]
 #[tactic(auto, unfolding(z80_regs::specs::Outcome::LeavesBus))]
 pub fn plain_next<B: Bus>(form: Form, fetched: Fetched, regs: &mut Regs, bus: &mut B) -> bool
-    ensures plain { result ≡ is_plain (Some form) }
-    ensures registers { OnTrue result (regs.new ≡ (next_with form fetched.opcode fetched.first fetched.second regs.old (B.byte bus.old) (B.port_byte bus.old)).registers) }
-    ensures bus { OnTrue result (LeavesBus B.wrote B.took
-        (next_with form fetched.opcode fetched.first fetched.second regs.old (B.byte bus.old) (B.port_byte bus.old)).actions bus.old bus.new) }
-    ensures registers_stay { OnFalse result (regs.new ≡ regs.old) }
-    ensures bus_stays { OnFalse result (bus.new ≡ bus.old) }
+    ensures { LeavesWhere B.Bus (is_plain (Some form))
+        (next_with form fetched.opcode fetched.first fetched.second regs.old (B.byte bus.old) (B.port_byte bus.old))
+        result regs.old regs.new bus.old bus.new }
 {
     if !is_plain_form(form) {
         return false;

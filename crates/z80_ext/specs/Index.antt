@@ -18,8 +18,7 @@ use Rattle.z80_decode.specs.declared.page_forms.IndexForm.{IndexForm}
 use Rattle.z80_decode.specs.declared.page_forms.IndexForm.TheVariants.{AddPair, LoadNumber, Store, Load, Increment, Decrement, IncrementByte, DecrementByte, LoadByte, LoadHalf, LoadFrom, StoreTo, Calculate, Pop, ExchangeStack, Push, Jump, LoadSp}
 use Rattle.z80_decode.specs.PageOpcodes.{indexed_bit_form_of, index_form_of}
 use Rattle.z80_exec.specs.Operands.{quiet, stored, pair_word, operand_byte, with_operand}
-use Rattle.z80_exec.specs.StackPairs.{pushed}
-use Rattle.z80_exec.specs.Loads.{word_stored, top_replaced}
+use Rattle.z80_exec.specs.Loads.{word_stored, top_replaced, word_pushed}
 use Rattle.z80_exec.specs.Calculations.{calculated}
 use Rattle.z80_exec.specs.Flow.{relative}
 use Rattle.z80_exec.specs.Performing.{behind, number}
@@ -103,10 +102,7 @@ index_exchanged index regs memory = record {
 
 -- PUSH IX
 abbrev pub index_pushed : IndexRegister → Regs → StepOutcome
-index_pushed index regs = record {
-  registers = record regs { sp = back regs.sp 2 };
-  actions = pushed (index_word index regs) regs;
-}
+index_pushed index regs = word_pushed (index_word index regs) regs
 
 -- POP IX
 abbrev pub index_popped : IndexRegister → Regs → (ℕ → ℕ) → Regs

@@ -11,7 +11,7 @@ use Rattle.z80_decode.specs.declared.page_forms.ExtendedForm.{ExtendedForm}
 use Rattle.z80_decode.specs.declared.page_forms.ExtendedForm.TheVariants.{AddPair, SubtractPair, StorePair, LoadPair}
 use Rattle.z80_decode.specs.Opcodes.{form_of}
 use Rattle.z80_decode.specs.PageOpcodes.{extended_form_of}
-use Rattle.z80_decode.specs.Decoding.{instr_of}
+use Rattle.z80_decode.specs.Decoding.{extended_instr_by, instr_of}
 use Rattle.z80_exec.specs.Operands.{quiet}
 use Rattle.z80_exec.specs.Performing.{behind, main_outcome, is_plain}
 use Rattle.z80_ext.specs.declared.index.IndexRegister.TheVariants as index
@@ -54,6 +54,12 @@ page_outcome IyCb instr regs memory ports = index_bits_outcome index.Iy instr re
 abbrev pub outcome_of : Option Instr → Regs → (ℕ → ℕ) → (ℕ → ℕ) → Option StepOutcome
 outcome_of None regs memory ports = None
 outcome_of (Some instr) regs memory ports = Some (page_outcome instr.page instr (begun regs) memory ports)
+
+-- the outcome of the instruction after EDh at PC, where there is one
+abbrev pub extended_outcome_at : Regs → (ℕ → ℕ) → (ℕ → ℕ) → Option StepOutcome
+extended_outcome_at regs memory ports =
+    let opcode = memory (onward regs.pc 1) in
+    outcome_of (extended_instr_by (extended_form_of opcode) opcode (memory (onward regs.pc 2)) (memory (onward regs.pc 3))) regs memory ports
 
 -- the outcome of a step, from the registers, what each address reads and what each port reads as the step begins:
 -- no byte is read after a write of the same step; None where no listed instruction is at PC

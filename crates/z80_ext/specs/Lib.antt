@@ -3,3 +3,4 @@ pub mod Block
 pub mod Extended
 pub mod Index
 pub mod Instruction
+pub mod Steps

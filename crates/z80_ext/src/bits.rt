@@ -1,5 +1,6 @@
 ghost use Rattle.std.specs.Prelude.{◌≡◌};
-ghost use Rattle.z80_regs.specs.Outcome.{LeavesBus};
+ghost use Rattle.z80_alu.specs.Flags.{Computes};
+ghost use Rattle.z80_exec.specs.Leaving.{Leaves};
 ghost use Rattle.z80_decode.specs.Decoding.{bit_instr_of};
 ghost use Rattle.z80_decode.specs.declared.page_forms.BitChange.TheVariants as changes;
 ghost use Rattle.z80_decode.specs.declared.page_forms.BitForm.TheVariants.{Change};
@@ -31,8 +32,7 @@ fn kind(shift: Shift) -> Rotate
 /// What a rotation, a shift, RES or SET makes of a byte, and the new F.
 #[inline(always)]
 fn changed(change: BitChange, byte: u8, f: u8) -> (u8, u8)
-    ensures byte { result.0 ≡ changed_byte change byte f }
-    ensures flags { result.1 ≡ changed_flags change byte f }
+    ensures { Computes (changed_byte change byte f) (changed_flags change byte f) result }
 {
     match change {
         BitChange::Rotate(shift) => z80_alu::rotate(kind(shift), byte, f),
@@ -53,8 +53,7 @@ fn test_bit(weight: u8, byte: u8, regs: &mut Regs)
 #[inline(always)]
 #[tactic(auto, unfolding(z80_regs::specs::Outcome::LeavesBus))]
 fn change_operand<B: Bus>(change: BitChange, at: Operand, regs: &mut Regs, bus: &mut B)
-    ensures registers { regs.new ≡ (operand_bits (Change change) at (operand_byte at regs.old (B.byte bus.old)) regs.old).registers }
-    ensures bus { LeavesBus B.wrote B.took (operand_bits (Change change) at (operand_byte at regs.old (B.byte bus.old)) regs.old).actions bus.old bus.new }
+    ensures { Leaves B.Bus (operand_bits (Change change) at (operand_byte at regs.old (B.byte bus.old)) regs.old) regs.new bus.old bus.new }
 {
     match at {
         Operand::B => (regs.b, regs.f) = changed(change, regs.b, regs.f),
@@ -72,8 +71,7 @@ fn change_operand<B: Bus>(change: BitChange, at: Operand, regs: &mut Regs, bus: 
 #[inline(always)]
 #[tactic(auto, unfolding(z80_regs::specs::Outcome::LeavesBus))]
 fn change_memory<B: Bus>(change: BitChange, address: u16, regs: &mut Regs, bus: &mut B)
-    ensures registers { regs.new ≡ (memory_bits (Change change) address (B.byte bus.old address) regs.old).registers }
-    ensures bus { LeavesBus B.wrote B.took (memory_bits (Change change) address (B.byte bus.old address) regs.old).actions bus.old bus.new }
+    ensures { Leaves B.Bus (memory_bits (Change change) address (B.byte bus.old address) regs.old) regs.new bus.old bus.new }
 {
     let (value, flags) = changed(change, bus.read(address), regs.f);
     bus.write(address, value);
@@ -84,8 +82,7 @@ fn change_memory<B: Bus>(change: BitChange, address: u16, regs: &mut Regs, bus: 
 #[inline(always)]
 #[tactic(auto, unfolding(z80_regs::specs::Outcome::LeavesBus))]
 fn rotate_operand<B: Bus>(shift: Shift, at: Operand, regs: &mut Regs, bus: &mut B)
-    ensures registers { regs.new ≡ (operand_bits (Change (changes.Rotate shift)) at (operand_byte at regs.old (B.byte bus.old)) regs.old).registers }
-    ensures bus { LeavesBus B.wrote B.took (operand_bits (Change (changes.Rotate shift)) at (operand_byte at regs.old (B.byte bus.old)) regs.old).actions bus.old bus.new }
+    ensures { Leaves B.Bus (operand_bits (Change (changes.Rotate shift)) at (operand_byte at regs.old (B.byte bus.old)) regs.old) regs.new bus.old bus.new }
 {
     match shift {
         Shift::LeftCircular => change_operand(
@@ -128,8 +125,7 @@ fn rotate_operand<B: Bus>(shift: Shift, at: Operand, regs: &mut Regs, bus: &mut 
 #[inline(always)]
 #[tactic(auto, unfolding(z80_regs::specs::Outcome::LeavesBus))]
 fn rotate_memory<B: Bus>(shift: Shift, address: u16, regs: &mut Regs, bus: &mut B)
-    ensures registers { regs.new ≡ (memory_bits (Change (changes.Rotate shift)) address (B.byte bus.old address) regs.old).registers }
-    ensures bus { LeavesBus B.wrote B.took (memory_bits (Change (changes.Rotate shift)) address (B.byte bus.old address) regs.old).actions bus.old bus.new }
+    ensures { Leaves B.Bus (memory_bits (Change (changes.Rotate shift)) address (B.byte bus.old address) regs.old) regs.new bus.old bus.new }
 {
     match shift {
         Shift::LeftCircular => change_memory(
@@ -194,8 +190,7 @@ fn test_operand<B: Bus>(weight: u8, at: Operand, regs: &mut Regs, bus: &B)
 #[inline(always)]
 #[tactic(auto, unfolding(z80_regs::specs::Outcome::LeavesBus))]
 fn act_on_operand<B: Bus>(form: BitForm, at: Operand, regs: &mut Regs, bus: &mut B)
-    ensures registers { regs.new ≡ (operand_bits form at (operand_byte at regs.old (B.byte bus.old)) regs.old).registers }
-    ensures bus { LeavesBus B.wrote B.took (operand_bits form at (operand_byte at regs.old (B.byte bus.old)) regs.old).actions bus.old bus.new }
+    ensures { Leaves B.Bus (operand_bits form at (operand_byte at regs.old (B.byte bus.old)) regs.old) regs.new bus.old bus.new }
 {
     match (at, form) {
         (at, BitForm::Test(weight)) => test_operand(weight, at, regs, bus),
@@ -208,8 +203,7 @@ fn act_on_operand<B: Bus>(form: BitForm, at: Operand, regs: &mut Regs, bus: &mut
 #[inline(always)]
 #[tactic(auto, unfolding(z80_regs::specs::Outcome::LeavesBus))]
 pub fn act_on_memory<B: Bus>(form: BitForm, address: u16, regs: &mut Regs, bus: &mut B)
-    ensures registers { regs.new ≡ (memory_bits form address (B.byte bus.old address) regs.old).registers }
-    ensures bus { LeavesBus B.wrote B.took (memory_bits form address (B.byte bus.old address) regs.old).actions bus.old bus.new }
+    ensures { Leaves B.Bus (memory_bits form address (B.byte bus.old address) regs.old) regs.new bus.old bus.new }
 {
     match form {
         BitForm::Test(weight) => test_bit(weight, bus.read(address), regs),
@@ -223,8 +217,7 @@ pub fn act_on_memory<B: Bus>(form: BitForm, address: u16, regs: &mut Regs, bus: 
 #[inline(always)]
 #[tactic(auto, unfolding(crate::specs::Bits::bits_outcome, z80_regs::specs::Outcome::LeavesBus))]
 pub fn step_bits<B: Bus>(opcode: u8, regs: &mut Regs, bus: &mut B)
-    ensures registers { regs.new ≡ (bits_outcome (bit_instr_of opcode) regs.old (B.byte bus.old)).registers }
-    ensures bus { LeavesBus B.wrote B.took (bits_outcome (bit_instr_of opcode) regs.old (B.byte bus.old)).actions bus.old bus.new }
+    ensures { Leaves B.Bus (bits_outcome (bit_instr_of opcode) regs.old (B.byte bus.old)) regs.new bus.old bus.new }
 {
     regs.pc = regs.pc.wrapping_add(2);
     act_on_operand(bit_form(opcode), operand_at(opcode % 8), regs, bus);

@@ -1,5 +1,5 @@
 ghost use Rattle.std.specs.Prelude.{◌≡◌, ◌==◌};
-ghost use Rattle.z80_regs.specs.Outcome.{LeavesBus};
+ghost use Rattle.z80_exec.specs.Leaving.{Leaves};
 ghost use Rattle.z80_ext.specs.Block.{
   walked,
   again_if,
@@ -85,9 +85,7 @@ fn step_load(direction: Direction, regs: &mut Regs)
 #[inline(always)]
 #[tactic(auto, unfolding(z80_regs::specs::Outcome::LeavesBus))]
 pub fn load_block<B: Bus>(direction: Direction, repeats: bool, regs: &mut Regs, bus: &mut B)
-    ensures registers { regs.new ≡ (block_loaded direction repeats regs.old (B.byte bus.old)).registers }
-    ensures bus { LeavesBus B.wrote B.took (block_loaded direction repeats regs.old (B.byte bus.old)).actions
-        bus.old bus.new }
+    ensures { Leaves B.Bus (block_loaded direction repeats regs.old (B.byte bus.old)) regs.new bus.old bus.new }
 {
     let is_repeated = repeats && is_more(regs);
     let byte = bus.read(hl(regs));
@@ -134,9 +132,7 @@ fn repeat_port(direction: Direction, repeats: bool, regs: &mut Regs)
 /// INI, IND, INIR and INDR.
 #[tactic(auto, unfolding(z80_regs::specs::Outcome::LeavesBus))]
 fn input_block<B: Bus>(direction: Direction, repeats: bool, regs: &mut Regs, bus: &mut B)
-    ensures registers { regs.new ≡ (block_input direction repeats regs.old (B.port_byte bus.old)).registers }
-    ensures bus { LeavesBus B.wrote B.took (block_input direction repeats regs.old (B.port_byte bus.old)).actions
-        bus.old bus.new }
+    ensures { Leaves B.Bus (block_input direction repeats regs.old (B.port_byte bus.old)) regs.new bus.old bus.new }
 {
     let value = bus.input(regs.c);
     bus.write(hl(regs), value);
@@ -152,10 +148,7 @@ pub fn transfer<B: Bus>(
     regs: &mut Regs,
     bus: &mut B,
 )
-    ensures registers { regs.new ≡
-        (block_performed kind direction repeats regs.old (B.byte bus.old) (B.port_byte bus.old)).registers }
-    ensures bus { LeavesBus B.wrote B.took
-        (block_performed kind direction repeats regs.old (B.byte bus.old) (B.port_byte bus.old)).actions bus.old bus.new }
+    ensures { Leaves B.Bus (block_performed kind direction repeats regs.old (B.byte bus.old) (B.port_byte bus.old)) regs.new bus.old bus.new }
 {
     match kind {
         Transfer::Load => load_block(direction, repeats, regs, bus),

@@ -1,10 +1,10 @@
-ghost use Rattle.std.specs.Prelude.{◌≡◌, ◌↔◌, true, false, IsNone};
-ghost use Rattle.std.specs.Bool.{OnTrue, OnFalse};
+ghost use Rattle.std.specs.Prelude.{◌≡◌, true, false};
 ghost use Rattle.z80_regs.specs.Words.{onward};
-ghost use Rattle.z80_regs.specs.Outcome.{LeavesBus};
 ghost use Rattle.z80_decode.specs.PageOpcodes.{extended_form_of};
 ghost use Rattle.z80_decode.specs.Decoding.{extended_instr_by};
-ghost use Rattle.z80_ext.specs.Instruction.{outcome_of, unbegun_of, is_plain_instr, registers_after, actions_of};
+ghost use Rattle.z80_ext.specs.Instruction.{extended_outcome_at};
+ghost use Rattle.z80_ext.specs.Steps.{ActsAs, Steps};
+ghost use Rattle.z80_exec.specs.Leaving.{Leaves};
 ghost use Rattle.z80_exec.specs.Operands.{hl_of};
 ghost use Rattle.z80_ext.specs.Extended.{
   operand_input,
@@ -31,8 +31,7 @@ use z80_regs::{Bus, Regs};
 /// IN r,(C).
 #[tactic(auto, unfolding(z80_regs::specs::Outcome::LeavesBus))]
 fn input_operand<B: Bus>(to: Operand, regs: &mut Regs, bus: &mut B)
-    ensures registers { regs.new ≡ (operand_input to regs.old (B.port_byte bus.old)).registers }
-    ensures bus { LeavesBus B.wrote B.took (operand_input to regs.old (B.port_byte bus.old)).actions bus.old bus.new }
+    ensures { Leaves B.Bus (operand_input to regs.old (B.port_byte bus.old)) regs.new bus.old bus.new }
 {
     let value = bus.input(regs.c);
     regs.f = z80_alu::value_flags(value, regs.f);
@@ -85,9 +84,7 @@ fn load_a(value: u8, regs: &mut Regs)
 /// RRD.
 #[tactic(auto, unfolding(z80_regs::specs::Outcome::LeavesBus))]
 fn rotate_digits_right<B: Bus>(regs: &mut Regs, bus: &mut B)
-    ensures registers { regs.new ≡ (digits_right (B.byte bus.old (hl_of regs.old)) regs.old).registers }
-    ensures bus { LeavesBus B.wrote B.took
-        (digits_right (B.byte bus.old (hl_of regs.old)) regs.old).actions bus.old bus.new }
+    ensures { Leaves B.Bus (digits_right (B.byte bus.old (hl_of regs.old)) regs.old) regs.new bus.old bus.new }
 {
     let byte = bus.read(hl(regs));
     bus.write(hl(regs), regs.a % 16 * 16 + byte / 16);
@@ -98,9 +95,7 @@ fn rotate_digits_right<B: Bus>(regs: &mut Regs, bus: &mut B)
 /// RLD.
 #[tactic(auto, unfolding(z80_regs::specs::Outcome::LeavesBus))]
 fn rotate_digits_left<B: Bus>(regs: &mut Regs, bus: &mut B)
-    ensures registers { regs.new ≡ (digits_left (B.byte bus.old (hl_of regs.old)) regs.old).registers }
-    ensures bus { LeavesBus B.wrote B.took (digits_left (B.byte bus.old (hl_of regs.old)) regs.old).actions
-        bus.old bus.new }
+    ensures { Leaves B.Bus (digits_left (B.byte bus.old (hl_of regs.old)) regs.old) regs.new bus.old bus.new }
 {
     let byte = bus.read(hl(regs));
     bus.write(hl(regs), byte % 16 * 16 + regs.a % 16);
@@ -122,11 +117,8 @@ fn output_operand<B: Bus>(from: Operand, regs: &Regs, bus: &mut B)
 #[inline]
 #[tactic(auto, unfolding(crate::specs::Extended::extended_performed, crate::specs::Extended::extended_outcome, z80_regs::specs::Outcome::LeavesBus))]
 pub fn step_pair<B: Bus>(opcode: u8, third: u8, regs: &mut Regs, bus: &mut B) -> bool
-    ensures plain { result ≡ is_plain_instr (extended_instr_by (extended_form_of opcode) opcode third (B.byte bus.old (onward regs.old.pc 3))) }
-    ensures registers { OnTrue result (regs.new ≡ (unbegun_of (extended_instr_by (extended_form_of opcode) opcode third (B.byte bus.old (onward regs.old.pc 3))) regs.old (B.byte bus.old) (B.port_byte bus.old)).registers) }
-    ensures bus { OnTrue result (LeavesBus B.wrote B.took (unbegun_of (extended_instr_by (extended_form_of opcode) opcode third (B.byte bus.old (onward regs.old.pc 3))) regs.old (B.byte bus.old) (B.port_byte bus.old)).actions bus.old bus.new) }
-    ensures registers_stay { OnFalse result (regs.new ≡ regs.old) }
-    ensures bus_stays { OnFalse result (bus.new ≡ bus.old) }
+    ensures { ActsAs B.Bus (extended_instr_by (extended_form_of opcode) opcode third (B.byte bus.old (onward regs.old.pc 3)))
+        result regs.old regs.new bus.old bus.new }
 {
     match extended_form(opcode) {
         Some(ExtendedForm::AddPair(pair)) => {
@@ -158,10 +150,7 @@ pub fn step_pair<B: Bus>(opcode: u8, third: u8, regs: &mut Regs, bus: &mut B) ->
 /// Acts as a form's instruction, which PC is past.
 #[tactic(auto, unfolding(crate::specs::Extended::extended_performed, z80_regs::specs::Outcome::LeavesBus))]
 fn perform<B: Bus>(form: &ExtendedForm, instr: &Instr, regs: &mut Regs, bus: &mut B)
-    ensures registers { regs.new ≡
-        (extended_performed form.now instr.now regs.old (B.byte bus.old) (B.port_byte bus.old)).registers }
-    ensures bus { LeavesBus B.wrote B.took
-        (extended_performed form.now instr.now regs.old (B.byte bus.old) (B.port_byte bus.old)).actions bus.old bus.new }
+    ensures { Leaves B.Bus (extended_performed form.now instr.now regs.old (B.byte bus.old) (B.port_byte bus.old)) regs.new bus.old bus.new }
 {
     match *form {
         ExtendedForm::Input(to) => input_operand(to, regs, bus),
@@ -189,13 +178,7 @@ fn perform<B: Bus>(form: &ExtendedForm, instr: &Instr, regs: &mut Regs, bus: &mu
 /// One step where EDh is at PC. (UM0080, "Z80 Instruction Description".)
 #[tactic(auto, unfolding(crate::specs::Extended::extended_outcome, z80_regs::specs::Outcome::LeavesBus))]
 pub fn step_extended<B: Bus>(regs: &mut Regs, bus: &mut B) -> Stepped
-    ensures illegal { let opcode = B.byte bus.old (onward regs.old.pc 1) in (result ≡ Stepped.Illegal) ↔ IsNone
-        (outcome_of (extended_instr_by (extended_form_of opcode) opcode (B.byte bus.old (onward regs.old.pc 2)) (B.byte bus.old (onward regs.old.pc 3))) regs.old (B.byte bus.old) (B.port_byte bus.old)) }
-    ensures registers { let opcode = B.byte bus.old (onward regs.old.pc 1) in regs.new ≡ registers_after
-        (outcome_of (extended_instr_by (extended_form_of opcode) opcode (B.byte bus.old (onward regs.old.pc 2)) (B.byte bus.old (onward regs.old.pc 3))) regs.old (B.byte bus.old) (B.port_byte bus.old)) regs.old }
-    ensures bus { let opcode = B.byte bus.old (onward regs.old.pc 1) in LeavesBus B.wrote B.took
-        (actions_of (outcome_of (extended_instr_by (extended_form_of opcode) opcode (B.byte bus.old (onward regs.old.pc 2)) (B.byte bus.old (onward regs.old.pc 3))) regs.old (B.byte bus.old) (B.port_byte bus.old)))
-        bus.old bus.new }
+    ensures { Steps B.Bus (extended_outcome_at regs.old (B.byte bus.old) (B.port_byte bus.old)) result regs.old regs.new bus.old bus.new }
 {
     let opcode = bus.read(regs.pc.wrapping_add(1));
     match extended_form(opcode) {

@@ -1,13 +1,12 @@
 ghost use Rattle.std.specs.Prelude.{◌≡◌, ◌==◌, ◌||◌, true, false};
-ghost use Rattle.std.specs.Bool.{OnTrue, OnFalse};
 ghost use Rattle.z80_regs.specs.Words.{onward};
-ghost use Rattle.z80_regs.specs.Outcome.{LeavesBus};
 ghost use Rattle.z80_decode.specs.PageOpcodes.{indexed_bit_form_of};
 ghost use Rattle.z80_decode.specs.Decoding.{index_tail_of, instr_with, index_bit_instr_by, index_instr_of};
+ghost use Rattle.z80_exec.specs.Leaving.{Leaves};
 ghost use Rattle.z80_exec.specs.Operands.{with_operand};
 ghost use Rattle.z80_exec.specs.Calculations.{calculated};
 ghost use Rattle.z80_exec.specs.Flow.{relative};
-ghost use Rattle.z80_ext.specs.Instruction.{unbegun_of, is_plain_instr};
+ghost use Rattle.z80_ext.specs.Steps.{ActsAs};
 ghost use Rattle.z80_ext.specs.Index.{
   index_behind,
   index_word,
@@ -143,8 +142,7 @@ fn set_byte<B: Bus>(
     regs: &mut Regs,
     bus: &mut B,
 )
-    ensures registers { regs.new ≡ (with_index_byte index to address byte regs.old).registers }
-    ensures bus { LeavesBus B.wrote B.took (with_index_byte index to address byte regs.old).actions bus.old bus.new }
+    ensures { Leaves B.Bus (with_index_byte index to address byte regs.old) regs.new bus.old bus.new }
 {
     match to {
         Operand::H => {
@@ -163,10 +161,7 @@ fn set_byte<B: Bus>(
 /// INC of an operand, where an index register stands for HL, and an address for (IX+d).
 #[inline(always)]
 fn increment<B: Bus>(index: IndexRegister, at: Operand, address: u16, regs: &mut Regs, bus: &mut B)
-    ensures registers { regs.new ≡ (byte_incremented index at address
-        (index_byte index at address regs.old (B.byte bus.old)) regs.old).registers }
-    ensures bus { LeavesBus B.wrote B.took (byte_incremented index at address
-        (index_byte index at address regs.old (B.byte bus.old)) regs.old).actions bus.old bus.new }
+    ensures { Leaves B.Bus (byte_incremented index at address (index_byte index at address regs.old (B.byte bus.old)) regs.old) regs.new bus.old bus.new }
 {
     let (value, flags) = z80_alu::inc8(byte_at(index, at, address, regs, bus), regs.f);
     regs.f = flags;
@@ -176,10 +171,7 @@ fn increment<B: Bus>(index: IndexRegister, at: Operand, address: u16, regs: &mut
 /// DEC likewise.
 #[inline(always)]
 fn decrement<B: Bus>(index: IndexRegister, at: Operand, address: u16, regs: &mut Regs, bus: &mut B)
-    ensures registers { regs.new ≡ (byte_decremented index at address
-        (index_byte index at address regs.old (B.byte bus.old)) regs.old).registers }
-    ensures bus { LeavesBus B.wrote B.took (byte_decremented index at address
-        (index_byte index at address regs.old (B.byte bus.old)) regs.old).actions bus.old bus.new }
+    ensures { Leaves B.Bus (byte_decremented index at address (index_byte index at address regs.old (B.byte bus.old)) regs.old) regs.new bus.old bus.new }
 {
     let (value, flags) = z80_alu::dec8(byte_at(index, at, address, regs, bus), regs.f);
     regs.f = flags;
@@ -189,8 +181,7 @@ fn decrement<B: Bus>(index: IndexRegister, at: Operand, address: u16, regs: &mut
 /// EX (SP),IX.
 #[inline(always)]
 fn exchange_stack<B: Bus>(index: IndexRegister, regs: &mut Regs, bus: &mut B)
-    ensures registers { regs.new ≡ (index_exchanged index regs.old (B.byte bus.old)).registers }
-    ensures bus { LeavesBus B.wrote B.took (index_exchanged index regs.old (B.byte bus.old)).actions bus.old bus.new }
+    ensures { Leaves B.Bus (index_exchanged index regs.old (B.byte bus.old)) regs.new bus.old bus.new }
 {
     let top = replace_top(index_at(regs, index), regs, bus);
     set_index(regs, index, top);
@@ -199,8 +190,7 @@ fn exchange_stack<B: Bus>(index: IndexRegister, regs: &mut Regs, bus: &mut B)
 /// PUSH IX.
 #[inline(always)]
 fn push_index<B: Bus>(index: IndexRegister, regs: &mut Regs, bus: &mut B)
-    ensures registers { regs.new ≡ (index_pushed index regs.old).registers }
-    ensures bus { LeavesBus B.wrote B.took (index_pushed index regs.old).actions bus.old bus.new }
+    ensures { Leaves B.Bus (index_pushed index regs.old) regs.new bus.old bus.new }
 {
     push(index_at(regs, index), regs, bus);
 }
@@ -219,8 +209,7 @@ fn pop_index<B: Bus>(index: IndexRegister, regs: &mut Regs, bus: &B)
 #[inline(always)]
 #[tactic(auto, unfolding(z80_regs::specs::Outcome::LeavesBus))]
 fn load_from<B: Bus>(to: Operand, address: u16, regs: &mut Regs, bus: &mut B)
-    ensures registers { regs.new ≡ (with_operand to (B.byte bus.old address) regs.old).registers }
-    ensures bus { LeavesBus B.wrote B.took (with_operand to (B.byte bus.old address) regs.old).actions bus.old bus.new }
+    ensures { Leaves B.Bus (with_operand to (B.byte bus.old address) regs.old) regs.new bus.old bus.new }
 {
     match to {
         Operand::B => regs.b = bus.read(address),
@@ -266,9 +255,7 @@ fn perform<B: Bus>(
     regs: &mut Regs,
     bus: &mut B,
 )
-    ensures registers { regs.new ≡ (index_performed form index (instr_with (index_tail_of form) (page_of index) 2 opcode third (B.byte bus.old (onward address 3))) regs.old (B.byte bus.old)).registers }
-    ensures bus { LeavesBus B.wrote B.took (index_performed form index (instr_with (index_tail_of form) (page_of index) 2 opcode third (B.byte bus.old (onward address 3))) regs.old (B.byte bus.old)).actions
-        bus.old bus.new }
+    ensures { Leaves B.Bus (index_performed form index (instr_with (index_tail_of form) (page_of index) 2 opcode third (B.byte bus.old (onward address 3))) regs.old (B.byte bus.old)) regs.new bus.old bus.new }
 {
     match form {
         IndexForm::AddPair(pair) => add_pair(index, pair, regs),
@@ -360,11 +347,8 @@ fn step_index_bits<B: Bus>(
     regs: &mut Regs,
     bus: &mut B,
 ) -> bool
-    ensures plain { result ≡ is_plain_instr (index_bit_instr_by (indexed_bit_form_of (B.byte bus.old (onward regs.old.pc 3))) (bits_page_of index) displacement (B.byte bus.old (onward regs.old.pc 3))) }
-    ensures registers { OnTrue result (regs.new ≡ (unbegun_of (index_bit_instr_by (indexed_bit_form_of (B.byte bus.old (onward regs.old.pc 3))) (bits_page_of index) displacement (B.byte bus.old (onward regs.old.pc 3))) regs.old (B.byte bus.old) (B.port_byte bus.old)).registers) }
-    ensures bus { OnTrue result (LeavesBus B.wrote B.took (unbegun_of (index_bit_instr_by (indexed_bit_form_of (B.byte bus.old (onward regs.old.pc 3))) (bits_page_of index) displacement (B.byte bus.old (onward regs.old.pc 3))) regs.old (B.byte bus.old) (B.port_byte bus.old)).actions bus.old bus.new) }
-    ensures registers_stay { OnFalse result (regs.new ≡ regs.old) }
-    ensures bus_stays { OnFalse result (bus.new ≡ bus.old) }
+    ensures { ActsAs B.Bus (index_bit_instr_by (indexed_bit_form_of (B.byte bus.old (onward regs.old.pc 3))) (bits_page_of index) displacement
+        (B.byte bus.old (onward regs.old.pc 3))) result regs.old regs.new bus.old bus.new }
 {
     match indexed_bit_form(fourth_byte(regs.pc, bus)) {
         None => false,
@@ -387,11 +371,8 @@ pub fn step_index<B: Bus>(
     regs: &mut Regs,
     bus: &mut B,
 ) -> bool
-    ensures plain { result ≡ is_plain_instr (index_instr_of (page_of index) (bits_page_of index) opcode third (B.byte bus.old (onward regs.old.pc 3))) }
-    ensures registers { OnTrue result (regs.new ≡ (unbegun_of (index_instr_of (page_of index) (bits_page_of index) opcode third (B.byte bus.old (onward regs.old.pc 3))) regs.old (B.byte bus.old) (B.port_byte bus.old)).registers) }
-    ensures bus { OnTrue result (LeavesBus B.wrote B.took (unbegun_of (index_instr_of (page_of index) (bits_page_of index) opcode third (B.byte bus.old (onward regs.old.pc 3))) regs.old (B.byte bus.old) (B.port_byte bus.old)).actions bus.old bus.new) }
-    ensures registers_stay { OnFalse result (regs.new ≡ regs.old) }
-    ensures bus_stays { OnFalse result (bus.new ≡ bus.old) }
+    ensures { ActsAs B.Bus (index_instr_of (page_of index) (bits_page_of index) opcode third (B.byte bus.old (onward regs.old.pc 3)))
+        result regs.old regs.new bus.old bus.new }
 {
     if opcode == 0xcb {
         return step_index_bits(index, third, regs, bus);

@@ -7,14 +7,13 @@ mod extended;
 mod index;
 mod stepped;
 
-ghost use Rattle.std.specs.Prelude.{◌≡◌, ◌↔◌, true, false, IsNone, IsSome, IfSome, MatchOption, is_none};
-ghost use Rattle.std.specs.Bool.{OnTrue, OnFalse};
+ghost use Rattle.std.specs.Prelude.{◌≡◌, ◌↔◌, true, false, IsNone, IsSome};
 ghost use Rattle.z80_regs.specs.Outcome.{LeavesBus};
-ghost use Rattle.z80_regs.specs.Words.{onward};
 ghost use Rattle.z80_regs.specs.declared.regs.Regs.{Regs};
 ghost use Rattle.z80_decode.specs.Opcodes.{form_of};
 ghost use Rattle.z80_decode.specs.Decoding.{instr_of};
-ghost use Rattle.z80_ext.specs.Instruction.{IsRareAt, IsLoadUpAt, is_plain_at, halted_or_enabled, unbegun, risen, four_from, instruction, registers_after, actions_of};
+ghost use Rattle.z80_ext.specs.Instruction.{IsRareAt, IsLoadUpAt, halted_or_enabled, risen, four_from, instruction, registers_after, actions_of};
+ghost use Rattle.z80_ext.specs.Steps.{IsFetched, ActsAs, StepsUnbegun, Steps};
 
 use crate::bits::step_bits;
 use crate::block::load_block;
@@ -32,15 +31,9 @@ use z80_regs::{Bus, Regs};
 #[inline(always)]
 #[tactic(auto, using(crate::proofs::Rare::bits_is, crate::proofs::Rare::index_is, crate::proofs::Rare::extended_is, crate::proofs::Rare::prefix_rare), unfolding(z80_regs::specs::Outcome::LeavesBus))]
 fn act_behind<B: Bus>(fetched: Fetched, regs: &mut Regs, bus: &mut B) -> bool
-    requires opcode { fetched.opcode ≡ B.byte bus.old regs.old.pc }
-    requires first { fetched.first ≡ B.byte bus.old (onward regs.old.pc 1) }
-    requires second { fetched.second ≡ B.byte bus.old (onward regs.old.pc 2) }
+    requires fetched { IsFetched (B.byte bus.old) regs.old.pc fetched }
     requires prefix { IsNone (form_of fetched.opcode) }
-    ensures plain { result ≡ is_plain_at regs.old (B.byte bus.old) }
-    ensures registers { OnTrue result (regs.new ≡ (unbegun regs.old (B.byte bus.old) (B.port_byte bus.old)).registers) }
-    ensures bus { OnTrue result (LeavesBus B.wrote B.took (unbegun regs.old (B.byte bus.old) (B.port_byte bus.old)).actions bus.old bus.new) }
-    ensures registers_stay { OnFalse result (regs.new ≡ regs.old) }
-    ensures bus_stays { OnFalse result (bus.new ≡ bus.old) }
+    ensures { ActsAs B.Bus (instr_of (four_from (B.byte bus.old) regs.old.pc)) result regs.old regs.new bus.old bus.new }
 {
     if is_index_prefix(fetched.opcode) {
         let index = index_behind(fetched.opcode);
@@ -61,14 +54,8 @@ fn act_behind<B: Bus>(fetched: Fetched, regs: &mut Regs, bus: &mut B) -> bool
 #[inline(always)]
 #[tactic(auto, using(crate::proofs::Next::main_plain, crate::proofs::Next::main_does))]
 fn act<B: Bus>(fetched: Fetched, regs: &mut Regs, bus: &mut B) -> bool
-    requires opcode { fetched.opcode ≡ B.byte bus.old regs.old.pc }
-    requires first { fetched.first ≡ B.byte bus.old (onward regs.old.pc 1) }
-    requires second { fetched.second ≡ B.byte bus.old (onward regs.old.pc 2) }
-    ensures plain { result ≡ is_plain_at regs.old (B.byte bus.old) }
-    ensures registers { OnTrue result (regs.new ≡ (unbegun regs.old (B.byte bus.old) (B.port_byte bus.old)).registers) }
-    ensures bus { OnTrue result (LeavesBus B.wrote B.took (unbegun regs.old (B.byte bus.old) (B.port_byte bus.old)).actions bus.old bus.new) }
-    ensures registers_stay { OnFalse result (regs.new ≡ regs.old) }
-    ensures bus_stays { OnFalse result (bus.new ≡ bus.old) }
+    requires { IsFetched (B.byte bus.old) regs.old.pc fetched }
+    ensures { ActsAs B.Bus (instr_of (four_from (B.byte bus.old) regs.old.pc)) result regs.old regs.new bus.old bus.new }
 {
     match main_form(fetched.opcode) {
         None => act_behind(fetched, regs, bus),
@@ -81,17 +68,8 @@ fn act<B: Bus>(fetched: Fetched, regs: &mut Regs, bus: &mut B) -> bool
 /// answered, and nothing has changed: HALT, EI, most of what follows EDh, and what isn't listed.
 #[inline(always)]
 pub fn step_unbegun<B: Bus>(fetched: Fetched, regs: &mut Regs, bus: &mut B) -> Option<u8>
-    requires opcode { fetched.opcode ≡ B.byte bus.old regs.old.pc }
-    requires first { fetched.first ≡ B.byte bus.old (onward regs.old.pc 1) }
-    requires second { fetched.second ≡ B.byte bus.old (onward regs.old.pc 2) }
-    ensures plain { is_none result ≡ is_plain_at regs.old (B.byte bus.old) }
-    ensures rare { IfSome result (λ rare. IsRareAt rare regs.old (B.byte bus.old)) }
-    ensures registers { MatchOption result
-        (regs.new ≡ (unbegun regs.old (B.byte bus.old) (B.port_byte bus.old)).registers)
-        (λ rare. regs.new ≡ regs.old) }
-    ensures bus { MatchOption result
-        (LeavesBus B.wrote B.took (unbegun regs.old (B.byte bus.old) (B.port_byte bus.old)).actions bus.old bus.new)
-        (λ rare. bus.new ≡ bus.old) }
+    requires { IsFetched (B.byte bus.old) regs.old.pc fetched }
+    ensures { StepsUnbegun B.Bus result regs.old regs.new bus.old bus.new }
 {
     if act(fetched, regs, bus) {
         None
@@ -118,10 +96,7 @@ fn halt_or_enable(opcode: u8, regs: &mut Regs)
 #[tactic(auto, using(crate::proofs::Rare::extended_at, crate::proofs::Rare::halt_or_enable_at, crate::proofs::Rare::unlisted_at, crate::proofs::Rare::rests_at), unfolding(z80_regs::specs::Outcome::LeavesBus))]
 pub fn step_other<B: Bus>(opcode: u8, regs: &mut Regs, bus: &mut B) -> Stepped
     requires { IsRareAt opcode regs.old (B.byte bus.old) }
-    ensures illegal { (result ≡ Stepped.Illegal) ↔ IsNone (instruction regs.old (B.byte bus.old) (B.port_byte bus.old)) }
-    ensures registers { regs.new ≡ registers_after (instruction regs.old (B.byte bus.old) (B.port_byte bus.old)) regs.old }
-    ensures bus { LeavesBus B.wrote B.took (actions_of (instruction regs.old (B.byte bus.old) (B.port_byte bus.old)))
-        bus.old bus.new }
+    ensures { Steps B.Bus (instruction regs.old (B.byte bus.old) (B.port_byte bus.old)) result regs.old regs.new bus.old bus.new }
 {
     if regs.halted {
         refresh(regs);
@@ -154,13 +129,8 @@ pub fn step_load_up<B: Bus>(regs: &mut Regs, bus: &mut B)
 #[inline(always)]
 #[tactic(auto, using(crate::proofs::Begun::unbegun_once))]
 fn step_fetched<B: Bus>(fetched: Fetched, regs: &mut Regs, bus: &mut B) -> Stepped
-    requires opcode { fetched.opcode ≡ B.byte bus.old regs.old.pc }
-    requires first { fetched.first ≡ B.byte bus.old (onward regs.old.pc 1) }
-    requires second { fetched.second ≡ B.byte bus.old (onward regs.old.pc 2) }
-    ensures illegal { (result ≡ Stepped.Illegal) ↔ IsNone (instruction regs.old (B.byte bus.old) (B.port_byte bus.old)) }
-    ensures registers { regs.new ≡ registers_after (instruction regs.old (B.byte bus.old) (B.port_byte bus.old)) regs.old }
-    ensures bus { LeavesBus B.wrote B.took (actions_of (instruction regs.old (B.byte bus.old) (B.port_byte bus.old)))
-        bus.old bus.new }
+    requires { IsFetched (B.byte bus.old) regs.old.pc fetched }
+    ensures { Steps B.Bus (instruction regs.old (B.byte bus.old) (B.port_byte bus.old)) result regs.old regs.new bus.old bus.new }
 {
     if regs.halted {
         return step_other(fetched.opcode, regs, bus);
@@ -179,12 +149,9 @@ fn step_fetched<B: Bus>(fetched: Fetched, regs: &mut Regs, bus: &mut B) -> Stepp
 #[inline(always)]
 #[tactic(auto, using(crate::proofs::Next::halted_rises))]
 pub fn step<B: Bus>(regs: &mut Regs, bus: &mut B) -> Stepped
-    ensures illegal { (result ≡ Stepped.Illegal) ↔ IsNone (instruction regs.old (B.byte bus.old) (B.port_byte bus.old)) }
+    ensures outcome { Steps B.Bus (instruction regs.old (B.byte bus.old) (B.port_byte bus.old)) result regs.old regs.new bus.old bus.new }
     ensures unlisted { (result ≡ Stepped.Illegal)
         ↔ ((regs.old.halted ≡ false) × IsNone (instr_of (four_from (B.byte bus.old) regs.old.pc))) }
-    ensures registers { regs.new ≡ registers_after (instruction regs.old (B.byte bus.old) (B.port_byte bus.old)) regs.old }
-    ensures bus { LeavesBus B.wrote B.took (actions_of (instruction regs.old (B.byte bus.old) (B.port_byte bus.old)))
-        bus.old bus.new }
     ensures halted { regs.old.halted ≡ true → regs.new ≡ risen regs.old }
 {
     let fetched = Fetched {

@@ -10,7 +10,7 @@ use Rattle.mpm_command.specs.Commands.{text_of, tail_in, command_in}
 use Rattle.mpm_command.specs.declared.command.Command.{Command}
 use Rattle.mpm_loader.specs.Plans.{relocatable_plan, absolute_plan, plan_of, pages_of}
 use Rattle.mpm_loader.specs.Pieces.{Loading, part, begun, with_piece, nothing}
-use Rattle.mpm_residents.specs.declared.cli.act.Act.TheVariants.{Place as PlaceBytes, Patch as MoveCode, Begin as BeginProcess, Give as GiveConsole}
+use Rattle.mpm_residents.specs.declared.cli.act.Act.TheVariants.{PlaceBytes, MoveCode, BeginProcess, GiveConsole}
 use Rattle.mpm_residents.specs.declared.cli.table.Message.TheVariants.{NotFound, BadLoad, NoMemory, NoProcess, QueueFull}
 use Rattle.mpm_residents.specs.declared.cli.table.Row.{Row}
 use Rattle.mpm_residents.specs.declared.cli.table.Row.TheVariants.{ReadCommand, OpenQueue, WriteQueue, SetUser, OpenRelocatable, OpenAbsolute, ReadHeader, ComputeSize, SetUserZero, Reserve, Place, Patch, ReadOn, Free, CloseAfter, Close, Tell, Give, PlaceBasePage, Begin}

@@ -8,25 +8,25 @@ pub enum Act {
     /// It makes the call that it filled in.
     Ask,
     /// So many bytes come into a segment, from an address on.
-    Place {
+    PlaceBytes {
         seg: Seg,
         address: u16,
         length: u16,
     },
     /// So many bytes of code in a segment, from an address on, are moved to a page.
-    Patch {
+    MoveCode {
         seg: Seg,
         address: u16,
         length: u16,
         page: u8,
     },
     /// A process begins in a segment.
-    Begin {
+    BeginProcess {
         seg: Seg,
         new: NewProcess,
     },
     /// It gives a console back, if it owns it.
-    Give {
+    GiveConsole {
         console: u8,
     },
 }

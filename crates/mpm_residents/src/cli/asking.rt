@@ -1,27 +1,10 @@
 ghost use Rattle.std.specs.Prelude.{◌≡◌, ◌≤◌, ◌<◌, length};
-ghost use Rattle.mpm_residents.specs.Interpreters.{asking, asking_file, handing, queue_block as block_of_queue, file_block as block_of_file, read_only as name_read_only, code_address as address_of_code, message_in as message_of_bytes, size_in as size_of_block};
+ghost use Rattle.mpm_names.specs.Readings.{IsNumber};
+ghost use Rattle.mpm_residents.specs.Interpreters.{handing, queue_block as block_of_queue, file_block as block_of_file, read_only as name_read_only, code_address as address_of_code, message_in as message_of_bytes, size_in as size_of_block};
 
 use mpm_base::{Call, SegmentSpec, in_width};
 use mpm_command::Command;
-
-/// Makes a call, of bytes at most 4,096.
-pub(crate) fn ask(call: &mut Call, function: u8, word: u16, bytes: &[u8])
-    requires { length bytes.now ≤ 4096 }
-    ensures { call.new ≡ asking function word bytes.now }
-{
-    call.begin(function, word, 0);
-    call.append(bytes);
-}
-
-/// Makes a call on a file, of bytes at most 4,096.
-pub(crate) fn ask_file(call: &mut Call, function: u8, fcb: [u8; 36], bytes: &[u8])
-    requires { length bytes.now ≤ 4096 }
-    ensures { call.new ≡ asking_file function fcb bytes.now }
-{
-    call.begin(function, 0, 0);
-    call.set_control_block(fcb);
-    call.append(bytes);
-}
+use mpm_messages::ask;
 
 /// Hands bytes over, at most 4,096, with no call.
 pub(crate) fn hand(call: &mut Call, bytes: &[u8])
@@ -80,8 +63,7 @@ pub(crate) fn message_in(bytes: &[u8]) -> [u8; 130]
 
 /// How many records a file has, as its control block says.
 pub(crate) fn size_in(fcb: &[u8; 36]) -> u32
-    ensures size { result ≡ size_of_block fcb.now }
-    ensures below { result < 16777216 }
+    ensures { IsNumber (size_of_block fcb.now) 16777215 result }
 {
     u32::from(fcb[33]) + 256 * u32::from(fcb[34]) + 65536 * u32::from(fcb[35])
 }

@@ -1,4 +1,5 @@
-ghost use Rattle.std.specs.Prelude.{◌≡◌, ◌≤◌, ◌==◌, if◌then◌else◌, length};
+ghost use Rattle.std.specs.Prelude.{◌≡◌, ◌==◌, if◌then◌else◌};
+ghost use Rattle.mpm_names.specs.Readings.{IsBytes, IsSuch};
 ghost use Rattle.mpm_residents.specs.Messages.{message_of};
 ghost use Rattle.mpm_residents.specs.Interpreters.{row_for_memory as memory_row, row_for_piece as piece_row, row_behind_code as row_after_code, row_behind_marks as row_after_marks, IsInterpreterRow};
 ghost use Rattle.mpm_residents.specs.declared.cli.table.Message.TheVariants.{QueueFull, NoProcess};
@@ -19,8 +20,7 @@ pub(crate) enum Message {
 impl Message {
     /// Its text, a line of its own.
     pub(crate) fn text(self) -> &'static [u8]
-        ensures text { result.now ≡ message_of self }
-        ensures few { length result.now ≤ 19 }
+        ensures { IsBytes (message_of self) 19 result.now }
     {
         match self {
             Message::NotFound => b"Command not found\r\n",
@@ -106,8 +106,7 @@ pub(crate) fn row_after_begin(hl: u16) -> Row
 /// A segment is reserved, where the program fits into one.
 #[tactic(auto, unfolding(crate::specs::Interpreters::row_for_memory))]
 pub(crate) fn row_for_memory(relocatable: bool, load: &Load) -> Row
-    ensures row { result ≡ memory_row relocatable load.now }
-    ensures bound { IsInterpreterRow result load.now }
+    ensures { IsSuch (memory_row relocatable load.now) (λ row. IsInterpreterRow row load.now) result }
 {
     match load.plan().pages() {
         Some(pages) => Row::Reserve { relocatable, pages },
@@ -120,8 +119,7 @@ pub(crate) fn row_for_memory(relocatable: bool, load: &Load) -> Row
 /// What becomes of a piece of the file: its code is placed first.
 #[tactic(auto, unfolding(crate::specs::Interpreters::row_for_piece))]
 pub(crate) fn row_for_piece(load: &Load) -> Row
-    ensures row { result ≡ piece_row load.now }
-    ensures bound { IsInterpreterRow result load.now }
+    ensures { IsSuch (piece_row load.now) (λ row. IsInterpreterRow row load.now) result }
 {
     if !load.code().is_empty() {
         return Row::Place;
@@ -132,8 +130,7 @@ pub(crate) fn row_for_piece(load: &Load) -> Row
 /// After that, code is moved by what the piece has of the marks.
 #[tactic(auto, unfolding(crate::specs::Interpreters::row_behind_code))]
 pub(crate) fn row_behind_code(load: &Load) -> Row
-    ensures row { result ≡ row_after_code load.now }
-    ensures bound { IsInterpreterRow result load.now }
+    ensures { IsSuch (row_after_code load.now) (λ row. IsInterpreterRow row load.now) result }
 {
     if !load.marks().is_empty() {
         return Row::Patch;
@@ -144,8 +141,7 @@ pub(crate) fn row_behind_code(load: &Load) -> Row
 /// After that, the next piece is read, if one is left.
 #[tactic(auto, unfolding(crate::specs::Interpreters::row_behind_marks))]
 pub(crate) fn row_behind_marks(load: &Load) -> Row
-    ensures row { result ≡ row_after_marks load.now }
-    ensures bound { IsInterpreterRow result load.now }
+    ensures { IsSuch (row_after_marks load.now) (λ row. IsInterpreterRow row load.now) result }
 {
     if load.has_all() {
         Row::Close

@@ -1,4 +1,5 @@
-ghost use Rattle.std.specs.Prelude.{◌≡◌, ◌≤◌, ◌<◌, ⊤, length, MatchOption, Some, None};
+ghost use Rattle.std.specs.Prelude.{◌≡◌, ◌<◌, length, MatchOption, Some, None};
+ghost use Rattle.mpm_names.specs.Readings.{IsBytes, IsSuch};
 ghost use Rattle.mpm_residents.specs.Lines.{user_number as number_of_user, user_of, form_of as meaning_of, IsForm, command_text as text_of_command};
 
 use itoa::Buffer;
@@ -21,8 +22,7 @@ pub(crate) enum LineForm {
 /// around it don't count.
 #[tactic(auto, unfolding(crate::specs::Lines::text_form))]
 pub(crate) fn form_of(line: &[u8]) -> LineForm
-    ensures form { result ≡ meaning_of line.now }
-    ensures bound { IsForm result }
+    ensures { IsSuch (meaning_of line.now) IsForm result }
 {
     let text = strip(line);
     if text.is_empty() {
@@ -43,8 +43,7 @@ pub(crate) fn form_of(line: &[u8]) -> LineForm
 /// The text of a command: what stands between the spaces around it, up to 00h or CR.
 #[tactic(auto, unfolding(crate::specs::Lines::command_text))]
 pub(crate) fn command_text(line: &[u8]) -> &[u8]
-    ensures text { result.now ≡ text_of_command line.now }
-    ensures size { length result.now ≤ length line.now }
+    ensures { IsBytes (text_of_command line.now) (length line.now) result.now }
 {
     text_of(strip(line))
 }
@@ -52,8 +51,7 @@ pub(crate) fn command_text(line: &[u8]) -> &[u8]
 /// The user that a text asks for: `USER` in either case, one space or more, and a number from 0 to 15.
 #[tactic(auto, unfolding(crate::specs::Lines::user_of))]
 fn user_in(text: &[u8]) -> Option<u8>
-    ensures value { MatchOption result (user_of text.now ≡ None) (λ user. user_of text.now ≡ Some user) }
-    ensures below { MatchOption result ⊤ (λ user. user < 16) }
+    ensures { MatchOption result (user_of text.now ≡ None) (λ user. (user_of text.now ≡ Some user) × (user < 16)) }
 {
     if text.len() < 5 || !text[..5].eq_ignore_ascii_case(b"user ") {
         return None;
@@ -64,8 +62,7 @@ fn user_in(text: &[u8]) -> Option<u8>
 /// The user whose number some digits are, from 0 to 15.
 #[tactic(auto, unfolding(crate::specs::Lines::user_number))]
 fn user_number(digits: &[u8]) -> Option<u8>
-    ensures value { MatchOption result (number_of_user digits.now ≡ None) (λ user. number_of_user digits.now ≡ Some user) }
-    ensures below { MatchOption result ⊤ (λ user. user < 16) }
+    ensures { MatchOption result (number_of_user digits.now ≡ None) (λ user. (number_of_user digits.now ≡ Some user) × (user < 16)) }
 {
     for user in 0..16u8 {
         let mut written = Buffer::new();

@@ -1,7 +1,7 @@
 use Rattle.std.proofs.Common.{Some, IfSome, refl, sym, ap, subst, ◌∙◌, arith}
 use Rattle.std.specs.Prelude.{OnErr, option_map}
 use Rattle.mpm_files.specs.Turning.{IsNextCached}
-use Rattle.mpm_bdos.specs.Turns.{HasLeftDisk, IsWorking, IsContainedAt, labelled}
+use Rattle.mpm_bdos.specs.Turns.{HasLeftDisk, IsWorking, IsContainedAt, drive_and_kind}
 use Rattle.mpm_files.proofs.Causing.{cause_none}
 use Rattle.mpm_bdos.proofs.TurnedAt.{told_by_job, labels_as, nothing_there, left_alone}
 use Rattle.mpm_bdos.proofs.turning.turn_at.Goals as goal
@@ -20,7 +20,7 @@ returns-in-Some g c =
       progress = λ before job j working.
           let service : IsWorking disks (Some c.in-Some.mounted) before job j work = subst (λ place. IsWorking disks place before job j work) c.in-Some.is working in
           told_by_job before job j work result service.service.serving did.progress;
-      same = ap Some (labels_as c.in-Some.mounted c.turn-result.new.mounted did.works.disk.drive did.works.disk.kind) ∙ ap (option_map labelled) (sym c.in-Some.is);
+      same = ap Some (labels_as c.in-Some.mounted c.turn-result.new.mounted did.works.disk.drive did.works.disk.kind) ∙ ap (option_map drive_and_kind) (sym c.in-Some.is);
       takes = record {
         calls = did.works.calls;
         one_call = λ read. (did.reads read).calls;

@@ -13,4 +13,4 @@ on_size false bytes found same is = tt
 pub returns-in-Ok : goal.returns-in-Ok
 returns-in-Ok c =
     on_size (nat_eq c.in-Ok.bytes 256256) c.in-Ok.bytes (size_of (disks_of c.size.new.self) 0) refl
-    (ap (λ (disks : Disks). size_of disks 0) c.size.ensures.disks ∙ c.in-Ok.ensures.size)
+    (ap (λ (disks : Disks). size_of disks 0) c.size.ensures.answers.disks ∙ c.in-Ok.ensures.answers.size)

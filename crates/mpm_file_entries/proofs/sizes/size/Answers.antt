@@ -17,7 +17,7 @@ loop-found-init c = record {
 pub size_after-size-requires-clause-slot : goal.size_after-size-requires-clause-slot
 size_after-size-requires-clause-slot c =
     let least = subst (IsNext c.args.mounted.now.kind (search_of c.args.mounted.now.kind c.args.user c.args.name.now c.loop-found.last) c.args.mounted.now.entries) c.in-Some.is c.next.ensures in
-    omega (arith, least.within, c.kind.ensures.full)
+    omega (arith, least.within, c.kind.ensures.directory.full)
 
 pub loop-found-smaller : goal.loop-found-smaller
 loop-found-smaller c =

@@ -16,7 +16,7 @@ rename_entry-requires-clause-slot g c =
 
 pub returns-in-Some : goal.returns-in-Some
 returns-in-Some g c = record {
-  rename = λ kind.
+  does = λ kind.
       put_does (g.D.Drives.disks c.args.drives.now) (g.D.Drives.disks c.put_entry.new.drives) c.args.mounted.now c.put_entry.new.mounted c.args.work.now _ c.in-Some.slot Free c.put_entry.result
       refl c.put_entry.ensures.puts (λ image before job j suits stands serving h.
       over_renamed image c.args.mounted.now before job j c.args.work.now c.in-Some.slot stands serving kind (may_rename before job j c.args.work.now serving kind suits) h (sym c.xfcb.ensures ∙ c.in-Some.is));
@@ -26,7 +26,7 @@ returns-in-Some g c = record {
 
 pub returns-in-Some-next : goal.returns-in-Some-next
 returns-in-Some-next g c = record {
-  rename = λ kind.
+  does = λ kind.
       does_next (g.D.Drives.disks c.args.drives.now) (g.D.Drives.disks c.rename_entry.new.drives) c.args.mounted.now c.rename_entry.new.mounted c.args.work.now _ c.rename_entry.result refl
       (λ image before job j told suits service h.
       let next = entry_renamed image c.args.mounted.now before job j c.args.work.now c.in-Some-next.found service.stands service.serving kind (may_rename before job j c.args.work.now service.serving kind suits) h
@@ -35,7 +35,7 @@ returns-in-Some-next g c = record {
         RenamesEntry (file_in next.file.user next.file.name) (name_of (units_done before job j).kind next.file).number (new_file_of_job c.args.work.now.job),
         (
           next.done,
-          c.rename_entry.ensures.does image (units_done before job j) next.file told service.stands next.entry next.user next.free,
+          c.rename_entry.ensures.does image (units_done before job j) told service.stands next.file next.entry next.user next.free,
         ),
       ));
   counts = record { units = refl; ended = refl };
@@ -44,7 +44,7 @@ returns-in-Some-next g c = record {
 
 pub returns-in-None-next : goal.returns-in-None-next
 returns-in-None-next g c = record {
-  rename = λ kind.
+  does = λ kind.
       does_next (g.D.Drives.disks c.args.drives.now) (g.D.Drives.disks c.rename_xfcb.new.drives) c.args.mounted.now c.rename_xfcb.new.mounted c.args.work.now _ c.rename_xfcb.result refl
       (λ image before job j told suits service h. (
         RenamesXfcb (file_of_job c.args.work.now.job) (new_file_of_job c.args.work.now.job),

@@ -1,4 +1,4 @@
-use Rattle.std.proofs.Common.{◌≡◌, sym, subst, ap, ◌∙◌, arith}
+use Rattle.std.proofs.Common.{◌≡◌, refl, sym, subst, ap, ◌∙◌, arith}
 use Rattle.mpm_mount.specs.Drives.{visible_of}
 use Rattle.mpm_files.specs.declared.work.Work.{Work}
 use Rattle.mpm_files.specs.Units.{ReadsRecord}
@@ -9,40 +9,57 @@ use Rattle.mpm_files.specs.Lookups.{IsRecordCached}
 use Rattle.mpm_mount.proofs.ReadErrors.{read_error_same}
 use Rattle.mpm_files.proofs.NextDone.{IsDone, does_as, does_next, never_next}
 use Rattle.mpm_files.proofs.ReadTurns.{read_now, read_small, few_read, record_there, record_was_read, reading_failed}
+use Rattle.mpm_files.proofs.WorkingLaws.{works_not}
 use Rattle.mpm_files.proofs.moving.read_next.Goals as goal
 
-pub returns-then-n-gt-LAST_NAMED-clause-read : goal.returns-then-n-gt-LAST_NAMED-clause-read
-returns-then-n-gt-LAST_NAMED-clause-read g c = λ kind.
-    never_next (g.D.Drives.disks c.args.drives.now) (g.D.Drives.disks c.args.drives.now) c.args.mounted.now c.args.mounted.now c.args.work.now _ _ (λ image before job j suits service h.
-    omega (arith, read_small before job j c.args.work.now service.serving kind h suits, c.if-n-gt-LAST_NAMED.true, c.saturating_add-n.ensures))
+pub returns-then-n-gt-LAST_NAMED-clause-next : goal.returns-then-n-gt-LAST_NAMED-clause-next
+returns-then-n-gt-LAST_NAMED-clause-next g c = record {
+  does = λ kind.
+      never_next (g.D.Drives.disks c.args.drives.now) (g.D.Drives.disks c.args.drives.now) c.args.mounted.now c.args.mounted.now c.args.work.now _ _ (λ image before job j suits service h.
+      omega (arith, read_small before job j c.args.work.now service.serving kind h suits, c.if-n-gt-LAST_NAMED.true, c.saturating_add-n.ensures));
+  counts = record { units = refl; ended = refl };
+  works = works_not g.D.Drives _ _ _ _ _ _ c.requires.ready.coherent;
+}
 
-pub returns-then-work-gt31-clause-read : goal.returns-then-work-gt31-clause-read
-returns-then-work-gt31-clause-read g c = λ kind.
-    never_next (g.D.Drives.disks c.args.drives.now) (g.D.Drives.disks c.args.drives.now) c.args.mounted.now c.args.mounted.now c.args.work.now _ _ (λ image before job j suits service h.
-    omega (arith, few_read before job j c.args.work.now service.serving kind h suits, c.if-work-gt31.true))
+pub returns-then-work-gt31-clause-next : goal.returns-then-work-gt31-clause-next
+returns-then-work-gt31-clause-next g c = record {
+  does = λ kind.
+      never_next (g.D.Drives.disks c.args.drives.now) (g.D.Drives.disks c.args.drives.now) c.args.mounted.now c.args.mounted.now c.args.work.now _ _ (λ image before job j suits service h.
+      omega (arith, few_read before job j c.args.work.now service.serving kind h suits, c.if-work-gt31.true));
+  counts = record { units = refl; ended = refl };
+  works = works_not g.D.Drives _ _ _ _ _ _ c.requires.ready.coherent;
+}
 
-pub returns-in-Ok-clause-read : goal.returns-in-Ok-clause-read
-returns-in-Ok-clause-read g c = λ kind.
-    does_next (g.D.Drives.disks c.args.drives.now) (g.D.Drives.disks c.read_record.new.drives) c.args.mounted.now c.args.mounted.now c.args.work.now _ _
-    (ap (λ (w : Work). w.cleared) c.keep.ensures.kept)
-    (λ image before job j told suits service h.
-    let n : c.saturating_add-n.result ≡ read_now c.args.work.now = omega (arith, c.if-n-gt-LAST_NAMED.false, c.saturating_add-n.ensures) in
-    let seen = c.in-Ok.ensures.visible image (units_done before job j) told service.stands
-    (sym (read_error_same image c.args.mounted.now (units_done before job j) (file_of_job c.args.work.now.job) c.saturating_add-n.result service.stands)
-    ∙ ap (read_error (units_done before job j) (file_of_job c.args.work.now.job)) n ∙ record_there before job j c.args.work.now service.serving kind h) in (
-      ReadsRecord (file_of_job c.args.work.now.job) (read_now c.args.work.now),
-      (
-        subst (λ (w : Work). IsDone before job j w (ReadsRecord (file_of_job c.args.work.now.job) (read_now c.args.work.now))) (sym c.keep.ensures.kept)
-            (record_was_read before job j c.args.work.now _ service.serving kind h suits.size c.keep.ensures.size (omega (arith, c.if-work-gt31.false))
-            (ap (visible_of (units_done before job j) (file_of_job c.args.work.now.job)) (sym n) ∙ seen)),
-        does_as (g.D.Drives.disks c.read_record.new.drives) c.args.mounted.now.drive c.args.mounted.now (units_done before job j) _ _ _ (ap (ReadsRecord (file_of_job c.args.work.now.job)) n)
-            (c.in-Ok.ensures.does image (units_done before job j) told service.stands),
-      ),
-    ))
+pub returns-in-Ok-clause-next : goal.returns-in-Ok-clause-next
+returns-in-Ok-clause-next g c = record {
+  does = λ kind.
+      does_next (g.D.Drives.disks c.args.drives.now) (g.D.Drives.disks c.read_record.new.drives) c.args.mounted.now c.args.mounted.now c.args.work.now _ _
+      (ap (λ (w : Work). w.cleared) c.keep.ensures.kept)
+      (λ image before job j told suits service h.
+      let n : c.saturating_add-n.result ≡ read_now c.args.work.now = omega (arith, c.if-n-gt-LAST_NAMED.false, c.saturating_add-n.ensures) in
+      let seen = c.in-Ok.ensures.visible image (units_done before job j) told service.stands
+      (sym (read_error_same image c.args.mounted.now (units_done before job j) (file_of_job c.args.work.now.job) c.saturating_add-n.result service.stands)
+      ∙ ap (read_error (units_done before job j) (file_of_job c.args.work.now.job)) n ∙ record_there before job j c.args.work.now service.serving kind h) in (
+        ReadsRecord (file_of_job c.args.work.now.job) (read_now c.args.work.now),
+        (
+          subst (λ (w : Work). IsDone before job j w (ReadsRecord (file_of_job c.args.work.now.job) (read_now c.args.work.now))) (sym c.keep.ensures.kept)
+              (record_was_read before job j c.args.work.now _ service.serving kind h suits.size c.keep.ensures.size (omega (arith, c.if-work-gt31.false))
+              (ap (visible_of (units_done before job j) (file_of_job c.args.work.now.job)) (sym n) ∙ seen)),
+          does_as (g.D.Drives.disks c.read_record.new.drives) c.args.mounted.now.drive c.args.mounted.now (units_done before job j) _ _ _ (ap (ReadsRecord (file_of_job c.args.work.now.job)) n)
+              (c.in-Ok.ensures.does image (units_done before job j) told service.stands),
+        ),
+      ));
+  counts = record { units = ap (λ (w : Work). w.units) c.keep.ensures.kept; ended = ap (λ (w : Work). w.ended) c.keep.ensures.kept };
+  works = c.in-Ok.ensures.works;
+}
 
-pub returns-in-Err-clause-read : goal.returns-in-Err-clause-read
-returns-in-Err-clause-read g c = λ kind.
-    reading_failed (g.D.Drives.disks c.args.drives.now) (g.D.Drives.disks c.read_record.new.drives) c.args.mounted.now c.args.work.now _ c.in-Err.failed c.read_record.ensures.disks
+pub returns-in-Err-clause-next : goal.returns-in-Err-clause-next
+returns-in-Err-clause-next g c = record {
+  does = λ kind.
+      reading_failed (g.D.Drives.disks c.args.drives.now) (g.D.Drives.disks c.read_record.new.drives) c.args.mounted.now c.args.work.now _ c.in-Err.failed c.read_record.ensures.disks;
+  counts = record { units = refl; ended = refl };
+  works = c.in-Err.ensures.works;
+}
 
 pub returns-in-Ok-clause-reads : goal.returns-in-Ok-clause-reads
 returns-in-Ok-clause-reads g c = record {

@@ -16,7 +16,7 @@ use Rattle.mpm_files.proofs.moving.test_next.Goals.{then-work-via-then-work, the
 
 pub returns-then-work : goal.returns-then-work
 returns-then-work g c = record {
-  testwrite = λ kind. elim c.then-work.branch [
+  does = λ kind. elim c.then-work.branch [
     | then-work-via-then-work w ↦
         does_next (g.D.Drives.disks c.args.drives.now) (g.D.Drives.disks c.args.drives.now) c.args.mounted.now c.args.mounted.now c.args.work.now _ _ refl
         (λ image before job j told suits service h. (
@@ -43,7 +43,7 @@ returns-then-work g c = record {
 
 pub returns-in-Err : goal.returns-in-Err
 returns-in-Err g c = record {
-  testwrite = λ kind.
+  does = λ kind.
       reading_failed (g.D.Drives.disks c.args.drives.now) (g.D.Drives.disks c.read_record.new.drives) c.args.mounted.now c.args.work.now _ c.in-Err.failed c.read_record.ensures.disks;
   counts = record { units = refl; ended = refl };
   works = works_within g.D.Drives 1 6 _ _ _ _ _ _ _ _ _ (omega arith) c.in-Err.ensures.works;
@@ -51,7 +51,7 @@ returns-in-Err g c = record {
 
 pub returns-then-ne : goal.returns-then-ne
 returns-then-ne g c = record {
-  testwrite = λ kind.
+  does = λ kind.
       does_next (g.D.Drives.disks c.args.drives.now) (g.D.Drives.disks c.read_record.new.drives) c.args.mounted.now c.args.mounted.now c.args.work.now _ _ refl
       (λ image before job j told suits service h.
       let n : read_now c.args.work.now ≡ c.saturating_add-n.result = omega (arith, c.if-n-gt-LAST_NAMED.false, c.saturating_add-n.ensures) in
@@ -81,7 +81,7 @@ put_held-requires g c = record {
 
 pub returns : goal.returns
 returns g c = record {
-  testwrite = λ kind.
+  does = λ kind.
       does_next (g.D.Drives.disks c.args.drives.now) (g.D.Drives.disks c.put_held.new.drives) c.args.mounted.now c.put_held.new.mounted c.args.work.now _ c.put_held.result refl
       (λ image before job j told suits service h.
       let n : read_now c.args.work.now ≡ c.saturating_add-n.result = omega (arith, c.if-n-gt-LAST_NAMED.false, c.saturating_add-n.ensures) in

@@ -19,7 +19,7 @@ put_entry-requires-clause-faultless g c = renamed_clean c.args.mounted.now c.arg
 
 pub returns-in-Some-extent : goal.returns-in-Some-extent
 returns-in-Some-extent g c = record {
-  does = λ image files file told stands is user free.
+  does = λ image files told stands file is user free.
       absurd (renamed_free image c.args.mounted.now files c.args.job.now c.args.slot c.in-Some-extent.field-0 c.in-Some.file file c.marked.result stands c.in-Some.ensures.found.entry is user c.marked.ensures.name
       (ap (extent_slot c.args.mounted.now (record { user = c.in-Some.file.user; name = plain c.marked.result })) (sym c.last_extent.ensures) ∙ sym c.extent.ensures ∙ c.in-Some-extent.is) free);
   works = works_not g.D.Drives _ _ _ _ _ _ c.requires.ready.coherent;
@@ -27,7 +27,7 @@ returns-in-Some-extent g c = record {
 
 pub returns-in-None : goal.returns-in-None
 returns-in-None g c = record {
-  does = λ image files file told stands is user free.
+  does = λ image files told stands file is user free.
       goes_as (g.D.Drives.disks c.put_entry.new.drives) c.args.mounted.now.drive c.put_entry.new.mounted files _
       (RenamesEntry (file_in file.user file.name) (name_of files.kind file).number (new_file_of_job c.args.job.now)) c.put_entry.result (c.put_entry.ensures.puts image files told stands)
       (renamed_stage image c.args.mounted.now files c.args.job.now c.args.slot c.in-Some.file file c.marked.result stands c.in-Some.ensures.found

@@ -13,7 +13,7 @@ put_entry-requires-clause-faultless g c =
     set_clean c.args.mounted.now c.args.slot c.in-Some.file c.marked.result c.in-Some.ensures.found (omega (arith, c.requires.slot, c.in-Some.ensures.found.sound.full)) c.marked.ensures.name
 
 pub returns-clause-does : goal.returns-clause-does
-returns-clause-does g c = λ image files file told stands is.
+returns-clause-does g c = λ image files told stands file is.
     goes_as (g.D.Drives.disks c.put_entry.new.drives) c.args.mounted.now.drive c.put_entry.new.mounted files _
     (SetsAttributes (file_in file.user file.name) (name_of files.kind file).number (attributes_in c.args.job.now.name)) c.put_entry.result (c.put_entry.ensures.puts image files told stands)
     (set_stage image c.args.mounted.now files c.args.slot c.in-Some.file file c.marked.result c.args.job.now.name stands c.in-Some.ensures.found

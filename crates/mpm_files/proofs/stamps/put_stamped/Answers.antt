@@ -23,7 +23,7 @@ returns-in-Some-find_xfcb_beside-clause-puts g c = λ image files told stands.
     let next = exchanged (sectors_of image c.args.mounted.now.kind) files (entry_in c.args.mounted.now c.args.placed.now.slot) (File c.args.placed.now.file) in
     stamped_beside (g.D.Drives.disks c.put_entries.new.drives) c.args.mounted.now.drive image c.args.mounted.now c.put_entries.new.mounted files (file_of_job c.args.job.now) c.args.placed.now.slot found.slot
     found.xfcb c.args.placed.now.file c.in-Some.second c.args.moment c.put_entries.result c.in-Some.is stands c.in-Some-find_xfcb_beside.ensures.found c.requires.was
-    (c.put_entries.ensures.puts image files (with_xfcb next (file_of_job c.args.job.now) (second_stamped c.in-Some.second (protection_of found.xfcb))) told stands
+    (c.put_entries.ensures.puts image files told stands (with_xfcb next (file_of_job c.args.job.now) (second_stamped c.in-Some.second (protection_of found.xfcb)))
     (beside_is image c.args.mounted.now files next (file_of_job c.args.job.now) c.args.placed.now.slot found.slot found.xfcb c.stamped-xfcb.result c.args.placed.now.file c.in-Some.second stands
     c.in-Some-find_xfcb_beside.ensures.found c.requires.was c.stamped-xfcb.ensures))
 

@@ -14,10 +14,10 @@ pub returns-in-Read : goal.returns-in-Read
 returns-in-Read g c =
     let next = c.read_next.ensures in
     record {
-      does = next.read c.in-Read.is;
-      counts = next.counts;
+      does = next.next.does c.in-Read.is;
+      counts = next.next.counts;
       reads = λ is. next.reads;
-      works = works_within g.D.Drives 1 20 _ _ _ _ _ _ _ _ _ (omega arith) next.works;
+      works = works_within g.D.Drives 1 20 _ _ _ _ _ _ _ _ _ (omega arith) next.next.works;
     }
 
 -- the others read nothing
@@ -27,7 +27,7 @@ returns-in-Write g c =
     let next = c.write_next.ensures in
     let never : c.args.work.now.job.kind ≡ Read → ⊥ = λ is. let no : Read ≡ Write = sym is ∙ c.in-Write.is in absurd (cc) in
     record {
-      does = next.write c.in-Write.is;
+      does = next.does c.in-Write.is;
       counts = next.counts;
       reads = λ is. absurd (never is);
       works = next.works;
@@ -38,7 +38,7 @@ returns-in-TestWrite g c =
     let next = c.test_next.ensures in
     let never : c.args.work.now.job.kind ≡ Read → ⊥ = λ is. let no : Read ≡ TestWrite = sym is ∙ c.in-TestWrite.is in absurd (cc) in
     record {
-      does = next.testwrite c.in-TestWrite.is;
+      does = next.does c.in-TestWrite.is;
       counts = next.counts;
       reads = λ is. absurd (never is);
       works = works_within g.D.Drives 6 20 _ _ _ _ _ _ _ _ _ (omega arith) next.works;
@@ -49,7 +49,7 @@ returns-in-Make g c =
     let next = c.make_next.ensures in
     let never : c.args.work.now.job.kind ≡ Read → ⊥ = λ is. let no : Read ≡ Make = sym is ∙ c.in-Make.is in absurd (cc) in
     record {
-      does = next.make c.in-Make.is;
+      does = next.does c.in-Make.is;
       counts = next.counts;
       reads = λ is. absurd (never is);
       works = works_within g.D.Drives 2 20 _ _ _ _ _ _ _ _ _ (omega arith) next.works;
@@ -60,7 +60,7 @@ returns-in-Delete g c =
     let next = c.delete_next.ensures in
     let never : c.args.work.now.job.kind ≡ Read → ⊥ = λ is. let no : Read ≡ Delete = sym is ∙ c.in-Delete.is in absurd (cc) in
     record {
-      does = next.delete c.in-Delete.is;
+      does = next.does c.in-Delete.is;
       counts = next.counts;
       reads = λ is. absurd (never is);
       works = works_within g.D.Drives 2 20 _ _ _ _ _ _ _ _ _ (omega arith) next.works;
@@ -71,7 +71,7 @@ returns-in-Rename g c =
     let next = c.rename_next.ensures in
     let never : c.args.work.now.job.kind ≡ Read → ⊥ = λ is. let no : Read ≡ Rename = sym is ∙ c.in-Rename.is in absurd (cc) in
     record {
-      does = next.rename c.in-Rename.is;
+      does = next.does c.in-Rename.is;
       counts = next.counts;
       reads = λ is. absurd (never is);
       works = works_within g.D.Drives 2 20 _ _ _ _ _ _ _ _ _ (omega arith) next.works;
@@ -82,7 +82,7 @@ returns-in-Attributes g c =
     let next = c.set_next.ensures in
     let never : c.args.work.now.job.kind ≡ Read → ⊥ = λ is. let no : Read ≡ Attributes = sym is ∙ c.in-Attributes.is in absurd (cc) in
     record {
-      does = next.attributes c.in-Attributes.is;
+      does = next.does c.in-Attributes.is;
       counts = next.counts;
       reads = λ is. absurd (never is);
       works = works_within g.D.Drives 2 20 _ _ _ _ _ _ _ _ _ (omega arith) next.works;

@@ -6,8 +6,8 @@ pub returns-in-Ok-judge : goal.returns-in-Ok-judge
 returns-in-Ok-judge g c =
     let read = c.in-Ok-read.ensures in
     found_later c.args.kind c.args.name.now
-    (drives_seen g.D.Drives.told g.D.Drives.disks g.D.Drives.unsynced g.D.Drives.faults g.D.Drives.failed_names c.args.drives.now)
-    (drives_seen g.D.Drives.told g.D.Drives.disks g.D.Drives.unsynced g.D.Drives.faults g.D.Drives.failed_names c.open.new.drives)
-    (drives_seen g.D.Drives.told g.D.Drives.disks g.D.Drives.unsynced g.D.Drives.faults g.D.Drives.failed_names c.read.new.drives)
+    (drives_seen g.D.Drives c.args.drives.now)
+    (drives_seen g.D.Drives c.open.new.drives)
+    (drives_seen g.D.Drives c.read.new.drives)
     c.in-Ok-read.entries.items c.in-Ok-judge.found c.in-Ok.ensures (record { disks = read.same.drives.images; known = read.same.drives.told_are; failed = read.same.drives.failed }) read.count read.entries
     c.in-Ok-judge.ensures

@@ -22,8 +22,8 @@ returns-in-Err-OutOfMemory g c = record {
 
 pub returns-in-Err : goal.returns-in-Err
 returns-in-Err g c =
-    let a = drives_seen g.D.Drives.told g.D.Drives.disks g.D.Drives.unsynced g.D.Drives.faults g.D.Drives.failed_names c.args.drives.now in
-    let b = drives_seen g.D.Drives.told g.D.Drives.disks g.D.Drives.unsynced g.D.Drives.faults g.D.Drives.failed_names c.attach.new.self in
-    let d = drives_seen g.D.Drives.told g.D.Drives.disks g.D.Drives.unsynced g.D.Drives.faults g.D.Drives.failed_names c.size.new.self in
+    let a = drives_seen g.D.Drives c.args.drives.now in
+    let b = drives_seen g.D.Drives c.attach.new.self in
+    let d = drives_seen g.D.Drives c.size.new.self in
     lost_sized c.args.name.now a b d c.in-Ok.ensures.ok c.in-Ok.ensures.told (record { faults = c.in-Ok.ensures.count; failed = c.in-Ok.ensures.names })
     (record { disks = c.in-Err.ensures.disks; known = c.in-Err.ensures.told; failed = c.in-Err.ensures.names }) c.in-Err.ensures.cause.failed

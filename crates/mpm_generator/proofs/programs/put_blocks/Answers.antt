@@ -18,7 +18,7 @@ loop-block-preserved c =
     let was = c.loop-block.invariant in
     record {
       draws = c.drawn.ensures.draws ∙ ap (nth_behind 3) was.draws ∙ numbers_more n seed;
-      code = c.in_ok-put.ensures.code
+      code = c.in_ok-put.ensures.bytes
           ∙ ap (λ code. code ++ code_of c.drawn.result) was.code
           ∙ ap (λ block. (c.args.code.now.items ++ blocks_behind n seed) ++ code_of block) (c.drawn.ensures.block ∙ ap block_behind was.draws)
           ∙ blocks_more c.args.code.now.items n seed;

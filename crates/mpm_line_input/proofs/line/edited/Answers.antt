@@ -7,4 +7,4 @@ returns-clause-few c =
     (rw c.echo-shown.ensures.value
     (rw c.from.ensures
     (rw c.ends_at-ends.ensures
-    (rw c.change.ensures.count (few c.args.line.now c.args.count.now c.args.greatest c.args.key c.requires)))))
+    (rw c.change.ensures.changes.size (few c.args.line.now c.args.count.now c.args.greatest c.args.key c.requires)))))

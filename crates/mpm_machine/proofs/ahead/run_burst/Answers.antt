@@ -50,5 +50,5 @@ returns c =
         no_completions = no_completions_moved done here.p here.seg old new moved on.no_completions;
         done = steps_moved done here.p here.seg old new moved;
       };
-      ahead = ahead_moved done here old new c.requires.whole within moved ahead;
+      still = ahead_moved done here old new c.requires.whole within moved ahead;
     }

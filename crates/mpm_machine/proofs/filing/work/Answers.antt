@@ -1,4 +1,4 @@
-use Rattle.std.proofs.Common.{◌∙◌, true, refl, sym, ap, arith}
+use Rattle.std.proofs.Common.{rules, ◌∙◌, true, refl, sym, ap, arith}
 use Rattle.std.proofs.lemmas.Bool.{false≢true}
 use Rattle.mpm_service.specs.Disk.{turn_answer}
 use Rattle.mpm_service.specs.declared.service.Turn.TheVariants.{Work}
@@ -10,57 +10,51 @@ use Rattle.mpm_machine.proofs.filing.work.Goals as goal
 
 -- a drive failed in the turn
 
-pub returns-in-Err-clause-err : goal.returns-in-Err-clause-err
-returns-in-Err-clause-err g c files stands =
-    turn_failed (g.D.Drives.disks c.args.drives.now) (g.D.Drives.disks c.turn.new.drives) c.args.system.now c.args.bdos.now c.turn.new.self.mounted files
-    (works_here c.args.system.now.kernel.disk c.ahead.result (Work c.in-Work.p c.in-Work.last) true (c.ahead.ensures ∙ ap turn_answer c.disk.ensures) c.in-Work.is refl)
-    stands c.in-Err.ensures.err c.turn.ensures.left.images c.turn.ensures.left.kept.labels
-
-pub returns-in-Err-clause-uses : goal.returns-in-Err-clause-uses
-returns-in-Err-clause-uses g c =
-    let turned = c.turn.ensures in
-    uses_turns g.D.Drives.disks g.D.Drives.told g.D.Drives.failed_names g.D.Drives.unsynced of_drive c.args.bdos.now c.turn.new.self c.args.drives.now c.turn.new.drives _ turned.left
-    (λ bare. (turned.idle (c.requires.holds.workless bare)).drives) (λ bare. absurd (done_fails (c.in-Err.ensures.done (c.requires.holds.workless bare))))
-
-pub returns-in-Err-clause-holds : goal.returns-in-Err-clause-holds
-returns-in-Err-clause-holds g c =
-    holds_worked g.D.Drives.disks c.args.system.now.kernel c.args.bdos.now c.turn.new.self c.args.drives.now c.turn.new.drives
-    c.requires.holds c.turn.ensures.left.kept c.turn.ensures.still c.turn.ensures.left.fits
-
-pub returns-in-Err-clause-idle : goal.returns-in-Err-clause-idle
-returns-in-Err-clause-idle g c idle =
-    absurd (false≢true (sym idle ∙ works_in c.args.system.now
-    (works_here c.args.system.now.kernel.disk c.ahead.result (Work c.in-Work.p c.in-Work.last) true (c.ahead.ensures ∙ ap turn_answer c.disk.ensures) c.in-Work.is refl)))
-
-pub returns-in-Err-clause-few : goal.returns-in-Err-clause-few
-returns-in-Err-clause-few g c = c.turn.ensures.takes.calls
+pub returns-in-Err : goal.returns-in-Err
+returns-in-Err g c = record {
+  ok = λ files stands. tt;
+  err = λ files stands.
+      turn_failed (g.D.Drives.disks c.args.drives.now) (g.D.Drives.disks c.turn.new.drives) c.args.system.now c.args.bdos.now c.turn.new.self.mounted files
+      (works_here c.args.system.now.kernel.disk c.ahead.result (Work c.in-Work.p c.in-Work.last) true (c.ahead.ensures ∙ ap turn_answer c.disk.ensures) c.in-Work.is refl)
+      stands c.in-Err.ensures.err c.turn.ensures.left.images c.turn.ensures.left.kept.labels;
+  uses =
+      let turned = c.turn.ensures in
+      uses_turns g.D.Drives of_drive c.args.bdos.now c.turn.new.self c.args.drives.now c.turn.new.drives _ turned.left
+      (λ bare. (turned.idle (c.requires.workless bare)).drives) (λ bare. absurd (done_fails (c.in-Err.ensures.done (c.requires.workless bare))));
+  holds =
+      holds_worked g.D.Drives.disks c.args.system.now.kernel c.args.bdos.now c.turn.new.self c.args.drives.now c.turn.new.drives
+      c.requires c.turn.ensures.left.kept c.turn.ensures.still c.turn.ensures.left.fits;
+  workless = search rules;
+  idle = λ idle.
+      absurd (false≢true (sym idle ∙ works_in c.args.system.now
+      (works_here c.args.system.now.kernel.disk c.ahead.result (Work c.in-Work.p c.in-Work.last) true (c.ahead.ensures ∙ ap turn_answer c.disk.ensures) c.in-Work.is refl)));
+  few = c.turn.ensures.takes.calls;
+  cause = search rules;
+}
 
 -- the turn was done
 
-pub returns-in_default-turn-clause-ok : goal.returns-in_default-turn-clause-ok
-returns-in_default-turn-clause-ok g c files stands =
-    turn_works c.args.system.now.kernel.disk c.args.bdos.now c.turn.new.self (g.D.Drives.disks c.args.drives.now) (g.D.Drives.disks c.turn.new.drives) files
-    (works_here c.args.system.now.kernel.disk c.ahead.result (Work c.in-Work.p c.in-Work.last) true (c.ahead.ensures ∙ ap turn_answer c.disk.ensures) c.in-Work.is refl)
-    stands c.in_default-turn.ensures.ok
-
-pub returns-in_default-turn-clause-uses : goal.returns-in_default-turn-clause-uses
-returns-in_default-turn-clause-uses g c =
-    let turned = c.turn.ensures in
-    uses_turns g.D.Drives.disks g.D.Drives.told g.D.Drives.failed_names g.D.Drives.unsynced of_drive c.args.bdos.now c.turn.new.self c.args.drives.now c.turn.new.drives _ turned.left
-    (λ bare. (turned.idle (c.requires.holds.workless bare)).drives) (λ bare. tt)
-
-pub returns-in_default-turn-clause-holds : goal.returns-in_default-turn-clause-holds
-returns-in_default-turn-clause-holds g c =
-    holds_worked g.D.Drives.disks c.args.system.now.kernel c.args.bdos.now c.turn.new.self c.args.drives.now c.turn.new.drives
-    c.requires.holds c.turn.ensures.left.kept c.turn.ensures.still c.turn.ensures.left.fits
-
-pub returns-in_default-turn-clause-idle : goal.returns-in_default-turn-clause-idle
-returns-in_default-turn-clause-idle g c idle =
-    absurd (false≢true (sym idle ∙ works_in c.args.system.now
-    (works_here c.args.system.now.kernel.disk c.ahead.result (Work c.in-Work.p c.in-Work.last) true (c.ahead.ensures ∙ ap turn_answer c.disk.ensures) c.in-Work.is refl)))
-
-pub returns-in_default-turn-clause-few : goal.returns-in_default-turn-clause-few
-returns-in_default-turn-clause-few g c = c.turn.ensures.takes.calls
+pub returns-in_default-turn : goal.returns-in_default-turn
+returns-in_default-turn g c = record {
+  ok = λ files stands.
+      turn_works c.args.system.now.kernel.disk c.args.bdos.now c.turn.new.self (g.D.Drives.disks c.args.drives.now) (g.D.Drives.disks c.turn.new.drives) files
+      (works_here c.args.system.now.kernel.disk c.ahead.result (Work c.in-Work.p c.in-Work.last) true (c.ahead.ensures ∙ ap turn_answer c.disk.ensures) c.in-Work.is refl)
+      stands c.in_default-turn.ensures.ok;
+  err = λ files stands. tt;
+  uses =
+      let turned = c.turn.ensures in
+      uses_turns g.D.Drives of_drive c.args.bdos.now c.turn.new.self c.args.drives.now c.turn.new.drives _ turned.left
+      (λ bare. (turned.idle (c.requires.workless bare)).drives) (λ bare. tt);
+  holds =
+      holds_worked g.D.Drives.disks c.args.system.now.kernel c.args.bdos.now c.turn.new.self c.args.drives.now c.turn.new.drives
+      c.requires c.turn.ensures.left.kept c.turn.ensures.still c.turn.ensures.left.fits;
+  workless = search rules;
+  idle = λ idle.
+      absurd (false≢true (sym idle ∙ works_in c.args.system.now
+      (works_here c.args.system.now.kernel.disk c.ahead.result (Work c.in-Work.p c.in-Work.last) true (c.ahead.ensures ∙ ap turn_answer c.disk.ensures) c.in-Work.is refl)));
+  few = c.turn.ensures.takes.calls;
+  cause = search rules;
+}
 
 -- nothing was to be done
 
@@ -70,8 +64,8 @@ returns-in_default g c = record {
       nothing_to_work c.args.system.now.kernel.disk c.args.bdos.now (g.D.Drives.disks c.args.drives.now) files
       (no_work_here c.args.system.now.kernel.disk c.ahead.result (c.ahead.ensures ∙ ap turn_answer c.disk.ensures) c.in_default.not-Work) stands;
   err = λ files stands. tt;
-  uses = uses_none _ _ _ _ of_drive _ _ _ tt;
-  holds = c.requires.holds;
+  uses = uses_none _ of_drive _ _ _ tt;
+  holds = c.requires;
   workless = λ less. refl;
   idle = λ idle. record { sink = tt; drives = refl; calls = refl };
   few = omega arith;

@@ -3,10 +3,14 @@ use Rattle.mpm_messages.specs.Texts.{is_space}
 use Rattle.mpm_names.proofs.Runs.{stops_at, runs_through}
 use Rattle.mpm_messages.proofs.text.leading_spaces.Goals as goal
 
-pub returns-then-byte-ne32-clause-count : goal.returns-then-byte-ne32-clause-count
-returns-then-byte-ne32-clause-count c =
-    stops_at is_space c.args.text.now c.loop-place.place (omega arith) c.loop-place.invariant (search rules)
+pub returns-then-byte-ne32 : goal.returns-then-byte-ne32
+returns-then-byte-ne32 c = record {
+  number = stops_at is_space c.args.text.now c.loop-place.place (omega arith) c.loop-place.invariant (search rules);
+  limit = omega arith;
+}
 
-pub returns-clause-count : goal.returns-clause-count
-returns-clause-count c =
-    runs_through is_space c.args.text.now c.loop-place.place (omega arith) (omega arith) c.loop-place.invariant
+pub returns : goal.returns
+returns c = record {
+  number = runs_through is_space c.args.text.now c.loop-place.place (omega arith) (omega arith) c.loop-place.invariant;
+  limit = omega arith;
+}

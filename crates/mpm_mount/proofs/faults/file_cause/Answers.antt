@@ -6,8 +6,12 @@ use Rattle.mpm_mount.proofs.UsedBlocks.{flipped, kept_flip}
 use Rattle.mpm_mount.proofs.UsedBy.{size_used, used_behind, cause_taken, cause_later}
 use Rattle.mpm_mount.proofs.faults.file_cause.Goals as goal
 
-pub claim_all-requires-clause-size : goal.claim_all-requires-clause-size
-claim_all-requires-clause-size c = size_used c.args.kind c.args.earlier.now c.args.blocks.now c.requires
+pub claim_all-requires : goal.claim_all-requires
+claim_all-requires c = record {
+  of_kind = c.requires.of_kind;
+  size = size_used c.args.kind c.args.earlier.now c.args.blocks.now c.requires;
+  inside = search rules;
+}
 
 pub returns-then-not-claim_all-clause-cause : goal.returns-then-not-claim_all-clause-cause
 returns-then-not-claim_all-clause-cause c =

@@ -13,7 +13,7 @@ loop-byte-preserved g c =
     let byte = get_or bytes i 0 in
     let more : take (i + 1) bytes ≡ take i bytes ++ (byte ∷ []) = take_more bytes i 0 (omega arith) in
     let put = emits_byte _ c.args.console byte _ _
-    (emits_one _ _ _ _ c.in_ok-put.ensures.cause c.in_ok-put.ensures.trace c.in_ok-put.ensures.ok c.in_ok-put.ensures.err) in
+    (emits_one _ _ _ _ c.in_ok-put.ensures.text.cause c.in_ok-put.ensures.trace c.in_ok-put.ensures.shown.ok c.in_ok-put.ensures.shown.err) in
     record { wrote = spoke_more c.args.console _ _ _ (take i bytes) (byte ∷ []) _ more c.loop-byte.invariant.wrote put.ok }
 
 pub returns-in_err-put : goal.returns-in_err-put
@@ -25,7 +25,7 @@ returns-in_err-put g c =
     let whole : bytes ≡ take i bytes ++ ((byte ∷ []) ++ drop (i + 1) bytes) =
     sym (take-append-drop (i + 1) bytes) ∙ (ap (λ t. t ++ drop (i + 1) bytes) more ∙ append_assoc (take i bytes) (byte ∷ []) (drop (i + 1) bytes)) in
     let put = emits_byte _ c.args.console byte _ _
-    (emits_one _ _ _ _ c.in_err-put.ensures.cause c.in_err-put.ensures.trace c.in_err-put.ensures.ok c.in_err-put.ensures.err) in
+    (emits_one _ _ _ _ c.in_err-put.ensures.text.cause c.in_err-put.ensures.trace c.in_err-put.ensures.shown.ok c.in_err-put.ensures.shown.err) in
     record {
       wrote = passes_on _ _ _ _ c.from_residual.ensures.0
           (stopped_more c.args.console _ _ _ (take i bytes) (byte ∷ []) (drop (i + 1) bytes) bytes whole c.loop-byte.invariant.wrote put.err);

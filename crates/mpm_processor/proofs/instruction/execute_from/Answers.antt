@@ -1,4 +1,4 @@
-use Rattle.std.proofs.Common.{◌+◌, IsSome, is_some, refl, ap, arith, rules}
+use Rattle.std.proofs.Common.{◌+◌, IsSome, is_some, ap, arith}
 use Rattle.mpm_processor.proofs.MovingLaws.{moves_none, moves_join}
 use Rattle.mpm_processor.proofs.PlainLaws.{rare_in}
 use Rattle.mpm_processor.proofs.instruction.execute_from.Goals as goal
@@ -9,8 +9,6 @@ loop-spec-init c = record {
   below = c.requires.some;
   gate = c.requires.gate;
   rare = c.requires.rare;
-  segment = refl;
-  common = refl;
 }
 
 pub returns-then-others-eq0-clause-moved : goal.returns-then-others-eq0-clause-moved
@@ -21,11 +19,11 @@ pub returns-in-None-clause-moved : goal.returns-in-None-clause-moved
 returns-in-None-clause-moved c =
     moves_join c.args.burst.inside (c.loop-spec.done + c.execute_others-others.result) c.execute_plain-paused.result.done 0 _ _ _
     (moves_join c.args.burst.inside c.loop-spec.done c.execute_others-others.result 0 _ _ _ c.loop-spec.invariant.moved c.execute_others-others.ensures.moved)
-    c.execute_plain-paused.ensures.paused.moved
+    c.execute_plain-paused.ensures.moved
 
 pub loop-spec-preserved : goal.loop-spec-preserved
 loop-spec-preserved c =
-    let paused = c.execute_plain-paused.ensures.paused in
+    let paused = c.execute_plain-paused.ensures in
     let some : IsSome c.execute_plain-paused.result.opcode = ap is_some c.in-Some.is in
     record {
       moved = moves_join c.args.burst.inside (c.loop-spec.done + c.execute_others-others.result) c.execute_plain-paused.result.done 0 _ _ _
@@ -34,6 +32,4 @@ loop-spec-preserved c =
       below = omega (arith, paused.below some);
       gate = paused.gate some;
       rare = rare_in _ c.in-Some.opcode _ _ c.in-Some.is paused.rare;
-      segment = search rules;
-      common = search rules;
     }

@@ -1,4 +1,4 @@
-use Rattle.std.proofs.Common.{◌≡◌, ◌<◌, ◌-◌, None, length}
+use Rattle.std.proofs.Common.{◌≡◌, ◌<◌, ◌-◌, None}
 use Rattle.z80_ext.specs.Instruction.{IsRareAt}
 use Rattle.mpm_banks.specs.Memory.{byte_at}
 use Rattle.mpm_banks.specs.Sides.{alone}
@@ -13,8 +13,6 @@ invariant-loop-spec l = record {
   below : l.done < l.most;
   gate : gate_of l.inside (alone l.spec l.segment l.common) 0 l.regs.pc ≡ None;
   rare : IsRareAt l.rare l.regs (byte_at (alone l.spec l.segment l.common) 0);
-  segment : length l.segment ≡ length l.initial.segment;
-  common : length l.common ≡ length l.initial.common;
 }
 
 abbrev pub decreases-loop-spec : goal.decreases-loop-spec

@@ -1,13 +1,11 @@
-use Rattle.std.proofs.Common.{◌∙◌, refl}
-use Rattle.mpm_banks.proofs.SideLaws.{lengths_stay}
-use Rattle.z80_ext.specs.Instruction.{actions_of}
-use Rattle.mpm_processor.specs.Moving.{View, view_of, instruction_in, moved}
+use Rattle.std.proofs.Common.{refl}
+use Rattle.mpm_processor.specs.Moving.{View, view_of, moved}
 use Rattle.mpm_gate.proofs.GateLaws.{none_below}
 use Rattle.mpm_processor.proofs.MovingLaws.{moves_none, moves_more, view_is}
 use Rattle.mpm_processor.proofs.instruction.execute_loads.Goals as goal
 
 pub loop-done-init : goal.loop-done-init
-loop-done-init c = record { moved = moves_none c.args.inside 0 _; segment = refl; common = refl }
+loop-done-init c = record { moved = moves_none c.args.inside 0 _ }
 
 pub execute_load-requires : goal.execute_load-requires
 execute_load-requires c = c.if-not-is_load_up.ensures.load c.loop-done.common refl
@@ -16,7 +14,6 @@ pub loop-done-preserved : goal.loop-done-preserved
 loop-done-preserved c =
     let now : View = view_of c.args.spec c.loop-done.regs c.loop-done.segment c.loop-done.common c.loop-done.devices in
     let new : View = view_of c.args.spec c.execute_load.new.regs c.execute_load.new.segment c.execute_load.new.common c.execute_load.new.devices in
-    let lengths = lengths_stay (actions_of (instruction_in 0 now)) c.args.spec c.loop-done.segment c.loop-done.common c.execute_load.new.segment c.execute_load.new.common c.execute_load.ensures.memory in
     record {
       moved = moves_more c.args.inside c.loop-done.done 0 _ now new c.loop-done.invariant.moved
           (record {
@@ -24,6 +21,4 @@ loop-done-preserved c =
             listed = c.execute_load.ensures.listed;
           })
           (view_is new (moved 0 now) c.execute_load.ensures.registers c.execute_load.ensures.memory c.execute_load.ensures.devices);
-      segment = lengths.0 ∙ c.loop-done.invariant.segment;
-      common = lengths.1 ∙ c.loop-done.invariant.common;
     }

@@ -1,4 +1,3 @@
-use Rattle.std.proofs.Common.{◌≡◌, length}
 use Rattle.mpm_processor.specs.Moving.{Moves, view_of}
 use Rattle.mpm_processor.proofs.instruction.execute_loads.Given as goal
 
@@ -6,6 +5,4 @@ abbrev pub invariant-loop-done : goal.invariant-loop-done
 invariant-loop-done l = record {
   moved : Moves l.inside l.done 0 (view_of l.spec l.initial.regs l.initial.segment l.initial.common l.initial.devices)
       (view_of l.spec l.regs l.segment l.common l.devices);
-  segment : length l.segment ≡ length l.initial.segment;
-  common : length l.common ≡ length l.initial.common;
 }

@@ -1,4 +1,4 @@
-use Rattle.std.proofs.Common.{◌∙◌, ap, sym, refl, rules}
+use Rattle.std.proofs.Common.{◌∙◌, ap, sym}
 use Rattle.mpm_base.proofs.Options.{none_there}
 use Rattle.z80_regs.specs.declared.regs.Regs.{Regs}
 use Rattle.z80_ext.proofs.Begun.{unbegun_runs}
@@ -10,7 +10,7 @@ use Rattle.mpm_processor.proofs.PlainLaws.{begun_view, plain_none, plain_more}
 use Rattle.mpm_processor.proofs.instruction.execute_plain.Goals as goal
 
 pub loop-done-init : goal.loop-done-init
-loop-done-init c = record { moved = plain_none c.args.inside _; runs = c.if-regs.false; segment = refl; common = refl }
+loop-done-init c = record { moved = plain_none c.args.inside _; runs = c.if-regs.false }
 
 pub loop-done-preserved : goal.loop-done-preserved
 loop-done-preserved c =
@@ -25,6 +25,4 @@ loop-done-preserved c =
           (none_there _ (sym c.in-Some.ensures.gate)) c.loop-done.invariant.runs (sym left.plain) left.registers left.memory left.devices;
       runs = ap (λ (r : Regs). r.halted) left.registers
           ∙ unbegun_runs c.loop-done.regs (byte_at now.memory 0) (port_byte now.devices) (sym left.plain) ∙ c.loop-done.invariant.runs;
-      segment = search rules;
-      common = search rules;
     }

@@ -1,4 +1,4 @@
-use Rattle.std.proofs.Common.{◌≡◌, false, length}
+use Rattle.std.proofs.Common.{◌≡◌, false}
 use Rattle.mpm_processor.specs.Moving.{Moves, view_of}
 use Rattle.mpm_processor.proofs.PlainLaws.{begun_view}
 use Rattle.mpm_processor.proofs.instruction.execute_plain.Given as goal
@@ -8,6 +8,4 @@ invariant-loop-done l = record {
   moved : Moves l.inside l.done 0 (view_of l.spec l.initial.regs l.initial.segment l.initial.common l.initial.devices)
       (begun_view l.done (view_of l.spec l.regs l.segment l.common l.devices));
   runs : l.regs.halted ≡ false;
-  segment : length l.segment ≡ length l.initial.segment;
-  common : length l.common ≡ length l.initial.common;
 }

@@ -1,4 +1,4 @@
-use Rattle.std.proofs.Common.{◌≡◌, ◌∙◌, ◌+◌, List, ℕ, length, sym, ap, arith}
+use Rattle.std.proofs.Common.{◌+◌, List, ℕ, length, sym, ap, arith}
 use Rattle.std.proofs.lemmas.List.{length-append}
 use Rattle.mpm_fault_lines.specs.Lists.{listed, listed_at}
 use Rattle.mpm_repair.proofs.Freed.{freed_more, freed_none, listed_none, listed_more, listed_few}

@@ -1,4 +1,4 @@
-use Rattle.std.proofs.Common.{◌≡◌, ◌∙◌, sym, ap}
+use Rattle.std.proofs.Common.{◌∙◌, sym, ap}
 use Rattle.std.specs.Prelude.{option_map, position}
 use Rattle.mpm_mount.specs.Faults.{cause_of, is_xfcb}
 use Rattle.mpm_repair.specs.FaultLists.{told_of}

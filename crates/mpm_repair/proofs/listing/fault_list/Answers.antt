@@ -1,4 +1,4 @@
-use Rattle.std.proofs.Common.{◌≡◌, ◌++◌, [], ◌∙◌, List, sym, ap, drop}
+use Rattle.std.proofs.Common.{◌++◌, [], ◌∙◌, sym, ap}
 use Rattle.std.specs.Prelude.{slice_set}
 use Rattle.std.specs.List.{cons_option}
 use Rattle.mpm_repair.specs.FaultLists.{fault_at, left_at}

@@ -1,4 +1,4 @@
-use Rattle.std.proofs.Common.{◌≡◌, ◌++◌, drop, length}
+use Rattle.std.proofs.Common.{◌≡◌, ◌++◌, drop}
 use Rattle.std.specs.List.{filter_map, range_with_len}
 use Rattle.mpm_repair.specs.FaultLists.{fault_in, staying}
 use Rattle.mpm_repair.proofs.listing.fault_list.Given as goal

@@ -1,4 +1,4 @@
-use Rattle.std.proofs.Common.{◌≡◌, refl, sym}
+use Rattle.std.proofs.Common.{sym}
 use Rattle.mpm_repair.proofs.Shared.{only_files_share}
 use Rattle.mpm_repair.proofs.sharing.shares_block.Goals as goal
 

@@ -1,4 +1,4 @@
-use Rattle.std.proofs.Common.{◌≡◌, ◌∙◌, ◌+◌, ◌*◌, sym, ap}
+use Rattle.std.proofs.Common.{◌∙◌, ◌+◌, ◌*◌, sym, ap}
 use Rattle.mpm_fault_lines.specs.Lists.{listed_at}
 use Rattle.mpm_repair.specs.Freeing.{listed_from, freed_within}
 use Rattle.mpm_repair.proofs.FreedSectors.{listed_next, within_nothing, within_both}

@@ -1,4 +1,4 @@
-use Rattle.std.proofs.Common.{◌≡◌, ◌+◌, ◌*◌, ◌≤◌, ◌∙◌, ℕ, refl, ap, arith}
+use Rattle.std.proofs.Common.{rules, ◌+◌, ◌*◌, ◌≤◌, ◌∙◌, refl, ap, arith}
 use Rattle.mpm_blocks.specs.Geometries.{geometry_of}
 use Rattle.mpm_blocks.specs.declared.parameters.Geometry.{Geometry}
 use Rattle.mpm_fault_lines.specs.Lists.{listed}
@@ -16,12 +16,20 @@ loop-sector-init g c = record {
   beside = λ other apart. refl;
 }
 
-pub returns-in-Err-clause-err : goal.returns-in-Err-clause-err
-returns-in-Err-clause-err g c =
+pub returns-in-Err : goal.returns-in-Err
+returns-in-Err g c =
     let drm = ap (λ (geometry : Geometry). geometry.drm) c.geometry.ensures in
     let within : 4 * (c.loop-sector.sector + 1) ≤ (geometry_of c.args.kind).drm + 1 = omega (arith, c.loop-sector-test.true, c.from.ensures, drm) in
-    frees_first c.args.drive c.args.kind c.args.slots.now c.loop-sector.sector (g.D.Drives.disks c.args.drives.now) (g.D.Drives.disks c.loop-sector.drives) (g.D.Drives.disks c.free_sector.new.drives)
-    within c.loop-sector.invariant.frees c.in-Err.ensures.err
+    record {
+      ok = tt;
+      err = frees_first c.args.drive c.args.kind c.args.slots.now c.loop-sector.sector (g.D.Drives.disks c.args.drives.now) (g.D.Drives.disks c.loop-sector.drives) (g.D.Drives.disks c.free_sector.new.drives)
+          within c.loop-sector.invariant.frees c.in-Err.ensures.err;
+      told = told_over ((g.D.Drives.disks c.args.drives.now).name_of c.args.drive) ((g.D.Drives.disks c.loop-sector.drives).name_of c.args.drive) (g.D.Drives.told c.args.drives.now)
+          (g.D.Drives.told c.loop-sector.drives) (g.D.Drives.told c.free_sector.new.drives) (c.loop-sector.invariant.frees.beside.names c.args.drive) c.loop-sector.invariant.told c.free_sector.ensures.told;
+      cause = search rules;
+      names = c.free_sector.ensures.names ∙ c.loop-sector.invariant.names;
+      beside = λ other apart. c.free_sector.ensures.beside other apart ∙ c.loop-sector.invariant.beside other apart;
+    }
 
 pub loop-sector-preserved : goal.loop-sector-preserved
 loop-sector-preserved g c = record {

@@ -1,4 +1,4 @@
-use Rattle.std.proofs.Common.{◌≡◌, ◌∙◌, ◌+◌, ◌*◌, ◌++◌, ◌∷◌, [], Bool, sym, ap}
+use Rattle.std.proofs.Common.{◌∙◌, ◌+◌, ◌*◌, ◌++◌, ◌∷◌, [], Bool, sym, ap}
 use Rattle.std.specs.Prelude.{if◌then◌else◌}
 use Rattle.mpm_fault_lines.specs.Lists.{listed_at}
 use Rattle.mpm_repair.proofs.FreedSectors.{listed_next, listed_nothing}

@@ -1,15 +1,11 @@
 use Rattle.std.proofs.Common.{rules}
 use Rattle.mpm_banks.proofs.ActionLaws.{leaves_acted}
+use Rattle.mpm_processor.proofs.MovingLaws.{view_is}
 use Rattle.mpm_replay.proofs.replaying.execute.Goals as goal
 
-pub returns-clause-memory : goal.returns-clause-memory
-returns-clause-memory c =
-    let acted = leaves_acted _ _ _ c.step.ensures.bus in
+pub returns : goal.returns
+returns c =
+    let acted = leaves_acted _ _ _ c.step.ensures.outcome.bus in
     let memory = acted.memory in
-    search rules
-
-pub returns-clause-devices : goal.returns-clause-devices
-returns-clause-devices c =
-    let acted = leaves_acted _ _ _ c.step.ensures.bus in
     let devices = acted.devices in
-    search rules
+    record { illegal = c.step.ensures.outcome.illegal; unlisted = c.step.ensures.unlisted; moves = search (rules, view_is) }

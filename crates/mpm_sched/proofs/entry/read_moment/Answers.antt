@@ -9,16 +9,20 @@ two_at-hour-requires-clause-digits c = (reads c.args.text.now c.requires.form).h
 pub two_at-minute-requires-clause-digits : goal.two_at-minute-requires-clause-digits
 two_at-minute-requires-clause-digits c = (reads c.args.text.now c.requires.form).minute
 
-pub returns-then-not-is_time-clause-err : goal.returns-then-not-is_time-clause-err
-returns-then-not-is_time-clause-err c =
-    no_time c.args.text.now c.two_at-hour.result c.two_at-minute.result c.two_at-hour.ensures.number c.two_at-minute.ensures.number
-    (sym c.is_time.ensures ∙ c.if-not-is_time.true)
+pub returns-then-not-is_time : goal.returns-then-not-is_time
+returns-then-not-is_time c = record {
+  ok = tt;
+  err = no_time c.args.text.now c.two_at-hour.result c.two_at-minute.result c.two_at-hour.ensures.number c.two_at-minute.ensures.number
+      (sym c.is_time.ensures ∙ c.if-not-is_time.true);
+}
 
-pub returns-in-Some-clause-ok : goal.returns-in-Some-clause-ok
-returns-in-Some-clause-ok c =
-    entry_read c.args.text.now c.in-Some.date c.two_at-hour.result c.two_at-minute.result c.requires.form c.two_at-hour.ensures.number c.two_at-minute.ensures.number
-    (sym c.is_time.ensures ∙ c.if-not-is_time.false) (sym c.date_in.ensures ∙ c.in-Some.is)
-    ∙ ap (λ (e : SchedEntry). Some e) (sym c.entry_at.ensures)
+pub returns-in-Some : goal.returns-in-Some
+returns-in-Some c = record {
+  ok = entry_read c.args.text.now c.in-Some.date c.two_at-hour.result c.two_at-minute.result c.requires.form c.two_at-hour.ensures.number c.two_at-minute.ensures.number
+      (sym c.is_time.ensures ∙ c.if-not-is_time.false) (sym c.date_in.ensures ∙ c.in-Some.is)
+      ∙ ap (λ (e : SchedEntry). Some e) (sym c.entry_at.ensures);
+  err = tt;
+}
 
-pub returns-in-None-clause-err : goal.returns-in-None-clause-err
-returns-in-None-clause-err c = no_date c.args.text.now (sym c.date_in.ensures ∙ c.in-None.is)
+pub returns-in-None : goal.returns-in-None
+returns-in-None c = record { ok = tt; err = no_date c.args.text.now (sym c.date_in.ensures ∙ c.in-None.is) }

@@ -3,14 +3,18 @@ use Rattle.mpm_script.specs.Numbers.{decimal_of}
 use Rattle.mpm_script.proofs.DecimalLaws.{decimal_behind, decimal_no_digit, decimal_digit, decimal_over}
 use Rattle.mpm_script.proofs.numbers.decimal.Goals as goal
 
-pub returns-then-not-is_ascii_digit-clause-number : goal.returns-then-not-is_ascii_digit-clause-number
-returns-then-not-is_ascii_digit-clause-number c =
-    sym (c.loop-byte.invariant.rest ∙ decimal_no_digit _ _ c.args.digits.now c.loop-byte.byte-index c.loop-byte-test.true (sym c.if-not-is_ascii_digit.ensures.value))
+pub returns-then-not-is_ascii_digit : goal.returns-then-not-is_ascii_digit
+returns-then-not-is_ascii_digit c = record {
+  number = sym (c.loop-byte.invariant.rest ∙ decimal_no_digit _ _ c.args.digits.now c.loop-byte.byte-index c.loop-byte-test.true (sym c.if-not-is_ascii_digit.ensures.value));
+  limit = tt;
+}
 
-pub returns-then-value-from-clause-number : goal.returns-then-value-from-clause-number
-returns-then-value-from-clause-number c =
-    sym (c.loop-byte.invariant.rest
-    ∙ decimal_over _ _ c.args.digits.now c.loop-byte.byte-index c.loop-byte-test.true (sym c.if-not-is_ascii_digit.ensures.value) (omega (arith, c.from.ensures, c.from-in-loop-byte.ensures, c.if-value-from.true)))
+pub returns-then-value-from : goal.returns-then-value-from
+returns-then-value-from c = record {
+  number = sym (c.loop-byte.invariant.rest
+      ∙ decimal_over _ _ c.args.digits.now c.loop-byte.byte-index c.loop-byte-test.true (sym c.if-not-is_ascii_digit.ensures.value) (omega (arith, c.from.ensures, c.from-in-loop-byte.ensures, c.if-value-from.true)));
+  limit = tt;
+}
 
 pub loop-byte-preserved : goal.loop-byte-preserved
 loop-byte-preserved c = record {
@@ -20,5 +24,8 @@ loop-byte-preserved c = record {
   limit = omega (arith, c.from-in-loop-byte.ensures, c.if-value-from.false);
 }
 
-pub returns-clause-number : goal.returns-clause-number
-returns-clause-number c = sym (c.loop-byte.invariant.rest ∙ decimal_behind _ _ c.args.digits.now c.loop-byte.byte-index c.loop-byte.invariant.limit c.loop-byte-test.false)
+pub returns : goal.returns
+returns c = record {
+  number = sym (c.loop-byte.invariant.rest ∙ decimal_behind _ _ c.args.digits.now c.loop-byte.byte-index c.loop-byte.invariant.limit c.loop-byte-test.false);
+  limit = omega (arith, c.loop-byte.invariant.limit);
+}

@@ -1,4 +1,4 @@
-use Rattle.std.proofs.Common.{◌≡◌, ◌∙◌, ℕ, ◌+◌, ◌≤◌, List, [], ◌∷◌, ◌++◌, take, drop, get_or, length, sym, ap, subst, arith, append_assoc}
+use Rattle.std.proofs.Common.{rules, ◌≡◌, ◌∙◌, ℕ, ◌+◌, ◌≤◌, List, [], ◌∷◌, ◌++◌, take, drop, get_or, length, sym, ap, subst, arith, append_assoc}
 use Rattle.std.proofs.lemmas.List.{take_more, take-append-drop}
 use Rattle.mpm_base.specs.Calls.{Taken}
 use Rattle.mpm_procs.specs.Table.{call_of}
@@ -25,8 +25,8 @@ write_tabbed-requires g c =
       exists = subst P (sym c.loop-place.invariant.written.kernel_is) (has_spoke c.args.kernel.now c.args.console _ c.requires.console.exists);
     }
 
-pub returns-in_err-write_tabbed-clause-wrote : goal.returns-in_err-write_tabbed-clause-wrote
-returns-in_err-write_tabbed-clause-wrote g c =
+pub returns-in_err-write_tabbed : goal.returns-in_err-write_tabbed
+returns-in_err-write_tabbed g c =
     let bytes = (call_of c.args.kernel.now.dispatcher.procs c.args.p).bytes in
     let k = c.loop-place.place in
     let byte = get_or bytes k 0 in
@@ -38,9 +38,12 @@ returns-in_err-write_tabbed-clause-wrote g c =
     let whole : bytes ≡ take k bytes ++ (c.byte-byte.result ∷ drop (k + 1) bytes) =
     sym (take-append-drop (k + 1) bytes) ∙ (ap (λ t. t ++ drop (k + 1) bytes) more ∙ append_assoc (take k bytes) (byte ∷ []) (drop (k + 1) bytes))
     ∙ ap (λ b. take k bytes ++ (b ∷ drop (k + 1) bytes)) (sym here) in
-    passes_on _ _ _ _ c.from_residual.ensures.0
-    (stopped_string c.args.console c.byte-byte.result c.args.kernel.now c.loop-place.kernel _ _ _ (take k bytes) (drop (k + 1) bytes) bytes whole
-    c.requires.console.exists c.loop-place.invariant.written c.in_err-write_tabbed.ensures.wrote.err)
+    record {
+      kernel = search rules;
+      wrote = passes_on _ _ _ _ c.from_residual.ensures.0
+          (stopped_string c.args.console c.byte-byte.result c.args.kernel.now c.loop-place.kernel _ _ _ (take k bytes) (drop (k + 1) bytes) bytes whole
+          c.requires.console.exists c.loop-place.invariant.written c.in_err-write_tabbed.ensures.wrote.err);
+    }
 
 pub loop-place-preserved : goal.loop-place-preserved
 loop-place-preserved g c =

@@ -1,4 +1,4 @@
-use Rattle.std.proofs.Common.{◌≡◌, ◌∙◌, ℕ, ◌+◌, ◌-◌, true, false, List, [], ◌∷◌, ◌++◌, ap, sym, subst, arith}
+use Rattle.std.proofs.Common.{rules, ◌≡◌, ◌∙◌, ℕ, ◌+◌, ◌-◌, true, false, List, [], ◌∷◌, ◌++◌, ap, sym, subst, arith}
 use Rattle.std.proofs.lemmas.Bool.Decides.{nat_tests}
 use Rattle.z80_regs.specs.Words.{onward}
 use Rattle.mpm_banks.specs.Memory.{byte_at}
@@ -54,33 +54,25 @@ loop-offset-preserved g c =
           c.in_ok-write_tabbed.ensures.kernel c.in_ok-write_tabbed.ensures.wrote.ok);
     }
 
-pub returns-in_err-write_tabbed-clause-wrote : goal.returns-in_err-write_tabbed-clause-wrote
-returns-in_err-write_tabbed-clause-wrote g c =
+pub returns-in_err-write_tabbed : goal.returns-in_err-write_tabbed
+returns-in_err-write_tabbed g c =
     let memory = byte_at c.args.banks.now c.args.seg in
     let k = c.loop-offset.offset in
     let byte = c.byte-byte.result in
     let part = bytes_from memory c.args.address k in
     let here : byte ≡ memory (onward c.args.address k) = c.byte-byte.ensures ∙ ap memory (omega arith) in
     let goes : ends Dollar byte ≡ false = grind (arith, nat_tests, c.if-byte-eq36.false) in
-    passes_on _ _ _ _ c.from_residual.ensures.0
-    (stopped_string c.args.console byte c.args.kernel.now c.loop-offset.kernel _ _ _ part
-    (text_from Dollar memory (onward c.args.address (k + 1)) (65535 - k)) (text_from Dollar memory c.args.address 65536)
-    (string_goes_on memory c.args.address k byte c.loop-offset.invariant.goes_on here goes (omega arith))
-    c.requires.exists c.loop-offset.invariant.written c.in_err-write_tabbed.ensures.wrote.err)
+    record {
+      kernel = search rules;
+      wrote = passes_on _ _ _ _ c.from_residual.ensures.0
+          (stopped_string c.args.console byte c.args.kernel.now c.loop-offset.kernel _ _ _ part
+          (text_from Dollar memory (onward c.args.address (k + 1)) (65535 - k)) (text_from Dollar memory c.args.address 65536)
+          (string_goes_on memory c.args.address k byte c.loop-offset.invariant.goes_on here goes (omega arith))
+          c.requires.exists c.loop-offset.invariant.written c.in_err-write_tabbed.ensures.wrote.err);
+    }
 
-pub returns-then-byte-eq36-clause-kernel : goal.returns-then-byte-eq36-clause-kernel
-returns-then-byte-eq36-clause-kernel g c =
-    let memory = byte_at c.args.banks.now c.args.seg in
-    let k = c.loop-offset.offset in
-    let byte = c.byte-byte.result in
-    let here : byte ≡ memory (onward c.args.address k) = c.byte-byte.ensures ∙ ap memory (omega arith) in
-    let stops : ends Dollar byte ≡ true = grind (arith, nat_tests, c.if-byte-eq36.true) in
-    let whole = text_stops Dollar memory c.args.address k 65536 byte c.loop-offset.invariant.goes_on (omega arith) here stops in
-    c.loop-offset.invariant.written.kernel_is
-    ∙ ap (λ text. spoke c.args.kernel.now c.args.console (expanded (column_of c.args.kernel.now c.args.console) text)) (sym whole)
-
-pub returns-then-byte-eq36-clause-wrote : goal.returns-then-byte-eq36-clause-wrote
-returns-then-byte-eq36-clause-wrote g c =
+pub returns-then-byte-eq36 : goal.returns-then-byte-eq36
+returns-then-byte-eq36 g c =
     let memory = byte_at c.args.banks.now c.args.seg in
     let k = c.loop-offset.offset in
     let byte = c.byte-byte.result in
@@ -90,4 +82,8 @@ returns-then-byte-eq36-clause-wrote g c =
     let P : List ℕ → Type 0 = λ text. CameOut (seen g.S.Sink.written g.S.Sink.faults c.args.render.now c.args.sink.now)
     (seen g.S.Sink.written g.S.Sink.faults c.loop-offset.render c.loop-offset.sink)
     (spoken c.args.console (expanded (column_of c.args.kernel.now c.args.console) text)) in
-    record { ok = subst P (sym whole) c.loop-offset.invariant.written.wrote; err = tt }
+    record {
+      kernel = c.loop-offset.invariant.written.kernel_is
+          ∙ ap (λ text. spoke c.args.kernel.now c.args.console (expanded (column_of c.args.kernel.now c.args.console) text)) (sym whole);
+      wrote = record { ok = subst P (sym whole) c.loop-offset.invariant.written.wrote; err = tt };
+    }

@@ -1,11 +1,11 @@
-use Rattle.std.proofs.Common.{◌≡◌, ℕ, List, IfOk, sym, subst, refl}
+use Rattle.std.proofs.Common.{◌≡◌, ◌∙◌, ℕ, List, IfOk, sym, subst, refl}
 use Rattle.std.proofs.Math.Path.{fun_ext}
 use Rattle.std.specs.Prelude.{IfErr}
 use Rattle.mpm_top.specs.declared.status.Input.{Input}
 use Rattle.mpm_top.specs.declared.words.Form.TheVariants.{Program, Run}
 use Rattle.mpm_top.specs.Beginnings.{Contents, host, failed, Holds, StartsOf}
 use Rattle.mpm_top.specs.Endings.{EndsAfter}
-use Rattle.mpm_top.proofs.BootLaws.{program_names_nothing, starts_with_contents, ends_with_contents, either_way, refusal_early}
+use Rattle.mpm_top.proofs.BootLaws.{program_names_nothing, starts_with_contents, ends_with_contents, either_way, refusal_early, ready_by, memory_early, either_file, since_fetched}
 use Rattle.mpm_top.proofs.StatusLaws.{always_disk}
 use Rattle.mpm_top.proofs.Syncing.{nothing_called, none_synced}
 use Rattle.mpm_top.proofs.boot.boot.Goals as goal
@@ -19,24 +19,36 @@ returns-in-Program-clause-starts g c =
     starts_with_contents found c.args.form Program c.args.name.now c.as_slice.result.now disks c.boot_program.result c.in-Program.is (subst P c.input.ensures from_file)
     (c.boot_program.ensures.starts found)
 
-pub returns-in-Program-clause-beside : goal.returns-in-Program-clause-beside
-returns-in-Program-clause-beside g c = nothing_called c.boot_program.result (g.D.Drives.disks c.args.drives.now)
+pub returns-in-Program-clause-ready : goal.returns-in-Program-clause-ready
+returns-in-Program-clause-ready g c =
+    let booted = c.boot_program.ensures in
+    let drives = c.args.drives.now in
+    ready_by g.D.Drives drives drives c.boot_program.result booted.begins (nothing_called c.boot_program.result (g.D.Drives.disks drives))
+    (none_synced c.boot_program.result (g.D.Drives.unsynced drives) booted.no_drive)
 
-pub returns-in-Program-clause-fresh : goal.returns-in-Program-clause-fresh
-returns-in-Program-clause-fresh g c = none_synced c.boot_program.result (g.D.Drives.unsynced c.args.drives.now) c.boot_program.ensures.no_drive
-
-pub returns-in-Program-clause-drives : goal.returns-in-Program-clause-drives
-returns-in-Program-clause-drives g c = either_way c.boot_program.result _ refl
+pub returns-in-Program-clause-leaves : goal.returns-in-Program-clause-leaves
+returns-in-Program-clause-leaves g c = record {
+  early = memory_early c.boot_program.result c.boot_program.ensures.memory;
+  names = either_file c.boot_program.result _ c.in-Ok.ensures.leaves.names;
+  files = c.fetch.ensures.leaves.files;
+  drives = either_way c.boot_program.result _ refl;
+  told = refl;
+  asks = λ number was. was;
+}
 
 pub returns-in-Program-clause-missing_script : goal.returns-in-Program-clause-missing_script
 returns-in-Program-clause-missing_script g c bytes script told fits named missing =
     absurd (program_names_nothing c.args.form bytes script c.in-Program.is named)
 
-pub returns-in-Err-clause-early : goal.returns-in-Err-clause-early
-returns-in-Err-clause-early g c = refusal_early c.in-Err.status c.in-Err.ensures.refusal
-
-pub returns-in-Err-clause-drives : goal.returns-in-Err-clause-drives
-returns-in-Err-clause-drives g c = always_disk c.in-Err.status _ refl
+pub returns-in-Err-clause-leaves : goal.returns-in-Err-clause-leaves
+returns-in-Err-clause-leaves g c = record {
+  early = refusal_early c.in-Err.status c.in-Err.ensures.leaves.refusal;
+  names = c.in-Err.ensures.leaves.names;
+  files = c.fetch.ensures.leaves.files;
+  drives = always_disk c.in-Err.status _ refl;
+  told = refl;
+  asks = λ number was. was;
+}
 
 pub returns-clause-starts : goal.returns-clause-starts
 returns-clause-starts g c =
@@ -46,7 +58,7 @@ returns-clause-starts g c =
     starts_with_contents found c.args.form Run c.args.name.now c.as_slice-in-Run.result.now (g.D.Drives.disks c.boot_machine.new.drives) c.boot_machine.result c.in-Run.is
     (subst P c.input.ensures from_file)
     (subst (λ (contents : Contents). IfOk c.boot_machine.result (λ machine. StartsOf (record found { contents = contents }) Run (λ content. content ≡ c.as_slice-in-Run.result.now)
-    machine.value.system machine.value.bdos (g.D.Drives.disks c.boot_machine.new.drives))) (fun_ext c.in-Ok.ensures.files) c.boot_machine.ensures.starts)
+    machine.value.system machine.value.bdos (g.D.Drives.disks c.boot_machine.new.drives))) (fun_ext c.in-Ok.ensures.leaves.files) c.boot_machine.ensures.starts)
 
 pub returns-clause-reason : goal.returns-clause-reason
 returns-clause-reason g c =
@@ -60,7 +72,19 @@ returns-clause-reason g c =
     (subst P c.input.ensures from_file)
     (subst (λ (names : List (List ℕ)). IfErr c.boot_machine.result (λ status. EndsAfter disks found Run (λ content. content ≡ c.as_slice-in-Run.result.now)
     (record { files = names; drives = record { faults = g.D.Drives.faults c.args.drives.now; names = g.D.Drives.failed_names c.args.drives.now } })
-    (failed g.F.Files.failed_names g.D.Drives.faults g.D.Drives.failed_names c.boot_machine.new.files c.boot_machine.new.drives) status)) c.in-Ok.ensures.names
+    (failed g.F.Files.failed_names g.D.Drives.faults g.D.Drives.failed_names c.boot_machine.new.files c.boot_machine.new.drives) status)) c.in-Ok.ensures.leaves.names
     (subst (λ (contents : Contents). IfErr c.boot_machine.result (λ status. EndsAfter disks (record found { contents = contents }) Run (λ content. content ≡ c.as_slice-in-Run.result.now)
     (failed g.F.Files.failed_names g.D.Drives.faults g.D.Drives.failed_names c.fetch.new.files c.args.drives.now)
-    (failed g.F.Files.failed_names g.D.Drives.faults g.D.Drives.failed_names c.boot_machine.new.files c.boot_machine.new.drives) status)) (fun_ext c.in-Ok.ensures.files) c.boot_machine.ensures.reason))
+    (failed g.F.Files.failed_names g.D.Drives.faults g.D.Drives.failed_names c.boot_machine.new.files c.boot_machine.new.drives) status)) (fun_ext c.in-Ok.ensures.leaves.files) c.boot_machine.ensures.reason))
+
+pub returns-clause-leaves : goal.returns-clause-leaves
+returns-clause-leaves g c =
+    let booted = c.boot_machine.ensures.leaves in
+    record {
+      early = booted.early;
+      names = since_fetched c.boot_machine.result _ _ _ c.in-Ok.ensures.leaves.names booted.names;
+      files = λ other. booted.files other ∙ c.fetch.ensures.leaves.files other;
+      drives = booted.drives;
+      told = booted.told;
+      asks = booted.asks;
+    }

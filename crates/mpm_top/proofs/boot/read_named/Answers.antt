@@ -15,11 +15,9 @@ returns-in-Err g c =
     let did = c.in-Err.ensures in
     record {
       events = tt;
-      refusal = did.refusal;
       reason = unfetched_unread (g.F.Files.contents c.args.files.now) c.args.name.now (g.F.Files.failed_names c.args.files.now) (g.F.Files.failed_names c.fetch.new.files) c.in-Err.status did.reason;
-      names = did.names;
       missing = did.missing;
-      files = c.fetch.ensures.files;
+      leaves = record { refusal = did.leaves.refusal; names = did.leaves.names; files = c.fetch.ensures.leaves.files };
     }
 
 -- it was, and its text is read or has a bad line, or there was no memory
@@ -33,11 +31,9 @@ returns-in-Ok-read_script g c =
         contents_are = subst (Holds (g.F.Files.contents c.args.files.now) ScriptText c.args.name.now) (sym c.as_slice.ensures.value) did.contents_are;
         read = c.in-Ok-read_script.ensures.ok;
       };
-      refusal = tt;
       reason = tt;
-      names = did.names;
       missing = did.missing;
-      files = c.fetch.ensures.files;
+      leaves = record { refusal = tt; names = did.leaves.names; files = c.fetch.ensures.leaves.files };
     }
 
 pub returns-in-Err-Fault : goal.returns-in-Err-Fault
@@ -46,18 +42,21 @@ returns-in-Err-Fault g c =
     let bad = subst (λ (error : ScriptError). FaultsScript {A = List Timed} error (script_of c.as_slice.result.now)) c.in-Err-Fault.field-0-is c.in-Err-Fault.ensures.fault in
     record {
       events = tt;
-      refusal = tt;
       reason = record {
         text = c.as_slice.result.now;
         contents_are = subst (Holds (g.F.Files.contents c.args.files.now) ScriptText c.args.name.now) (sym c.as_slice.ensures.value) did.contents_are;
         bad = bad;
       };
-      names = did.names;
       missing = λ missing. absurd (did.missing missing);
-      files = c.fetch.ensures.files;
+      leaves = record { refusal = tt; names = did.leaves.names; files = c.fetch.ensures.leaves.files };
     }
 
 pub returns : goal.returns
 returns g c =
     let did = c.in-Ok.ensures in
-    record { events = tt; refusal = tt; reason = tt; names = did.names; missing = λ missing. absurd (did.missing missing); files = c.fetch.ensures.files }
+    record {
+      events = tt;
+      reason = tt;
+      missing = λ missing. absurd (did.missing missing);
+      leaves = record { refusal = tt; names = did.leaves.names; files = c.fetch.ensures.leaves.files };
+    }

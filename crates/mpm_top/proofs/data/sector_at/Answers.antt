@@ -11,8 +11,5 @@ pub returns-clause-bytes : goal.returns-clause-bytes
 returns-clause-bytes c image here =
     subst (λ (found : Option (List ℕ)). IfSome found (λ i. c.read.new.out ≡ sector_of i c.args.sector)) here c.in-Ok.ensures.bytes
 
-pub returns-clause-size : goal.returns-clause-size
-returns-clause-size c = ap (λ (disks : Disks). size_of disks 0) c.read.ensures.disks ∙ c.requires.size
-
-pub returns-clause-same : goal.returns-clause-same
-returns-clause-same c = c.read.ensures.disks
+pub returns-clause-read : goal.returns-clause-read
+returns-clause-read c = record { size = ap (λ (disks : Disks). size_of disks 0) c.read.ensures.disks ∙ c.requires.size; same = c.read.ensures.disks }

@@ -10,8 +10,8 @@ pub loop-place-preserved : goal.loop-place-preserved
 loop-place-preserved c =
     let before = c.loop-place.invariant in
     record {
-      size = c.weighed-sum.ensures.size;
-      same = c.weighed-sum.ensures.same ∙ before.same;
+      size = c.weighed-sum.ensures.read.size;
+      same = c.weighed-sum.ensures.read.same ∙ before.same;
       small = omega (arith, c.weighed-sum.ensures.small, before.small);
       sum = λ image files here stands.
           (λ i. before.sum image files here stands i + c.weighed-sum.ensures.part image files (ap (λ (disks : Disks). disks.image 0) before.same ∙ here) stands i)

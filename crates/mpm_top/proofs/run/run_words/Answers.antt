@@ -1,6 +1,6 @@
 use Rattle.std.proofs.Common.{◌≡◌, subst}
 use Rattle.mpm_top.specs.Words.{Command, command_of, texts}
-use Rattle.mpm_top.specs.Promises.{seen, Promises}
+use Rattle.mpm_top.specs.Promises.{seen_by, Promises}
 use Rattle.mpm_top.proofs.EndingLaws.{asked_command, known_ending}
 use Rattle.mpm_top.proofs.run.run_words.Goals as goal
 
@@ -8,8 +8,8 @@ use Rattle.mpm_top.proofs.run.run_words.Goals as goal
 
 pub returns-clause-command : goal.returns-clause-command
 returns-clause-command g c command asked =
-    let old = seen g.F.Files.contents g.F.Files.failed_names g.D.Drives.disks g.D.Drives.told g.D.Drives.unsynced g.D.Drives.faults g.D.Drives.failed_names g.S.Sink.written g.S.Sink.faults c.args.files.now c.args.drives.now c.args.sink.now in
-    let new = seen g.F.Files.contents g.F.Files.failed_names g.D.Drives.disks g.D.Drives.told g.D.Drives.unsynced g.D.Drives.faults g.D.Drives.failed_names g.S.Sink.written g.S.Sink.faults c.run_command.new.files c.run_command.new.drives c.run_command.new.sink in
+    let old = seen_by g.F.Files g.D.Drives g.S.Sink c.args.files.now c.args.drives.now c.args.sink.now in
+    let new = seen_by g.F.Files g.D.Drives g.S.Sink c.run_command.new.files c.run_command.new.drives c.run_command.new.sink in
     let same = asked_command (command_of (texts c.args.words.now)) c.name_of.result.now _ c.in-Some.asked command c.in-Some.ensures.command c.name_of.ensures asked in
     subst (λ (k : Command). Promises (c.run_command.new.sink ≡ c.args.sink.now) (g.F.Files.missing c.args.files.now) k old new c.run_command.result) same
     (record {

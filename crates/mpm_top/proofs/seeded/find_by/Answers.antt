@@ -2,7 +2,7 @@ use Rattle.std.proofs.Common.{◌∙◌, sym, ap, subst}
 use Rattle.std.specs.Prelude.{option_map}
 use Rattle.mpm_port.specs.MemoryDisks.{disks_of}
 use Rattle.mpm_directories.specs.Places.{directory_at}
-use Rattle.mpm_bdos.specs.Turns.{labelled}
+use Rattle.mpm_bdos.specs.Turns.{drive_and_kind}
 use Rattle.mpm_machine.specs.declared.machine.Machine.{Machine}
 use Rattle.mpm_top.specs.Beginnings.{IsAtStart}
 use Rattle.mpm_top.proofs.BootLaws.{stands_inside}
@@ -27,7 +27,7 @@ find_of-requires-clause-size c =
 
 pub find_of-requires-clause-drive : goal.find_of-requires-clause-drive
 find_of-requires-clause-drive c =
-    ap (λ (m : Machine). option_map labelled (directory_at m.bdos.mounted 0)) c.deref_mut.ensures.value
+    ap (λ (m : Machine). option_map drive_and_kind (directory_at m.bdos.mounted 0)) c.deref_mut.ensures.value
     ∙ first_drive (disks_of c.boot.new.drives) c.args.file.now c.in-Ok.machine.value.bdos.mounted c.requires.machine c.in-Ok.ensures.stands.each
 
 pub unreachable-requires : goal.unreachable-requires

@@ -14,7 +14,7 @@ use Rattle.mpm_top.proofs.seeded.run_counted.Goals as goal
 pub run-requires : goal.run-requires
 run-requires g c =
     let begins = c.requires.begins in
-    record { most = omega (arith, c.requires.limit, begins.start); whole = begins.between.whole; no_completions = begins.between.no_completions; holds = begins.between.holds }
+    record { most = omega (arith, c.requires.limit, begins.start); between = begins.between }
 
 pub unreachable-requires : goal.unreachable-requires
 unreachable-requires g c = none_failed c.in-Err.field-0.fault c.in-Err.ensures.ends.cause.failed

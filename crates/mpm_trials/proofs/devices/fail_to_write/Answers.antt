@@ -8,7 +8,7 @@ pub read-requires : goal.read-requires
 unfolding after_access
 read-requires c =
     let inside : IsInsideDrive (size_of (disks_of c.size.new.self) 0) 0 = first_of (search rules, grind (arith, common_steps)) in
-    elim c.in-Err.ensures.err [
+    elim c.in-Err.ensures.answers.err [
       | inl same ↦ subst (λ (d : Disks). IsInsideDrive (size_of d 0) 0) (sym same) inside
       | inr writes ↦ subst (λ (s : Option ℕ). IsInsideDrive s 0) (sym (writes.sizes 0)) inside
     ]

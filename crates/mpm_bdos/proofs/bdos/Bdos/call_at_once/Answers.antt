@@ -11,7 +11,7 @@ use Rattle.mpm_bdos.specs.Jobs.{call_turns}
 use Rattle.mpm_bdos.specs.Serving.{Kept, Serves}
 use Rattle.mpm_directories.specs.Places.{directory_at}
 use Rattle.mpm_bdos.specs.Starting.{caller_of, entering}
-use Rattle.mpm_bdos.specs.Turns.{FitsDrives, KeepsToldOf, KeepsUnsynced, StaysBeside, labelled, images_of}
+use Rattle.mpm_bdos.specs.Turns.{FitsDrives, KeepsToldOf, KeepsUnsynced, StaysBeside, drive_and_kind, images_of}
 use Rattle.mpm_bdos.proofs.NextTurns.{idle_work}
 use Rattle.mpm_bdos.proofs.Fitting.{stays_same, told_same}
 use Rattle.mpm_files.proofs.Causing.{cause_none}
@@ -87,7 +87,7 @@ returns-in-Ok g c =
       stopped = tt;
       left = record {
         labels = λ number.
-            let labels : Kept → Option (ℕ × Kind) = λ kept. option_map labelled (directory_at kept.mounted number) in
+            let labels : Kept → Option (ℕ × Kind) = λ kept. option_map drive_and_kind (directory_at kept.mounted number) in
             ap labels c.reply.ensures.kept ∙ left.kept.labels number ∙ ap labels c.start-turns.ensures.kept;
         fits = subst (λ (kept : Kept). FitsDrives g.D.Drives.disks kept.mounted kept.cached c.do_turns.new.drives) (sym c.reply.ensures.kept) left.fits;
         beside = subst (λ (kept : Kept). StaysBeside kept.mounted (g.D.Drives.disks c.args.drives.now) (g.D.Drives.disks c.do_turns.new.drives)) c.start-turns.ensures.kept left.beside;
@@ -151,7 +151,7 @@ returns-in-Err g c =
       };
       left = record {
         labels = λ number.
-            let labels : Kept → Option (ℕ × Kind) = λ kept. option_map labelled (directory_at kept.mounted number) in
+            let labels : Kept → Option (ℕ × Kind) = λ kept. option_map drive_and_kind (directory_at kept.mounted number) in
             ap labels c.leave_service.ensures ∙ left.kept.labels number ∙ ap labels c.start-turns.ensures.kept;
         fits = subst (λ (kept : Kept). FitsDrives g.D.Drives.disks kept.mounted kept.cached c.do_turns.new.drives) (sym c.leave_service.ensures) left.fits;
         beside = subst (λ (kept : Kept). StaysBeside kept.mounted (g.D.Drives.disks c.args.drives.now) (g.D.Drives.disks c.do_turns.new.drives)) c.start-turns.ensures.kept left.beside;

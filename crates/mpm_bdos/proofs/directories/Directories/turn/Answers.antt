@@ -4,7 +4,7 @@ use Rattle.std.proofs.lemmas.List.{get_or-set_other, get_or_default, get_or_past
 use Rattle.std.proofs.lemmas.Grind.{get_or-set_at}
 use Rattle.mpm_files.specs.Turning.{IsNextCached}
 use Rattle.mpm_directories.specs.Places.{directory_at}
-use Rattle.mpm_bdos.specs.Turns.{FitsDrives, IsWorking, IsContainedAt, KeepsImages, KeepsToldOf, KeepsUnsynced, StaysBeside, labelled}
+use Rattle.mpm_bdos.specs.Turns.{FitsDrives, IsWorking, IsContainedAt, KeepsImages, KeepsToldOf, KeepsUnsynced, StaysBeside, drive_and_kind}
 use Rattle.mpm_bdos.proofs.Fitting.{fits_after, labels_stay, images_after, stays_after, stays_same, told_after, told_same, unsynced_after, unsynced_same}
 use Rattle.mpm_files.proofs.Causing.{cause_none}
 use Rattle.mpm_bdos.proofs.TurnedAt.{left_names}
@@ -42,7 +42,7 @@ returns-then-place-len g c =
         places = λ other apart.
             get_or-set_other mounted number other new None (λ same. apart (ap Some (sym c.from-place.ensures ∙ sym same))) ∙ ap (λ m. directory_at m other) c.self.view_is;
         labels = λ other.
-            labels_stay mounted number other new (did.same ∙ ap (option_map labelled) (sym its)) ∙ ap (λ m. option_map labelled (directory_at m other)) c.self.view_is;
+            labels_stay mounted number other new (did.same ∙ ap (option_map drive_and_kind) (sym its)) ∙ ap (λ m. option_map drive_and_kind (directory_at m other)) c.self.view_is;
         fits = fits_after g.D.Drives.disks g.D.Drives.told g.D.Drives.failed_names g.D.Drives.unsynced mounted number old new
             c.args.cache.now c.turn_at.new.cache c.args.drives.now c.turn_at.new.drives c.self.invariant its did.same did.leaves fits;
         images = subst (λ n. KeepsImages (Some n) c.args.self.now disks disks') c.from-place.ensures

@@ -10,7 +10,7 @@ pub invariant_of-self : goal.invariant_of-self
 unfolding listed
 invariant_of-self c =
     let t : Consoles = record { consoles = c.self.inside.consoles.items; printers = c.self.inside.printers.items; waiters = c.self.inside.waiters } in
-    let has = subst (λ (t : Consoles). HasUnit t c.args.unit) (sym c.self.view_is) c.requires.unit in
+    let has = subst (λ (t : Consoles). HasUnit t c.args.unit) (sym c.self.view_is) c.requires.there in
     let nowhere = subst (λ (t : Consoles). WaitsForNoUnit t c.args.p) (sym c.self.view_is) c.requires.nowhere in
     let owned = subst (λ (t : Consoles). owner_of t c.args.unit ≢ None) (sym c.self.view_is) c.requires.owned in
     let other = subst (λ (t : Consoles). owns t c.args.p c.args.unit ≡ false) (sym c.self.view_is) c.requires.other in

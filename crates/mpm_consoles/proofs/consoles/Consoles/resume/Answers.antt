@@ -8,5 +8,5 @@ pub invariant_of-self : goal.invariant_of-self
 invariant_of-self c =
     let t : Consoles = record { consoles = c.self.inside.consoles.items; printers = c.self.inside.printers.items; waiters = c.self.inside.waiters } in
     let has = subst (λ (t : Consoles). HasConsole t c.args.console) (sym c.self.view_is) c.requires in
-    sound_set t c.args.console c.from.result c.index_mut.result.now c.resume.new.self resumed c.from.ensures c.index_mut.ensures.value c.resume.ensures.console has
+    sound_set t c.args.console c.from.result c.index_mut.result.now c.resume.new.self resumed c.from.ensures c.index_mut.ensures.value c.resume.ensures.made has
     (sound_resumed t c.args.console c.self.invariant has)

@@ -10,5 +10,5 @@ unfolding first_taken
 invariant_of-self c =
     let t : Consoles = record { consoles = c.self.inside.consoles.items; printers = c.self.inside.printers.items; waiters = c.self.inside.waiters } in
     let has = subst (λ (t : Consoles). HasConsole t c.args.console) (sym c.self.view_is) c.requires in
-    sound_set t c.args.console c.from.result c.index_mut.result.now c.take.new.self without_first c.from.ensures c.index_mut.ensures.value c.take.ensures.console has
+    sound_set t c.args.console c.from.result c.index_mut.result.now c.take.new.self without_first c.from.ensures c.index_mut.ensures.value c.take.ensures.made has
     (sound_take t c.args.console c.self.invariant has)

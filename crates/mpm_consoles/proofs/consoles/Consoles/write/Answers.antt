@@ -12,5 +12,5 @@ unfolding put_out
 invariant_of-self c =
     let t : Consoles = record { consoles = c.self.inside.consoles.items; printers = c.self.inside.printers.items; waiters = c.self.inside.waiters } in
     let has = subst (λ (u : Unit). HasUnit t u) c.in-Console.is (subst (λ (t : Consoles). HasUnit t c.args.unit) (sym c.self.view_is) c.requires) in
-    sound_set t c.in-Console.n c.from.result c.index_mut.result.now c.write.new.self (written c.args.byte c.args.tabs) c.from.ensures c.index_mut.ensures.value c.write.ensures.console has
+    sound_set t c.in-Console.n c.from.result c.index_mut.result.now c.write.new.self (written c.args.byte c.args.tabs) c.from.ensures c.index_mut.ensures.value c.write.ensures.made has
     (sound_output t (ConsoleUnit c.in-Console.n) c.args.byte c.args.tabs c.self.invariant has)

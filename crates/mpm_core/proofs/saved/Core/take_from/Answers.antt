@@ -1,17 +1,11 @@
 use Rattle.std.proofs.Common.{◌∙◌, ◌<◌, ◌^◌, sym, subst}
 use Rattle.mpm_core_file.specs.declared.head.Head.{Head}
 use Rattle.mpm_core_file.specs.CoreFiles.{IsCore}
-use Rattle.mpm_core.proofs.TakeLaws.{taken_is, taken_holds, home_lives, home_base, home_pages}
+use Rattle.mpm_core.proofs.TakeLaws.{taken_is, taken_holds, home_lives}
 use Rattle.mpm_core.proofs.saved.Core.take_from.Goals as goal
 
 pub head_at-head-requires : goal.head_at-head-requires
-head_at-head-requires c = home_lives c.args.machine.now.system c.args.p c.args.home c.requires.home
-
-pub segment_at-segment-requires-clause-base : goal.segment_at-segment-requires-clause-base
-segment_at-segment-requires-clause-base c = home_base c.args.machine.now.system c.args.p c.args.home c.requires.home
-
-pub segment_at-segment-requires-clause-pages : goal.segment_at-segment-requires-clause-pages
-segment_at-segment-requires-clause-pages c = home_pages c.args.machine.now.system c.args.p c.args.home c.requires.home
+head_at-head-requires c = home_lives c.args.machine.now.system c.args.p c.args.home c.requires.there
 
 pub fill-requires : goal.fill-requires
 fill-requires c =
@@ -20,18 +14,18 @@ fill-requires c =
     let fits = subst (λ (h : Head). h.step < 2 ^ 64) c.head_at-head.ensures.head c.head_at-head.ensures.fits in
     subst IsCore
     (sym (taken_is system c.args.p c.args.home c.head_at-head.result c.segment_at-segment.result.now c.common_at.result.now
-    c.requires.home c.head_at-head.ensures.head c.segment_at-segment.ensures c.common_at.ensures))
-    (taken_holds system c.args.p c.args.home c.requires.whole c.requires.home c.requires.is_home mode fits)
+    c.requires.there c.head_at-head.ensures.head c.segment_at-segment.ensures c.common_at.ensures))
+    (taken_holds system c.args.p c.args.home c.requires.whole c.requires.there c.requires.is_home mode fits)
 
 pub returns-clause-core : goal.returns-clause-core
 returns-clause-core c =
     c.fill.ensures
     ∙ taken_is c.args.machine.now.system c.args.p c.args.home c.head_at-head.result c.segment_at-segment.result.now c.common_at.result.now
-    c.requires.home c.head_at-head.ensures.head c.segment_at-segment.ensures c.common_at.ensures
+    c.requires.there c.head_at-head.ensures.head c.segment_at-segment.ensures c.common_at.ensures
 
 pub returns-clause-is : goal.returns-clause-is
 returns-clause-is c =
     let mode = subst (λ (h : Head). h.regs.mode < 3) c.head_at-head.ensures.head c.head_at-head.ensures.mode in
     let fits = subst (λ (h : Head). h.step < 2 ^ 64) c.head_at-head.ensures.head c.head_at-head.ensures.fits in
     subst IsCore (sym (returns-clause-core c))
-    (taken_holds c.args.machine.now.system c.args.p c.args.home c.requires.whole c.requires.home c.requires.is_home mode fits)
+    (taken_holds c.args.machine.now.system c.args.p c.args.home c.requires.whole c.requires.there c.requires.is_home mode fits)

@@ -1,4 +1,4 @@
-use Rattle.std.proofs.Common.{rules, ◌≡◌, ◌∙◌, ◌+◌, ◌++◌, ◌∷◌, [], List, take, drop, sym, ap, subst, arith}
+use Rattle.std.proofs.Common.{rules, length, ◌≡◌, ◌∙◌, ◌+◌, ◌++◌, ◌∷◌, [], List, take, drop, sym, ap, subst, arith}
 use Rattle.std.proofs.lemmas.Grind.{common_steps}
 use Rattle.std.proofs.lemmas.List.Elements.{recursion_from_All}
 use Rattle.mpm_machine_file.specs.declared.lists.DriveSpec.{DriveSpec}
@@ -9,8 +9,8 @@ use Rattle.mpm_drives.specs.Mounted.{number_of, IsMountedAs, AreMounted, AreSync
 use Rattle.mpm_drives.proofs.Mounting.{beside_more, others_differ, mounted_kept, mounted_more, stops_from, stops_at, failures_same, taken_more, parted, stays, synced_more, asks_more}
 use Rattle.mpm_drives.proofs.mounted.MountedDrives.mount.Goals as goal
 
-pub returns-in-Err-clause-err : goal.returns-in-Err-clause-err
-returns-in-Err-clause-err g c =
+pub returns-in-Err : goal.returns-in-Err
+returns-in-Err g c =
     let i = c.loop-spec.spec-index in
     let specs = c.args.specs.now in
     let spec = c.spec-item.result in
@@ -18,18 +18,22 @@ returns-in-Err-clause-err g c =
     let images = g.D.Drives.told c.args.drives.now in
     let parts = parted specs i spec (omega arith) c.spec-item.is in
     let apart = others_differ specs (take i specs) spec (drop (i + 1) specs) parts (recursion_from_All IsDrive specs c.requires.each) c.requires.apart in
-    stops_at x images specs (take i specs) c.loop-spec.items.items spec (drop (i + 1) specs) _ _ c.in-Err.error parts
-    (mounted_kept (number_of spec) _ x images (take i specs) c.loop-spec.items.items c.in-Err.ensures.only apart c.loop-spec.invariant.mounted)
-    (stops_from x (g.D.Drives.told c.loop-spec.drives) (g.D.Drives.told c.args.drives.now) spec _ _ _ c.in-Err.error c.loop-spec.invariant.told
-    (failures_same _ _ _ _ c.loop-spec.invariant.count c.loop-spec.invariant.names) c.in-Err.ensures.err)
-
-pub returns-in-Err-clause-asks : goal.returns-in-Err-clause-asks
-returns-in-Err-clause-asks g c =
-    let i = c.loop-spec.spec-index in
-    let specs = c.args.specs.now in
-    let spec = c.spec-item.result in
-    asks_more specs (take i specs) spec (drop (i + 1) specs) _ _ _ (parted specs i spec (omega arith) c.spec-item.is) c.loop-spec.invariant.asks
-    c.in-Err.ensures.asks c.in-Err.ensures.unsynced
+    record {
+      mounted = tt;
+      count = tt;
+      names = tt;
+      err = stops_at x images specs (take i specs) c.loop-spec.items.items spec (drop (i + 1) specs) _ _ c.in-Err.error parts
+          (mounted_kept (number_of spec) _ x images (take i specs) c.loop-spec.items.items c.in-Err.ensures.only apart c.loop-spec.invariant.mounted)
+          (stops_from x (g.D.Drives.told c.loop-spec.drives) (g.D.Drives.told c.args.drives.now) spec _ _ _ c.in-Err.error c.loop-spec.invariant.told
+          (failures_same _ _ _ _ c.loop-spec.invariant.count c.loop-spec.invariant.names) c.in-Err.ensures.err);
+      told = c.in-Err.ensures.told ∙ c.loop-spec.invariant.told;
+      beside = beside_more specs (take i specs) spec (drop (i + 1) specs) _ _ x parts c.loop-spec.invariant.beside c.in-Err.ensures.only;
+      fresh = tt;
+      asks = asks_more specs (take i specs) spec (drop (i + 1) specs) _ _ _ parts c.loop-spec.invariant.asks c.in-Err.ensures.asks c.in-Err.ensures.unsynced;
+      none = λ nothing.
+          let empty : length specs ≡ 0 = ap (λ (xs : List DriveSpec). length xs) nothing in
+          absurd (omega (arith, empty));
+    }
 
 pub loop-spec-preserved : goal.loop-spec-preserved
 loop-spec-preserved g c =

@@ -1,4 +1,4 @@
-use Rattle.std.proofs.Common.{◌≡◌, length, ap, arith}
+use Rattle.std.proofs.Common.{length, ap, arith}
 use Rattle.mpm_host.specs.Attached.{RealDisks}
 use Rattle.mpm_host.proofs.Holding.{is_there}
 use Rattle.mpm_host.proofs.drives.RealDrives.write_image.Goals as goal

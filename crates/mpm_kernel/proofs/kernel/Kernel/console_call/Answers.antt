@@ -17,6 +17,6 @@ set_raw_if-requires c =
     ap (λ (process : Process). process.console) c.get.ensures ∙ ap (λ (k : Kernel). (process_in k.dispatcher.procs p).console) c.self.view_is in
     let has : console < length before.units.consoles = omega (arith, own, has_own_console before p c.requires.sound c.requires.lives) in
     record {
-      has = has_then_attached before c.attach.new.self p console unit true c.attach.ensures.kernel has;
-      owner = owns_then_attached before c.attach.new.self p unit true c.attach.result c.attach.ensures.kernel has c.attach.ensures.answer c.if-not-attach.false;
+      has = has_then_attached before c.attach.new.self p console unit true c.attach.ensures.made has;
+      owner = owns_then_attached before c.attach.new.self p unit true c.attach.result c.attach.ensures.made has c.attach.ensures.answered c.if-not-attach.false;
     }

@@ -2,7 +2,7 @@ use Rattle.std.proofs.Common.{◌∙◌, length, sym, ap, subst, arith}
 use Rattle.mpm_queues.specs.Queues.{holds}
 use Rattle.mpm_procs.specs.Table.{Table}
 use Rattle.mpm_kernel.specs.contracts.kernel.Kernel.{the_view}
-use Rattle.mpm_kernel.specs.Kernel.{Kernel, IsSoundKernel, LivesIn, CompletedLive}
+use Rattle.mpm_kernel.specs.Kernel.{Kernel, IsSoundKernel, LivesInKernel, CompletedLive}
 use Rattle.mpm_kernel.specs.Procedures.{given_back}
 use Rattle.mpm_kernel.specs.Ending.{vacated, IsLeaving}
 use Rattle.mpm_kernel.proofs.LeavingLaws.{sound_consoles_left}
@@ -12,7 +12,7 @@ use Rattle.mpm_kernel.proofs.kernel.Kernel.discharge.Goals as goal
 
 pub put_back-requires : goal.put_back-requires
 put_back-requires c =
-    subst (LivesIn c.args.p) (sym c.drop_out.ensures) (record {
+    subst (LivesInKernel c.args.p) (sym c.drop_out.ensures) (record {
       sound = sound_dropped c.args.p c.args.self.now c.requires.sound c.requires.lives;
       lives = lives_dropped c.args.p c.args.p c.args.self.now c.requires.lives;
     })

@@ -1,12 +1,12 @@
 use Rattle.std.proofs.Common.{◌∙◌, Some, sym, ap, subst}
-use Rattle.mpm_kernel.specs.Kernel.{IsSoundKernel, LivesIn, CompletedLive}
+use Rattle.mpm_kernel.specs.Kernel.{IsSoundKernel, LivesInKernel, CompletedLive}
 use Rattle.mpm_kernel.specs.Procedures.{given_back_to}
 use Rattle.mpm_kernel.proofs.ProcedureLaws.{sound_outside, lives_outside, live_outside, stays_written_back}
 use Rattle.mpm_kernel.proofs.kernel.Kernel.put_back.Goals as goal
 
 pub write_back-requires-clause-process : goal.write_back-requires-clause-process
 write_back-requires-clause-process c =
-    subst (LivesIn c.args.p) (sym c.leave_procedure-queue.ensures.kernel) (record {
+    subst (LivesInKernel c.args.p) (sym c.leave_procedure-queue.ensures.kernel) (record {
       sound = sound_outside c.args.p c.args.self.now c.requires.sound c.requires.lives;
       lives = lives_outside c.args.p c.args.p c.args.self.now c.requires.lives;
     })

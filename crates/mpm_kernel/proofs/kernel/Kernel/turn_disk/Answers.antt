@@ -1,19 +1,25 @@
-use Rattle.std.proofs.Common.{◌∙◌, sym, subst}
-use Rattle.mpm_service.specs.Disk.{DiskService}
+use Rattle.std.proofs.Common.{◌∙◌, sym, ap, subst}
+use Rattle.mpm_service.specs.Disk.{DiskService, turned, turn_answer}
 use Rattle.mpm_kernel.specs.contracts.kernel.Kernel.{the_view}
-use Rattle.mpm_kernel.specs.Kernel.{IsSoundKernel}
-use Rattle.mpm_kernel.specs.Disk.{IsOver}
+use Rattle.mpm_kernel.specs.Kernel.{Kernel, IsSoundKernel}
+use Rattle.mpm_kernel.specs.Disk.{with_disk, IsOver}
 use Rattle.mpm_kernel.proofs.DiskLaws.{sound_turned, over_turned}
 use Rattle.mpm_kernel.proofs.kernel.Kernel.turn_disk.Goals as goal
 
-pub returns-clause-sound : goal.returns-clause-sound
-returns-clause-sound c =
+pub returns : goal.returns
+returns c =
     let before = the_view c.self.inside in
-    let P : DiskService → Type 0 = λ disk. IsSoundKernel (record before { disk = disk }) in
-    subst P (sym c.turn.ensures.service) (sound_turned before (subst IsSoundKernel (sym c.self.view_is) c.requires.sound))
-
-pub returns-clause-over : goal.returns-clause-over
-returns-clause-over c = λ p is.
-    let before = the_view c.self.inside in
-    let P : DiskService → Type 0 = λ disk. IsOver p (record before { disk = disk }) in
-    subst P (sym c.turn.ensures.service) (over_turned before p (subst IsSoundKernel (sym c.self.view_is) c.requires.sound) (sym c.turn.ensures.answer ∙ is))
+    let sound = subst IsSoundKernel (sym c.self.view_is) c.requires.sound in
+    let Sound : DiskService → Type 0 = λ disk. IsSoundKernel (record before { disk = disk }) in
+    let turns = c.turn.ensures.turns in
+    record {
+      kernel = ap (λ (disk : DiskService). record before { disk = disk }) turns.service ∙ ap (with_disk turned) c.self.view_is;
+      answer = turns.answer ∙ ap (λ (k : Kernel). turn_answer k.disk) c.self.view_is;
+      sound = subst Sound (sym turns.service) (sound_turned before sound);
+      after = turns.after;
+      over = λ p is. (
+          let Over : DiskService → Type 0 = λ disk. IsOver p (record before { disk = disk }) in
+          subst Over (sym turns.service) (over_turned before p sound (sym turns.answer ∙ is))
+          );
+      last = c.turn.ensures.last;
+    }

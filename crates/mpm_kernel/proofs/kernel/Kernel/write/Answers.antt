@@ -11,4 +11,4 @@ unfolding wrote
 returns-clause-sound c = λ sound.
     let before = the_view c.self.inside in
     let P : Consoles → Type 0 = λ units. IsSoundKernel (record before { units = units }) in
-    subst P (sym c.output.ensures.consoles) (sound_wrote before c.args.unit c.args.byte c.args.tabs (subst IsSoundKernel (sym c.self.view_is) sound))
+    subst P (sym c.output.ensures.yields.made) (sound_wrote before c.args.unit c.args.byte c.args.tabs (subst IsSoundKernel (sym c.self.view_is) sound))

@@ -1,27 +1,25 @@
-use Rattle.std.proofs.Common.{◌∙◌, ℕ, sym, ap, subst, refl, arith}
+use Rattle.std.proofs.Common.{◌∙◌, ℕ, sym, ap, subst, refl, arith, ◌+◌}
 use Rattle.mpm_bdos.specs.Serving.{Kept}
 use Rattle.mpm_system.specs.declared.system.System.{System}
 use Rattle.mpm_machine.specs.State.{State, IsAt, StandsWithDrives}
 use Rattle.mpm_machine.specs.After.{after, ShowsBefore}
 use Rattle.mpm_machine.specs.Mounting.{HasNoDrive}
 use Rattle.mpm_machine.specs.Failing.{StopsWithImages}
-use Rattle.mpm_machine.proofs.NextLaws.{after_more, ends_in_step, so_in_step}
+use Rattle.mpm_machine.proofs.NextLaws.{after_more, ends_in_step, so_in_step, turns_step, turns_fewer}
 use Rattle.mpm_machine.proofs.DriveLaws.{keeps_still}
 use Rattle.mpm_machine.proofs.PartsLaws.{keeps_since}
 use Rattle.mpm_machine.proofs.machine.Machine.advance.Goals as goal
 
 pub run_on-done-requires : goal.run_on-done-requires
 run_on-done-requires g c =
-    record { whole = c.requires.between.whole; no_completions = c.requires.between.no_completions; room = c.requires.room; holds = c.requires.between.holds }
+    record { between = c.requires.between; room = c.requires.room }
 
 pub step-requires : goal.step-requires
 step-requires g c =
     let went = c.run_on-done.ensures.went in
     record {
       most = omega (arith, c.requires.room, c.run_on-done.ensures.count, went.done, c.if-done-most.false);
-      whole = went.whole;
-      no_completions = went.no_completions;
-      holds = went.holds;
+      between = record { whole = went.whole; no_completions = went.no_completions; holds = went.holds };
     }
 
 -- nothing else was to be done
@@ -51,7 +49,8 @@ returns-then-done-most g c =
         drives = record { keeps = keeps_still _ _ _ _ (ap (λ (k : Kept). k.mounted) ran.bdos); names = refl; unsynced = λ number was. was };
         none = λ bare. record { sink = tt; drives = refl; bare = subst (λ (k : Kept). HasNoDrive k.mounted) (sym ran.bdos) bare };
       };
-      calls = λ turns. omega arith;
+      calls = λ s here. omega arith;
+      few = λ turns. omega arith;
       ends = record { trace = refl; cause = record { stays = refl; failed = tt } };
     }
 
@@ -89,7 +88,8 @@ returns g c =
         drives = record { keeps = keeps_since _ _ _ _ _ _ _ ran.bdos stepped.drives.keeps; names = stepped.drives.names; unsynced = stepped.drives.unsynced };
         none = λ bare. let none = stepped.none (bare_then bare) in record { sink = tt; drives = none.1; bare = none.2 };
       };
-      calls = λ turns. omega (arith, stepped.few (omega (arith, turns, ran.turn_steps)));
+      calls = λ s here. turns_step g.D.Drives.disks done c.run_on-done.new.self c.args.drives.now s _ _ (ran.model s here) stepped.calls;
+      few = λ turns. omega (arith, stepped.few (omega (arith, turns, ran.turn_steps)));
       ends = record { trace = stepped.ends.trace; cause = record { stays = stepped.ends.cause.stays; failed = tt } };
     }
 
@@ -124,6 +124,10 @@ returns-in-Err g c =
             let none = failed.none (subst (λ (k : Kept). HasNoDrive k.mounted) (sym ran.bdos) bare) in
             record { sink = none.0; drives = none.1; bare = none.2 };
       };
-      calls = λ turns. omega (arith, c.requires.some, failed.few (omega (arith, turns, ran.turn_steps)));
+      calls = λ s here.
+          let few = turns_step g.D.Drives.disks done c.run_on-done.new.self c.args.drives.now s _ _ (ran.model s here) failed.calls in
+          let all = turns_fewer (done + 1) c.args.most s (omega (arith, c.run_on-done.ensures.count, c.if-done-most.false)) in
+          omega (arith, few, all);
+      few = λ turns. omega (arith, c.requires.some, failed.few (omega (arith, turns, ran.turn_steps)));
       ends = record { trace = failed.ends.trace; cause = record { stays = tt; failed = failed.ends.cause.failed } };
     }

@@ -1,14 +1,14 @@
-use Rattle.std.proofs.Common.{◌∙◌, ℕ, Option, refl, sym, ap, arith}
+use Rattle.std.proofs.Common.{◌∙◌, refl, sym, ap, arith}
 use Rattle.mpm_output.specs.Outside.{seen}
 use Rattle.mpm_system.specs.declared.system.System.{System}
 use Rattle.mpm_system.specs.Coming.{counted}
 use Rattle.mpm_machine.specs.Faults.{itself}
-use Rattle.mpm_machine.specs.Stepping.{begun_alone, is_instruction}
+use Rattle.mpm_machine.specs.Stepping.{begun_alone}
 use Rattle.mpm_machine.proofs.WholeStepLaws.{whole_counted, whole_after_begun, whole_all_answered}
 use Rattle.mpm_machine.proofs.DueLaws.{no_completions_answered}
 use Rattle.mpm_machine.proofs.BegunLaws.{keeps_alone, holds_kept}
 use Rattle.mpm_machine.proofs.StepLaws.{alone_begun_to, alone_made, alone_instruction, alone_err, alone_still, alone_done, alone_failed}
-use Rattle.mpm_machine.proofs.PartsLaws.{uses_none, uses_as}
+use Rattle.mpm_machine.proofs.PartsLaws.{uses_none}
 use Rattle.mpm_machine.proofs.machine.Machine.begin_step.Goals as goal
 
 pub file_caller-requires : goal.file_caller-requires
@@ -22,54 +22,23 @@ begin_alone-requires g c = record { most = c.requires.may.most; whole = c.requir
 
 -- a process made a file call
 
-pub returns-in-Ok : goal.returns-in-Ok
-returns-in-Ok g c =
-    let done = c.in-Ok.ensures in
-    record {
-      ok = done.ok;
-      stops = λ files stands. tt;
-      instruction = sym (ap (λ (caller : Option ℕ). is_instruction caller c.args.self.now.system) (sym c.file_caller.ensures.caller ∙ c.in-Some.is));
-      begun = done.begun;
-      uses = uses_as itself _ done.uses (λ bare. tt);
-      rests = record {
-        idle = λ off. let idle = done.rests.idle off in record { sink = tt; drives = idle.drives; calls = idle.calls };
-        apart = λ some. let apart = done.rests.apart some in record { sink = tt; drives = apart.drives; calls = apart.calls };
-      };
-      calls = done.calls;
-      ends = record { trace = done.ends.trace; cause = record { stays = done.ends.cause.stays; failed = tt } };
-    }
-
-pub returns-in-Err : goal.returns-in-Err
-returns-in-Err g c =
-    let failed = c.in-Err.ensures in
-    record {
-      ok = λ files stands. tt;
-      stops = failed.stops;
-      instruction = tt;
-      begun = tt;
-      uses = uses_as itself _ failed.uses (λ bare. (failed.uses.none bare).sink);
-      rests = record {
-        idle = λ off. let idle = failed.rests.idle off in record { sink = idle.sink; drives = idle.drives; calls = idle.calls };
-        apart = λ some. let apart = failed.rests.apart some in record { sink = apart.sink; drives = apart.drives; calls = apart.calls };
-      };
-      calls = failed.calls;
-      ends = record { trace = failed.ends.trace; cause = record { stays = tt; failed = failed.ends.cause.failed } };
-    }
+pub returns-in-Some : goal.returns-in-Some
+returns-in-Some g c = c.begin_with_files.ensures
 
 -- nobody did
 
-pub returns-in-Ok-begin_alone : goal.returns-in-Ok-begin_alone
-returns-in-Ok-begin_alone g c =
+pub returns-in-Ok : goal.returns-in-Ok
+returns-in-Ok g c =
     let old = c.args.self.now.system in
     let new = c.begin_alone.new.system in
     let may = c.requires.may in
     let nobody = sym c.file_caller.ensures.caller ∙ c.in-None.is in
-    let alone = c.in-Ok-begin_alone.ensures in
+    let alone = c.in-Ok.ensures in
     let kept = keeps_alone old new may.whole may.holds.filed alone.system in
     record {
       ok = λ files stands. alone_begun_to files _ _ old new c.args.self.now.bdos (g.D.Drives.disks c.args.drives.now) nobody kept.serves alone.system alone.wrote.ok stands;
       stops = λ files stands. tt;
-      instruction = alone_instruction c.in-Ok-begin_alone.instruction old nobody alone.instruction;
+      instruction = alone_instruction c.in-Ok.instruction old nobody alone.instruction;
       begun = record {
         made = alone_made old new nobody alone.system;
         served = kept.serves.served;
@@ -79,21 +48,21 @@ returns-in-Ok-begin_alone g c =
         room = alone.room;
         holds = holds_kept g.D.Drives.disks old new c.args.self.now.bdos c.args.drives.now kept may.holds;
       };
-      uses = uses_none _ _ _ _ itself _ _ _ tt;
+      uses = uses_none _ itself _ _ _ tt;
       rests = record { idle = λ off. record { sink = tt; drives = refl; calls = refl }; apart = λ some. record { sink = tt; drives = refl; calls = refl } };
       calls = λ files stands. omega arith;
       ends = record {
         trace = alone.wrote.ok.trace;
-        cause = alone_done c.in-Ok-begin_alone.instruction (seen g.S.Sink.written g.S.Sink.faults c.args.render.now c.args.sink.now)
+        cause = alone_done c.in-Ok.instruction (seen g.S.Sink.written g.S.Sink.faults c.args.render.now c.args.sink.now)
             (seen g.S.Sink.written g.S.Sink.faults c.begin_alone.new.render c.begin_alone.new.sink) _ _ alone.wrote.ok;
       };
     }
 
-pub returns-in-Err-begin_alone : goal.returns-in-Err-begin_alone
-returns-in-Err-begin_alone g c =
+pub returns-in-Err : goal.returns-in-Err
+returns-in-Err g c =
     let old = c.args.self.now.system in
     let nobody = sym c.file_caller.ensures.caller ∙ c.in-None.is in
-    let stopped = c.in-Err-begin_alone.ensures.wrote.err in
+    let stopped = c.in-Err.ensures.wrote.err in
     record {
       ok = λ files stands. tt;
       stops = λ files stands. record {
@@ -103,7 +72,7 @@ returns-in-Err-begin_alone g c =
       };
       instruction = tt;
       begun = tt;
-      uses = uses_none _ _ _ _ itself _ _ _ refl;
+      uses = uses_none _ itself _ _ _ refl;
       rests = record { idle = λ off. record { sink = refl; drives = refl; calls = refl }; apart = λ some. record { sink = refl; drives = refl; calls = refl } };
       calls = λ files stands. omega arith;
       ends = record {

@@ -1,4 +1,4 @@
-use Rattle.std.proofs.Common.{◌∙◌, Some, ap, arith}
+use Rattle.std.proofs.Common.{◌∙◌, Some, ap, arith, ℕ, Option, sym}
 use Rattle.mpm_output.specs.Outside.{seen}
 use Rattle.mpm_system.specs.declared.system.System.{System}
 use Rattle.mpm_machine.specs.Faults.{itself}
@@ -10,6 +10,7 @@ use Rattle.mpm_machine.proofs.BegunLaws.{keeps_made, holds_kept, holds_answered}
 use Rattle.mpm_machine.proofs.WithFilesLaws.{lives_to_call, ready_to_call, made_so, made_completed, gate_stands, gate_whole, gate_serves, gate_begun_to, gate_made, gate_err, gate_still, gate_apart, gate_images, gate_calls, gate_idle}
 use Rattle.mpm_machine.proofs.PartsLaws.{uses_as}
 use Rattle.mpm_machine.proofs.machine.Machine.begin_with_files.Goals as goal
+use Rattle.mpm_machine.specs.Stepping.{is_instruction}
 
 pub make_file_call-requires : goal.make_file_call-requires
 make_file_call-requires g c = record {
@@ -76,6 +77,7 @@ returns-in-Ok g c =
           (seen g.S.Sink.written g.S.Sink.faults c.call_or_wait.new.render c.call_or_wait.new.sink) old made called.system new called.bdos
           (g.D.Drives.disks c.call_or_wait.new.drives) c.requires.caller is m is_ready filed done.made answers (done.ok files (gate_stands p old made kept disks files is stands));
       stops = λ files stands. tt;
+      instruction = sym (ap (λ (caller : Option ℕ). is_instruction caller old) c.requires.caller);
       begun = record {
         made = gate_made p old made called.system new c.requires.caller is done.made answers;
         served = serves.served;
@@ -92,7 +94,7 @@ returns-in-Ok g c =
         apart = λ some. let apart = done.rests.apart (gate_apart p old made is some) in record { sink = tt; drives = apart.drives; calls = apart.calls };
       };
       calls = λ files stands. gate_calls p old made kept disks files _ _ c.requires.caller is stands done.calls (λ some. (done.rests.apart some).calls);
-      ends = done.ends;
+      ends = record { trace = done.ends.trace; cause = record { stays = done.ends.cause.stays; failed = tt } };
     }
 
 -- where it stopped
@@ -117,12 +119,13 @@ returns-in-Err g c =
             images = gate_images fault p old made kept disks disks' c.call_or_wait.new.self.bdos.mounted files c.requires.caller is stands failed.images (λ some. (failed.rests.apart some).sink);
             stands = gate_still fault p old made c.call_or_wait.new.self.bdos disks' files c.requires.caller is (failed.stands files here);
           };
+      instruction = tt;
       begun = tt;
-      uses = failed.uses;
+      uses = uses_as itself _ failed.uses (λ bare. (failed.uses.none bare).sink);
       rests = record {
-        idle = λ off. failed.rests.idle (gate_idle p old made c.requires.caller is off);
-        apart = λ some. failed.rests.apart (gate_apart p old made is some);
+        idle = λ off. let idle = failed.rests.idle (gate_idle p old made c.requires.caller is off) in record { sink = idle.sink; drives = idle.drives; calls = idle.calls };
+        apart = λ some. let apart = failed.rests.apart (gate_apart p old made is some) in record { sink = apart.sink; drives = apart.drives; calls = apart.calls };
       };
       calls = λ files stands. gate_calls p old made kept disks files _ _ c.requires.caller is stands failed.calls (λ some. (failed.rests.apart some).calls);
-      ends = failed.ends;
+      ends = record { trace = failed.ends.trace; cause = record { stays = tt; failed = failed.ends.cause.failed } };
     }

@@ -5,13 +5,14 @@ use Rattle.mpm_system.proofs.OpeningLaws.{boots, opened_here}
 use Rattle.mpm_system.specs.Opening.{IsBare}
 use Rattle.mpm_machine.specs.declared.machine.Machine.{Machine}
 use Rattle.mpm_machine.specs.Holding.{HoldsDrives}
-use Rattle.mpm_machine.specs.Booting.{StandsOnDrives}
+use Rattle.mpm_machine.specs.Booting.{IsBootedOn}
 use Rattle.mpm_machine.specs.Mounting.{HasMounted, HasDrives}
 use Rattle.mpm_machine.proofs.MountedLaws.{holds_again}
 use Rattle.mpm_machine.proofs.FirstFiles.{opens_again}
 use Rattle.mpm_machine.proofs.SlotLaws.{has_residents, interprets_opened}
 use Rattle.mpm_machine.proofs.SpoolingAfter.{spools_at_first, prints_at_first}
 use Rattle.mpm_machine.proofs.machine.Machine.boot.Goals as goal
+use Rattle.mpm_machine.proofs.SchedulingLaws.{schedules_at_first}
 
 pub begin_residents-requires : goal.begin_residents-requires
 begin_residents-requires g c =
@@ -65,12 +66,20 @@ returns-clause-prints g c =
     (opened_here file c.args.script c.deref_mut.result.now.system c.begin_residents.new.self.system (ap (λ (m : Machine). m.system) c.deref_mut.ensures.value ∙ c.in-Ok.ensures.booted) c.begin_residents.ensures.system))
     c.begin_residents.ensures.whole c.begin_residents.ensures.no_completions (c.begin_residents.ensures.disk ∙ ap (λ (m : Machine). m.system.kernel.disk) c.deref_mut.ensures.value ∙ c.in-Ok.ensures.disk)
 
+pub returns-clause-schedules : goal.returns-clause-schedules
+returns-clause-schedules g c =
+    let bare = subst (λ (m : Machine). IsBare m.system) (sym c.deref_mut.ensures.value) c.in-Ok.ensures.bare in
+    let file = c.args.file.now in
+    schedules_at_first file.consoles file.spool file.sched c.begin_residents.new.self.system
+    (has_residents file c.args.script c.deref_mut.result.now.system c.begin_residents.new.self.system (ap (λ (m : Machine). m.system) c.deref_mut.ensures.value ∙ c.in-Ok.ensures.booted) bare.whole
+    (opened_here file c.args.script c.deref_mut.result.now.system c.begin_residents.new.self.system (ap (λ (m : Machine). m.system) c.deref_mut.ensures.value ∙ c.in-Ok.ensures.booted) c.begin_residents.ensures.system))
+
 pub returns-clause-disk : goal.returns-clause-disk
 returns-clause-disk g c = c.begin_residents.ensures.disk ∙ ap (λ (m : Machine). m.system.kernel.disk) c.deref_mut.ensures.value ∙ c.in-Ok.ensures.disk
 
 pub returns-clause-stands : goal.returns-clause-stands
 returns-clause-stands g c =
-    let stands = subst (λ (m : Machine). StandsOnDrives g.D.Drives.disks (g.D.Drives.told c.args.drives.now) (g.D.Drives.unsynced c.boot_bare.new.drives) c.args.file.now.drives m c.boot_bare.new.drives)
+    let stands = subst (λ (m : Machine). IsBootedOn g.D.Drives.disks (g.D.Drives.told c.args.drives.now) (g.D.Drives.unsynced c.boot_bare.new.drives) c.args.file.now.drives m c.boot_bare.new.drives)
     (sym c.deref_mut.ensures.value) c.in-Ok.ensures.stands in
     let disks = g.D.Drives.disks c.boot_bare.new.drives in
     let images = g.D.Drives.told c.args.drives.now in

@@ -49,7 +49,7 @@ returns-then-not-is_done_at_once g c =
       images = λ filing stands. tt;
       stands = λ files stands. tt;
       made = waits_made c.args.p old (record old { kernel = c.wait_for_disk.new.self }) waits made;
-      uses = uses_none _ _ _ _ itself _ _ _ tt;
+      uses = uses_none _ itself _ _ _ tt;
       holds = c.requires.may.holds;
       rests = record { idle = λ off. record { sink = tt; drives = refl; calls = refl }; apart = λ some. record { sink = tt; drives = refl; calls = refl } };
       calls = λ filing stands. omega arith;
@@ -92,7 +92,7 @@ returns-in-Ok g c =
           subst (λ (k : Kept). IfErr result (λ fault. OnWriteFault fault (StandsWorked old.kernel.disk k now (files_called p old files)))) (sym c.conclude.ensures.bdos)
           (once_still result p old kept kept' disks now files reply extended done apart called stands);
       made = once_made result (told_of (call_of old.kernel.dispatcher.procs p) reply extended) p old new done c.conclude.ensures.system;
-      uses = uses_kept _ _ _ _ itself _ _ _ _ _ result (ap (λ (k : Kept). k.mounted) c.conclude.ensures.bdos) (uses_as itself result files_done.uses (λ bare. sink));
+      uses = uses_kept _ itself _ _ _ _ _ result (ap (λ (k : Kept). k.mounted) c.conclude.ensures.bdos) (uses_as itself result files_done.uses (λ bare. sink));
       holds = subst (λ (k : Kept). HoldsKept g.D.Drives.disks old.kernel k c.call_files.new.drives) (sym c.conclude.ensures.bdos)
           (holds_filed g.D.Drives.disks old.kernel (function_of (call_of old.kernel.dispatcher.procs p).function) kept kept' c.args.drives.now c.call_files.new.drives c.requires.may.holds apart
           (λ none. (files_done.direct none).1) files_done.service files_done.uses.drives.keeps.labels files_done.fits);

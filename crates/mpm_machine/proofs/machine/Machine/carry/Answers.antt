@@ -2,7 +2,7 @@ use Rattle.std.proofs.Common.{◌∙◌, refl, sym, ap, arith}
 use Rattle.mpm_service.specs.Disk.{served_process}
 use Rattle.mpm_bdos.proofs.Fitting.{unsynced_same}
 use Rattle.mpm_machine.specs.Faults.{itself}
-use Rattle.mpm_machine.proofs.SettlingLaws.{nothing_carried, somebody_served, served_err}
+use Rattle.mpm_machine.proofs.SettlingLaws.{nothing_carried}
 use Rattle.mpm_machine.proofs.PartsLaws.{uses_none}
 use Rattle.mpm_machine.proofs.machine.Machine.carry.Goals as goal
 
@@ -12,20 +12,7 @@ carry_call-requires g c = record { between = c.requires.between; served = ap ser
 -- one is
 
 pub returns-in-Some : goal.returns-in-Some
-returns-in-Some g c =
-    let carried = c.carry_call.ensures in
-    let serves = ap served_process (sym c.disk.ensures) ∙ sym c.serving.ensures.served ∙ c.in-Some.is in
-    record {
-      ok = carried.ok;
-      err = carried.err;
-      whole = carried.whole;
-      serves = served_err c.carry_call.result c.args.self.now.system c.in-Some.p serves;
-      idle = λ none. somebody_served c.args.self.now.system c.in-Some.p _ serves none;
-      uses = carried.uses;
-      called = carried.called;
-      fits = carried.fits;
-      ends = carried.ends;
-    }
+returns-in-Some g c = c.carry_call.ensures
 
 -- none is
 
@@ -38,7 +25,7 @@ returns-in-None g c =
       whole = c.requires.between.whole;
       serves = tt;
       idle = λ none. refl;
-      uses = uses_none _ _ _ _ itself _ _ _ tt;
+      uses = uses_none _ itself _ _ _ tt;
       called = record { unsynced = unsynced_same _ _; calls = omega arith; idle = λ none. refl };
       fits = c.requires.between.holds.calls.fits;
       ends = record { trace = refl; cause = record { stays = refl; failed = tt } };

@@ -14,55 +14,58 @@ end_all-requires g c = record { whole = subst IsWhole (sym c.pay.ensures.system)
 
 -- the sink failed as the call was answered
 
-pub returns-in-Err-clause-err : goal.returns-in-Err-clause-err
-returns-in-Err-clause-err g c disks s before serves whose is =
-    carried_stopped_first _ _ disks c.args.self.now.bdos c.answer_call.new.self.bdos s c.args.p c.args.self.now.system before whose is serves c.answer_call.ensures.kept
-    (c.in-Err.ensures.err disks s serves whose)
+pub returns-in-Err : goal.returns-in-Err
+returns-in-Err g c = record {
+  ok = λ disks s before serves whose is. tt;
+  err = λ disks s before serves whose is.
+      carried_stopped_first _ _ disks c.args.self.now.bdos c.answer_call.new.self.bdos s c.args.p c.args.self.now.system before whose is serves c.answer_call.ensures.kept
+      (c.in-Err.ensures.err disks s serves whose);
+  whole = tt;
+  ends = c.in-Err.ensures.ends;
+  kept = c.answer_call.ensures.kept;
+}
 
 -- or as the records came out
 
-pub returns-in-Err-end_all-clause-err : goal.returns-in-Err-end_all-clause-err
-returns-in-Err-end_all-clause-err g c disks s before serves whose is =
-    let over = c.in_default.ensures.ok disks s serves whose in
-    let m = seen g.S.Sink.written g.S.Sink.faults c.answer_call.new.render c.answer_call.new.sink in
-    carried_stopped_last _ m _ disks c.args.self.now.bdos c.pay.new.self.bdos s c.args.p c.args.self.now.system before c.answer_call.new.self.system c.pay.new.self.system whose is serves
-    (ap (λ (k : Kept). k.mounted) c.pay.ensures.rest ∙ ap (λ (k : Kept). k.mounted) c.answer_call.ensures.kept) over.0 c.pay.ensures.system over.1 c.in-Err-end_all.ensures.wrote.err
-
-pub returns-in-Err-end_all-clause-ends : goal.returns-in-Err-end_all-clause-ends
-returns-in-Err-end_all-clause-ends g c = record {
-  trace = c.in-Err-end_all.ensures.wrote.err.trace ∙ c.answer_call.ensures.ends.trace;
-  cause = stopped_behind _ _ _ _ (seen g.S.Sink.written g.S.Sink.faults c.answer_call.new.render c.answer_call.new.sink)
-      (seen g.S.Sink.written g.S.Sink.faults c.end_all.new.render c.end_all.new.sink) _ c.in_default.ensures.ends.cause.stays c.in-Err-end_all.ensures.wrote.err;
+pub returns-in-Err-end_all : goal.returns-in-Err-end_all
+returns-in-Err-end_all g c = record {
+  ok = λ disks s before serves whose is. tt;
+  err = λ disks s before serves whose is.
+      let over = c.in_default.ensures.ok disks s serves whose in
+      let m = seen g.S.Sink.written g.S.Sink.faults c.answer_call.new.render c.answer_call.new.sink in
+      carried_stopped_last _ m _ disks c.args.self.now.bdos c.pay.new.self.bdos s c.args.p c.args.self.now.system before c.answer_call.new.self.system c.pay.new.self.system whose is serves
+      (ap (λ (k : Kept). k.mounted) c.pay.ensures.rest ∙ ap (λ (k : Kept). k.mounted) c.answer_call.ensures.kept) over.0 c.pay.ensures.system over.1 c.in-Err-end_all.ensures.wrote.err;
+  whole = tt;
+  ends =
+      record {
+        trace = c.in-Err-end_all.ensures.wrote.err.trace ∙ c.answer_call.ensures.ends.trace;
+        cause = stopped_behind _ _ _ _ (seen g.S.Sink.written g.S.Sink.faults c.answer_call.new.render c.answer_call.new.sink)
+            (seen g.S.Sink.written g.S.Sink.faults c.end_all.new.render c.end_all.new.sink) _ c.in_default.ensures.ends.cause.stays c.in-Err-end_all.ensures.wrote.err;
+      };
+  kept = keeps_paid c.args.self.now.bdos c.answer_call.new.self.bdos c.pay.new.self.bdos c.answer_call.ensures.kept c.pay.ensures.rest;
 }
-
-pub returns-in-Err-end_all-clause-kept : goal.returns-in-Err-end_all-clause-kept
-returns-in-Err-end_all-clause-kept g c =
-    keeps_paid c.args.self.now.bdos c.answer_call.new.self.bdos c.pay.new.self.bdos c.answer_call.ensures.kept c.pay.ensures.rest
 
 -- or all was written
 
-pub returns-clause-ok : goal.returns-clause-ok
-returns-clause-ok g c disks s before serves whose is =
-    let over = c.in_default.ensures.ok disks s serves whose in
-    let m = seen g.S.Sink.written g.S.Sink.faults c.answer_call.new.render c.answer_call.new.sink in
-    let first : Pays c.answer_call.new.self.system c.answer_call.new.self.bdos c.pay.new.self.bdos = record { rest = c.pay.ensures.rest; filing = c.pay.ensures.filing } in
-    let last : Pays c.end_all.new.system c.pay.new.self.bdos c.pay-2.new.self.bdos = record { rest = c.pay-2.ensures.rest; filing = c.pay-2.ensures.filing } in
-    carried_all _ m _ disks c.answer_call.new.self.bdos c.pay.new.self.bdos c.pay-2.new.self.bdos s c.args.p c.args.self.now.system before c.answer_call.new.self.system c.pay.new.self.system
-    c.end_all.new.system c.pay-2.new.self.system whose is over.0 c.pay.ensures.system c.in_default-end_all.ensures.system c.pay-2.ensures.system over.1 c.in_default-end_all.ensures.wrote.ok over.2
-    first last
-
-pub returns-clause-whole : goal.returns-clause-whole
-returns-clause-whole g c =
-    whole_at_end c.answer_call.new.self.system c.pay.new.self.system c.end_all.new.system c.pay-2.new.self.system c.in_default.ensures.whole c.pay.ensures.system
-    c.in_default-end_all.ensures.system c.pay-2.ensures.system
-
-pub returns-clause-ends : goal.returns-clause-ends
-returns-clause-ends g c =
-    let wrote = c.in_default-end_all.ensures.wrote.ok in
-    let faults : g.S.Sink.faults c.end_all.new.sink ≡ g.S.Sink.faults c.args.sink.now = ap (λ (f : DeviceFaults). f.sink) wrote.faults ∙ c.in_default.ensures.ends.cause.stays in
-    record { trace = wrote.trace ∙ c.answer_call.ensures.ends.trace; cause = record { later = omega (arith, faults); stays = faults; failed = tt } }
-
-pub returns-clause-kept : goal.returns-clause-kept
-returns-clause-kept g c =
-    let first = keeps_paid c.args.self.now.bdos c.answer_call.new.self.bdos c.pay.new.self.bdos c.answer_call.ensures.kept c.pay.ensures.rest in
-    keeps_paid c.args.self.now.bdos c.pay.new.self.bdos c.pay-2.new.self.bdos first c.pay-2.ensures.rest
+pub returns : goal.returns
+returns g c = record {
+  ok = λ disks s before serves whose is.
+      let over = c.in_default.ensures.ok disks s serves whose in
+      let m = seen g.S.Sink.written g.S.Sink.faults c.answer_call.new.render c.answer_call.new.sink in
+      let first : Pays c.answer_call.new.self.system c.answer_call.new.self.bdos c.pay.new.self.bdos = record { rest = c.pay.ensures.rest; filing = c.pay.ensures.filing } in
+      let last : Pays c.end_all.new.system c.pay.new.self.bdos c.pay-2.new.self.bdos = record { rest = c.pay-2.ensures.rest; filing = c.pay-2.ensures.filing } in
+      carried_all _ m _ disks c.answer_call.new.self.bdos c.pay.new.self.bdos c.pay-2.new.self.bdos s c.args.p c.args.self.now.system before c.answer_call.new.self.system c.pay.new.self.system
+      c.end_all.new.system c.pay-2.new.self.system whose is over.0 c.pay.ensures.system c.in_default-end_all.ensures.system c.pay-2.ensures.system over.1 c.in_default-end_all.ensures.wrote.ok over.2
+      first last;
+  err = λ disks s before serves whose is. tt;
+  whole =
+      whole_at_end c.answer_call.new.self.system c.pay.new.self.system c.end_all.new.system c.pay-2.new.self.system c.in_default.ensures.whole c.pay.ensures.system
+      c.in_default-end_all.ensures.system c.pay-2.ensures.system;
+  ends =
+      let wrote = c.in_default-end_all.ensures.wrote.ok in
+      let faults : g.S.Sink.faults c.end_all.new.sink ≡ g.S.Sink.faults c.args.sink.now = ap (λ (f : DeviceFaults). f.sink) wrote.faults ∙ c.in_default.ensures.ends.cause.stays in
+      record { trace = wrote.trace ∙ c.answer_call.ensures.ends.trace; cause = record { later = omega (arith, faults); stays = faults; failed = tt } };
+  kept =
+      let first = keeps_paid c.args.self.now.bdos c.answer_call.new.self.bdos c.pay.new.self.bdos c.answer_call.ensures.kept c.pay.ensures.rest in
+      keeps_paid c.args.self.now.bdos c.pay.new.self.bdos c.pay-2.new.self.bdos first c.pay-2.ensures.rest;
+}

@@ -12,30 +12,36 @@ pub end_all-requires : goal.end_all-requires
 end_all-requires g c = record { whole = c.in_default.ensures.may.whole }
 
 -- the sink failed in the disk's step
-pub returns-in-Err-clause-err : goal.returns-in-Err-clause-err
-returns-in-Err-clause-err g c disks files stands = serving_stopped c.args.instruction files _ _ c.args.self.now.system (c.in-Err.ensures.err disks files stands)
-
-pub returns-in-Err-clause-stands : goal.returns-in-Err-clause-stands
-returns-in-Err-clause-stands g c disks files stands =
-    rest_images c.args.instruction c.args.self.now.system c.args.self.now.bdos c.serve_disk.new.self.bdos disks files c.serve_disk.ensures.leaves.kept stands
+pub returns-in-Err : goal.returns-in-Err
+returns-in-Err g c = record {
+  ok = λ disks files stands. tt;
+  err = λ disks files stands. serving_stopped c.args.instruction files _ _ c.args.self.now.system (c.in-Err.ensures.err disks files stands);
+  stands = λ disks files stands. rest_images c.args.instruction c.args.self.now.system c.args.self.now.bdos c.serve_disk.new.self.bdos disks files c.serve_disk.ensures.leaves.kept stands;
+  made = tt;
+  ended = tt;
+  leaves = c.serve_disk.ensures.leaves;
+  ends = c.in-Err.ensures.ends;
+}
 
 -- or after it
 
-pub returns-in-Err-end_all-clause-err : goal.returns-in-Err-end_all-clause-err
-returns-in-Err-end_all-clause-err g c disks files stands =
-    let m = seen g.S.Sink.written g.S.Sink.faults c.serve_disk.new.render c.serve_disk.new.sink in
-    ending_stopped c.args.instruction files _ m _ c.args.self.now.system c.serve_disk.new.self.system c.serve_disk.new.self.bdos disks (c.in_default.ensures.ok disks files stands)
-    c.in-Err-end_all.ensures.wrote.err
-
-pub returns-in-Err-end_all-clause-stands : goal.returns-in-Err-end_all-clause-stands
-returns-in-Err-end_all-clause-stands g c disks files stands =
-    rest_images c.args.instruction c.args.self.now.system c.args.self.now.bdos c.serve_disk.new.self.bdos disks files c.serve_disk.ensures.leaves.kept stands
-
-pub returns-in-Err-end_all-clause-ends : goal.returns-in-Err-end_all-clause-ends
-returns-in-Err-end_all-clause-ends g c = record {
-  trace = c.in-Err-end_all.ensures.wrote.err.trace ∙ c.serve_disk.ensures.ends.trace;
-  cause = stopped_behind _ _ _ _ (seen g.S.Sink.written g.S.Sink.faults c.serve_disk.new.render c.serve_disk.new.sink)
-      (seen g.S.Sink.written g.S.Sink.faults c.end_all.new.render c.end_all.new.sink) _ c.in_default.ensures.ends.cause.stays c.in-Err-end_all.ensures.wrote.err;
+pub returns-in-Err-end_all : goal.returns-in-Err-end_all
+returns-in-Err-end_all g c = record {
+  ok = λ disks files stands. tt;
+  err = λ disks files stands.
+      let m = seen g.S.Sink.written g.S.Sink.faults c.serve_disk.new.render c.serve_disk.new.sink in
+      ending_stopped c.args.instruction files _ m _ c.args.self.now.system c.serve_disk.new.self.system c.serve_disk.new.self.bdos disks (c.in_default.ensures.ok disks files stands)
+      c.in-Err-end_all.ensures.wrote.err;
+  stands = λ disks files stands. rest_images c.args.instruction c.args.self.now.system c.args.self.now.bdos c.serve_disk.new.self.bdos disks files c.serve_disk.ensures.leaves.kept stands;
+  made = tt;
+  ended = tt;
+  leaves = c.serve_disk.ensures.leaves;
+  ends =
+      record {
+        trace = c.in-Err-end_all.ensures.wrote.err.trace ∙ c.serve_disk.ensures.ends.trace;
+        cause = stopped_behind _ _ _ _ (seen g.S.Sink.written g.S.Sink.faults c.serve_disk.new.render c.serve_disk.new.sink)
+            (seen g.S.Sink.written g.S.Sink.faults c.end_all.new.render c.end_all.new.sink) _ c.in_default.ensures.ends.cause.stays c.in-Err-end_all.ensures.wrote.err;
+      };
 }
 
 -- all was written

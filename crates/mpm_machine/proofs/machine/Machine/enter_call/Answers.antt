@@ -5,22 +5,23 @@ use Rattle.mpm_machine.proofs.EnterLaws.{starts_whole, starts_lives, starts_file
 use Rattle.mpm_machine.proofs.machine.Machine.enter_call.Goals as goal
 
 -- a call is in service
-pub returns-then-is_some-clause-ok : goal.returns-then-is_some-clause-ok
-returns-then-is_some-clause-ok c disks files stands =
-    let old = c.args.self.now.system in
-    goes_on old c.args.self.now.bdos disks files
-    (served_by_some old.kernel.disk c.serving.result c.is_some.result (c.serving.ensures.served ∙ ap served_process c.disk.ensures) c.is_some.ensures c.if-is_some.true) stands
-
-pub returns-then-is_some-clause-made : goal.returns-then-is_some-clause-made
-returns-then-is_some-clause-made c =
-    let old = c.args.self.now.system in
-    still_made old (served_by_some old.kernel.disk c.serving.result c.is_some.result (c.serving.ensures.served ∙ ap served_process c.disk.ensures) c.is_some.ensures c.if-is_some.true)
-
-pub returns-then-is_some-clause-begun : goal.returns-then-is_some-clause-begun
-returns-then-is_some-clause-begun c = c.requires.calls.begun
-
-pub returns-then-is_some-clause-own : goal.returns-then-is_some-clause-own
-returns-then-is_some-clause-own c = c.requires.calls.own
+pub returns-then-is_some : goal.returns-then-is_some
+returns-then-is_some c = record {
+  ok = λ disks files stands.
+      let old = c.args.self.now.system in
+      goes_on old c.args.self.now.bdos disks files
+      (served_by_some old.kernel.disk c.serving.result c.is_some.result (c.serving.ensures.served ∙ ap served_process c.disk.ensures) c.is_some.ensures c.if-is_some.true) stands;
+  served = λ some. refl;
+  made =
+      let old = c.args.self.now.system in
+      still_made old (served_by_some old.kernel.disk c.serving.result c.is_some.result (c.serving.ensures.served ∙ ap served_process c.disk.ensures) c.is_some.ensures c.if-is_some.true);
+  whole = c.requires.whole;
+  begun = c.requires.calls.begun;
+  own = c.requires.calls.own;
+  kept = refl;
+  workless = λ bare less. less;
+  reply = refl;
+}
 
 pub turn_disk-requires : goal.turn_disk-requires
 turn_disk-requires c = record { sound = c.requires.whole.sound; begun = c.requires.calls.begun }
@@ -47,12 +48,7 @@ returns-in-Starts c =
     let none = unserved_by_some old.kernel.disk c.serving.result c.is_some.result (c.serving.ensures.served ∙ ap served_process c.disk.ensures) c.is_some.ensures c.if-is_some.false in
     let begins =
     begins_so p turns old c.turn_disk.new.self c.args.self.now.bdos new c.turn_disk.ensures.kernel
-    (record {
-      turns_are = c.start_call-turns.ensures.turns;
-      serves = c.start_call-turns.ensures.serves;
-      entered = c.start_call-turns.ensures.entered;
-      some = c.start_call-turns.ensures.some;
-    }) in
+    c.start_call-turns.ensures.starts in
     let is = begun_is turns old c.turn_disk.new.self c.begin_disk_call.new.self c.turn_disk.ensures.kernel c.begin_disk_call.ensures.kernel in
     let made = entered_made old _ p turns is starts none in
     record {

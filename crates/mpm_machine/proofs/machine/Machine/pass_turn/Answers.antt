@@ -19,22 +19,20 @@ use Rattle.mpm_machine.proofs.PartsLaws.{may_end, ends_still}
 use Rattle.mpm_machine.proofs.machine.Machine.pass_turn.Goals as goal
 
 -- nobody is served
-pub returns-then-is_none-clause-ok : goal.returns-then-is_none-clause-ok
-returns-then-is_none-clause-ok g c disks files stands =
-    let old = c.args.self.now.system in
-    let none = (nobody_served old.kernel.disk c.serving.result c.is_none.result (c.serving.ensures.served ∙ ap served_process c.disk.ensures) c.is_none.ensures c.if-is_none.true) in
-    nothing_passes files _ old c.args.self.now.bdos disks none stands
-
-pub returns-then-is_none-clause-made : goal.returns-then-is_none-clause-made
-returns-then-is_none-clause-made g c =
-    let old = c.args.self.now.system in
-    none_made old (nobody_served old.kernel.disk c.serving.result c.is_none.result (c.serving.ensures.served ∙ ap served_process c.disk.ensures) c.is_none.ensures c.if-is_none.true)
-
-pub returns-then-is_none-clause-leaves : goal.returns-then-is_none-clause-leaves
-returns-then-is_none-clause-leaves g c = record { kept = refl; workless = λ none less. less }
-
-pub returns-then-is_none-clause-ends : goal.returns-then-is_none-clause-ends
-returns-then-is_none-clause-ends g c = ends_still _ _ _
+pub returns-then-is_none : goal.returns-then-is_none
+returns-then-is_none g c = record {
+  ok = λ disks files stands.
+      let old = c.args.self.now.system in
+      let none = (nobody_served old.kernel.disk c.serving.result c.is_none.result (c.serving.ensures.served ∙ ap served_process c.disk.ensures) c.is_none.ensures c.if-is_none.true) in
+      nothing_passes files _ old c.args.self.now.bdos disks none stands;
+  err = λ disks files stands. tt;
+  made =
+      let old = c.args.self.now.system in
+      none_made old (nobody_served old.kernel.disk c.serving.result c.is_none.result (c.serving.ensures.served ∙ ap served_process c.disk.ensures) c.is_none.ensures c.if-is_none.true);
+  may = record { whole = c.requires.whole; completed = c.requires.completed; calls = c.requires.calls };
+  leaves = record { kept = refl; workless = λ none less. less };
+  ends = ends_still _ _ _;
+}
 
 pub turn_disk-requires : goal.turn_disk-requires
 turn_disk-requires g c = record { sound = c.requires.whole.sound; begun = c.requires.calls.begun }
@@ -48,91 +46,85 @@ answer_call-requires g c = record {
   room = c.requires.room;
 }
 
-pub returns-then-last-clause-ok : goal.returns-then-last-clause-ok
-returns-then-last-clause-ok g c disks files stands =
-    let old = c.args.self.now.system in
-    let works = works_last old.kernel.disk c.turn_disk.result c.in-Work.p c.in-Work.last c.turn_disk.ensures.answer c.in-Work.is c.if-last.true in
-    let p = c.in-Work.p in
-    let o = seen g.S.Sink.written g.S.Sink.faults c.args.render.now c.args.sink.now in
-    let n = seen g.S.Sink.written g.S.Sink.faults c.answer_call.new.render c.answer_call.new.sink in
-    let new = c.answer_call.new.self in
-    pass_over c.answer_call.result files p o n old new.system c.args.self.now.bdos new.bdos disks works (none_behind old.kernel.disk p works) stands
-    (λ s serves whose. subst (λ (passed : System). OnOk c.answer_call.result ((new.system ≡ (call_over (told_of_call s p passed) p passed).system)
-    × CameOut o n (call_over (told_of_call s p passed) p passed).emitted × StandsBetween new.bdos disks (file_call s).filing))
-    (passed_is old c.turn_disk.new.self c.turn_disk.ensures.kernel) (c.answer_call.ensures.ok disks s serves whose))
-
-pub returns-then-last-clause-err : goal.returns-then-last-clause-err
-returns-then-last-clause-err g c disks files stands =
-    let old = c.args.self.now.system in
-    let works = works_last old.kernel.disk c.turn_disk.result c.in-Work.p c.in-Work.last c.turn_disk.ensures.answer c.in-Work.is c.if-last.true in
-    let p = c.in-Work.p in
-    let o = seen g.S.Sink.written g.S.Sink.faults c.args.render.now c.args.sink.now in
-    let n = seen g.S.Sink.written g.S.Sink.faults c.answer_call.new.render c.answer_call.new.sink in
-    pass_stops c.answer_call.result files p o n old c.args.self.now.bdos disks works stands
-    (λ s serves whose. subst (λ (passed : System). OnErr c.answer_call.result (Stopped o n (call_over (told_of_call s p passed) p passed).emitted))
-    (passed_is old c.turn_disk.new.self c.turn_disk.ensures.kernel) (c.answer_call.ensures.err disks s serves whose))
-
-pub returns-then-last-clause-made : goal.returns-then-last-clause-made
-returns-then-last-clause-made g c =
+pub returns-then-last : goal.returns-then-last
+returns-then-last g c =
+    let made =
     let old = c.args.self.now.system in
     let works = works_last old.kernel.disk c.turn_disk.result c.in-Work.p c.in-Work.last c.turn_disk.ensures.answer c.in-Work.is c.if-last.true in
     over_made c.answer_call.result c.in-Work.p old c.answer_call.new.self.system works
     (subst (λ (passed : System). OnOk c.answer_call.result (IsOverFrom c.in-Work.p passed c.answer_call.new.self.system))
-    (passed_is old c.turn_disk.new.self c.turn_disk.ensures.kernel) c.answer_call.ensures.made)
-
-pub returns-then-last-clause-may : goal.returns-then-last-clause-may
-returns-then-last-clause-may g c =
-    let old = c.args.self.now.system in
-    let works = works_last old.kernel.disk c.turn_disk.result c.in-Work.p c.in-Work.last c.turn_disk.ensures.answer c.in-Work.is c.if-last.true in
-    let new = c.answer_call.new.self in
-    let result = c.answer_call.result in
-    let nobody =
-    nobody_behind result c.in-Work.p old new.system works
-    (subst (λ (passed : System). OnOk result (IsOverFrom c.in-Work.p passed new.system)) (passed_is old c.turn_disk.new.self c.turn_disk.ensures.kernel) c.answer_call.ensures.made) in
-    may_end result new c.answer_call.ensures.whole c.answer_call.ensures.completed
-    (filed_if_passed result old new.system c.requires.whole c.requires.calls.filed (returns-then-last-clause-made g c))
-    (none_holds result (λ (call : Served). IsOwnCall new.system.kernel.dispatcher.procs call.p new.bdos.service) new.system.kernel.disk nobody)
-    (none_holds result (λ (call : Served). 0 < call.left) new.system.kernel.disk nobody)
-
-pub returns-then-last-clause-leaves : goal.returns-then-last-clause-leaves
-returns-then-last-clause-leaves g c = record { kept = c.answer_call.ensures.kept; workless = λ none less. ap has_work c.answer_call.ensures.idle }
+    (passed_is old c.turn_disk.new.self c.turn_disk.ensures.kernel) c.answer_call.ensures.made) in
+    record {
+      ok = λ disks files stands.
+          let old = c.args.self.now.system in
+          let works = works_last old.kernel.disk c.turn_disk.result c.in-Work.p c.in-Work.last c.turn_disk.ensures.answer c.in-Work.is c.if-last.true in
+          let p = c.in-Work.p in
+          let o = seen g.S.Sink.written g.S.Sink.faults c.args.render.now c.args.sink.now in
+          let n = seen g.S.Sink.written g.S.Sink.faults c.answer_call.new.render c.answer_call.new.sink in
+          let new = c.answer_call.new.self in
+          pass_over c.answer_call.result files p o n old new.system c.args.self.now.bdos new.bdos disks works (none_behind old.kernel.disk p works) stands
+          (λ s serves whose. subst (λ (passed : System). OnOk c.answer_call.result ((new.system ≡ (call_over (told_of_call s p passed) p passed).system)
+          × CameOut o n (call_over (told_of_call s p passed) p passed).emitted × StandsBetween new.bdos disks (file_call s).filing))
+          (passed_is old c.turn_disk.new.self c.turn_disk.ensures.kernel) (c.answer_call.ensures.ok disks s serves whose));
+      err = λ disks files stands.
+          let old = c.args.self.now.system in
+          let works = works_last old.kernel.disk c.turn_disk.result c.in-Work.p c.in-Work.last c.turn_disk.ensures.answer c.in-Work.is c.if-last.true in
+          let p = c.in-Work.p in
+          let o = seen g.S.Sink.written g.S.Sink.faults c.args.render.now c.args.sink.now in
+          let n = seen g.S.Sink.written g.S.Sink.faults c.answer_call.new.render c.answer_call.new.sink in
+          pass_stops c.answer_call.result files p o n old c.args.self.now.bdos disks works stands
+          (λ s serves whose. subst (λ (passed : System). OnErr c.answer_call.result (Stopped o n (call_over (told_of_call s p passed) p passed).emitted))
+          (passed_is old c.turn_disk.new.self c.turn_disk.ensures.kernel) (c.answer_call.ensures.err disks s serves whose));
+      made = made;
+      may =
+          let old = c.args.self.now.system in
+          let works = works_last old.kernel.disk c.turn_disk.result c.in-Work.p c.in-Work.last c.turn_disk.ensures.answer c.in-Work.is c.if-last.true in
+          let new = c.answer_call.new.self in
+          let result = c.answer_call.result in
+          let nobody =
+          nobody_behind result c.in-Work.p old new.system works
+          (subst (λ (passed : System). OnOk result (IsOverFrom c.in-Work.p passed new.system)) (passed_is old c.turn_disk.new.self c.turn_disk.ensures.kernel) c.answer_call.ensures.made) in
+          may_end result new c.answer_call.ensures.whole c.answer_call.ensures.completed
+          (filed_if_passed result old new.system c.requires.whole c.requires.calls.filed made)
+          (none_holds result (λ (call : Served). IsOwnCall new.system.kernel.dispatcher.procs call.p new.bdos.service) new.system.kernel.disk nobody)
+          (none_holds result (λ (call : Served). 0 < call.left) new.system.kernel.disk nobody);
+      leaves = record { kept = c.answer_call.ensures.kept; workless = λ none less. ap has_work c.answer_call.ensures.idle };
+      ends = c.answer_call.ensures.ends;
+    }
 
 -- it isn't the last
 
-pub returns-else-last-clause-ok : goal.returns-else-last-clause-ok
-returns-else-last-clause-ok g c disks files stands =
+pub returns-else-last : goal.returns-else-last
+returns-else-last g c =
+    let made =
     let old = c.args.self.now.system in
     let some = somebody_served old.kernel.disk c.serving.result c.is_none.result (c.serving.ensures.served ∙ ap served_process c.disk.ensures) c.is_none.ensures c.if-is_none.false in
     let more = works_on old.kernel.disk c.turn_disk.result c.in-Work.p c.in-Work.last c.turn_disk.ensures.answer c.in-Work.is c.if-last.false in
-    passes_so files _ old c.turn_disk.new.self c.args.self.now.bdos disks c.turn_disk.ensures.kernel some more stands
-
-pub returns-else-last-clause-made : goal.returns-else-last-clause-made
-returns-else-last-clause-made g c =
-    let old = c.args.self.now.system in
-    let some = somebody_served old.kernel.disk c.serving.result c.is_none.result (c.serving.ensures.served ∙ ap served_process c.disk.ensures) c.is_none.ensures c.if-is_none.false in
-    let more = works_on old.kernel.disk c.turn_disk.result c.in-Work.p c.in-Work.last c.turn_disk.ensures.answer c.in-Work.is c.if-last.false in
-    passed_made old c.turn_disk.new.self c.turn_disk.ensures.kernel some more
-
-pub returns-else-last-clause-may : goal.returns-else-last-clause-may
-returns-else-last-clause-may g c =
-    let old = c.args.self.now.system in
-    let some = somebody_served old.kernel.disk c.serving.result c.is_none.result (c.serving.ensures.served ∙ ap served_process c.disk.ensures) c.is_none.ensures c.if-is_none.false in
-    let may = c.requires in
+    passed_made old c.turn_disk.new.self c.turn_disk.ensures.kernel some more in
     record {
-      whole = subst IsWhole (sym (passed_is old c.turn_disk.new.self c.turn_disk.ensures.kernel)) (whole_passed old may.whole);
-      completed = ap (λ (k : Kernel). k.dispatcher.completed) c.turn_disk.ensures.kernel ∙ may.completed;
-      calls = record {
-        filed = passed_filed old _ may.whole may.calls.filed (returns-else-last-clause-made g c);
-        own = own_so old.kernel c.turn_disk.new.self c.args.self.now.bdos.service c.turn_disk.ensures.kernel some may.calls.own;
-        begun = begun_so old.kernel.disk c.turn_disk.new.self.disk c.turn_disk.result some c.turn_disk.ensures.answer c.turn_disk.ensures.after;
-      };
+      ok = λ disks files stands.
+          let old = c.args.self.now.system in
+          let some = somebody_served old.kernel.disk c.serving.result c.is_none.result (c.serving.ensures.served ∙ ap served_process c.disk.ensures) c.is_none.ensures c.if-is_none.false in
+          let more = works_on old.kernel.disk c.turn_disk.result c.in-Work.p c.in-Work.last c.turn_disk.ensures.answer c.in-Work.is c.if-last.false in
+          passes_so files _ old c.turn_disk.new.self c.args.self.now.bdos disks c.turn_disk.ensures.kernel some more stands;
+      err = λ disks files stands. tt;
+      made = made;
+      may =
+          let old = c.args.self.now.system in
+          let some = somebody_served old.kernel.disk c.serving.result c.is_none.result (c.serving.ensures.served ∙ ap served_process c.disk.ensures) c.is_none.ensures c.if-is_none.false in
+          let may = c.requires in
+          record {
+            whole = subst IsWhole (sym (passed_is old c.turn_disk.new.self c.turn_disk.ensures.kernel)) (whole_passed old may.whole);
+            completed = ap (λ (k : Kernel). k.dispatcher.completed) c.turn_disk.ensures.kernel ∙ may.completed;
+            calls = record {
+              filed = passed_filed old _ may.whole may.calls.filed made;
+              own = own_so old.kernel c.turn_disk.new.self c.args.self.now.bdos.service c.turn_disk.ensures.kernel some may.calls.own;
+              begun = begun_so old.kernel.disk c.turn_disk.new.self.disk c.turn_disk.result some c.turn_disk.ensures.answer c.turn_disk.ensures.after;
+            };
+          };
+      leaves = record { kept = refl; workless = λ none less. less };
+      ends = ends_still _ _ _;
     }
-
-pub returns-else-last-clause-leaves : goal.returns-else-last-clause-leaves
-returns-else-last-clause-leaves g c = record { kept = refl; workless = λ none less. less }
-
-pub returns-else-last-clause-ends : goal.returns-else-last-clause-ends
-returns-else-last-clause-ends g c = ends_still _ _ _
 
 pub returns-in_default : goal.returns-in_default
 returns-in_default g c =

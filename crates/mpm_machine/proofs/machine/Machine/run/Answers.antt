@@ -1,11 +1,12 @@
-use Rattle.std.proofs.Common.{◌≡◌, ◌∙◌, ◌+◌, ◌-◌, ℕ, sym, subst, refl, arith, Bool}
+use Rattle.std.proofs.Common.{◌≡◌, ◌∙◌, ◌+◌, ◌-◌, ℕ, sym, subst, refl, arith, Bool, ◌≤◌, ◌*◌}
 use Rattle.mpm_machine.specs.State.{State, IsAt, StandsWithDrives}
 use Rattle.mpm_machine.specs.Failing.{StopsWithImages}
 use Rattle.mpm_machine.specs.Faults.{FailureCounts, counts, HasFailed}
 use Rattle.mpm_machine.specs.After.{after, EndsInStep, ShowsBefore}
-use Rattle.mpm_machine.proofs.NextLaws.{after_nothing, after_both, ends_later, step_in_run, so_later}
+use Rattle.mpm_machine.proofs.NextLaws.{after_nothing, after_both, ends_later, step_in_run, so_later, turns_both}
 use Rattle.mpm_machine.proofs.DriveLaws.{keeps_still, keeps_both}
 use Rattle.mpm_machine.proofs.machine.Machine.run.Goals as goal
+use Rattle.mpm_machine.specs.OneStep.{turns_in}
 
 pub loop-left-init : goal.loop-left-init
 loop-left-init g c = record {
@@ -18,18 +19,19 @@ loop-left-init g c = record {
   interprets = λ i. i;
   due = λ some. absurd (omega (arith, some));
   few = omega arith;
-  whole = c.requires.whole;
-  no_completions = c.requires.no_completions;
+  whole = c.requires.between.whole;
+  no_completions = c.requires.between.no_completions;
   steps = omega arith;
   faults = refl;
   trace = refl;
-  holds = c.requires.holds;
+  holds = c.requires.between.holds;
   names = refl;
   keeps = keeps_still _ _ _ _ refl;
   bare = λ none. none;
   still = λ zero. refl;
   none = λ none. refl;
-  calls = λ turns. omega arith;
+  calls = λ s here. omega arith;
+  few_calls = λ turns. omega arith;
   turn_steps = refl;
   unsynced = λ number was. was;
 }
@@ -70,7 +72,8 @@ loop-left-preserved g c =
       bare = λ none. (done.uses.none (so_far.bare none)).bare;
       still = λ zero. absurd (omega (arith, zero, done.advanced.some));
       none = λ none. (done.uses.none (so_far.bare none)).drives ∙ so_far.none none;
-      calls = λ turns. omega (arith, so_far.calls turns, done.calls (omega (arith, turns, so_far.turn_steps)));
+      calls = λ s here. omega (arith, so_far.calls s here, done.calls (after so_far.done s) (so_far.model s here), turns_both so_far.done c.in-Ok.more s);
+      few_calls = λ turns. omega (arith, so_far.few_calls turns, done.few (omega (arith, turns, so_far.turn_steps)));
       turn_steps = leaves.turn_steps ∙ so_far.turn_steps;
       unsynced = λ number was. done.uses.drives.unsynced number (so_far.unsynced number was);
     }
@@ -99,7 +102,7 @@ returns-in-Err g c =
             shown = so_later (λ t. ShowsBefore fault c.advance.new.render written t first) s done step stops.text.later stops.shown;
             images = so_later (StopsWithImages fault disks c.advance.new.self.bdos.mounted) s done step stops.text.later stops.images;
           };
-      each = λ s is k below. step_in_run k s c.args.self.now.system is c.requires.whole c.requires.no_completions;
+      each = λ s is k below. step_in_run k s c.args.self.now.system is c.requires.between.whole c.requires.between.no_completions;
       leaves = tt;
       ends = record {
         trace = c.in-Err.ensures.ends.trace ∙ so_far.trace;
@@ -116,7 +119,11 @@ returns-in-Err g c =
       holds = tt;
       still = λ zero. absurd (omega (arith, zero, c.loop-left.invariant.is, c.loop-left-test.true));
       none = λ none. let bare = c.in-Err.ensures.uses.none (so_far.bare none) in (bare.sink, bare.drives ∙ so_far.none none, bare.bare);
-      few = λ turns. omega (arith, so_far.calls turns, so_far.is, c.in-Err.ensures.calls (omega (arith, turns, so_far.turn_steps)));
+      calls = λ s here.
+          let few = c.in-Err.ensures.calls (after done s) (so_far.model s here) in
+          let all = turns_both done c.loop-left.left s in
+          subst (λ (n : ℕ). c.advance.new.calls ≤ c.args.calls.now + 20 * turns_in n s) so_far.is (omega (arith, so_far.calls s here, few, all));
+      few = λ turns. omega (arith, so_far.few_calls turns, so_far.is, c.in-Err.ensures.few (omega (arith, turns, so_far.turn_steps)));
     }
 
 -- all were done
@@ -134,7 +141,7 @@ returns g c =
           let P : ℕ → Type 0 = λ k. IsAt c.loop-left.self (g.D.Drives.disks c.loop-left.drives) (after k s) in
           subst P all (so_far.model s here);
       stops = λ s first stands. tt;
-      each = λ s is k below. step_in_run k s c.args.self.now.system is c.requires.whole c.requires.no_completions;
+      each = λ s is k below. step_in_run k s c.args.self.now.system is c.requires.between.whole c.requires.between.no_completions;
       leaves = record {
         count = omega (arith, so_far.steps, all);
         whole = so_far.whole;
@@ -149,5 +156,6 @@ returns g c =
       holds = so_far.holds;
       still = λ zero. so_far.still (omega (arith, zero, so_far.few));
       none = λ none. (tt, so_far.none none, so_far.bare none);
-      few = λ turns. omega (arith, so_far.calls turns, so_far.few);
+      calls = λ s here. subst (λ (n : ℕ). c.loop-left.calls ≤ c.args.calls.now + 20 * turns_in n s) all (so_far.calls s here);
+      few = λ turns. omega (arith, so_far.few_calls turns, so_far.few);
     }

@@ -8,6 +8,7 @@ use Rattle.mpm_machine.specs.Mounting.{HasNoDrive, KeepsMounted}
 use Rattle.mpm_machine.specs.Faults.{counts}
 use Rattle.mpm_machine.specs.After.{after}
 use Rattle.mpm_machine.proofs.machine.Machine.run.Given as goal
+use Rattle.mpm_machine.specs.OneStep.{turns_in}
 
 abbrev pub invariant-loop-left : goal.invariant-loop-left
 invariant-loop-left g l = record {
@@ -31,7 +32,8 @@ invariant-loop-left g l = record {
   bare : HasNoDrive l.initial.self.bdos.mounted → HasNoDrive l.self.bdos.mounted;
   still : done ≡ 0 → l.drives ≡ l.initial.drives;
   none : HasNoDrive l.initial.self.bdos.mounted → l.drives ≡ l.initial.drives;
-  calls : 0 < l.initial.self.system.kernel.disk.turn_steps → l.steps ≤ l.initial.steps + 20 * done;
+  calls : (s : State) → IsAt l.initial.self (g.D.Drives.disks l.initial.drives) s → l.calls ≤ l.initial.calls + 20 * turns_in done s;
+  few_calls : 0 < l.initial.self.system.kernel.disk.turn_steps → l.calls ≤ l.initial.calls + 20 * done;
   turn_steps : l.self.system.kernel.disk.turn_steps ≡ l.initial.self.system.kernel.disk.turn_steps;
   unsynced : (number : ℕ) → g.D.Drives.unsynced l.initial.drives number ≡ true → g.D.Drives.unsynced l.drives number ≡ true;
 }

@@ -13,13 +13,13 @@ use Rattle.mpm_machine.proofs.machine.Machine.run_on.Goals as goal
 pub returns-in_default-clause-went : goal.returns-in_default-clause-went
 returns-in_default-clause-went g c =
     went_silent g.D.Drives.disks c.args.drives.now (seen g.S.Sink.written g.S.Sink.faults c.args.render.now c.args.sink.now) c.idle.result
-    c.args.self.now c.idle.new.system c.idle.ensures.went c.requires.whole c.requires.holds
+    c.args.self.now c.idle.new.system c.idle.ensures.went c.requires.between.whole c.requires.between.holds
 
 pub loop-done-init : goal.loop-done-init
 loop-done-init g c = record {
   count = omega arith;
   went = went_nowhere g.D.Drives.disks c.args.drives.now (seen g.S.Sink.written g.S.Sink.faults c.args.render.now c.args.sink.now) c.args.self.now
-      c.requires.whole c.requires.no_completions c.requires.holds;
+      c.requires.between.whole c.requires.between.no_completions c.requires.between.holds;
   ahead = MatchOption-at_some ⊤ (λ (a : Ahead). RunsAhead a c.args.self.now.system) c.in-Some.here c.in-Some.is c.look_ahead-ahead.ensures.ahead;
 }
 
@@ -58,5 +58,5 @@ loop-done-preserved g c =
       count = omega (arith, ran.count, c.loop-done.invariant.count, c.if-done-most.false);
       went = went_both disks drives o (c.loop-done.done + c.run_burst-done.result) 1 c.args.self.now there behind
           (went_both disks drives o c.loop-done.done c.run_burst-done.result c.args.self.now before there so_far burst) alone;
-      ahead = ahead_called here c.run_burst-done.new.system c.do_own_call.new.system ran.went.whole makes c.do_own_call.ensures.system ran.ahead;
+      ahead = ahead_called here c.run_burst-done.new.system c.do_own_call.new.system ran.went.whole makes c.do_own_call.ensures.system ran.still;
     }

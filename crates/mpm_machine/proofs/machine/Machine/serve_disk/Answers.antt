@@ -1,4 +1,5 @@
-use Rattle.std.proofs.Common.{ap}
+use Rattle.std.proofs.Common.{◌∙◌, ap}
+use Rattle.mpm_system.specs.declared.system.System.{System}
 use Rattle.mpm_machine.specs.declared.machine.Machine.{Machine}
 use Rattle.mpm_machine.specs.DiskStep.{files_served}
 use Rattle.mpm_machine.proofs.EnterLaws.{paid_whole, paid_begun, paid_filed, paid_own, entered_behind, has_served_to, served_made, served_filed}
@@ -7,6 +8,7 @@ use Rattle.mpm_machine.proofs.CarryingLaws.{keeps_paid}
 use Rattle.mpm_machine.proofs.machine.Machine.serve_disk.Goals as goal
 
 pub enter_call-requires : goal.enter_call-requires
+unfolding Rattle.mpm_machine.specs.DiskStep.all_paid
 enter_call-requires g c =
     let passed = c.pass_turn.new.self in
     let paid = c.pay.new.self in
@@ -14,6 +16,7 @@ enter_call-requires g c =
     let pays = c.pay.ensures.system in
     record {
       whole = paid_whole passed.system paid.system pays may.whole;
+      completed = ap (λ (s : System). s.kernel.dispatcher.completed) pays ∙ may.completed;
       calls = record {
         filed = paid_filed passed.system paid.system pays may.calls.filed;
         own = paid_own passed.system paid.system passed.bdos paid.bdos pays c.pay.ensures.rest may.calls.own;
@@ -21,42 +24,45 @@ enter_call-requires g c =
       };
     }
 
-pub returns-clause-ok : goal.returns-clause-ok
-returns-clause-ok g c disks files stands =
-    let so = c.in_default.ensures.ok disks files stands in
-    let old = c.args.self.now.system in
-    let passed = c.pass_turn.new.self in
-    let paid = c.pay.new.self in
-    let new = c.enter_call.new.self in
-    has_served_to files _ _ old passed.system new.system new.bdos disks so.0 so.1
-    (entered_behind passed.system paid.system new.system passed.bdos paid.bdos new.bdos disks (files_served old files) c.pay.ensures.system so.2 c.pay.ensures.rest
-    (λ some. ap (λ (machine : Machine). machine.bdos) (c.pay.ensures.served some)) c.pay.ensures.filing (λ found there. c.enter_call.ensures.ok disks found there))
+pub returns-in-Err : goal.returns-in-Err
+returns-in-Err g c =
+    let failed = c.in-Err.ensures in
+    record { ok = λ disks files stands. tt; err = failed.err; made = tt; may = tt; leaves = failed.leaves; ends = failed.ends }
 
-pub returns-clause-made : goal.returns-clause-made
-returns-clause-made g c =
-    served_made c.args.self.now.system c.pass_turn.new.self.system c.pay.new.self.system c.enter_call.new.self.system c.in_default.ensures.made c.pay.ensures.system c.enter_call.ensures.made
-
-pub returns-clause-may : goal.returns-clause-may
-returns-clause-may g c =
-    let old = c.args.self.now.system in
-    let new = c.enter_call.new.self.system in
-    let may = c.requires in
-    let made = returns-clause-made g c in
+pub returns : goal.returns
+returns g c =
+    let made = served_made c.args.self.now.system c.pass_turn.new.self.system c.pay.new.self.system c.enter_call.new.self.system c.in_default.ensures.made c.pay.ensures.system c.enter_call.ensures.made in
     record {
-      whole = c.enter_call.ensures.whole;
-      completed = served_nobody old new may.completed made;
-      calls = record { filed = served_filed old new may.whole may.calls.filed made; own = c.enter_call.ensures.own; begun = c.enter_call.ensures.begun };
-    }
-
-pub returns-clause-leaves : goal.returns-clause-leaves
-returns-clause-leaves g c =
-    let old = c.args.self.now.bdos in
-    let passed = c.pass_turn.new.self.bdos in
-    let paid = c.pay.new.self.bdos in
-    let new = c.enter_call.new.self.bdos in
-    let first = c.pass_turn.ensures.leaves in
-    let kept = keeps_paid old passed paid first.kept c.pay.ensures.rest in
-    record {
-      kept = keeps_then old paid new kept (keeps_entered paid new c.enter_call.ensures.kept);
-      workless = λ none less. c.enter_call.ensures.workless (keeps_none old paid kept none) (workless_paid passed paid c.pay.ensures.rest (first.workless none less));
+      ok = λ disks files stands.
+          let so = c.in_default.ensures.ok disks files stands in
+          let old = c.args.self.now.system in
+          let passed = c.pass_turn.new.self in
+          let paid = c.pay.new.self in
+          let new = c.enter_call.new.self in
+          has_served_to files _ _ old passed.system new.system new.bdos disks so.0 so.1
+          (entered_behind passed.system paid.system new.system passed.bdos paid.bdos new.bdos disks (files_served old files) c.pay.ensures.system so.2 c.pay.ensures.rest
+          (λ some. ap (λ (machine : Machine). machine.bdos) (c.pay.ensures.served some)) c.pay.ensures.filing (λ found there. c.enter_call.ensures.ok disks found there));
+      err = λ disks files stands. tt;
+      made = made;
+      may =
+          let old = c.args.self.now.system in
+          let new = c.enter_call.new.self.system in
+          let may = c.requires in
+          record {
+            whole = c.enter_call.ensures.whole;
+            completed = served_nobody old new may.completed made;
+            calls = record { filed = served_filed old new may.whole may.calls.filed made; own = c.enter_call.ensures.own; begun = c.enter_call.ensures.begun };
+          };
+      leaves =
+          let old = c.args.self.now.bdos in
+          let passed = c.pass_turn.new.self.bdos in
+          let paid = c.pay.new.self.bdos in
+          let new = c.enter_call.new.self.bdos in
+          let first = c.pass_turn.ensures.leaves in
+          let kept = keeps_paid old passed paid first.kept c.pay.ensures.rest in
+          record {
+            kept = keeps_then old paid new kept (keeps_entered paid new c.enter_call.ensures.kept);
+            workless = λ none less. c.enter_call.ensures.workless (keeps_none old paid kept none) (workless_paid passed paid c.pay.ensures.rest (first.workless none less));
+          };
+      ends = record { trace = c.in_default.ensures.ends.trace; cause = record { later = c.in_default.ensures.ends.cause.later; stays = c.in_default.ensures.ends.cause.stays; failed = tt } };
     }

@@ -5,12 +5,12 @@ use Rattle.mpm_base.proofs.Results.{on_ok}
 use Rattle.mpm_machine.specs.Faults.{itself}
 use Rattle.mpm_system.specs.declared.system.System.{System}
 use Rattle.mpm_machine.specs.Settling.{carried}
-use Rattle.mpm_machine.specs.AtEnd.{called, TurnsCall}
-use Rattle.mpm_machine.proofs.SettlingLaws.{carried_shows, ends_run, carried_images, stops_carrying, err_seen, err_stops, syncs_after, keeps_synced, same_still, same_count, none_counted, sink_alone, cause_behind, ok_so}
+use Rattle.mpm_machine.specs.AtEnd.{drive_calls, TurnsCall}
+use Rattle.mpm_machine.proofs.SettlingLaws.{carried_shows, ends_run, carried_images, stops_carrying, err_stops, syncs_after, keeps_synced, same_still, same_count, none_counted, sink_alone, cause_behind, ok_so}
 use Rattle.mpm_machine.proofs.machine.Machine.settle.Goals as goal
 
 pub carry-requires : goal.carry-requires
-carry-requires g c = record { between = record { whole = c.requires.whole; no_completions = c.requires.no_completions; holds = c.requires.holds } }
+carry-requires g c = record { between = c.requires.between }
 
 pub close-requires : goal.close-requires
 close-requires g c = c.in-Ok.ensures.fits
@@ -30,11 +30,11 @@ returns-in-Ok-clause-stops g c s first stands =
     let n = seen g.S.Sink.written g.S.Sink.faults c.close.new.render c.close.new.sink in
     let has = c.in-Ok.ensures.ok s.files stands.files in
     let shows = carried_shows s _ m _ _ _ _ first stands.system.parts has stands.system.shown in
-    let before = called g.D.Drives.unsynced c.args.drives.now c.args.steps.now in
-    let between = called g.D.Drives.unsynced c.carry.new.drives c.carry.new.steps in
+    let before = drive_calls g.D.Drives.unsynced c.args.drives.now c.args.calls.now in
+    let between = drive_calls g.D.Drives.unsynced c.carry.new.drives c.carry.new.calls in
     err_stops c.close.result s m n c.carry.new.self.bdos.mounted (g.D.Drives.disks c.close.new.drives) first c.args.self.now.bdos before between _
     (subst (λ (system : System). TurnsCall system c.args.self.now.bdos before between) stands.system.parts c.in-Ok.ensures.called) c.close.ensures.syncs c.close.ensures.ends.trace shows
-    (err_seen c.close.result g.S.Sink.written g.S.Sink.faults c.carry.new.render c.close.new.render c.carry.new.sink c.close.new.sink c.close.ensures.unwritten)
+    c.close.ensures.unwritten
     (c.close.ensures.err (carried s).outputs first shows)
     (carried_images s _ m _ _ _ _ _ stands.system.parts has c.close.ensures.drives.images)
 
@@ -62,11 +62,11 @@ returns-in-Ok-clause-none g c none = (
 
 pub returns-in-Ok-clause-synced : goal.returns-in-Ok-clause-synced
 returns-in-Ok-clause-synced g c =
-    ok_so c.close.result _ _ (λ syncs. record { between = called g.D.Drives.unsynced c.carry.new.drives c.carry.new.steps; turns = c.in-Ok.ensures.called; syncs = syncs }) c.close.ensures.synced
+    ok_so c.close.result _ _ (λ syncs. record { between = drive_calls g.D.Drives.unsynced c.carry.new.drives c.carry.new.calls; turns = c.in-Ok.ensures.called; syncs = syncs }) c.close.ensures.synced
 
 pub returns-in-Ok-clause-syncs : goal.returns-in-Ok-clause-syncs
 returns-in-Ok-clause-syncs g c =
-    syncs_after c.close.result c.args.self.now.bdos c.carry.new.self.bdos.mounted _ (called g.D.Drives.unsynced c.carry.new.drives c.carry.new.steps) _ c.args.self.now.system
+    syncs_after c.close.result c.args.self.now.bdos c.carry.new.self.bdos.mounted _ (drive_calls g.D.Drives.unsynced c.carry.new.drives c.carry.new.calls) _ c.args.self.now.system
     c.in-Ok.ensures.called c.close.ensures.syncs
 
 pub returns-in-Ok-clause-calls : goal.returns-in-Ok-clause-calls

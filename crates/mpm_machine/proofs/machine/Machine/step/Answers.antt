@@ -6,10 +6,7 @@ use Rattle.mpm_machine.proofs.MadeLaws.{made_whole, made_no_completions, made_no
 use Rattle.mpm_machine.proofs.machine.Machine.step.Goals as goal
 
 pub take_step-requires : goal.take_step-requires
-take_step-requires g c = record {
-  most = c.requires.most;
-  between = record { whole = c.requires.whole; no_completions = c.requires.no_completions; holds = c.requires.holds };
-}
+take_step-requires g c = record { most = c.requires.most; between = c.requires.between }
 
 -- it stopped
 pub returns-in-Err : goal.returns-in-Err
@@ -25,7 +22,7 @@ returns-in-Err g c =
             step_leaves c.args.self.now (g.D.Drives.disks c.args.drives.now) (g.D.Drives.disks c.take_step.new.drives) c.take_step.new.self.bdos.mounted c.in-Err.fault
             c.args.render.now (g.S.Sink.written c.args.sink.now) s first (λ files so. (failed.stops files so).images) stands;
       };
-      law = λ s is. step_by s c.args.self.now.system is c.requires.whole c.requires.no_completions;
+      law = λ s is. step_by s c.args.self.now.system is c.requires.between.whole c.requires.between.no_completions;
       leaves = tt;
       holds = tt;
       drives = failed.uses.drives;
@@ -47,14 +44,14 @@ returns-in-Ok g c =
       ok = λ s first stands. step_stands c.args.self.now c.take_step.new.self _ _ _ _ s first done.ok stands;
       model = λ s here. step_at c.args.self.now c.take_step.new.self _ _ _ _ s done.ok here;
       stops = λ s first stands. tt;
-      law = λ s is. step_by s old is c.requires.whole c.requires.no_completions;
+      law = λ s is. step_by s old is c.requires.between.whole c.requires.between.no_completions;
       leaves = record {
         count = made_steps old new done.made.made;
-        whole = made_whole old new c.requires.whole done.made.made;
+        whole = made_whole old new c.requires.between.whole done.made.made;
         no_completions = made_no_completions old new done.made.made;
-        due = λ some. made_nobody_due old new c.requires.whole done.made.made;
+        due = λ some. made_nobody_due old new c.requires.between.whole done.made.made;
         locks = c.tell_sound.ensures;
-        interprets = interprets_stepped old new c.requires.whole done.made.made;
+        interprets = interprets_stepped old new c.requires.between.whole done.made.made;
         turn_steps = done.made.turn_steps;
       };
       holds = done.made.holds;

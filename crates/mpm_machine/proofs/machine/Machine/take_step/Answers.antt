@@ -10,7 +10,7 @@ use Rattle.mpm_machine.proofs.PartsLaws.{uses_as, uses_both, uses_kept}
 use Rattle.mpm_machine.proofs.machine.Machine.take_step.Goals as goal
 
 pub work-requires : goal.work-requires
-work-requires g c = record { holds = c.requires.between.holds.calls }
+work-requires g c = c.requires.between.holds.calls
 
 pub begin_step-requires : goal.begin_step-requires
 begin_step-requires g c = record {
@@ -104,7 +104,7 @@ returns-in-Err-end_step g c =
             images = write_stops instruction files old begun.system disks c.end_step.new.self.bdos.mounted first.instruction so.system (failed.stands disks (files_begun old files) so.stands);
           };
       made = tt;
-      uses = uses_kept _ _ _ _ itself _ _ c.end_step.new.self.bdos.mounted _ _ (Err WriteFault) mounted (uses_both itself (Err WriteFault) c.work.ensures.uses first.uses (λ bare. refl));
+      uses = uses_kept _ itself _ _ c.end_step.new.self.bdos.mounted _ _ (Err WriteFault) mounted (uses_both itself (Err WriteFault) c.work.ensures.uses first.uses (λ bare. refl));
       calls = record {
         rests = λ none.
             let parts = does_nothing old none in
@@ -151,7 +151,7 @@ returns-in-Ok-end_step g c =
         };
         turn_steps = last.ended.turn_steps ∙ first.begun.turn_steps;
       };
-      uses = uses_kept _ _ _ _ itself _ _ new.bdos.mounted _ _ _ mounted (uses_both itself _ c.work.ensures.uses first.uses (λ bare. tt));
+      uses = uses_kept _ itself _ _ new.bdos.mounted _ _ _ mounted (uses_both itself _ c.work.ensures.uses first.uses (λ bare. tt));
       calls = record {
         rests = λ none.
             let parts = does_nothing old none in

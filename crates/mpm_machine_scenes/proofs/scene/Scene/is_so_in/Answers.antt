@@ -10,6 +10,7 @@ use Rattle.mpm_system.specs.Opening.{booted, IsBare, MayPlace}
 use Rattle.mpm_system.proofs.PlacedLaws.{may_place_booted}
 use Rattle.mpm_machine.specs.declared.machine.Machine.{Machine}
 use Rattle.mpm_machine_scenes.proofs.scene.Scene.is_so_in.Goals as goal
+use Rattle.mpm_machine.specs.Parts.{IsBetweenSteps}
 
 -- a program can be placed into each segment that has room for it
 may_place : (file : MachineFile) (events : List Timed) (seg size : ℕ) → IsMachine file → IsBare (booted file events) → seg < length file.segments
@@ -24,9 +25,9 @@ place_both-placed-requires-clause-free c =
     λ seg size there room. subst (λ (system : System). MayPlace system seg 0 size) (sym (ap (λ (m : Machine). m.system) c.deref_mut.ensures.value ∙ c.in-Ok.ensures.booted))
     (may_place c.args.file.now c.in_ok-script.script seg size c.requires (subst IsBare c.in-Ok.ensures.booted c.in-Ok.ensures.bare) there room)
 
--- its drives are held, whether programs were placed or not
-pub is_seen-requires-clause-holds : goal.is_seen-requires-clause-holds
-is_seen-requires-clause-holds c =
+-- it is between steps, whether programs were placed or not
+pub is_seen-requires-clause-between : goal.is_seen-requires-clause-between
+is_seen-requires-clause-between c =
     let kernel = c.place_both-placed.new.machine.system.kernel in
     let lent = c.deref_mut.result.now in
     let is = c.deref_mut.ensures.value in
@@ -34,4 +35,6 @@ is_seen-requires-clause-holds c =
     let held = subst (λ (m : Machine). HoldsDrives disks_of m.system.kernel m.bdos c.boot_bare.new.drives) (sym is) c.in-Ok.ensures.stands.holds in
     let placed = subst (λ kept. HoldsDrives disks_of kernel kept c.boot_bare.new.drives) (sym c.place_both-placed.ensures.bdos)
     (holds_again disks_of lent.system.kernel kernel c.args.file.now.disk_turn lent.bdos c.boot_bare.new.drives c.place_both-placed.ensures.disk idle held) in
-    subst (λ (m : Machine). HoldsDrives disks_of m.system.kernel m.bdos c.boot_bare.new.drives) (sym c.deref_mut-in-Ok.ensures.value) placed
+    let bare = c.place_both-placed.ensures.bare in
+    subst (λ (m : Machine). IsBetweenSteps disks_of m c.boot_bare.new.drives) (sym c.deref_mut-in-Ok.ensures.value)
+    (record { whole = bare.whole; no_completions = bare.no_completions; holds = placed })

@@ -24,7 +24,7 @@ returns-in_err-close-clause-err g c os first s =
     let small : place < 12 = omega arith in
     let twelve : length lines ≡ 12 = search rules in
     let inside : place < length lines = omega arith in
-    err_closed c.from_residual.result c.args.self.now _ _ _ first place _ os small (get_or_default lines place c.index-self-place.result [] inside ∙ inv.above place (omega arith)) inv.written c.in_err-close.ensures.err c.in_err-close.ensures.some s
+    err_closed c.from_residual.result c.args.self.now _ _ _ first place _ os small (get_or_default lines place c.index-self-place.result [] inside ∙ inv.above place (omega arith)) inv.written c.in_err-close.ensures.text.err c.in_err-close.ensures.text.some s
 
 pub loop-place-preserved : goal.loop-place-preserved
 loop-place-preserved g c =
@@ -35,9 +35,9 @@ loop-place-preserved g c =
     let twelve : length lines ≡ 12 = search rules in
     let inside : place < length lines = omega arith in
     record {
-      written = written_more c.args.self.now _ _ _ place _ (get_or_default lines place c.index-self-place.result [] inside ∙ inv.above place (omega arith)) inv.written c.in_ok-close.ensures.ok;
-      puts = each_closed g.S.Sink.took c.args.self.now place _ _ _ _ small (get_or_default lines place c.index-self-place.result [] inside ∙ inv.above place (omega arith)) inv.puts c.in_ok-close.ensures.puts;
-      faults = c.in_ok-close.ensures.cause.stays ∙ inv.faults;
+      written = written_more c.args.self.now _ _ _ place _ (get_or_default lines place c.index-self-place.result [] inside ∙ inv.above place (omega arith)) inv.written c.in_ok-close.ensures.text.ok;
+      puts = each_closed g.S.Sink.took c.args.self.now place _ _ _ _ small (get_or_default lines place c.index-self-place.result [] inside ∙ inv.above place (omega arith)) inv.puts c.in_ok-close.ensures.text.puts;
+      faults = c.in_ok-close.ensures.text.cause.stays ∙ inv.faults;
       trace = inv.trace;
       below = none_below lines place _ inside c.in_ok-close.ensures.line inv.below;
       above = λ q h. get_or-set_other lines place q _ [] (omega arith) ∙ inv.above q (omega arith);
@@ -59,7 +59,7 @@ returns-in_err-close-clause-stops g c =
     let inside : place < length lines = omega arith in
     let item = get_or_default lines place c.index-self-place.result [] inside in
     let stay = all_stay lines place _ inside (c.in_err-close.ensures.kept ∙ item) in
-    stops_closed c.from_residual.result g.S.Sink.took g.S.Sink.dropped c.args.self.now _ place _ _ _ _ small (item ∙ inv.above place (omega arith)) inv.puts c.in_err-close.ensures.some c.in_err-close.ensures.drops
+    stops_closed c.from_residual.result g.S.Sink.took g.S.Sink.dropped c.args.self.now _ place _ _ _ _ small (item ∙ inv.above place (omega arith)) inv.puts c.in_err-close.ensures.text.some c.in_err-close.ensures.text.drops
     (λ p h. stay p ∙ inv.below p h) (λ p h. stay p ∙ inv.above p h)
 
 pub returns-clause-puts : goal.returns-clause-puts

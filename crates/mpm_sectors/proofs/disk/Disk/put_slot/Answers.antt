@@ -1,11 +1,33 @@
-use Rattle.std.proofs.Common.{[], ◌∷◌}
+use Rattle.std.proofs.Common.{rules, [], ◌∷◌, arith}
+use Rattle.std.proofs.lemmas.Grind.{common_steps}
 use Rattle.mpm_sectors.specs.Slots.{slot_write}
+use Rattle.mpm_sectors.proofs.LeavesLaws.{leaves_over}
 use Rattle.mpm_sectors.proofs.WriteLaws.{first_none}
+use Rattle.mpm_sectors.proofs.SlotPuts.{slot_put}
 use Rattle.mpm_sectors.proofs.disk.Disk.put_slot.Goals as goal
 
-pub returns-in-Err-clause-puts : goal.returns-in-Err-clause-puts
-returns-in-Err-clause-puts g c = λ image told. record {
-  ok = tt;
-  err = first_none c.args.self.now.drive c.args.self.now.kind (slot_write c.args.self.now.kind image c.args.slot c.args.entry.now ∷ [])
-      (g.D.Drives.disks c.args.drives.now) (g.D.Drives.disks c.read.new.drives) c.read.ensures.disks;
+pub returns-in-Err : goal.returns-in-Err
+returns-in-Err g c = record {
+  puts = λ image told. record {
+    ok = tt;
+    err = first_none c.args.self.now.drive c.args.self.now.kind (slot_write c.args.self.now.kind image c.args.slot c.args.entry.now ∷ [])
+        (g.D.Drives.disks c.args.drives.now) (g.D.Drives.disks c.read.new.drives) c.read.ensures.disks;
+  };
+  read = first_of (search rules, grind (arith, common_steps));
+  calls = first_of (search rules, grind (arith, common_steps));
+  leaves = c.in-Err.ensures.leaves;
+  unsynced = tt;
+  cause = c.in-Err.ensures.cause;
+}
+
+pub returns : goal.returns
+returns g c = record {
+  puts = λ image told. slot_put c.args.self.now.drive c.args.self.now.kind image c.args.slot c.from.result c.from-2.result c.args.entry.now c.geometry-wide.result.wide
+      c.read.new.out c.put_entry.new.sector _ _ _ c.put.result c.in-Ok.ensures.disks (first_of (search rules, grind (arith, common_steps))) (first_of (search rules, grind (arith, common_steps))) (first_of (search rules, grind (arith, common_steps)))
+      (c.in-Ok.ensures.bytes image told) c.put_entry.ensures c.put.ensures.puts;
+  read = first_of (search rules, grind (arith, common_steps));
+  calls = first_of (search rules, grind (arith, common_steps));
+  leaves = leaves_over g.D.Drives.disks g.D.Drives.told g.D.Drives.failed_names g.D.Drives.unsynced c.args.self.now.drive c.args.cache.now _ _ c.args.drives.now _ _ c.in-Ok.ensures.leaves c.put.ensures.leaves;
+  unsynced = first_of (search rules, grind (arith, common_steps));
+  cause = first_of (search rules, grind (arith, common_steps));
 }

@@ -4,9 +4,6 @@ use Rattle.mpm_system.proofs.OpeningLaws.{one_begun, first_here, command_here}
 use Rattle.mpm_system.proofs.ResidingLaws.{spooler_here, spooling_here, spooler_few_here, begun_in_turn}
 use Rattle.mpm_system.proofs.system.System.begin_all.Goals as goal
 
-pub begin_interpreting-requires-clause-some : goal.begin_interpreting-requires-clause-some
-begin_interpreting-requires-clause-some c = omega (arith, c.requires.consoles, c.requires.whole.sound.units.some)
-
 pub begin_terminals-requires : goal.begin_terminals-requires
 begin_terminals-requires c =
     let first = first_here c.args.self.now c.begin_interpreting.new.self c.args.consoles c.requires.whole c.requires.queues c.begin_interpreting.ensures in

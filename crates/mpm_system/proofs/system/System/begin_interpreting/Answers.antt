@@ -5,3 +5,6 @@ use Rattle.mpm_system.proofs.system.System.begin_interpreting.Goals as goal
 pub add_interpreter-requires-clause-room : goal.add_interpreter-requires-clause-room
 add_interpreter-requires-clause-room c =
     omega (arith, ap length (none_begun c.args.self.now c.begin_interpreter.new.self c.requires.nobody c.begin_interpreter.ensures))
+
+pub add_interpreter-requires-clause-some : goal.add_interpreter-requires-clause-some
+add_interpreter-requires-clause-some c = omega (arith, c.requires.consoles, c.requires.whole.sound.units.some)

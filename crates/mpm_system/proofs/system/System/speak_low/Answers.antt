@@ -111,5 +111,5 @@ returns-in-5 g c =
     λ string. record {
       system = on_ok c.put.result (subst P (sym (said string)) refl);
       wrote = emits_as by_sink _ _ _ _ _ (sym (said string))
-          (emits_one c.put.result _ _ _ c.put.ensures.cause c.put.ensures.trace c.put.ensures.ok c.put.ensures.err);
+          (emits_one c.put.result _ _ _ c.put.ensures.text.cause c.put.ensures.trace c.put.ensures.shown.ok c.put.ensures.shown.err);
     }
