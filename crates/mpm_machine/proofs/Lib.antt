@@ -103,5 +103,6 @@ pub mod OpeningLaws
 pub mod NamedLaws
 pub mod PrintingLaws
 pub mod PrintingSteps
+pub mod DeletingLaws
 pub mod PrintedItems
 pub mod StartLaws

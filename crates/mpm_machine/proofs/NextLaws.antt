@@ -15,6 +15,7 @@ use Rattle.mpm_machine.proofs.FiledLaws.{contained_by}
 use Rattle.mpm_machine.proofs.ValueLaws.{resided_with}
 use Rattle.mpm_machine.proofs.FiledValue.{filed_by_value, over_by_value, enters_by_value}
 use Rattle.mpm_machine.proofs.PrintingSteps.{spooling_next, printing_next}
+use Rattle.mpm_machine.proofs.DeletingLaws.{deleting_next}
 use Rattle.mpm_machine.proofs.StepWithLaws.{whole_with, no_completions_with, instructed_with, served_with}
 use Rattle.mpm_machine.proofs.FileStepLaws.{steps_with}
 use Rattle.mpm_machine.specs.Scheduling.{GoesOnScheduling}
@@ -91,6 +92,7 @@ step_of s w no_completions =
       enters = enters_by_value (paid_after telling.at_disk begun);
       spools = λ q i. spooling_next q s w i;
       prints = λ q p. printing_next q s w p;
+      deletes = λ q p. deleting_next q s w p;
       schedules = λ q answers i. subst (λ (system : System). GoesOnScheduling q answers system.residents) is (schedules_on q answers telling old i);
     }
 

@@ -76,6 +76,12 @@ pub unchanged : (q : ℕ) (answers : List Answer) (system : System) (error : Opt
 unfolding next_call
 unchanged q answers system error f = unchanged_row (after answers).row (after answers) (call_of system.kernel.dispatcher.procs q) error f.files f.kept
 
+-- so it is where one is done at once
+pub unchanged_at_gate : (q p : ℕ) (answers : List Answer) (system : System) (files : FilesInService) → q ≡ p → KeepsFileCall q answers system → (told_at_gate p system files).caller ≡ Unchanged
+unchanged_at_gate q p answers system files same f =
+    let error = (outcome_in (filing_in files) p system).extended in
+    ap (λ (n : ℕ). change_of (call_of system.kernel.dispatcher.procs n) error) (sym same) ∙ unchanged q answers system error f
+
 -- they are served by the disk
 
 served_row : (row : Row) (s : Spooler) → is_of_files (call_at row s).function ≡ true → is_some (function_of (call_at row s).function) ≡ true
@@ -129,7 +135,7 @@ its_called q answers p system files c =
 
 -- its own is done at once: then no call is in service
 
-served_there : (disk : DiskService) (call : Served) → disk.served ≡ Some call → 0 < at_disk disk call.p
+pub served_there : (disk : DiskService) (call : Served) → disk.served ≡ Some call → 0 < at_disk disk call.p
 unfolding at_disk
 served_there disk call is =
     let its : is_call_of call.p disk.served ≡ true = ap (is_call_of call.p) is ∙ eq-eqb call.p call.p refl in
@@ -181,10 +187,8 @@ passes_called q p system files by sound once = record {
   own = λ same answers h f r.
       let P : ℕ → Type 0 = λ n. is_done_at_once n system ≡ true in
       let once_own : is_done_at_once q system ≡ true = subst P (sym same) once in
-      let answered : Reads q (done_at_once q system files) ((told_at_gate q system files).answer ∷ answers) = own_at_once q system files answers by sound h f once_own r in
-      let outcome = outcome_in (filing_in files) p system in (
-        ap (λ (n : ℕ). change_of (call_of system.kernel.dispatcher.procs n) (outcome_in (filing_in files) n system).extended) (sym same)
-            ∙ unchanged q answers system (outcome_in (filing_in files) q system).extended f,
+      let answered : Reads q (done_at_once q system files) ((told_at_gate q system files).answer ∷ answers) = own_at_once q system files answers by sound h f once_own r in (
+        unchanged_at_gate q p answers system files same f,
         subst (λ (n : ℕ). Reads q (if is_done_at_once n system then done_at_once n system files else files) ((told_at_gate n system files).answer ∷ answers)) same
             (subst (λ (b : Bool). Reads q (if b then done_at_once q system files else files) ((told_at_gate q system files).answer ∷ answers)) (sym once_own) answered),
       );
@@ -212,7 +216,7 @@ made_disk : (p : ℕ) (system : System) → (call_made p system).kernel.disk ≡
 unfolding call_made
 made_disk p system = made_disk_by (process_in system.kernel.dispatcher.procs p).seg p (counted system)
 
-same_process : (p r : ℕ) → Some p ≡ Some r → p ≡ r
+pub same_process : (p r : ℕ) → Some p ≡ Some r → p ≡ r
 same_process p r e = cc
 
 begins_by : (q : ℕ) (caller : Option ℕ) (system : System) (files : FilesInService) → ServedBy system.kernel.disk.served files → HasTurns system.kernel.disk
@@ -241,7 +245,7 @@ works_call turn_steps (Some call) first p is = (call, refl, by_last (is_last_ste
   by_last true done r p is = cc
   by_last false done r p is = absurd (cc)
 
-works : (disk : DiskService) (p : ℕ) → turn_answer disk ≡ Work p true → (call : Served) × (disk.served ≡ Some call) × (call.p ≡ p)
+pub works : (disk : DiskService) (p : ℕ) → turn_answer disk ≡ Work p true → (call : Served) × (disk.served ≡ Some call) × (call.p ≡ p)
 unfolding turn_answer
 works disk p is = works_call disk.turn_steps disk.served (first_of disk.waiting) p is
 
@@ -260,6 +264,13 @@ told_caller files system p is =
     by_files : (files : FilesInService) → (told_by_process (Some p) files system).caller ≡ change_of (call_of system.kernel.dispatcher.procs p) (told_by_process (Some p) files system).extended
     by_files (Between filing) = refl
     by_files (Within s) = refl
+
+-- the spooler's own call changes nothing of its process then
+pub unchanged_at_disk : (q p : ℕ) (answers : List Answer) (system : System) (files : FilesInService) → turn_answer system.kernel.disk ≡ Work p true → q ≡ p
+    → KeepsFileCall q answers (ready_again p (step_passed system)) → (told_within files system).caller ≡ Unchanged
+unchanged_at_disk q p answers system files is same f =
+    let error = (told_within files system).extended in
+    told_caller files system p is ∙ ap (λ (n : ℕ). change_of (call_of system.kernel.dispatcher.procs n) error) (sym same) ∙ unchanged q answers (ready_again p (step_passed system)) error f
 
 told_answer : (s : Situation) (system : System) (p : ℕ) → turn_answer system.kernel.disk ≡ Work p true → (told_within (Within s) system).answer ≡ (file_call s).answer
 unfolding told_within
@@ -297,8 +308,7 @@ over_last q p system (Within s) by is =
           let its_own : s.caller.process ≡ q = process ∙ sym same in
           let answered : Reads q (Between (file_call s).filing) ((file_call s).answer ∷ answers) =
           own_answered q answers s (r.its_call its_own) its_own r.opens (call_keeps_sound s r.opens) r.file r.without in (
-            told_caller (Within s) system p is ∙ ap (λ (n : ℕ). change_of (call_of system.kernel.dispatcher.procs n) told.extended) (sym same)
-                ∙ unchanged q answers (ready_again p (step_passed system)) told.extended f,
+            unchanged_at_disk q p answers system (Within s) is same f,
             subst (λ (f : FilesInService). Reads q f (told.answer ∷ answers)) (sym served)
                 (subst (λ (a : Answer). Reads q (Between (file_call s).filing) (a ∷ answers)) (sym (told_answer s system p is)) answered),
           );
@@ -439,10 +449,7 @@ begins_always q (Some p) system files =
     let c : Called Always Always q p (told_at_gate p made files) made = record {
       at_once = λ once. record {
         others = λ _ _ _. tt;
-        own = λ same answers h f so. (
-          ap (λ (n : ℕ). change_of (call_of made.kernel.dispatcher.procs n) (outcome_in (filing_in files) p made).extended) (sym same) ∙ unchanged q answers made (outcome_in (filing_in files) p made).extended f,
-          tt,
-        );
+        own = λ same answers h f so. (unchanged_at_gate q p answers made files same f, tt);
       };
       waits = λ _ _ _. tt;
       stays = λ _ _ _ _. tt;
@@ -459,11 +466,7 @@ rests_always q at_gate system files = record {
   over = record {
     last = λ p is. record {
       others = λ _ _ _. tt;
-      own = λ same answers h f so. (
-        told_caller files system p is ∙ ap (λ (n : ℕ). change_of (call_of system.kernel.dispatcher.procs n) (told_within files system).extended) (sym same)
-            ∙ unchanged q answers (ready_again p (step_passed system)) (told_within files system).extended f,
-        tt,
-      );
+      own = λ same answers h f so. (unchanged_at_disk q p answers system files is same f, tt);
     };
     more = λ _ _ _. tt;
     stays = λ _ _ _ _. tt;

@@ -21,7 +21,7 @@ use Rattle.mpm_machine.specs.Faults.{EndsBy}
 use Rattle.mpm_machine.specs.FileCalls.{file_caller, situation_of, outcome_in}
 use Rattle.mpm_machine.specs.DiskStep.{process_over, file_called, call_entered, disk_served, told_of_call, turns_within}
 use Rattle.mpm_machine.specs.Stepping.{rest_of, nothing_told, before_disk, files_begun, told_within, paid_after, files_then, telling_then, telling_of, files_rest, StepMade, stepped}
-use Rattle.mpm_machine.specs.Printing.{IsPrinting}
+use Rattle.mpm_machine.specs.Printing.{IsPrinting, DeletesPrinted}
 use Rattle.mpm_machine.specs.Spooling.{IsSpooling}
 use Rattle.mpm_machine.specs.Contained.{IsContainedBy, IsHanded, Instructs, OnlyInstructed, CallsAtGate, DiffersInBytes, ServedByValue, Resides, ResidedByValue}
 use Rattle.mpm_base.specs.Calls.{Answer}
@@ -73,7 +73,8 @@ EntersByValue system =
 -- a resident hands over comes into a segment that it has reserved and in which nobody lives (`hands`). An instruction leaves all but what is
 -- its own (`instruction`). A call is served by what it took, and so are a resident's, a file call that is done at once, one that the disk
 -- served, and one that enters service (`calls`, `resides`, `filed`, `over`, `enters`). A spooler goes on, what it prints stands last on its
--- printer (`spools`), and that is a first part of its file's text (`prints`). A scheduler keeps what it accepted and hasn't sent (`schedules`)
+-- printer (`spools`), and that is a first part of its file's text (`prints`). It asks for the file's deletion only after it closed it, wholly
+-- printed (`deletes`). A scheduler keeps what it accepted and hasn't sent (`schedules`)
 pub record IsStepOf (s : State) : Type 0 where
   pub contained : IsContainedBy (telling_of s.system s.files) s.system (next s).system
   pub hands : Interprets s.system → (seg at : ℕ) → IsHanded s.system seg at → IsOwnOfNobody s.system seg at
@@ -86,6 +87,7 @@ pub record IsStepOf (s : State) : Type 0 where
   pub enters : EntersByValue (paid_after (telling_of s.system s.files).at_disk (before_disk s.system s.files).system)
   pub spools : (q : ℕ) → IsSpooling q s.system s.outputs → IsSpooling q (next s).system (next s).outputs
   pub prints : (q : ℕ) → IsPrinting q s → IsPrinting q (next s)
+  pub deletes : (q : ℕ) (p : IsPrinting q s) → DeletesPrinted q s p (next s).system.residents
   pub schedules : (q : ℕ) (answers : List Answer) → IsScheduling q answers s.system.residents → GoesOnScheduling q answers (next s).system.residents
 
 -- what a step begins with was done, by what is on the drives

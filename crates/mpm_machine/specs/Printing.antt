@@ -1,7 +1,7 @@
 -- The file that the spooler prints: the records that it has read are those of the file that it has open, from the first on, so that its printer
 -- has a first part of the file's text. (MP/M II User's Guide, "SPOOL"; Programmer's Guide, "Function 15: Open File", "Function 20: Read
 -- Sequential".)
-use Rattle.std.specs.Prelude.{◌≡◌, ℕ, zero, suc, ◌-◌, ◌<◌, ◌^◌, ◌==◌, if◌then◌else◌, Bool, true, false, List, [], ◌++◌, Option, Some, None, is_some, unwrap_or, length, ⊤}
+use Rattle.std.specs.Prelude.{◌≡◌, ℕ, zero, suc, ◌-◌, ◌<◌, ◌^◌, ◌==◌, ◌⊎◌, if◌then◌else◌, Bool, true, false, List, [], ◌++◌, Option, Some, None, is_some, unwrap_or, length, ⊤}
 use Rattle.mpm_base.specs.Calls.{Answer}
 use Rattle.mpm_base.specs.Lists.{in_width}
 use Rattle.mpm_bdos.specs.OpenToRead.{drive_or_blank, HasFile}
@@ -17,6 +17,9 @@ use Rattle.mpm_opens.specs.declared.kinds.FileKey.{FileKey}
 use Rattle.mpm_port.specs.Texts.{Begins}
 use Rattle.mpm_refusals.specs.Filing.{Filing, Situation}
 use Rattle.mpm_refusals.specs.Subjects.{file_of}
+use Rattle.mpm_residents.specs.Natives.{native_in}
+use Rattle.mpm_residents.specs.declared.native.Native.{Native}
+use Rattle.mpm_residents.specs.declared.native.Native.TheVariants.{Spool}
 use Rattle.mpm_service.specs.Disk.{DiskService}
 use Rattle.mpm_service.specs.Places.{at_disk}
 use Rattle.mpm_service.specs.declared.service.Served.{Served}
@@ -126,6 +129,22 @@ pub record IsPrinting (q : ℕ) (s : State) : Type 0 where
   pub served : ServedBy s.system.kernel.disk.served s.files
   pub reads : ReadsOpenFile q spooling.answers s.files
   pub prints : PrintsFile spooling.answers (filing_in s.files)
+
+-- a spooler asks for a deletion, which it hadn't asked for before this step. In the step it closed its file, the one that the deletion names.
+-- What it had printed of that file is all of the text that the file has on the state's drive. Nothing else of the spooler has changed
+pub record ClosedPrinted (q : ℕ) (s : State) (p : IsPrinting q s) (asks : Spooler) : Type 0 where
+  pub before : Spooler
+  pub acts : native_in s.system.residents q ≡ Some (Spool before)
+  pub closes : before.row ≡ Close
+  pub printed : before.is_unprinted ≡ false
+  pub whole : (text : List ℕ) → HasText (seen_in (filing_in s.files) (key_of_spool_item before.item)) text → printed_in p.spooling.answers ≡ to_printer text
+  pub names : NamesFile (next_call asks).fcb (key_of_spool_item before.item)
+  pub same : asks ≡ record before { row = Delete }
+
+-- a spooler that asks for a deletion after a step asked for it before the step, or closed its file in the step, wholly printed
+abbrev pub DeletesPrinted : (q : ℕ) (s : State) → IsPrinting q s → List Native → Type 0
+DeletesPrinted q s p new =
+    (asks : Spooler) → native_in new q ≡ Some (Spool asks) → asks.row ≡ Delete → (native_in s.system.residents q ≡ Some (Spool asks)) ⊎ ClosedPrinted q s p asks
 
 -- a state in which nothing has come out yet, between two calls
 abbrev pub at_beginning : Filing → System → State

@@ -293,8 +293,8 @@ impl Machine {
         // turn, or after the step where the sink failed.
         ensures stops { StandingAt self.old render.old (S.written sink.old) (D.disks drives.old) (λ s first. IfErr result (λ fault. StopsStep fault render.old.trace (leaving S.written D.disks render.new sink.new drives.new self.new.bdos.mounted) s first)) }
         // Each byte that a step changes is one that it writes or answers. A resident hands bytes only to a segment that it has reserved, in
-        // which nobody lives. An instruction leaves all bytes but its own. A call is served by what it took. A spooler prints its file, and
-        // a scheduler sends what it accepted in order.
+        // which nobody lives. An instruction leaves all bytes but its own. A call is served by what it took. A spooler prints its file. It
+        // asks for a file's deletion only after it closed it, wholly printed. A scheduler sends what it accepted in order.
         ensures law { (s : State) → s.system ≡ self.old.system → IsStepOf s }
         // A success counts one step and leaves the machine whole. No end of a process is due, and no two locks are of one record.
         ensures leaves { OnOk result (StepsLeave 1 self.old self.new) }
