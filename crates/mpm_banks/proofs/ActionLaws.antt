@@ -10,10 +10,10 @@ use Rattle.mpm_banks.specs.Memory.{Memory, byte_at, with_byte, SameSegments}
 use Rattle.mpm_banks.specs.MemoryLaws.{byte_at_other_segment, byte_at_other_address, same_segments_with_byte, same_segments_both}
 use Rattle.mpm_banks.specs.Ports.{port_read}
 use Rattle.mpm_banks.specs.Actions.{memory_after, devices_after, writes_to}
-use Rattle.mpm_banks.specs.SliceBus.{reached, SameSides, WroteSlice, TookInput, Acted}
+use Rattle.mpm_banks.specs.SliceBus.{reached, SameSlices, WroteSlice, TookSliceInput, Acted}
 use Rattle.mpm_banks.specs.declared.slice_bus.SliceBus.{SliceBus}
 
-same_sides : (old middle new : SliceBus) → SameSides old middle → SameSides middle new → SameSides old new
+same_sides : (old middle new : SliceBus) → SameSlices old middle → SameSlices middle new → SameSlices old new
 same_sides old middle new first second = record {
   spec = second.spec ∙ first.spec;
   segment = second.segment ∙ first.segment;
@@ -22,7 +22,7 @@ same_sides old middle new first second = record {
 }
 
 -- what the two relations of the bus leave is what the changes make of memory and devices
-pub leaves_acted : (actions : List Action) (old new : SliceBus) → LeavesBus WroteSlice TookInput actions old new → Acted actions old new
+pub leaves_acted : (actions : List Action) (old new : SliceBus) → LeavesBus WroteSlice TookSliceInput actions old new → Acted actions old new
 unfolding LeavesBus memory_after devices_after
 leaves_acted [] old new same = record {
   sides = record {
@@ -53,12 +53,12 @@ leaves_acted (Input port ∷ rest) old new left =
 
 -- the same where an answer tells whether the changes were made, or all stayed
 pub record ActedUnless (answer : Option ℕ) (actions : List Action) (old new : SliceBus) : Type 0 where
-  pub sides : SameSides old new
+  pub sides : SameSlices old new
   pub memory : MatchOption answer (reached new ≡ memory_after actions 0 (reached old)) (λ _. reached new ≡ reached old)
   pub devices : MatchOption answer (new.devices.now ≡ devices_after actions old.devices.now) (λ _. new.devices.now ≡ old.devices.now)
 
 pub leaves_acted_unless : (answer : Option ℕ) (actions : List Action) (old new : SliceBus)
-    → MatchOption answer (LeavesBus WroteSlice TookInput actions old new) (λ _. new ≡ old) → ActedUnless answer actions old new
+    → MatchOption answer (LeavesBus WroteSlice TookSliceInput actions old new) (λ _. new ≡ old) → ActedUnless answer actions old new
 leaves_acted_unless None actions old new left =
     let acted = leaves_acted actions old new left in
     record { sides = acted.sides; memory = acted.memory; devices = acted.devices }

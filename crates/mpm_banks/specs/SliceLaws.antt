@@ -4,7 +4,7 @@ use Rattle.mpm_banks.specs.Memory.{Memory, byte_at, IsWritable}
 use Rattle.mpm_banks.specs.MemoryLaws.{byte_at_with_byte, byte_at_other_address, writable_with_byte}
 use Rattle.mpm_banks.specs.BusLaws.{trans_iff}
 use Rattle.mpm_banks.specs.Ports.{port_byte}
-use Rattle.mpm_banks.specs.SliceBus.{reached, WroteSlice, TookInput}
+use Rattle.mpm_banks.specs.SliceBus.{reached, WroteSlice, TookSliceInput}
 use Rattle.mpm_banks.specs.declared.slice_bus.SliceBus.{SliceBus}
 
 -- two views of the same bytes
@@ -37,9 +37,9 @@ write_keeps_writable_law old new address value other a b wrote =
     trans_iff (same_writable _ _ other wrote.memory) (writable_with_byte (reached old) 0 address value 0 other)
 
 pub input_keeps_bytes_law : (old new : SliceBus) (port address : ℕ) → port < 2 ^ 8
-    → TookInput old port new → byte_at (reached new) 0 address ≡ byte_at (reached old) 0 address
+    → TookSliceInput old port new → byte_at (reached new) 0 address ≡ byte_at (reached old) 0 address
 input_keeps_bytes_law old new port address a took = same_byte _ _ address took.memory
 
 pub input_keeps_writable_law : (old new : SliceBus) (port address : ℕ) → port < 2 ^ 8
-    → TookInput old port new → IsWritable (reached new) 0 address ↔ IsWritable (reached old) 0 address
+    → TookSliceInput old port new → IsWritable (reached new) 0 address ↔ IsWritable (reached old) 0 address
 input_keeps_writable_law old new port address a took = same_writable _ _ address took.memory

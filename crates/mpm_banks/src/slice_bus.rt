@@ -21,7 +21,7 @@ pub struct SliceBus<'a, 'b, 'c> {
 impl Bus for SliceBus<'_, '_, '_> {
     ghost use Rattle.mpm_banks.specs.Memory.{byte_at, IsWritable};
     ghost use Rattle.mpm_banks.specs.Ports.{port_byte};
-    ghost use Rattle.mpm_banks.specs.SliceBus.{reached, WroteSlice, TookInput};
+    ghost use Rattle.mpm_banks.specs.SliceBus.{reached, WroteSlice, TookSliceInput};
     ghost use Rattle.mpm_banks.specs.SliceLaws.{reads_back_law, write_keeps_bytes_law, write_keeps_ports_law, write_keeps_writable_law, input_keeps_bytes_law, input_keeps_writable_law};
 
     ghost byte = { λ bus. byte_at (reached bus) 0 };
@@ -32,7 +32,7 @@ impl Bus for SliceBus<'_, '_, '_> {
 
     ghost wrote = { WroteSlice };
 
-    ghost took = { TookInput };
+    ghost took = { TookSliceInput };
 
     ghost reads_back = { reads_back_law };
 
@@ -72,7 +72,7 @@ impl Bus for SliceBus<'_, '_, '_> {
 }
 
 impl SliceBus<'_, '_, '_> {
-    ghost use Rattle.mpm_banks.specs.SliceBus.{SameSides};
+    ghost use Rattle.mpm_banks.specs.SliceBus.{SameSlices};
     ghost use Rattle.mpm_banks.specs.Stretches.{byte_among, put_among};
 
     /// Which byte of the segment an address names. How many it has below common memory doesn't depend on the address.
@@ -108,7 +108,7 @@ impl SliceBus<'_, '_, '_> {
     /// Writes the byte that an address outside the segment names.
     #[inline(always)]
     fn put_outside(&mut self, address: u16, value: u8)
-        ensures sides { SameSides self.old self.new }
+        ensures sides { SameSlices self.old self.new }
         ensures segment { self.new.segment.now ≡ self.old.segment.now }
         ensures common { self.new.common.now ≡ put_among 49152 self.old.common.now address value }
         ensures devices { self.new.devices.now ≡ self.old.devices.now }

@@ -25,7 +25,7 @@ use Rattle.mpm_bdos.specs.Serving.{Kept, StandEach, Serves, WorksOn, filing_of}
 use Rattle.mpm_directories.specs.Places.{directory_at}
 use Rattle.mpm_bdos.specs.Starting.{entering}
 use Rattle.mpm_refusals.specs.Subjects.{mounted, blank_drive, drive_number, drive_at}
-use Rattle.mpm_bdos.specs.Turns.{TurnKeeps, WorksOnDrives, has_work, drive_and_kind}
+use Rattle.mpm_bdos.specs.Turns.{TurnKeeps, IsIdleWithoutDrives, has_work, drive_and_kind}
 use Rattle.mpm_bdos.proofs.NextTurns.{idle_drives, job_drives}
 use Rattle.mpm_bdos.proofs.Started.{unmounted_begins}
 
@@ -109,7 +109,7 @@ finds kept filing caller function call moment is =
 -- that no call has work where no drive is mounted stays so as one enters, and after a turn
 pub starts_on_drives : (old new : Kept) (function : Option FileFunction) → (function ≡ None → new ≡ old)
     → (is_some function ≡ true → ((number : ℕ) → directory_at old.mounted number ≡ None) → has_work new.service ≡ false)
-    → new ≡ record old { service = new.service } → WorksOnDrives old → WorksOnDrives new
+    → new ≡ record old { service = new.service } → IsIdleWithoutDrives old → IsIdleWithoutDrives new
 starts_on_drives old new None other workless kept before = λ none.
     ap (λ (k : Kept). has_work k.service) (other refl) ∙ before (λ number. ap (λ (k : Kept). directory_at k.mounted number) (sym (other refl)) ∙ none number)
 starts_on_drives old new (Some function) other workless kept before = λ none.
@@ -119,6 +119,6 @@ pub none_before : (one other : Option Directory) → option_map drive_and_kind o
 none_before None other same none = refl
 none_before (Some directory) other same none = absurd (none-some (drive_and_kind directory) (sym (ap (option_map drive_and_kind) none) ∙ same))
 
-pub turns_on_drives : (old new : Kept) → TurnKeeps old new → has_work new.service ≡ has_work old.service → WorksOnDrives old → WorksOnDrives new
+pub turns_on_drives : (old new : Kept) → TurnKeeps old new → has_work new.service ≡ has_work old.service → IsIdleWithoutDrives old → IsIdleWithoutDrives new
 turns_on_drives old new kept still before = λ none.
     still ∙ before (λ number. none_before (directory_at old.mounted number) (directory_at new.mounted number) (kept.labels number) (none number))

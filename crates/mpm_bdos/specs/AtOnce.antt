@@ -117,7 +117,7 @@ pub record DoesTurns {D A E : Type 0} (of : Ghosts D) (turns : ℕ) (old new : K
 
 -- a process's call at a moment is done at once, if it is one on files and drives, and keeps to its drive; after it none is in service. Where
 -- no drive is mounted no device is asked
-pub record CallsAtOnce {D E : Type 0} (of : Ghosts D) (old new : Kept) (p : ℕ) (process : Process) (call : Taken) (now : Moment) (old_reply new_reply : Answer) (old_drives new_drives : D) (old_calls new_calls : ℕ) (result : Result (Option Extended) E) : Type 0 where
+pub record ServesAtOnce {D E : Type 0} (of : Ghosts D) (old new : Kept) (p : ℕ) (process : Process) (call : Taken) (now : Moment) (old_reply new_reply : Answer) (old_drives new_drives : D) (old_calls new_calls : ℕ) (result : Result (Option Extended) E) : Type 0 where
   pub done : UponDrives (images_of (of.disks old_drives)) old call (λ before function. DoneAtOnce of.disks (entering_at old p process call now before function) new new_reply old_drives new_drives old_calls new_calls result)
   pub own : (before : List (Option Drive)) → OfFunction call (λ function. KeepsToDrive of (drive_number (entering_at old p process call now before function)) old.mounted new.mounted old_drives new_drives)
   pub none : ((number : ℕ) → directory_at old.mounted number ≡ None) → (new_drives ≡ old_drives) × IsOk result

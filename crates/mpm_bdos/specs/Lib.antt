@@ -8,6 +8,9 @@ pub mod Direct
 pub mod Serving
 pub mod Standing
 pub mod Turns
+pub mod ServiceTurns
+pub mod WholeCalls
+pub mod ReplyParts
 pub mod Ending
 pub mod Planning
 pub mod Leaving

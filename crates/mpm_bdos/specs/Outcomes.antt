@@ -53,9 +53,10 @@ file_call s = outcome_by s (turned s (call_turns s)) (refusal_of s)
 unfoldable pub drives_after : Situation → ℕ → List (Option Drive)
 drives_after s turns = drives_by s (turned s turns).drive (job_of s)
 
--- a process that ended leaves its open files, locks and marks. Its last search ended with it
+-- a process that ended leaves its open files, locks and marks
 unfoldable pub left_by : Filing → ℕ → Filing
 left_by filing p = record filing { opens = given_back filing.opens p is_any; marks = left_marks filing.marks p }
 
+-- and its last search
 unfoldable pub without_search : Filing → ℕ → Filing
 without_search filing p = record filing { searches = slice_set filing.searches p None }

@@ -62,8 +62,8 @@ BeginsOn directory job work =
     (image : List ℕ) (drive : Drive) → Stands image directory drive → IfSome job (Suits drive) → WorksOn image (Some directory) drive job 0 work
 
 -- the job of a call that isn't refused begins, on each drive for which some image and the directory stand, whatever marks there are
-abbrev pub BeginsCall : Directory → (List (Option Drive) → List ℕ → Situation) → Option Work → Type 0
-BeginsCall directory call work =
+abbrev pub BeginsCallJob : Directory → (List (Option Drive) → List ℕ → Situation) → Option Work → Type 0
+BeginsCallJob directory call work =
     (image : List ℕ) (drives : List (Option Drive)) (marks : List ℕ) → Stands image directory (drive_at (call drives marks))
     → refusal_of (call drives marks) ≡ None → BeginsJob image (Some directory) (call drives marks) work
 

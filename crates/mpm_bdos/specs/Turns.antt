@@ -24,10 +24,10 @@ use Rattle.mpm_bdos.specs.Serving.{InService, Kept}
 use Rattle.mpm_bdos.specs.Standing.{WhileWorking}
 use Rattle.mpm_directories.specs.Places.{directory_at}
 
--- each mounted drive is attached to an image of its kind's size; what is cached is what the images have; no two have one image
 abbrev pub has_directory : List (Option Directory) → ℕ → Bool
 has_directory mounted number = is_some (directory_at mounted number)
 
+-- each mounted drive is attached to an image of its kind's size; what is cached is what the images have; no two have one image
 pub record FitsDrives {D : Type 0} (disks : D → Disks) (mounted : List (Option Directory)) (cached : List (SectorPlace × List ℕ)) (drives : D) : Type 0 where
   pub sizes : (number : ℕ) → IfSome (directory_at mounted number) (λ directory. size_of (disks drives) number ≡ Some (geometry_of directory.kind).bytes)
   pub coherent : IsCoherent cached (disks drives)
@@ -90,11 +90,12 @@ pub record KeepsUnsynced (drive : Option ℕ) (old new : ℕ → Bool) : Type 0 
 abbrev pub drive_served : Option InService → Option ℕ
 drive_served service = option_map (λ call. call.drive) service
 
--- the next unit reads a record, and that one's sector is cached
+-- the next unit reads a record
 abbrev pub IsReadingRecord : Option Work → Type 0
 IsReadingRecord None = ⊥
 IsReadingRecord (Some work) = work.job.kind ≡ kinds.Read
 
+-- and that one's sector is cached
 abbrev pub IsReadingCached : List (SectorPlace × List ℕ) → Option Directory → Option Work → Type 0
 IsReadingCached cached directory None = ⊥
 IsReadingCached cached directory (Some work) = (work.job.kind ≡ kinds.Read) × IfSome directory (λ d. IsNextCached cached d work)
@@ -120,14 +121,14 @@ has_work None = false
 has_work (Some service) = is_some service.work
 
 -- where no drive is mounted, no call in service has work
-abbrev pub WorksOnDrives : Kept → Type 0
-WorksOnDrives kept = ((number : ℕ) → directory_at kept.mounted number ≡ None) → has_work kept.service ≡ false
+abbrev pub IsIdleWithoutDrives : Kept → Type 0
+IsIdleWithoutDrives kept = ((number : ℕ) → directory_at kept.mounted number ≡ None) → has_work kept.service ≡ false
 
--- a turn changes nothing that is kept but the directory of the drive, what is cached, and how far the work is; and each directory
--- is of the drive and the kind that it was of
 abbrev pub without_work : InService → InService
 without_work service = record service { work = None }
 
+-- a turn changes nothing that is kept but the directory of the drive, what is cached, and how far the work is; and each directory
+-- is of the drive and the kind that it was of
 pub record TurnKeeps (old new : Kept) : Type 0 where
   pub rest : new ≡ record old { mounted = new.mounted; cached = new.cached; service = new.service }
   pub service : option_map without_work new.service ≡ option_map without_work old.service
@@ -164,7 +165,7 @@ pub record TurnLeaves {D : Type 0} (of : Ghosts D) (drive : Option ℕ) (old_mou
 
 -- how many calls of the drives a turn takes: 20 at most, one where it reads a record, and none where that one's sector is cached. A
 -- turn that reads leaves no drive unsynced that was synced.
-pub record TakesTurn (reads cached : Type 0) (old_calls new_calls : ℕ) (old new : ℕ → Bool) : Type 0 where
+pub record CountsTurnCalls (reads cached : Type 0) (old_calls new_calls : ℕ) (old new : ℕ → Bool) : Type 0 where
   pub calls : new_calls ≤ old_calls + 20
   pub one_call : reads → new_calls ≤ old_calls + 1
   pub unsynced : reads → (number : ℕ) → new number ≡ old number
@@ -182,7 +183,7 @@ pub record TurnsPlace {D E : Type 0} (of : Ghosts D) (old_place new_place : Opti
   pub err : WhileWorking (λ before job j. IsWorking (of.disks old) old_place before job j old_work) (λ before job j. OnErr result (IsContainedAt (of.disks new) old_place before job j))
   pub progress : TellsProgress (λ before job j. IsWorking (of.disks old) old_place before job j old_work) result
   pub same : option_map drive_and_kind new_place ≡ option_map drive_and_kind old_place
-  pub takes : TakesTurn (IsReadingRecord (Some old_work)) (IsReadingCached old_cached old_place (Some old_work)) old_calls new_calls (of.unsynced old) (of.unsynced new)
+  pub takes : CountsTurnCalls (IsReadingRecord (Some old_work)) (IsReadingCached old_cached old_place (Some old_work)) old_calls new_calls (of.unsynced old) (of.unsynced new)
   pub directory : IfSome new_place (λ d. IsDirectory d.kind d.entries)
   pub leaves : HasLeftDisk of.disks of.told of.failed_names of.unsynced old_place old_cached new_cached old new
   pub cause : HasCause (of.faults old) (of.faults new) result
@@ -193,5 +194,5 @@ pub record TurnsDrive {D E : Type 0} (of : Ghosts D) (number : ℕ) (old_mounted
   pub err : WhileWorking (λ before job j. IsWorking (of.disks old) (directory_at old_mounted number) before job j old_work) (λ before job j. OnErr result (IsContainedAt (of.disks new) (directory_at old_mounted number) before job j))
   pub progress : TellsProgress (λ before job j. IsWorking (of.disks old) (directory_at old_mounted number) before job j old_work) result
   pub left : TurnLeaves of (Some number) old_mounted new_mounted new_cached old new
-  pub takes : TakesTurn (IsReadingRecord (Some old_work)) (IsReadingCached old_cached (directory_at old_mounted number) (Some old_work)) old_calls new_calls (of.unsynced old) (of.unsynced new)
+  pub takes : CountsTurnCalls (IsReadingRecord (Some old_work)) (IsReadingCached old_cached (directory_at old_mounted number) (Some old_work)) old_calls new_calls (of.unsynced old) (of.unsynced new)
   pub cause : HasCause (of.faults old) (of.faults new) result

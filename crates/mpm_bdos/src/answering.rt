@@ -1,5 +1,4 @@
-ghost use Rattle.std.specs.Prelude.{◌≡◌, ◌≤◌, ℕ, true, List, None, IfSome};
-ghost use Rattle.std.specs.List.{flat_map};
+ghost use Rattle.std.specs.Prelude.{◌≡◌, ◌≤◌, true, None};
 ghost use Rattle.mpm_mount.specs.Drives.{free_records};
 ghost use Rattle.mpm_mount.specs.Files.{where_there};
 ghost use Rattle.mpm_fcb.specs.Blocks.{bytes_of};
@@ -10,6 +9,8 @@ ghost use Rattle.mpm_file_functions.specs.Ends.{done_by};
 ghost use Rattle.mpm_bdos.specs.Replies as spec;
 ghost use Rattle.mpm_mount.specs.Standing.{OnItsDrive};
 ghost use Rattle.mpm_directories.specs.Direct as directly;
+ghost use Rattle.mpm_bdos.specs.ReplyParts.{AnswersRecords, MayAnswerGranted};
+ghost use Rattle.mpm_file_entries.specs.Limits.{IsMultiCount};
 
 use crate::replies::read_bytes;
 use mpm_base::{Call, Reply};
@@ -22,8 +23,7 @@ use mpm_mount::Mounted;
 /// Answers a value, and as many records as it says are done of those that a job has read.
 fn answer_read(reply: &mut Reply, value: u16, at: u16, multi: u8, work: &Work)
     requires { multi ≤ 16 }
-    ensures all { (records : List (List ℕ)) → ending.IsRead (done_by multi value) work.now records → reply.new ≡ spec.answering_at value at (flat_map (λ bytes. bytes) records) }
-    ensures none { reply.new.fcb ≡ None }
+    ensures { AnswersRecords (ending.IsRead (done_by multi value) work.now) value at reply.new }
 {
     reply.answer_with(value, at, read_bytes(work, records_done(multi, value)));
 }
@@ -31,8 +31,7 @@ fn answer_read(reply: &mut Reply, value: u16, at: u16, multi: u8, work: &Work)
 /// Answers a value, and the records that a call has read; without a job no record is there.
 fn answer_records(reply: &mut Reply, value: u16, at: u16, multi: u8, work: &Option<Work>)
     requires { multi ≤ 16 }
-    ensures all { (records : List (List ℕ)) → ending.HasRead (done_by multi value) work.now records → reply.new ≡ spec.answering_at value at (flat_map (λ bytes. bytes) records) }
-    ensures none { reply.new.fcb ≡ None }
+    ensures { AnswersRecords (ending.HasRead (done_by multi value) work.now) value at reply.new }
 {
     match work {
         Some(work) => answer_read(reply, value, at, multi, work),
@@ -70,8 +69,7 @@ fn answer_bytes(
     told: &Option<[u8; 128]>,
     at: u16,
 )
-    requires some { 1 ≤ multi }
-    requires few { multi ≤ 16 }
+    requires { IsMultiCount multi }
     ensures all { spec.IsAnswered mounted.now granted.now multi work.now told.now (λ drive records found. reply.new ≡ spec.answering_at (granting.value_by drive granted.now granted.now.function) at (spec.bytes_by drive records found granted.now.function)) }
     ensures none { reply.new.fcb ≡ None }
 {
@@ -124,9 +122,7 @@ pub(crate) fn answer(
     told: &Option<[u8; 128]>,
     call: &Call,
 )
-    requires number { IfSome granted.now.opened (λ made. made.number ≤ 63) }
-    requires some { 1 ≤ multi }
-    requires few { multi ≤ 16 }
+    requires { MayAnswerGranted granted.now multi }
     ensures { (granting.is_moving granted.now.function ≡ true → granting.IsPlaced granted.now)
         → spec.IsAnswered mounted.now granted.now multi work.now told.now (λ drive records found. reply.new ≡ spec.answer_by drive granted.now records found call.now.fcb call.now.dma) }
 {

@@ -23,7 +23,7 @@ impl Bdos {
     ghost use Rattle.mpm_bdos.specs.Serving.{IsCaller};
     ghost use Rattle.mpm_bdos.specs.Turns.{FitsDrives};
     ghost use Rattle.mpm_bdos.specs.Starting.{caller_of};
-    ghost use Rattle.mpm_bdos.specs.AtOnce.{DoesTurns, CallsAtOnce};
+    ghost use Rattle.mpm_bdos.specs.AtOnce.{DoesTurns, ServesAtOnce};
 
     /// Does so many turns of the call in service, one after another, up to the first in which its drive fails. Each takes 20 calls of
     /// the drives at most.
@@ -74,7 +74,7 @@ impl Bdos {
         requires caller { IsCaller (caller_of p process.now) }
         requires time { IsTime now }
         requires fits { FitsDrives D.disks self.old.mounted self.old.cached drives.old }
-        ensures { CallsAtOnce D.Drives self.old self.new p process.now call.now now reply.old reply.new drives.old drives.new steps.old steps.new result }
+        ensures { ServesAtOnce D.Drives self.old self.new p process.now call.now now reply.old reply.new drives.old drives.new steps.old steps.new result }
     {
         if !is_file_call(call) {
             return Ok(None);

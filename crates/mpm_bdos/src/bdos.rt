@@ -1,16 +1,9 @@
-ghost use Rattle.std.specs.Prelude.{◌≡◌, ◌<◌, ℕ, suc, false, List, Option, None, Ok, IfOk, OnOk, OnErr};
-ghost use Rattle.mpm_port.specs.Causes.{HasCause};
-ghost use Rattle.mpm_port.specs.Disks.{Disks};
-ghost use Rattle.mpm_cache.specs.Coherent.{IsCoherent, HasNoAlias};
-ghost use Rattle.mpm_files.specs.declared.turning.Progress.TheVariants as progress;
+ghost use Rattle.std.specs.Prelude.{◌≡◌, List, Option};
 ghost use Rattle.mpm_mount.specs.Drives.{Drive};
-ghost use Rattle.mpm_bdos.specs.Direct.{IfDirect};
-ghost use Rattle.mpm_bdos.specs.Standing.{OnItsDrives, WhileServing};
-ghost use Rattle.mpm_file_functions.specs.Functions.{direct_of};
 ghost use Rattle.mpm_bdos.specs.Outcomes.{left_by, without_search};
-ghost use Rattle.mpm_bdos.specs.Jobs.{call_turns};
-ghost use Rattle.mpm_bdos.specs.Turns.{FitsDrives, TakesTurn, StopsWithin, ServesReading, ServesCached, IsDiskIdle, images_of, progress_after, has_work};
-ghost use Rattle.mpm_bdos.specs.AtOnce.{TurnsLeave};
+ghost use Rattle.mpm_bdos.specs.Turns.{FitsDrives};
+ghost use Rattle.mpm_bdos.specs.ServiceTurns.{TurnsServedCall};
+ghost use Rattle.mpm_bdos.specs.WholeCalls.{KeepsNothingYet, AnswersDirectly};
 
 use crate::directories::Directories;
 use crate::service::Held;
@@ -65,7 +58,7 @@ impl Model for Bdos {
 impl Bdos {
     ghost use Rattle.mpm_opens.specs.Opens.{AreOpen};
     ghost use Rattle.mpm_directories.specs.Places.{AreInPlace, directory_at};
-    ghost use Rattle.mpm_bdos.specs.Serving.{Serves, filing_of, nothing_kept};
+    ghost use Rattle.mpm_bdos.specs.Serving.{filing_of};
     ghost use Rattle.std.specs.Option.{option_copied};
 
     /// Nothing is open, marked, sought or protected, nothing is cached, and no call is in service. Of the sixteen drives those
@@ -76,9 +69,7 @@ impl Bdos {
     #[tactic(auto, using(crate::proofs::KeptLaws::no_users))]
     pub fn new(alloc: Global, mounted: Vec<Option<Mounted>>) -> Result<Bdos, OutOfMemory>
         requires { AreInPlace mounted.items }
-        ensures kept { IfOk result (λ bdos. bdos ≡ nothing_kept mounted.items) }
-        ensures coherent { IfOk result (λ bdos. (disks : Disks) → IsCoherent bdos.cached disks) }
-        ensures apart { IfOk result (λ bdos. (disks : Disks) (number : ℕ) → HasNoAlias bdos.cached disks number) }
+        ensures { KeepsNothingYet mounted.items result }
     {
         let cache = Cache::new(alloc)?;
         let service = Held::none(alloc)?;
@@ -104,12 +95,7 @@ impl Bdos {
     /// whatever is on them; nothing where it is another one. While a call is in service it answers as before that. What becomes of
     /// the process's drive is not done here.
     pub fn direct(&self, call: &Call, process: &Process, reply: &mut Reply) -> Option<Extended>
-        ensures answer { OnItsDrives self.now (λ filing. IfDirect filing process.now.drive call.now (λ all. reply.new ≡ all.answer)) }
-        ensures extended { OnItsDrives self.now (λ filing. IfDirect filing process.now.drive call.now (λ all. result ≡ all.extended)) }
-        ensures served { (images : ℕ → List ℕ) → WhileServing images self.now (λ s j. IfDirect s.filing process.now.drive call.now (λ all. reply.new ≡ all.answer)) }
-        ensures served_extended { (images : ℕ → List ℕ) → WhileServing images self.now (λ s j. IfDirect s.filing process.now.drive call.now (λ all. result ≡ all.extended)) }
-        ensures other { direct_of call.now.function ≡ None → reply.new ≡ reply.old }
-        ensures unanswered { direct_of call.now.function ≡ None → result ≡ None }
+        ensures { AnswersDirectly self.now process.now.drive call.now reply.old reply.new result }
     {
         match DirectFunction::of(call.function) {
             Some(function) => do_directly(
@@ -154,15 +140,7 @@ impl Bdos {
         steps: &mut Steps<L>,
     ) -> Result<Progress, Failed>
         requires { FitsDrives D.disks self.old.mounted self.old.cached drives.old }
-        ensures ok { WhileServing (images_of (D.disks drives.old)) self.old (λ s j. j < call_turns s → OnOk result (Serves (images_of (D.disks drives.new)) self.new s (suc j))) }
-        ensures err { WhileServing (images_of (D.disks drives.old)) self.old (λ s j. j < call_turns s → OnErr result (StopsWithin (D.disks drives.new) s j)) }
-        ensures progress { WhileServing (images_of (D.disks drives.old)) self.old (λ s j. IfOk result (λ told. told ≡ progress_after (suc j) (call_turns s))) }
-        ensures idle { has_work self.old.service ≡ false → IsDiskIdle self.old.service self.new.service self.old.mounted self.new.mounted self.old.cached self.new.cached drives.old drives.new steps.old steps.new }
-        ensures done { has_work self.old.service ≡ false → result ≡ Ok progress.Done }
-        ensures still { has_work self.new.service ≡ has_work self.old.service }
-        ensures left { TurnsLeave D.disks D.told D.failed_names D.unsynced self.old self.new drives.old drives.new }
-        ensures takes { TakesTurn (ServesReading self.old.service) (ServesCached self.old.cached self.old.mounted self.old.service) steps.old steps.new (D.unsynced drives.old) (D.unsynced drives.new) }
-        ensures cause { HasCause (D.faults drives.old) (D.faults drives.new) result }
+        ensures { TurnsServedCall D.Drives self.old self.new drives.old drives.new steps.old steps.new result }
     {
         turn_service(
             &mut self.service,

@@ -1,19 +1,17 @@
-ghost use Rattle.std.specs.Prelude.{◌≡◌, ◌≤◌, ◌<◌, ℕ, true, List, [], Option, None, length};
+ghost use Rattle.std.specs.Prelude.{◌≡◌, ◌≤◌, ◌<◌, ℕ, true, List, Option, None, length};
 ghost use Rattle.std.specs.Option.{option_copied};
 ghost use Rattle.mpm_dirent.specs.declared.limits.TheConstants.{LAST_POSITION};
-ghost use Rattle.mpm_base.specs.Calls.{answering};
 ghost use Rattle.mpm_fcb.specs.Blocks.{block_of};
 ghost use Rattle.mpm_fcb.specs.Positions.{sequential_record};
 ghost use Rattle.mpm_file_functions.specs.declared.refusals.Refusal.{Refusal as Refused};
-ghost use Rattle.mpm_marks.specs.Driving.{marks_by, protected_by, freed_by};
 ghost use Rattle.mpm_refusals.specs.Filing.{Situation, HaveUsers};
 ghost use Rattle.mpm_bdos.specs.Finishing as spec;
 ghost use Rattle.mpm_bdos.specs.Jobs.{call_turns};
-ghost use Rattle.mpm_file_functions.specs.Refusals as outcomes;
 ghost use Rattle.mpm_refusals.specs.Refusals as refusals;
 ghost use Rattle.mpm_bdos.specs.Replying as replying;
 ghost use Rattle.mpm_bdos.specs.Serving.{IsCaller, CallsUpon, Serves};
 ghost use Rattle.mpm_bdos.specs.Standing.{entered_at};
+ghost use Rattle.mpm_bdos.specs.ReplyParts.{RefusesCall, RepliesOnDrives};
 
 use crate::answering::dma_of_call;
 use crate::bdos::Bdos;
@@ -45,8 +43,7 @@ fn is_on_drives(function: FileFunction) -> bool
 
 /// Answers a call that is refused, on a drive.
 fn refuse(reply: &mut Reply, refusal: Refusal, drive: u8) -> Option<Extended>
-    ensures reply { reply.new ≡ answering (outcomes.refused_value (outcomes.answered refusal)) }
-    ensures extended { result ≡ outcomes.refused_extended drive (outcomes.answered refusal) }
+    ensures { RefusesCall refusal drive reply.new result }
 {
     let answered = refusal.answer();
     reply.answer(answered.value());
@@ -73,10 +70,7 @@ fn reply_on_drives(
     file_call: &FileCall<'_>,
 )
     requires { is_mounted ≡ true → file_call.now.caller.drive < 16 }
-    ensures reply { reply.new ≡ record { hl = 0; fcb = None; at = file_call.now.call.now.dma; bytes = [] } }
-    ensures protected { protected.new ≡ protected_by protected.old is_mounted file_call.now.caller.drive file_call.now.call.now.word file_call.now.function }
-    ensures opens { opens.new ≡ freed_by opens.old file_call.now.caller.process file_call.now.call.now.word file_call.now.function }
-    ensures marks { marks.new ≡ marks_by marks.old file_call.now.caller.process file_call.now.call.now.word file_call.now.function }
+    ensures { RepliesOnDrives file_call.now is_mounted reply.new protected.old protected.new opens.old opens.new marks.old marks.new }
 {
     let FileCall {
         caller,
@@ -185,16 +179,12 @@ fn reply_service(
 
 impl Bdos {
     ghost use Rattle.std.specs.Prelude.{◌≡◌, None};
-    ghost use Rattle.mpm_bdos.specs.Finishing.{ComesToAfterTurns};
+    ghost use Rattle.mpm_bdos.specs.WholeCalls.{RepliesInService};
 
     /// Answers the call in service, after its turns, with its extended error, if it has one; then none is in service. Nothing is
     /// answered where none was. (MP/M II Programmer's Guide, "BDOS Function Calls", "BDOS Error Handling".)
     pub fn reply(&mut self, reply: &mut Reply) -> Option<Extended>
-        ensures comes { ComesToAfterTurns self.old self.new reply.new result }
-        ensures kept { self.new ≡ record self.old { protected = self.new.protected; opens = self.new.opens; marks = self.new.marks; searches = self.new.searches; service = None } }
-        ensures idle { self.old.service ≡ None → self.new ≡ self.old }
-        ensures no_reply { self.old.service ≡ None → reply.new ≡ reply.old }
-        ensures no_extended { self.old.service ≡ None → result ≡ None }
+        ensures { RepliesInService self.old self.new reply.old reply.new result }
     {
         match self.service.get() {
             Some(service) => {

@@ -1,16 +1,13 @@
-ghost use Rattle.std.specs.Prelude.{◌≡◌, ◌≤◌, ◌<◌, None, IfSome, if◌then◌else◌};
+ghost use Rattle.std.specs.Prelude.{◌≡◌, ◌≤◌, None, IfSome, if◌then◌else◌};
 ghost use Rattle.mpm_dirent.specs.declared.limits.TheConstants.{LAST_RECORD};
-ghost use Rattle.mpm_opens.specs.Items as items;
-ghost use Rattle.mpm_opens.specs.Opens.{added, closed, process_of};
+ghost use Rattle.mpm_opens.specs.Opens.{closed, process_of};
 ghost use Rattle.mpm_fcb.specs.Names.{has_f5};
 ghost use Rattle.mpm_fcb.specs.Positions.{random_record};
 ghost use Rattle.mpm_file_functions.specs.declared.functions.FileFunction.TheVariants as functions;
-ghost use Rattle.mpm_bdos.specs.Replies.{opened_as};
-ghost use Rattle.mpm_refusals.specs.Filing.{HaveUsers};
 ghost use Rattle.mpm_bdos.specs.Leaving as spec;
-ghost use Rattle.mpm_bdos.specs.Records.{AreOfFile, MayLock};
-ghost use Rattle.mpm_mount.specs.Standing.{OnItsDrive};
+ghost use Rattle.mpm_bdos.specs.Records.{MayLock};
 ghost use Rattle.mpm_refusals.specs.Asking as asking;
+ghost use Rattle.mpm_bdos.specs.ReplyParts.{OpensFile, MayLockBy, LocksByItem, OpensAsked, MayEndRecords, EndsRecords, GrantsCall};
 
 use crate::ending::ended;
 use crate::records::lock_records;
@@ -28,10 +25,7 @@ use mpm_refusals::{Asked, OpenItem, first_record, mode_needed, subject_key};
 
 /// Opens a file for a process.
 fn open_file(opens: &mut Opens, p: Pid, file: FileKey, mode: Mode) -> Option<OpenedAs>
-    ensures opens { opens.new ≡ added opens.old p file mode }
-    ensures opened { result ≡ opened_as mode (items.add_answer opens.old.items p file mode) }
-    ensures number { IfSome result (λ made. made.number ≤ 63) }
-    ensures users { HaveUsers opens.old → file.user < 16 → HaveUsers opens.new }
+    ensures { OpensFile opens.old opens.new p file mode result }
 {
     match opens.add(p, file, mode) {
         Ok(number) => Some(OpenedAs { mode, number }),
@@ -61,9 +55,7 @@ fn nothing_locked() -> Ended
 /// Locks so many records from one on by way of an open file, if that is open in unlocked mode.
 fn lock_by(opens: &mut Opens, mounted: &Mounted, item: &OpenItem, first: u32, count: u8) -> Ended
     requires { MayLock opens.old item.now.number item.now.file first count }
-    ensures opens { OnItsDrive mounted.now (λ drive. opens.new ≡ (spec.locked_by drive opens.old (process_of opens.old item.now.number) item.now.file first count item.now.mode).opens) }
-    ensures ended { OnItsDrive mounted.now (λ drive. result ≡ spec.ended_of (spec.locked_by drive opens.old (process_of opens.old item.now.number) item.now.file first count item.now.mode)) }
-    ensures items { opens.new.items ≡ opens.old.items }
+    ensures { LocksByItem mounted.now opens.old opens.new (λ drive. spec.locked_by drive opens.old (process_of opens.old item.now.number) item.now.file first count item.now.mode) result }
 {
     match item.mode {
         Mode::Unlocked => lock_records(opens, mounted, item.number, item.file, first, count),
@@ -81,11 +73,8 @@ fn lock(
     first: u32,
     count: u8,
 ) -> Ended
-    requires item { IfSome item (λ item. asking.IsOwnItem opens.old p item) }
-    requires records { AreOfFile first count }
-    ensures opens { OnItsDrive mounted.now (λ drive. opens.new ≡ (spec.locked_where drive opens.old p first count item).opens) }
-    ensures ended { OnItsDrive mounted.now (λ drive. result ≡ spec.ended_of (spec.locked_where drive opens.old p first count item)) }
-    ensures items { opens.new.items ≡ opens.old.items }
+    requires { MayLockBy opens.old p item first count }
+    ensures { LocksByItem mounted.now opens.old opens.new (λ drive. spec.locked_where drive opens.old p first count item) result }
 {
     match item {
         Some(item) => lock_by(opens, mounted, &item, first, count),
@@ -137,10 +126,7 @@ pub(crate) fn leave(
 /// What a call on a mounted drive opens or makes, in the mode in which it asks for its file.
 #[tactic(auto, unfolding(crate::specs::Leaving::opened_by, crate::specs::Leaving::opened_for))]
 fn open_asked(opens: &mut Opens, mounted: &Mounted, asked: &Asked) -> Option<OpenedAs>
-    ensures opens { OnItsDrive mounted.now (λ drive. opens.new ≡ spec.opened_by drive opens.old asked.now asked.now.function) }
-    ensures opened { OnItsDrive mounted.now (λ drive. result ≡ spec.opened_for drive opens.old asked.now asked.now.function) }
-    ensures number { IfSome result (λ made. made.number ≤ 63) }
-    ensures users { HaveUsers opens.old → asked.now.owner < 16 → HaveUsers opens.new }
+    ensures { OpensAsked mounted.now opens.old opens.new asked.now result }
 {
     match asked.function {
         FileFunction::OpenFile | FileFunction::MakeFile => open_file(
@@ -164,11 +150,8 @@ fn first_locked(block: &ControlBlock) -> u32
 /// What the records of a call on a mounted drive come to: those that it locks are locked.
 #[tactic(auto, unfolding(crate::specs::Leaving::locked_for, crate::specs::Leaving::ended_for))]
 fn end_records(opens: &mut Opens, mounted: &Mounted, asked: &Asked, work: &Option<Work>) -> Ended
-    requires item { asked.now.function ≡ functions.LockRecord → IfSome asked.now.item (λ item. asking.IsOwnItem opens.old asked.now.caller.process item) }
-    requires few { asked.now.caller.multi ≤ 16 }
-    ensures opens { OnItsDrive mounted.now (λ drive. spec.IsInFile asked.now → opens.new ≡ spec.locked_for drive opens.old asked.now asked.now.function) }
-    ensures ended { OnItsDrive mounted.now (λ drive. spec.IsInFile asked.now → result ≡ spec.ended_for drive opens.old asked.now work.now asked.now.function) }
-    ensures items { opens.new.items ≡ opens.old.items }
+    requires { MayEndRecords opens.old asked.now }
+    ensures { EndsRecords mounted.now opens.old opens.new asked.now work.now result }
 {
     match asked.function {
         FileFunction::LockRecord => lock(
@@ -190,12 +173,8 @@ pub(crate) fn grant(
     asked: &Asked,
     work: &Option<Work>,
 ) -> Granted
-    requires item { asked.now.function ≡ functions.LockRecord → IfSome asked.now.item (λ item. asking.IsOwnItem opens.old asked.now.caller.process item) }
-    requires few { asked.now.caller.multi ≤ 16 }
-    ensures opens { OnItsDrive mounted.now (λ drive. spec.IsInFile asked.now → opens.new ≡ spec.opened_then drive opens.old asked.now) }
-    ensures granted { OnItsDrive mounted.now (λ drive. spec.IsInFile asked.now → result ≡ spec.granted_by drive opens.old asked.now work.now) }
-    ensures number { IfSome result.opened (λ made. made.number ≤ 63) }
-    ensures users { HaveUsers opens.old → asked.now.owner < 16 → HaveUsers opens.new }
+    requires { MayEndRecords opens.old asked.now }
+    ensures { GrantsCall mounted.now opens.old opens.new asked.now work.now result }
 {
     let ended = end_records(opens, mounted, asked, work);
     let opened = open_asked(opens, mounted, asked);

@@ -1,7 +1,5 @@
 ghost use Rattle.std.specs.Prelude.{◌≡◌, ◌≤◌, Some};
-ghost use Rattle.mpm_dirent.specs.Names.{plain};
 ghost use Rattle.mpm_dirent.specs.declared.limits.TheConstants.{LAST_POSITION};
-ghost use Rattle.mpm_fcb.specs.Blocks.{block_of};
 ghost use Rattle.mpm_fcb.specs.Names.{new_name_of};
 ghost use Rattle.mpm_jobs.specs.declared.jobs.JobKind.TheVariants as kinds;
 ghost use Rattle.mpm_jobs.specs.Jobs as jobs;
@@ -10,6 +8,7 @@ ghost use Rattle.mpm_bdos.specs.Standing.{entered_at_own_moment};
 ghost use Rattle.mpm_bdos.specs.Planning as planning;
 ghost use Rattle.mpm_bdos.specs.Jobs as spec;
 ghost use Rattle.mpm_locks.specs.Locks as locks;
+ghost use Rattle.mpm_bdos.specs.ReplyParts.{MayTestRecords, MayPlanJob};
 
 use crate::records::count_tested;
 use mpm_base::Call;
@@ -131,9 +130,7 @@ fn tested(
     moment: [u8; 4],
     about: About,
 ) -> Option<Job>
-    requires few { caller.now.multi ≤ 16 }
-    requires first { about.first ≤ LAST_POSITION }
-    requires plain { plain about.file.name ≡ about.file.name }
+    requires { MayTestRecords about.file about.first caller.now.multi }
     ensures { OnItsDrive mounted.now (λ drive. result ≡ planning.tested drive (locks.count_until (spec.is_tested_off drive opens.now caller.now.process about.file) about.first caller.now.multi) caller.now.multi name.now bytes.now moment about) }
 {
     let count = count_tested(
@@ -164,10 +161,7 @@ pub(crate) fn job_by(
     block: &ControlBlock,
     about: About,
 ) -> Option<Job>
-    requires few { file_call.now.caller.multi ≤ 16 }
-    requires first { about.first ≤ LAST_POSITION }
-    requires plain { plain about.file.name ≡ about.file.name }
-    requires block { block.now ≡ block_of file_call.now.call.now.fcb }
+    requires { MayPlanJob about file_call.now.caller.multi block.now file_call.now.call.now.fcb }
     ensures { planning.IsJobOf mounted.now about (λ drives protected marks searches. entered_at_own_moment file_call.now protected opens.now searches drives marks) result }
 {
     let FileCall {

@@ -1,11 +1,11 @@
 ghost use Rattle.std.specs.Prelude.{◌≡◌, ◌≤◌};
 ghost use Rattle.mpm_dirent.specs.Names.{plain};
-ghost use Rattle.mpm_dirent.specs.declared.limits.TheConstants.{LAST_NAMED, LAST_POSITION};
+ghost use Rattle.mpm_dirent.specs.declared.limits.TheConstants.{LAST_NAMED};
 ghost use Rattle.mpm_opens.specs.Opens.{process_of};
-ghost use Rattle.mpm_locks.specs.Locks as locks;
 ghost use Rattle.mpm_bdos.specs.Jobs as jobs;
 ghost use Rattle.mpm_bdos.specs.Records as spec;
 ghost use Rattle.mpm_mount.specs.Standing.{OnItsDrive};
+ghost use Rattle.mpm_bdos.specs.ReplyParts.{LocksByItem, MayTestRecords, CountsTested};
 
 use mpm_base::Pid;
 use mpm_file_functions::Ended;
@@ -34,11 +34,8 @@ pub(crate) fn count_tested(
     first: u32,
     count: u8,
 ) -> u8
-    requires plain { plain file.name ≡ file.name }
-    requires first { first ≤ LAST_POSITION }
-    requires count { count ≤ 16 }
-    ensures value { OnItsDrive mounted.now (λ drive. result ≡ locks.count_until (jobs.is_tested_off drive opens.now p file) first count) }
-    ensures few { result ≤ count }
+    requires { MayTestRecords file first count }
+    ensures { CountsTested mounted.now opens.now p file first count result }
 {
     for k in 0..count {
         if is_tested_off(mounted, opens, p, file, first + u32::from(k)) {
@@ -60,10 +57,7 @@ pub(crate) fn lock_records(
     count: u8,
 ) -> Ended
     requires { spec.MayLock opens.old item file first count }
-    ensures opens { OnItsDrive mounted.now (λ drive. opens.new ≡ (spec.locking drive opens.old (process_of opens.old item) file first count).opens) }
-    ensures moved { OnItsDrive mounted.now (λ drive. result.moved ≡ (spec.locking drive opens.old (process_of opens.old item) file first count).moved) }
-    ensures end { OnItsDrive mounted.now (λ drive. result.end ≡ (spec.locking drive opens.old (process_of opens.old item) file first count).end) }
-    ensures items { opens.new.items ≡ opens.old.items }
+    ensures { LocksByItem mounted.now opens.old opens.new (λ drive. spec.locking drive opens.old (process_of opens.old item) file first count) result }
 {
     for k in 0..count {
         let n = first + u32::from(k);

@@ -1,13 +1,10 @@
-ghost use Rattle.std.specs.Prelude.{◌≡◌, ◌<◌, IfSome, option_map};
-ghost use Rattle.mpm_opens.specs.Opens.{AreOpen};
+ghost use Rattle.std.specs.Prelude.{option_map};
 ghost use Rattle.mpm_refusals.specs.Asking.{found_as};
-ghost use Rattle.mpm_bdos.specs.Leaving as spec;
-ghost use Rattle.mpm_refusals.specs.Asking as asking;
 ghost use Rattle.mpm_refusals.specs.Filing.{HaveUsers};
 ghost use Rattle.mpm_bdos.specs.Replying.{IsRepliedOn};
 ghost use Rattle.mpm_bdos.specs.Serving.{IsCaller};
-ghost use Rattle.mpm_mount.specs.Standing.{OnItsDrive};
 ghost use Rattle.mpm_bdos.specs.Standing.{entered_at};
+ghost use Rattle.mpm_bdos.specs.ReplyParts.{MayAnswerMounted, AnswersMounted};
 
 use crate::answering::answer;
 use crate::ending::moved_by;
@@ -42,12 +39,8 @@ pub(crate) fn answer_mounted(
     found: &Option<FoundEntry>,
     served: &Served<'_>,
 )
-    requires own { IfSome asked.now.item (λ item. asking.IsOwnItem opens.old asked.now.caller.process item) }
-    requires caller { IsCaller asked.now.caller }
-    ensures sound { AreOpen opens.old }
-    ensures users { HaveUsers opens.old → asked.now.owner < 16 → HaveUsers opens.new }
-    ensures opens { OnItsDrive mounted.now (λ drive. spec.IsInFile asked.now → opens.new ≡ spec.opens_left drive opens.old asked.now served.now.work.now served.now.deleted.now) }
-    ensures reply { spec.IsGrantedReply mounted.now opens.old asked.now served.now.work.now served.now.deleted.now (option_map (found_as mounted.now.kind) found.now) served.now.file_call.call.now reply.new }
+    requires { MayAnswerMounted opens.old asked.now }
+    ensures { AnswersMounted mounted.now opens.old opens.new asked.now served.now.work.now served.now.deleted.now (option_map (found_as mounted.now.kind) found.now) served.now.file_call.call.now reply.new }
 {
     // Who has a lock tells that all open files are sound.
     let _ = opens.owner(subject_key(asked), 0);

@@ -1,17 +1,14 @@
-ghost use Rattle.std.specs.Prelude.{◌≡◌, ◌≤◌, ◌&&◌, List, Option, Some, is_some, min, option_and_then, unwrap_or};
+ghost use Rattle.std.specs.Prelude.{◌≡◌, ◌&&◌, Some, is_some, option_and_then, unwrap_or};
 ghost use Rattle.std.specs.Option.{option_copied};
-ghost use Rattle.mpm_dirent.specs.Names.{plain};
-ghost use Rattle.mpm_dirent.specs.declared.limits.TheConstants.{LAST_POSITION};
-ghost use Rattle.mpm_mount.specs.Drives.{Drive};
 ghost use Rattle.mpm_opens.specs.Items.{file_named};
 ghost use Rattle.mpm_opens.specs.Opens.{item_of};
-ghost use Rattle.mpm_fcb.specs.Positions.{sequential_record};
-ghost use Rattle.mpm_refusals.specs.Subjects as subjects;
 ghost use Rattle.mpm_bdos.specs.Changes as changes;
 ghost use Rattle.mpm_file_functions.specs.Functions.{function_of};
 ghost use Rattle.mpm_bdos.specs.Serving.{CallsUpon};
 ghost use Rattle.mpm_bdos.specs.Standing.{entered_at_own_moment};
 ghost use Rattle.mpm_bdos.specs.Starting as spec;
+ghost use Rattle.mpm_bdos.specs.ReplyParts.{IsFirstPosition, LooksUpCall};
+ghost use Rattle.mpm_bdos.specs.WholeCalls.{EntersOnDrive, EntersOnDrives};
 
 use crate::bdos::Bdos;
 use crate::directories::Directories;
@@ -38,9 +35,7 @@ const RECORDS: u8 = 16;
 
 /// The first of a call's records, or the last position that a block can have, where it is past that.
 pub(crate) fn first_position(block: &ControlBlock, function: FileFunction) -> u32
-    ensures value { result ≡ min (subjects.first_by block.now function) LAST_POSITION }
-    ensures few { result ≤ LAST_POSITION }
-    ensures low { sequential_record block.now ≤ LAST_POSITION }
+    ensures { IsFirstPosition block.now function result }
 {
     let sequential = block.sequential_record();
     match function {
@@ -81,10 +76,7 @@ fn about_of(
     owner: u8,
     number: Option<u8>,
 ) -> About
-    ensures value { result ≡ spec.about_in opens.now p block.now function drive owner number }
-    ensures plain { plain result.file.name ≡ result.file.name }
-    ensures few { result.first ≤ LAST_POSITION }
-    ensures low { sequential_record block.now ≤ LAST_POSITION }
+    ensures { LooksUpCall opens.now p block.now function drive owner number result }
 {
     let name = plain_name(&block.name);
     let first = first_position(block, function);
@@ -132,7 +124,7 @@ fn begin_call(
     file_call: &FileCall<'_>,
 )
     requires { CallsUpon file_call.now.caller opens.now }
-    ensures { spec.BeginsCall mounted.now (entered_at_own_moment file_call.now protected.now opens.now searches.now) work.new }
+    ensures { spec.BeginsCallJob mounted.now (entered_at_own_moment file_call.now protected.now opens.now searches.now) work.new }
 {
     let FileCall {
         caller,
@@ -253,9 +245,7 @@ fn entered(
     file_call: &FileCall<'_>,
 ) -> Service
     requires { CallsUpon file_call.now.caller opens.now }
-    ensures entered { spec.IsEntered file_call.now.caller file_call.now.function file_call.now.call.now result }
-    ensures drive { result.drive ≡ drive }
-    ensures all { spec.EntersBy (option_copied mounted.entry) drive (λ drives. entered_at_own_moment file_call.now protected.now opens.now searches.now drives marks.now) result }
+    ensures { EntersOnDrive (option_copied mounted.entry) drive file_call.now (λ drives. entered_at_own_moment file_call.now protected.now opens.now searches.now drives marks.now) result }
 {
     let FileCall {
         caller,
@@ -292,9 +282,7 @@ fn entered_among(
     file_call: &FileCall<'_>,
 ) -> Service
     requires { CallsUpon file_call.now.caller opens.now }
-    ensures entered { spec.IsEntered file_call.now.caller file_call.now.function file_call.now.call.now result }
-    ensures drive { (drives : List (Option Drive)) → result.drive ≡ subjects.drive_number (entered_at_own_moment file_call.now protected.now opens.now searches.now drives marks.now) }
-    ensures all { spec.EntersAll mounted.now (λ drives. entered_at_own_moment file_call.now protected.now opens.now searches.now drives marks.now) result }
+    ensures { EntersOnDrives mounted.now file_call.now (λ drives. entered_at_own_moment file_call.now protected.now opens.now searches.now drives marks.now) result }
 {
     let FileCall {
         caller,
@@ -338,32 +326,19 @@ fn function_of_call(call: &Call) -> Option<FileFunction>
 }
 
 impl Bdos {
-    ghost use Rattle.std.specs.Prelude.{◌≡◌, ◌<◌, ℕ, true, false, List, Option, Some, None, is_some};
+    ghost use Rattle.std.specs.Prelude.{◌≡◌, Some, is_some};
     ghost use Rattle.mpm_clock.specs.Times.{IsTime};
-    ghost use Rattle.mpm_mount.specs.Drives.{Drive};
     ghost use Rattle.mpm_file_functions.specs.Functions.{function_of};
-    ghost use Rattle.mpm_bdos.specs.Jobs.{call_turns};
-    ghost use Rattle.mpm_bdos.specs.Serving.{IsCaller, Serves};
-    ghost use Rattle.mpm_bdos.specs.Standing.{UponAnyDrives, OfFunction};
-    ghost use Rattle.mpm_directories.specs.Places.{directory_at};
-    ghost use Rattle.mpm_refusals.specs.Subjects.{drive_number};
-    ghost use Rattle.mpm_bdos.specs.Turns.{drive_served, has_work};
-    ghost use Rattle.mpm_bdos.specs.Starting.{HasBegunService, caller_of, entering_at};
+    ghost use Rattle.mpm_bdos.specs.Serving.{IsCaller};
+    ghost use Rattle.mpm_bdos.specs.Starting.{caller_of};
+    ghost use Rattle.mpm_bdos.specs.WholeCalls.{StartsService};
 
     /// A process's call on files and drives enters service: how many turns it takes. A call of another function doesn't, and takes
     /// none. No device is asked. (MP/M II Programmer's Guide, "BDOS Function Calls".)
     pub fn start(&mut self, p: Pid, call: &Call, process: &Process, now: Moment) -> u32
         requires caller { IsCaller (caller_of p process.now) }
         requires time { IsTime now }
-        ensures turns { UponAnyDrives self.old call.now (λ images drives function. result ≡ call_turns (entering_at self.old p process.now call.now now drives function)) }
-        ensures serves { UponAnyDrives self.old call.now (λ images drives function. Serves images self.new (entering_at self.old p process.now call.now now drives function) 0) }
-        ensures entered { OfFunction call.now (λ function. HasBegunService (caller_of p process.now) function call.now self.new.service) }
-        ensures drive { (drives : List (Option Drive)) → OfFunction call.now (λ function. drive_served self.new.service ≡ Some (drive_number (entering_at self.old p process.now call.now now drives function))) }
-        ensures some { is_some (function_of call.now.function) ≡ true → 0 < result }
-        ensures workless { is_some (function_of call.now.function) ≡ true → ((number : ℕ) → directory_at self.old.mounted number ≡ None) → has_work self.new.service ≡ false }
-        ensures kept { self.new ≡ record self.old { service = self.new.service } }
-        ensures other { function_of call.now.function ≡ None → self.new ≡ self.old }
-        ensures no_turns { function_of call.now.function ≡ None → result ≡ 0 }
+        ensures { StartsService self.old self.new p process.now call.now now result }
     {
         let function = match function_of_call(call) {
             Some(function) => function,

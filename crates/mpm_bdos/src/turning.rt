@@ -1,12 +1,5 @@
-ghost use Rattle.std.specs.Prelude.{◌≡◌, suc, Some, Ok, IfSome, OnOk, OnErr, option_map, is_some, false};
-ghost use Rattle.mpm_port.specs.Causes.{HasCause};
-ghost use Rattle.mpm_port.specs.Disks.{size_of};
-ghost use Rattle.mpm_blocks.specs.Geometries.{geometry_of};
-ghost use Rattle.mpm_cache.specs.Coherent.{IsCoherent, HasNoAlias};
-ghost use Rattle.mpm_files.specs.declared.turning.Progress.TheVariants as progress;
-ghost use Rattle.mpm_directories.specs.Places.{directory_at};
-ghost use Rattle.mpm_bdos.specs.Standing.{WhileWorking};
-ghost use Rattle.mpm_bdos.specs.Turns.{FitsDrives, TurnsPlace, TurnsDrive, TurnLeaves, TakesTurn, TellsProgress, IsWorkingOn, IsContainedAt, IsServing, IsServiceContained, IsReadingRecord, IsReadingCached, ServesReading, ServesCached, IsDiskIdle, has_work, drive_served, without_work};
+ghost use Rattle.mpm_bdos.specs.Turns.{FitsDrives, TurnsPlace, TurnsDrive};
+ghost use Rattle.mpm_bdos.specs.ServiceTurns.{TurnsWork, TurnsHeldCall, FitsPlace};
 
 use crate::directories::Directories;
 use crate::service::{Held, Service};
@@ -26,9 +19,7 @@ pub(crate) fn turn_at<D: Drives, L: Ledger>(
     drives: &mut D,
     steps: &mut Steps<L>,
 ) -> Result<Progress, Failed>
-    requires size { IfSome place.old (λ d. size_of (D.disks drives.old) d.drive ≡ Some (geometry_of d.kind).bytes) }
-    requires coherent { IsCoherent cache.old (D.disks drives.old) }
-    requires apart { IfSome place.old (λ d. HasNoAlias cache.old (D.disks drives.old) d.drive) }
+    requires { FitsPlace (D.disks drives.old) place.old cache.old }
     ensures { TurnsPlace D.Drives place.old place.new work.old work.new cache.old cache.new drives.old drives.new steps.old steps.new result }
 {
     match place {
@@ -76,16 +67,7 @@ impl Service {
         steps: &mut Steps<L>,
     ) -> Result<Progress, Failed>
         requires { FitsDrives D.disks mounted.old cache.old drives.old }
-        ensures ok { WhileWorking (λ before job j. IsWorkingOn (D.disks drives.old) (directory_at mounted.old self.old.drive) before job j self.old.work) (λ before job j. OnOk result (IsWorkingOn (D.disks drives.new) (directory_at mounted.new self.new.drive) before job (suc j) self.new.work)) }
-        ensures err { WhileWorking (λ before job j. IsWorkingOn (D.disks drives.old) (directory_at mounted.old self.old.drive) before job j self.old.work) (λ before job j. OnErr result (IsContainedAt (D.disks drives.new) (directory_at mounted.old self.old.drive) before job j)) }
-        ensures progress { TellsProgress (λ before job j. IsWorkingOn (D.disks drives.old) (directory_at mounted.old self.old.drive) before job j self.old.work) result }
-        ensures idle { is_some self.old.work ≡ false → IsDiskIdle self.old self.new mounted.old mounted.new cache.old cache.new drives.old drives.new steps.old steps.new }
-        ensures done { is_some self.old.work ≡ false → result ≡ Ok progress.Done }
-        ensures still { is_some self.new.work ≡ is_some self.old.work }
-        ensures kept { without_work self.new ≡ without_work self.old }
-        ensures left { TurnLeaves D.Drives (Some self.old.drive) mounted.old mounted.new cache.new drives.old drives.new }
-        ensures takes { TakesTurn (IsReadingRecord self.old.work) (IsReadingCached cache.old (directory_at mounted.old self.old.drive) self.old.work) steps.old steps.new (D.unsynced drives.old) (D.unsynced drives.new) }
-        ensures cause { HasCause (D.faults drives.old) (D.faults drives.new) result }
+        ensures { TurnsWork D.Drives self.old self.new mounted.old mounted.new cache.old cache.new drives.old drives.new steps.old steps.new result }
     {
         let number = self.drive;
         match &mut self.work {
@@ -105,16 +87,7 @@ pub(crate) fn turn_service<D: Drives, L: Ledger>(
     steps: &mut Steps<L>,
 ) -> Result<Progress, Failed>
     requires { FitsDrives D.disks mounted.old cache.old drives.old }
-    ensures ok { WhileWorking (λ before job j. IsServing (D.disks drives.old) mounted.old before job j service.old) (λ before job j. OnOk result (IsServing (D.disks drives.new) mounted.new before job (suc j) service.new)) }
-    ensures err { WhileWorking (λ before job j. IsServing (D.disks drives.old) mounted.old before job j service.old) (λ before job j. OnErr result (IsServiceContained (D.disks drives.new) mounted.old before job j service.old)) }
-    ensures progress { TellsProgress (λ before job j. IsServing (D.disks drives.old) mounted.old before job j service.old) result }
-    ensures idle { has_work service.old ≡ false → IsDiskIdle service.old service.new mounted.old mounted.new cache.old cache.new drives.old drives.new steps.old steps.new }
-    ensures done { has_work service.old ≡ false → result ≡ Ok progress.Done }
-    ensures still { has_work service.new ≡ has_work service.old }
-    ensures kept { option_map without_work service.new ≡ option_map without_work service.old }
-    ensures left { TurnLeaves D.Drives (drive_served service.old) mounted.old mounted.new cache.new drives.old drives.new }
-    ensures takes { TakesTurn (ServesReading service.old) (ServesCached cache.old mounted.old service.old) steps.old steps.new (D.unsynced drives.old) (D.unsynced drives.new) }
-    ensures cause { HasCause (D.faults drives.old) (D.faults drives.new) result }
+    ensures { TurnsHeldCall D.Drives service.old service.new mounted.old mounted.new cache.old cache.new drives.old drives.new steps.old steps.new result }
 {
     match &mut *service.place {
         Some(service) => service.turn(mounted, cache, drives, steps),

@@ -96,7 +96,7 @@ unfoldable pub written : ℕ → Bool → Console → Console
 written byte tabs console = spoken (text_of console.column byte tabs) console
 
 -- a call makes one value of another, and answers something
-pub record Yields {T A : Type 0} (value : T) (answer : A) (now : T) (result : A) : Type 0 where
+pub record MakesAndAnswers {T A : Type 0} (value : T) (answer : A) (now : T) (result : A) : Type 0 where
   pub made : now ≡ value
   pub answered : result ≡ answer
 

@@ -1,5 +1,5 @@
 ghost use Rattle.std.specs.Prelude.{◌≡◌, length, nat_lt, is_some, IfOk};
-ghost use Rattle.mpm_consoles.specs.Console.{new_console, is_owner, passed_to, with_raw, with_output_stopped, awaited_for, awaiting, is_for as is_one_for, woken, awakened, without_wait_of, resumed, has_room, with_key, typed, first_key, without_first, written, Yields};
+ghost use Rattle.mpm_consoles.specs.Console.{new_console, is_owner, passed_to, with_raw, with_output_stopped, awaited_for, awaiting, is_for as is_one_for, woken, awakened, without_wait_of, resumed, has_room, with_key, typed, first_key, without_first, written, MakesAndAnswers};
 ghost use Rattle.mpm_consoles.specs.declared.console.Awaited.TheVariants.{Output};
 ghost use Rattle.mpm_consoles.specs.Handling.{typed_answer};
 ghost use Rattle.mpm_consoles.specs.Columns.{spaces_for};
@@ -140,7 +140,7 @@ impl Console {
     /// Its output goes on. Answers the owner that waited for that.
     #[tactic(auto, unfolding(crate::specs::Console::resumed, crate::specs::Console::woken, crate::specs::Console::awakened))]
     pub fn resume(&mut self) -> Option<Pid>
-        ensures { Yields (resumed self.old) (woken Output self.old) self.new result }
+        ensures { MakesAndAnswers (resumed self.old) (woken Output self.old) self.new result }
     {
         self.stopped = false;
         self.wake(Awaited::Output)
@@ -157,7 +157,7 @@ impl Console {
     /// Where its owner waits at its gate for something, it does no more. Answers the owner then.
     #[tactic(auto, unfolding(crate::specs::Console::woken, crate::specs::Console::awakened))]
     fn wake(&mut self, what: Awaited) -> Option<Pid>
-        ensures { Yields (awakened what self.old) (woken what self.old) self.new result }
+        ensures { MakesAndAnswers (awakened what self.old) (woken what self.old) self.new result }
     {
         if is_for(self.awaits, what) {
             self.awaits = None;
@@ -191,7 +191,7 @@ impl Console {
     /// waits no more.
     #[tactic(auto, using(crate::proofs::ConsoleLaws::woken_key), unfolding(crate::specs::Console::typed, crate::specs::Handling::typed_answer))]
     pub fn type_key(&mut self, byte: u8) -> KeyDone
-        ensures { Yields (typed byte self.old) (typed_answer self.old) self.new result }
+        ensures { MakesAndAnswers (typed byte self.old) (typed_answer self.old) self.new result }
     {
         let done = if self.store(byte) {
             KeyDone::Stored
@@ -207,7 +207,7 @@ impl Console {
     /// Stores a key after the others; false where 64 are there, and then it is counted as lost.
     #[tactic(auto, unfolding(crate::specs::Console::with_key))]
     fn store(&mut self, byte: u8) -> bool
-        ensures { Yields (with_key byte self.old) (has_room self.old) self.new result }
+        ensures { MakesAndAnswers (with_key byte self.old) (has_room self.old) self.new result }
     {
         match self.keys.try_push_back(byte) {
             Ok(()) => true,
@@ -221,7 +221,7 @@ impl Console {
     /// Takes the oldest key; None exactly where there is none.
     #[tactic(auto, unfolding(crate::specs::Console::without_first))]
     pub fn take(&mut self) -> Option<u8>
-        ensures { Yields (without_first self.old) (first_key self.old) self.new result }
+        ensures { MakesAndAnswers (without_first self.old) (first_key self.old) self.new result }
     {
         self.keys.pop_front()
     }
@@ -237,7 +237,7 @@ impl Console {
     /// for itself.
     #[tactic(auto, using(crate::proofs::ColumnLaws::columns_spaces, crate::proofs::ColumnLaws::columns_one), unfolding(crate::specs::Console::written, crate::specs::Console::spoken, crate::specs::Columns::spaces_for, crate::specs::Columns::tab_text))]
     pub fn write(&mut self, byte: u8, tabs: bool) -> u8
-        ensures { Yields (written byte tabs self.old) (spaces_for self.old.column byte tabs) self.new result }
+        ensures { MakesAndAnswers (written byte tabs self.old) (spaces_for self.old.column byte tabs) self.new result }
     {
         if tabs && byte == b'\t' {
             let spaces = tab_width(self.column);

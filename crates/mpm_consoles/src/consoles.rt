@@ -31,7 +31,7 @@ impl Consoles {
     ghost use Rattle.std.specs.Prelude.{◌≡◌, ◌≢◌, ◌++◌, None, true, false, ◌<◌, Some, length, nat_lt, is_some};
     ghost use Rattle.std.specs.Bool.{OnTrue};
     ghost use Rattle.mpm_ready.specs.Tables.{list_of};
-    ghost use Rattle.mpm_consoles.specs.Console.{first_key, typed, with_output_stopped, resumed, woken, Yields};
+    ghost use Rattle.mpm_consoles.specs.Console.{first_key, typed, with_output_stopped, resumed, woken, MakesAndAnswers};
     ghost use Rattle.mpm_consoles.specs.Consoles.{no_owners, console_at, with_console, HasConsole, HasUnit, has_unit, owner_of, owns, waits_for, waiters_of, first_waiter, WaitsForNoUnit, MayWait, AreFewUnits, MayBeListed, AreSoundConsoles};
     ghost use Rattle.mpm_consoles.specs.Handling.{given, unlisted, listed, called_off, may_attach, unit_attached, passed, unit_detached, heir_of, console_assigned, keyed, key_answer, first_taken, raw_set, gate_wait_begun, put_out, output_spaces, units_without_waiter, typed_answer, wake_answer, abort_answer, pass_answer, passed_by_key, subject as subject_of};
     ghost use Rattle.mpm_consoles.specs.declared.keys.KeyDone.TheVariants.{Nothing};
@@ -91,7 +91,7 @@ impl Consoles {
     pub fn attach(&mut self, p: Pid, priority: u8, unit: Unit, wait: bool) -> bool
         requires unit { HasUnit self.old unit }
         requires nowhere { OnTrue wait (WaitsForNoUnit self.old p) }
-        ensures { Yields (unit_attached self.old p priority unit wait) (may_attach self.old p unit) self.new result }
+        ensures { MakesAndAnswers (unit_attached self.old p priority unit wait) (may_attach self.old p unit) self.new result }
     {
         match self.owner(unit) {
             None => {
@@ -114,7 +114,7 @@ impl Consoles {
     #[tactic(auto, unfolding(crate::specs::Handling::unit_detached, crate::specs::Handling::heir_of))]
     pub fn detach(&mut self, p: Pid, unit: Unit) -> Option<Pid>
         requires { HasUnit self.old unit }
-        ensures { Yields (unit_detached self.old p unit) (heir_of self.old p unit) self.new result }
+        ensures { MakesAndAnswers (unit_detached self.old p unit) (heir_of self.old p unit) self.new result }
     {
         if self.is_owner(p, unit) {
             self.pass(unit)
@@ -128,7 +128,7 @@ impl Consoles {
     #[tactic(auto, unfolding(crate::specs::Handling::console_assigned))]
     pub fn assign(&mut self, console: u8, to: Pid) -> bool
         requires { HasConsole self.old console }
-        ensures { Yields (console_assigned self.old console to) (waits_for self.old to (ConsoleUnit console)) self.new result }
+        ensures { MakesAndAnswers (console_assigned self.old console to) (waits_for self.old to (ConsoleUnit console)) self.new result }
     {
         let unit = Unit::Console { n: console };
         let waited = self.waits_for(to, unit);
@@ -146,7 +146,7 @@ impl Consoles {
     #[tactic(auto, using(crate::proofs::FateLaws::fate_key))]
     pub fn key(&mut self, console: u8, byte: u8, resident: bool) -> KeyDone
         requires { HasConsole self.old console }
-        ensures yields { Yields (keyed self.old console byte resident) (key_answer self.old console byte resident) self.new result }
+        ensures yields { MakesAndAnswers (keyed self.old console byte resident) (key_answer self.old console byte resident) self.new result }
         ensures fate { FateOf (console_at self.old console) (console_at self.new console) byte }
     {
         self.act_on(console, byte, resident)
@@ -156,7 +156,7 @@ impl Consoles {
     #[tactic(auto, using(crate::proofs::FateLaws::cooked), unfolding(crate::specs::Handling::keyed, crate::specs::Handling::key_answer))]
     fn act_on(&mut self, console: u8, byte: u8, resident: bool) -> KeyDone
         requires { HasConsole self.old console }
-        ensures yields { Yields (keyed self.old console byte resident) (key_answer self.old console byte resident) self.new result }
+        ensures yields { MakesAndAnswers (keyed self.old console byte resident) (key_answer self.old console byte resident) self.new result }
         ensures sound { AreSoundConsoles self.old }
     {
         match control_of(self.raw(console), byte) {
@@ -172,7 +172,7 @@ impl Consoles {
     #[tactic(auto, using(crate::proofs::RunLaws::in_order))]
     pub fn take(&mut self, console: u8) -> Option<u8>
         requires { HasConsole self.old console }
-        ensures yields { Yields (first_taken self.old console) (first_key (console_at self.old console)) self.new result }
+        ensures yields { MakesAndAnswers (first_taken self.old console) (first_key (console_at self.old console)) self.new result }
         ensures order { as_list result ++ (console_at self.new console).keys ≡ (console_at self.old console).keys }
     {
         self.take_first(console)
@@ -182,7 +182,7 @@ impl Consoles {
     #[tactic(auto, using(crate::proofs::SoundLaws::sound_take), unfolding(crate::specs::Handling::first_taken))]
     fn take_first(&mut self, console: u8) -> Option<u8>
         requires { HasConsole self.old console }
-        ensures { Yields (first_taken self.old console) (first_key (console_at self.old console)) self.new result }
+        ensures { MakesAndAnswers (first_taken self.old console) (first_key (console_at self.old console)) self.new result }
     {
         self.consoles[usize::from(console)].take()
     }
@@ -267,7 +267,7 @@ impl Consoles {
     #[tactic(auto, using(crate::proofs::ColumnLaws::output_most))]
     pub fn output(&mut self, unit: Unit, byte: u8, tabs: bool) -> u8
         requires { HasUnit self.old unit }
-        ensures yields { Yields (put_out self.old unit byte tabs) (output_spaces self.old unit byte tabs) self.new result }
+        ensures yields { MakesAndAnswers (put_out self.old unit byte tabs) (output_spaces self.old unit byte tabs) self.new result }
         ensures most { result ≤ 8 }
     {
         self.write(unit, byte, tabs)
@@ -277,7 +277,7 @@ impl Consoles {
     #[tactic(auto, using(crate::proofs::SoundLaws::sound_output), unfolding(crate::specs::Handling::put_out, crate::specs::Handling::output_spaces))]
     fn write(&mut self, unit: Unit, byte: u8, tabs: bool) -> u8
         requires { HasUnit self.old unit }
-        ensures { Yields (put_out self.old unit byte tabs) (output_spaces self.old unit byte tabs) self.new result }
+        ensures { MakesAndAnswers (put_out self.old unit byte tabs) (output_spaces self.old unit byte tabs) self.new result }
     {
         match unit {
             Unit::Console { n } => self.consoles[usize::from(n)].write(byte, tabs),
@@ -389,7 +389,7 @@ impl Consoles {
     #[tactic(auto, using(crate::proofs::SoundLaws::nobody_first, crate::proofs::SoundLaws::for_unlisted, crate::proofs::WaitLaws::has_unlisted), unfolding(crate::specs::Handling::passed))]
     fn pass(&mut self, unit: Unit) -> Option<Pid>
         requires { HasUnit self.old unit }
-        ensures { Yields (passed self.old unit) (first_waiter self.old unit) self.new result }
+        ensures { MakesAndAnswers (passed self.old unit) (first_waiter self.old unit) self.new result }
     {
         match self.first_waiter(unit) {
             None => {
@@ -408,7 +408,7 @@ impl Consoles {
     #[tactic(auto, using(crate::proofs::SoundLaws::sound_typed))]
     fn type_key(&mut self, console: u8, byte: u8) -> KeyDone
         requires { HasConsole self.old console }
-        ensures { Yields (with_console self.old console (typed byte (console_at self.old console))) (typed_answer (console_at self.old console)) self.new result }
+        ensures { MakesAndAnswers (with_console self.old console (typed byte (console_at self.old console))) (typed_answer (console_at self.old console)) self.new result }
     {
         self.consoles[usize::from(console)].type_key(byte)
     }
@@ -418,7 +418,7 @@ impl Consoles {
     fn stop(&mut self, console: u8) -> KeyDone
         requires console { HasConsole self.old console }
         requires cooked { (console_at self.old console).raw ≡ false }
-        ensures { Yields (with_console self.old console (with_output_stopped (console_at self.old console))) Nothing self.new result }
+        ensures { MakesAndAnswers (with_console self.old console (with_output_stopped (console_at self.old console))) Nothing self.new result }
     {
         self.consoles[usize::from(console)].stop();
         KeyDone::Nothing
@@ -428,7 +428,7 @@ impl Consoles {
     #[tactic(auto, using(crate::proofs::SoundLaws::sound_resumed))]
     fn resume(&mut self, console: u8) -> KeyDone
         requires { HasConsole self.old console }
-        ensures { Yields (with_console self.old console (resumed (console_at self.old console))) (wake_answer Nothing (woken Output (console_at self.old console))) self.new result }
+        ensures { MakesAndAnswers (with_console self.old console (resumed (console_at self.old console))) (wake_answer Nothing (woken Output (console_at self.old console))) self.new result }
     {
         match self.consoles[usize::from(console)].resume() {
             Some(p) => KeyDone::Wakes { p },
@@ -462,7 +462,7 @@ impl Consoles {
     /// ^D passes a console on.
     fn pass_on(&mut self, console: u8, resident: bool) -> KeyDone
         requires { HasConsole self.old console }
-        ensures { Yields (passed_by_key (subject_of resident (console_at self.old console).owner) self.old console) (pass_answer (subject_of resident (console_at self.old console).owner) self.old console) self.new result }
+        ensures { MakesAndAnswers (passed_by_key (subject_of resident (console_at self.old console).owner) self.old console) (pass_answer (subject_of resident (console_at self.old console).owner) self.old console) self.new result }
     {
         let Some(from) = self.subject(console, resident) else {
             return KeyDone::Nothing;

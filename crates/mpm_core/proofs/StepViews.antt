@@ -31,7 +31,7 @@ use Rattle.mpm_machine.proofs.QuietLaws.{step_quiet}
 use Rattle.mpm_machine.proofs.StepWithLaws.{whole_with, nobody_due_with, no_completions_with}
 use Rattle.mpm_replay.specs.declared.replaying.Replayed.{Replayed}
 use Rattle.mpm_replay.specs.Replays.{IsReplay}
-use Rattle.mpm_replay.specs.Agreeing.{own_of, Follows, FollowEach, Agrees}
+use Rattle.mpm_replay.specs.Agreeing.{own_of, FollowsByOne, FollowEach, Agrees}
 use Rattle.mpm_replay.proofs.AgreeLaws.{agreed_from}
 use Rattle.mpm_core.specs.Alone.{StepsAlone, RunsAlone}
 use Rattle.mpm_core.proofs.RestViews.{rest_same}
@@ -114,7 +114,7 @@ holds_on inside p seg old new h s =
       same = ap (λ (process : Process). is_some process.procedure) left.process ∙ h.same;
     })
 
-follows : (inside : Bool) (p seg : ℕ) (old new : System) → Holds inside p old → StepsAlone p seg old new → Follows inside seg (view_of old p) (view_of new p)
+follows : (inside : Bool) (p seg : ℕ) (old new : System) → Holds inside p old → StepsAlone p seg old new → FollowsByOne inside seg (view_of old p) (view_of new p)
 follows inside p seg old new h s =
     let left = leaves_view s.telling old p seg h.whole h.no_completions h.due s.alone.instructs s.alone.nobody in
     let to : LeavesView p seg old new = subst (λ (system : System). LeavesView p seg old system) (sym s.is) left in

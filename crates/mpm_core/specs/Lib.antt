@@ -3,3 +3,4 @@ pub mod Alone
 pub mod Replaying
 pub mod Agreement
 pub mod Files
+pub mod Parts

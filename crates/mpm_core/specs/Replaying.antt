@@ -60,6 +60,6 @@ pub record Replays (most : ℕ) (old new : CoreContents) (replayed : Replayed) :
       new.head.regs (alone old.head.spec new.segment new.common) replayed
 
 -- and it is one still
-pub record RunsOn (most : ℕ) (old new : CoreContents) (count : Replayed) : Type 0 where
+pub record RunsCoreOn (most : ℕ) (old new : CoreContents) (count : Replayed) : Type 0 where
   pub replayed : Replays most old new count
   pub is : IsCore new

@@ -1,12 +1,12 @@
 ghost use Rattle.std.specs.Prelude.{◌++◌};
-ghost use Rattle.mpm_core.specs.Files.{PutsAll};
+ghost use Rattle.mpm_core.specs.Files.{PutsCore};
 
 use mpm_port::{Failed, Sink};
 
 /// Puts two pieces, one after the other.
 #[tactic(auto, using(crate::proofs::Putting::cause_then, crate::proofs::Putting::part_of_first, crate::proofs::Putting::part_after, crate::proofs::Putting::both_put))]
 pub(crate) fn put_both<S: Sink>(sink: &mut S, first: &[u8], rest: &[u8]) -> Result<(), Failed>
-    ensures { PutsAll S.Sink (first.now ++ rest.now) sink.old sink.new result }
+    ensures { PutsCore S.Sink (first.now ++ rest.now) sink.old sink.new result }
 {
     match sink.put(first) {
         Ok(()) => sink.put(rest),
@@ -22,7 +22,7 @@ pub(crate) fn put_three<S: Sink>(
     second: &[u8],
     last: &[u8],
 ) -> Result<(), Failed>
-    ensures { PutsAll S.Sink (first.now ++ (second.now ++ last.now)) sink.old sink.new result }
+    ensures { PutsCore S.Sink (first.now ++ (second.now ++ last.now)) sink.old sink.new result }
 {
     match sink.put(first) {
         Ok(()) => put_both(sink, second, last),

@@ -1,9 +1,8 @@
-ghost use Rattle.std.specs.Prelude.{◌≡◌, ◌<◌, ◌≤◌, ◌+◌, ◌*◌, ◌++◌, IfOk, IsOk, length, take, drop};
-ghost use Rattle.mpm_base.specs.Lists.{zeros as so_many_zeros};
+ghost use Rattle.std.specs.Prelude.{◌≡◌, ◌<◌, ◌≤◌, ◌+◌, ◌*◌, ◌++◌, IfOk, length, take, drop};
 ghost use Rattle.mpm_core_file.specs.CoreFiles.{IsCore, CoreContents, core_bytes};
-ghost use Rattle.mpm_core.specs.Replaying.{no_core, kept, RunsOn};
-ghost use Rattle.mpm_core.specs.Agreement.{Agree};
-ghost use Rattle.mpm_core.specs.Files.{PutsAll, ReadsFile};
+ghost use Rattle.mpm_core.specs.Replaying.{no_core, RunsCoreOn};
+ghost use Rattle.mpm_core.specs.Files.{PutsCore};
+ghost use Rattle.mpm_core.specs.Parts.{AreZeros, IsKeptCore, RunsKept, ReadsCore, RunsByItself};
 
 use crate::puts::put_three;
 use mpm_base::{Pid, SegmentSpec};
@@ -48,8 +47,7 @@ impl Model for Core {
 #[tactic(auto, unfolding(mpm_base::specs::Lists::zeros))]
 fn zeros(alloc: Global, count: usize) -> Result<Vec<u8>, OutOfMemory>
     requires { count ≤ 65536 }
-    ensures zeros { IfOk result (λ bytes. bytes.items ≡ so_many_zeros count) }
-    ensures size { IfOk result (λ bytes. length bytes.items ≡ count) }
+    ensures { IfOk result (λ bytes. AreZeros count bytes.items) }
 {
     vec![in alloc; 0; count]
 }
@@ -88,7 +86,7 @@ pub(crate) fn mode(regs: &Regs) -> u8
 /// Does the instructions of a process, at most so many.
 fn replay_parts(head: &mut Head, segment: &mut [u8], common: &mut [u8], most: u64) -> Replayed
     requires { IsCore (record { head = head.old; segment = segment.old; common = common.old }) }
-    ensures { RunsOn most (record { head = head.old; segment = segment.old; common = common.old }) (record { head = head.new; segment = segment.new; common = common.new }) result }
+    ensures { RunsCoreOn most (record { head = head.old; segment = segment.old; common = common.old }) (record { head = head.new; segment = segment.new; common = common.new }) result }
 {
     let replayed = replay(
         head.inside,
@@ -104,10 +102,8 @@ fn replay_parts(head: &mut Head, segment: &mut [u8], common: &mut [u8], most: u6
 
 /// Does the instructions of a process whose segment has the first bytes of a buffer, at most so many.
 fn replay_kept(head: &mut Head, buffer: &mut [u8], common: &mut [u8], most: u64) -> Replayed
-    requires is { IsCore (kept head.old buffer.old common.old) }
-    requires room { length buffer.old ≡ 49152 }
-    ensures runs { RunsOn most (kept head.old buffer.old common.old) (kept head.new buffer.new common.new) result }
-    ensures spec { head.new.spec ≡ head.old.spec }
+    requires { IsKeptCore head.old buffer.old common.old }
+    ensures { RunsKept most head.old buffer.old common.old head.new buffer.new common.new result }
 {
     let size = 256 * usize::from(head.spec.pages);
     replay_parts(head, &mut buffer[..size], common, most)
@@ -163,7 +159,7 @@ impl Core {
     /// Where the sink failed. A first part of the file stands then.
     pub fn write<S: Sink>(&self, sink: &mut S) -> Result<(), Failed>
         requires { IsCore self.now }
-        ensures { PutsAll S.Sink (core_bytes self.now) sink.old sink.new result }
+        ensures { PutsCore S.Sink (core_bytes self.now) sink.old sink.new result }
     {
         let head = self.head.bytes();
         put_three(sink, &head, &self.segment[..self.size()], &self.common)
@@ -185,8 +181,7 @@ impl Core {
     /// Exactly where the bytes are no file of a core.
     #[tactic(auto, using(mpm_core_file::proofs::HeadLaws::again))]
     pub fn read(&mut self, text: &[u8]) -> Result<(), CoreFault>
-        ensures reads { ReadsFile text.now self.old self.new result }
-        ensures again { (core : CoreContents) → IsCore core → text.now ≡ core_bytes core → IsOk result × (self.new ≡ core) }
+        ensures { ReadsCore text.now self.old self.new result }
     {
         let head = match read_head(text) {
             Ok(head) => head,
@@ -200,7 +195,7 @@ impl Core {
     /// Does the instructions of the process, at most so many.
     fn run_on(&mut self, most: u64) -> Replayed
         requires { IsCore self.old }
-        ensures { RunsOn most self.old self.new result }
+        ensures { RunsCoreOn most self.old self.new result }
     {
         replay_kept(&mut self.head, &mut self.segment, &mut self.common, most)
     }
@@ -210,8 +205,7 @@ impl Core {
     /// instructions of that process alone, none of which reads a port, it does them all, and is then what would be taken after them.
     pub fn replay(&mut self, most: u64) -> Replayed
         requires { IsCore self.old }
-        ensures runs { RunsOn most self.old self.new result }
-        ensures agrees { Agree most self.old self.new result }
+        ensures { RunsByItself most self.old self.new result }
     {
         self.run_on(most)
     }

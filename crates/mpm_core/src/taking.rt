@@ -1,9 +1,9 @@
-ghost use Rattle.std.specs.Prelude.{◌≡◌, ◌<◌, ◌^◌};
+ghost use Rattle.std.specs.Prelude.{◌≡◌};
 ghost use Rattle.mpm_banks.specs.Memory.{segment_of};
-ghost use Rattle.mpm_procs.specs.Table.{Lives, process_in};
+ghost use Rattle.mpm_procs.specs.Table.{Lives};
 ghost use Rattle.mpm_system.specs.Whole.{IsWhole};
-ghost use Rattle.mpm_core_file.specs.CoreFiles.{IsCore};
-ghost use Rattle.mpm_core.specs.Taking.{IsHomeOf, Takes, head_of, core_in, core_at};
+ghost use Rattle.mpm_core.specs.Taking.{IsHomeOf, Takes, core_at};
+ghost use Rattle.mpm_core.specs.Parts.{AreRegisters, CountsSteps, IsHeadAt, IsCoreIn};
 
 use crate::saved::{Core, mode};
 use mpm_base::{Pid, Seg, SegmentSpec};
@@ -15,8 +15,7 @@ use z80_regs::Regs;
 #[tactic(auto, using(crate::proofs::TakeLaws::regs_there))]
 fn regs_of(machine: &Machine, p: Pid) -> Regs
     requires { Lives machine.now.system.kernel.dispatcher.procs p }
-    ensures regs { result ≡ (process_in machine.now.system.kernel.dispatcher.procs p).regs }
-    ensures mode { result.mode < 3 }
+    ensures { AreRegisters p machine.now.system result }
 {
     match machine.regs(p) {
         Some(regs) => {
@@ -29,8 +28,7 @@ fn regs_of(machine: &Machine, p: Pid) -> Regs
 
 /// How many steps are done, a number of 64 bits.
 fn steps_of(machine: &Machine) -> u64
-    ensures steps { result ≡ machine.now.system.steps }
-    ensures fits { result < 2 ^ 64 }
+    ensures { CountsSteps machine.now.system result }
 {
     machine.steps_done()
 }
@@ -38,9 +36,7 @@ fn steps_of(machine: &Machine) -> u64
 /// The head of the core of a process that lives in a segment.
 fn head_at(machine: &Machine, p: Pid, base: u8, pages: u8, inside: bool) -> Head
     requires { Lives machine.now.system.kernel.dispatcher.procs p }
-    ensures head { result ≡ head_of machine.now.system p base pages inside }
-    ensures mode { result.regs.mode < 3 }
-    ensures fits { result.step < 2 ^ 64 }
+    ensures { IsHeadAt p base pages inside machine.now.system result }
 {
     Head {
         step: steps_of(machine),
@@ -83,8 +79,7 @@ impl Core {
     /// Takes the core of a process that lives in a segment.
     fn take_from(&mut self, machine: &Machine, p: Pid, home: Home)
         requires { IsHomeOf p machine.now.system home }
-        ensures core { self.new ≡ core_in p home.seg machine.now.system }
-        ensures is { IsCore self.new }
+        ensures { IsCoreIn p home.seg machine.now.system self.new }
     {
         let seg = home.seg;
         let head = head_at(machine, p, home.base, home.pages, home.procedure);

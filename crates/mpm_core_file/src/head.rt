@@ -1,5 +1,5 @@
-ghost use Rattle.std.specs.Prelude.{◌≡◌, if◌then◌else◌};
-ghost use Rattle.mpm_core_file.specs.CoreFiles.{IsHead, fields_of, bytes_of, words_of, states_of, head_bytes, flag_byte};
+ghost use Rattle.std.specs.Prelude.{◌≡◌};
+ghost use Rattle.mpm_core_file.specs.CoreFiles.{fields_of, bytes_of, words_of, states_of, head_bytes, flag_byte};
 ghost use Rattle.z80_regs.specs.Words.{low as low_byte, high as high_byte};
 
 use mpm_base::{Pid, SegmentSpec};

@@ -1,4 +1,4 @@
-ghost use Rattle.std.specs.Prelude.{◌≡◌, ◌↔◌, ◌<◌, ◌≤◌, false, [], ◌∷◌, ◌++◌, drop, length};
+ghost use Rattle.std.specs.Prelude.{◌≡◌, ◌<◌, [], ◌∷◌, ◌++◌, length};
 
 use mpm_base::Pid;
 use mpm_clock::Woken;
@@ -23,7 +23,7 @@ impl Model for Completed {
 }
 
 impl Completed {
-    ghost use Rattle.mpm_dispatcher.specs.Dispatch.{first_completed};
+    ghost use Rattle.mpm_dispatcher.specs.Calling.{TellsWhetherSome, TakesFirstCompleted};
 
     /// Nobody.
     pub fn new() -> Completed
@@ -65,8 +65,7 @@ impl Completed {
     /// Whether some are left: at most 64.
     #[inline]
     pub fn has_some(&self) -> bool
-        ensures some { (result ≡ false) ↔ (self.now ≡ []) }
-        ensures few { length self.now ≤ 64 }
+        ensures { TellsWhetherSome self.now result }
     {
         !self.pids[..self.count as usize].is_empty()
     }
@@ -74,8 +73,7 @@ impl Completed {
     /// Takes the first, None where none is left.
     #[tactic(auto, using(crate::proofs::CompletedLaws::first_of_some, crate::proofs::CompletedLaws::rest_of_some))]
     pub fn take(&mut self) -> Option<Pid>
-        ensures first { result ≡ first_completed self.old }
-        ensures rest { self.new ≡ drop 1 self.old }
+        ensures { TakesFirstCompleted self.old self.new result }
     {
         if self.count == 0 {
             return None;

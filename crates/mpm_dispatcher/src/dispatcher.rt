@@ -1,11 +1,11 @@
-ghost use Rattle.std.specs.Prelude.{◌≡◌, ℕ, ◌<◌, ◌∷◌, [], Some, None, drop, length, IfOk, IfSome, OnErr};
+ghost use Rattle.std.specs.Prelude.{◌≡◌, ℕ, ◌∷◌, [], Some, None, IfOk, IfSome};
 ghost use Rattle.std.specs.List.{AllByRecursion};
-ghost use Rattle.mpm_base.specs.Calls.{answering};
-ghost use Rattle.mpm_base.specs.declared.call.Outcome.TheVariants.{Done, Held as IsHeld, Retry as IsRetry};
+ghost use Rattle.mpm_base.specs.declared.call.Outcome.TheVariants.{Held as IsHeld, Retry as IsRetry};
 ghost use Rattle.mpm_procs.specs.Table.{Lives, lowest_free};
 ghost use Rattle.mpm_ready.specs.Order.{first_of};
-ghost use Rattle.mpm_ready.specs.Tables.{list_at, list_of, IsTable};
-ghost use Rattle.mpm_dispatcher.specs.Dispatch.{ready, first_completed, new_dispatcher, in_slot, IsReady, at_rest, descheduled, unlisted, moved, made_ready, slots_in, all_ready, all_woken, with_completed, with_other, behind_equals, with_priority, runner_behind as behind_runner, is_held_off, stays as keeps_on, picked};
+ghost use Rattle.mpm_ready.specs.Tables.{list_at, list_of};
+ghost use Rattle.mpm_dispatcher.specs.Dispatch.{ready, new_dispatcher, at_rest, descheduled, unlisted, moved, made_ready, all_ready, all_woken, with_completed, with_other, behind_equals, with_priority, runner_behind as behind_runner, is_held_off, stays as keeps_on, picked};
+ghost use Rattle.mpm_dispatcher.specs.Calling.{AdmitsProcess, LivesReady, PutsOff, MayMove, MayEmpty, EmptiesList, HandsOutFirst, MayWakeOther, IsDoneCall};
 
 use crate::{Completed, OutOfMemory};
 use mpm_base::{Outcome, Pid, Reply};
@@ -61,9 +61,7 @@ impl Dispatcher {
     /// `NoSlot` where 32 processes live; then nothing changes.
     pub fn admit(&mut self, new: NewProcess) -> Result<Pid, NoSlot>
         requires { (p : ℕ) → lowest_free self.old.procs ≡ Some p → list_of self.old.lists p ≡ None }
-        ensures slot { IfOk result (λ p. lowest_free self.old.procs ≡ Some p) }
-        ensures refused { OnErr result (lowest_free self.old.procs ≡ None) }
-        ensures dispatcher { self.new ≡ in_slot new (lowest_free self.old.procs) self.old }
+        ensures { AdmitsProcess new self.old self.new result }
     {
         let priority = new.priority;
         let p = match self.procs.add(new) {
@@ -102,8 +100,7 @@ impl Dispatcher {
     #[cold]
     #[inline(never)]
     pub fn rotate(&mut self, p: Pid)
-        requires lives { Lives self.old.procs p }
-        requires ready { IsReady self.old p }
+        requires { LivesReady p self.old }
         ensures { self.new ≡ behind_equals p self.old }
     {
         let priority = self.procs.get(p).priority;
@@ -115,8 +112,7 @@ impl Dispatcher {
     #[inline(never)]
     #[tactic(auto, using(mpm_procs::proofs::MapLaws::lives_changed))]
     pub fn set_priority(&mut self, p: Pid, priority: u8)
-        requires lives { Lives self.old.procs p }
-        requires ready { IsReady self.old p }
+        requires { LivesReady p self.old }
         ensures { self.new ≡ with_priority p priority self.old }
     {
         let process = self.procs.get_mut(p);
@@ -148,9 +144,7 @@ impl Dispatcher {
 
     /// The call of a process is held: the process doesn't run any more.
     pub fn hold(&mut self, p: Pid, reply: &mut Reply) -> Outcome
-        ensures dispatcher { self.new ≡ at_rest p self.old }
-        ensures outcome { result ≡ IsHeld }
-        ensures reply { reply.new ≡ answering 0 }
+        ensures { PutsOff (at_rest p self.old) IsHeld self.new result reply.new }
     {
         self.rest(p);
         reply.answer(0);
@@ -159,9 +153,7 @@ impl Dispatcher {
 
     /// A call isn't done: its process takes the step at its gate again once it is ready.
     pub fn retry(&mut self, p: Pid, reply: &mut Reply) -> Outcome
-        ensures dispatcher { self.new ≡ descheduled p self.old }
-        ensures outcome { result ≡ IsRetry }
-        ensures reply { reply.new ≡ answering 0 }
+        ensures { PutsOff (descheduled p self.old) IsRetry self.new result reply.new }
     {
         self.unlist(p);
         self.rest(p);
@@ -179,8 +171,7 @@ impl Dispatcher {
     /// A living process stands in that list from now on, where its priority puts it.
     #[tactic(auto, using(mpm_ready::proofs::TableLaws::list_of_removed))]
     pub fn move_to(&mut self, p: Pid, list: u8)
-        requires lives { Lives self.old.procs p }
-        requires list { list < 96 }
+        requires { MayMove p list self.old }
         ensures { self.new ≡ moved list p self.old }
     {
         let priority = self.procs.get(p).priority;
@@ -226,12 +217,8 @@ impl Dispatcher {
 
     /// Those of a list become ready, one after the other; answers them, in order.
     pub fn empty(&mut self, list: u8) -> Woken
-        requires below { list < 96 }
-        requires other { 0 < list }
-        requires table { IsTable self.old.lists }
-        requires live { (p : ℕ) → list_of self.old.lists p ≡ Some list → Lives self.old.procs p }
-        ensures dispatcher { self.new ≡ all_ready (slots_in self.old.lists list) self.old }
-        ensures woken { result ≡ slots_in self.old.lists list }
+        requires { MayEmpty list self.old }
+        ensures { EmptiesList list self.old self.new result }
     {
         let mut woken = Woken::new();
         while let Some(p) = self.lists.first(list) {
@@ -243,8 +230,7 @@ impl Dispatcher {
 
     /// Hands out the process whose held call was completed first.
     pub fn hand_out(&mut self) -> Option<Pid>
-        ensures process { result ≡ first_completed self.old.completed }
-        ensures dispatcher { self.new ≡ with_completed (drop 1 self.old.completed) self.old }
+        ensures { HandsOutFirst self.old self.new result }
     {
         self.completed.take()
     }
@@ -263,8 +249,7 @@ impl Dispatcher {
     /// The held call of another process, if any, is completed, after those that were.
     #[tactic(auto, unfolding(crate::specs::Dispatch::lists_ready, crate::specs::Dispatch::also_completed))]
     pub fn wake_other(&mut self, other: Option<Pid>)
-        requires lives { IfSome other (λ p. Lives self.old.procs p) }
-        requires room { length self.old.completed < 64 }
+        requires { MayWakeOther other self.old }
         ensures { self.new ≡ with_other other self.old }
     {
         if let Some(p) = other {
@@ -276,8 +261,7 @@ impl Dispatcher {
 
 /// A call is done and answers a value.
 pub fn done(reply: &mut Reply, value: u16) -> Outcome
-    ensures outcome { result ≡ Done }
-    ensures reply { reply.new ≡ answering value }
+    ensures { IsDoneCall value result reply.new }
 {
     reply.answer(value);
     Outcome::Done

@@ -58,7 +58,7 @@ pub record OnlyDrive (number : ℕ) (disks disks' : Disks) : Type 0 where
   pub images : (other : ℕ) → other ≢ number → disks'.image other ≡ disks.image other
   pub names : (other : ℕ) → other ≢ number → disks'.name_of other ≡ disks.name_of other
 
--- a drive that none of a machine file's is is as it was
+-- a drive that isn't the machine file's is as it was
 pub record SameBeside (specs : List DriveSpec) (disks disks' : Disks) : Type 0 where
   pub images : (number : ℕ) → All (λ spec. number_of spec ≢ number) specs → disks'.image number ≡ disks.image number
   pub names : (number : ℕ) → All (λ spec. number_of spec ≢ number) specs → disks'.name_of number ≡ disks.name_of number

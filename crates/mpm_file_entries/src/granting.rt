@@ -10,6 +10,7 @@ ghost use Rattle.mpm_file_entries.specs.Granting as spec;
 ghost use Rattle.mpm_file_entries.specs.Protections as protections;
 ghost use Rattle.mpm_file_entries.specs.Sizes as sizes;
 ghost use Rattle.mpm_file_entries.specs.Telling as telling;
+ghost use Rattle.mpm_file_entries.specs.Limits.{IsMultiCount};
 
 use crate::sizes::size;
 use crate::telling::{open_block, position_block, xfcb_block};
@@ -48,8 +49,7 @@ pub struct Granted {
 /// How many of a call's records are done, fewer than all where something ended them, and the code of that.
 #[tactic(auto, using(crate::proofs::CodedLaws::told_whole))]
 fn told_code(function: FileFunction, ended: &Ended, multi: u8) -> u16
-    requires some { 1 ≤ multi }
-    requires few { multi ≤ 16 }
+    requires { IsMultiCount multi }
     ensures { spec.FewDone multi ended.now → result ≡ records.coded function ended.now.moved ended.now.end }
 {
     coded(function, ended.moved.min(multi - 1), ended.end)
@@ -58,8 +58,7 @@ fn told_code(function: FileFunction, ended: &Ended, multi: u8) -> u16
 /// The value of its reply, by the caller's multi-sector count.
 #[tactic(auto, unfolding(crate::specs::Granting::value_by))]
 pub fn reply_value(granted: &Granted, multi: u8, mounted: &Mounted) -> u16
-    requires some { 1 ≤ multi }
-    requires few { multi ≤ 16 }
+    requires { IsMultiCount multi }
     ensures { OnItsDrive mounted.now (λ drive. spec.FewDone multi granted.now.ended → result ≡ spec.value_by drive granted.now granted.now.function) }
 {
     match granted.function {

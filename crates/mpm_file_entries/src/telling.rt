@@ -11,6 +11,7 @@ ghost use Rattle.mpm_mount.specs.Files.{where_there};
 ghost use Rattle.mpm_file_entries.specs.Protections.{no_protection};
 ghost use Rattle.mpm_file_entries.specs.Protections as protections;
 ghost use Rattle.mpm_file_entries.specs.Telling as spec;
+ghost use Rattle.mpm_file_entries.specs.Limits.{MayTellFile};
 
 use crate::keeping::xfcb_there;
 use mpm_dirent::{Entry, FileEntry, LAST_EXTENT, plain_name, write_entry};
@@ -38,8 +39,7 @@ fn told_entry(user: u8, name: &[u8; 11], last: u16, count: u8) -> FileEntry
 /// 17: Search for First".)
 #[tactic(auto, unfolding(crate::specs::Telling::told_bytes))]
 fn told_bytes(user: u8, name: &[u8; 11], last: u16, count: u8) -> [u8; 128]
-    requires user { user < 16 }
-    requires last { last ≤ LAST_EXTENT }
+    requires { MayTellFile user last }
     ensures { result ≡ spec.told_bytes user name.now last count }
 {
     let mut bytes = [0xE5; 128];
@@ -51,8 +51,7 @@ fn told_bytes(user: u8, name: &[u8; 11], last: u16, count: u8) -> [u8; 128]
 
 /// An entry of a file, as a search tells it.
 fn told_file(file: &FileEntry) -> [u8; 128]
-    requires user { file.now.user < 16 }
-    requires last { extent_of file.now ≤ LAST_EXTENT }
+    requires { MayTellFile file.now.user (extent_of file.now) }
     ensures { result ≡ spec.told_file file.now }
 {
     let name = with_attributes(&plain_name(&file.name), &attributes_of(&file.name));

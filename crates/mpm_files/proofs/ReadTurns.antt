@@ -1,6 +1,6 @@
 -- The turns of a job that reads records.
-use Rattle.std.proofs.Common.{◌≡◌, ◌⊎◌, inl, inr, ℕ, zero, suc, ◌+◌, ◌-◌, ◌*◌, ◌/◌, ◌≤◌, ◌<◌, Bool, true, false, not, List, [], ◌∷◌, ◌++◌, Option, Some, None, Err, take, drop, length, refl, sym, ap, subst, ◌∙◌, arith}
-use Rattle.std.specs.Prelude.{is_some, sum_by, if◌then◌else◌}
+use Rattle.std.proofs.Common.{◌≡◌, ◌⊎◌, inl, inr, ℕ, zero, suc, ◌+◌, ◌-◌, ◌*◌, ◌/◌, ◌≤◌, ◌<◌, Bool, true, false, not, List, [], ◌∷◌, ◌++◌, Option, Some, None, Err, take, drop, length, refl, sym, ap, subst, ◌∙◌, arith, Ok, Result}
+use Rattle.std.specs.Prelude.{is_some, sum_by, if◌then◌else◌, IsErr}
 use Rattle.std.specs.List.{flat_map}
 use Rattle.std.proofs.lemmas.List.{append-nil, append_assoc, length-append, length-drop, drop-drop}
 use Rattle.std.proofs.lemmas.List.Sums.{sum_by-cons}
@@ -204,3 +204,8 @@ reading_failed {A = A} old new d work after error same =
             (read_stands image d (units_done before job j) old new told service.stands same)).err,
       ),
     ))
+
+-- and so where the call passes that failure on
+pub reading_passed : {A E : Type 0} (old new : Disks) (d : Directory) (work after : Work) (result : Result A E) → IsErr result → new ≡ old → DoesNext old new d d work after result
+reading_passed old new d work after (Ok x) is same = absurd (cc)
+reading_passed old new d work after (Err error) is same = reading_failed old new d work after error same

@@ -1,6 +1,6 @@
 -- What calls on the disk of a mounted drive leave: where there was none, one after the other, and by another result.
 use Rattle.std.proofs.Common.{◌≡◌, ℕ, ◌+◌, ◌≤◌, Bool, true, false, List, Result, Ok, Err, refl, sym, ap, subst, ◌∙◌, arith}
-use Rattle.std.specs.Prelude.{if◌then◌else◌}
+use Rattle.std.specs.Prelude.{if◌then◌else◌, IsErr}
 use Rattle.mpm_port.specs.Causes.{HasCause}
 use Rattle.mpm_port.specs.declared.drives.Drives.{Ghosts}
 use Rattle.mpm_cache.specs.declared.cache.SectorPlace.{SectorPlace}
@@ -41,6 +41,14 @@ pub works_failed : {D A B E : Type 0} (of : Ghosts D) (most : ℕ) (d e : Direct
     → UsesDisk {A = A} of most d e cached new old now before after (Err error) → UsesDisk {A = B} of most d e cached new old now before after (Err error)
 works_failed of most d e cached new old now before after error works =
     record { disk = works.disk; calls = works.calls; leaves = works.leaves; cause = cause_failed error (of.faults old) (of.faults now) works.cause }
+
+-- a failure that is passed on, and more calls are allowed
+pub works_passed : {D A B E : Type 0} (of : Ghosts D) (few most : ℕ) (d e : Directory) (cached new : List (SectorPlace × List ℕ)) (old now : D) (before after : ℕ) (error : E) (result : Result B E) → few ≤ most → IsErr result
+    → UsesDisk {A = A} of few d e cached new old now before after (Err error) → UsesDisk of most d e cached new old now before after result
+works_passed of few most d e cached new old now before after error (Ok x) h is works = absurd (cc)
+works_passed of few most d e cached new old now before after error (Err other) h is works =
+    let calls = works.calls in
+    record { disk = works.disk; calls = omega (arith, h, calls); leaves = works.leaves; cause = record { later = works.cause.later; stays = tt; failed = works.cause.failed } }
 
 -- one call after another
 pub works_then : {D A B E : Type 0} (of : Ghosts D) (one two most : ℕ) (d e f : Directory) (first second third : List (SectorPlace × List ℕ)) (a b c : D) (s t u : ℕ) (x : A) (result : Result B E) → one + two ≤ most

@@ -8,3 +8,6 @@ pub mod Standing
 pub mod Turning
 pub mod Stepping
 pub mod Working
+pub mod DiskParts
+pub mod UnitParts
+pub mod Finding

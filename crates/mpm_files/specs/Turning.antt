@@ -87,13 +87,14 @@ pub record IsFileAt (d : Directory) (slot : ℕ) (f : FileEntry) : Type 0 where
   pub entry : entry_in d slot ≡ File f
   pub proper : IsProper (geometry_of d.kind).wide (File f)
 
--- a new entry of a job's file, for an extent: it has the attributes of the file, and holds no block
+-- a new entry of a job's file, for an extent: it has the attributes of the file, S1 is 0, and it holds no block
 pub record IsNewEntry (d : Directory) (job : Job) (extent : ℕ) (f : FileEntry) : Type 0 where
   pub user : f.user ≡ job.user
   pub name : plain f.name ≡ plain job.name
   pub attributes : (image : List ℕ) (files : Drive) → Stands image d files → map (nat_le 128) f.name ≡ attributes_of (extents_of files (file_of_job job))
   pub low : f.ex ≡ extent % 32
   pub high : f.s2 ≡ extent / 32
+  pub tail : f.s1 ≡ 0
   pub count : f.rc ≡ 0
   pub blocks : f.blocks ≡ replicate 16 0
 

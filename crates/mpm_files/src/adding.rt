@@ -5,11 +5,10 @@ ghost use Rattle.mpm_mount.specs.Drives.{Drive, entry_name, extents_of, free_ent
 ghost use Rattle.mpm_mount.specs.Directories.{Stands};
 ghost use Rattle.mpm_mount.specs.Attributes.{attributes_of};
 ghost use Rattle.mpm_sectors.specs.Disks.{IsReadyDisk};
-ghost use Rattle.mpm_files.specs.Standing.{OnItsImage, DoesUnit};
 ghost use Rattle.mpm_files.specs.Turning.{IsNewEntry};
 ghost use Rattle.mpm_files.specs.Units.{AddsEntry};
 ghost use Rattle.mpm_files.specs.Plans.{file_of_job};
-ghost use Rattle.mpm_files.specs.Working.{UsesDisk};
+ghost use Rattle.mpm_files.specs.DiskParts.{DoesByDisk};
 
 use crate::entries::put_entry;
 use crate::marking::marked;
@@ -63,9 +62,8 @@ pub(crate) fn add_entry<D: Drives, L: Ledger>(
     steps: &mut Steps<L>,
 ) -> Result<(), Failed>
     requires ready { IsReadyDisk (D.disks drives.old) mounted.old.drive mounted.old.kind cache.old }
-    ensures does { OnItsImage (D.disks drives.old) mounted.old (λ image files. job.now.user < 16 → extent ≤ LAST_EXTENT → get files.extents (entry_name files.kind (file_of_job job.now) extent) ≡ None
-        → free_entries files ≢ 0 → DoesUnit (D.disks drives.new) mounted.old.drive mounted.new files (AddsEntry (file_of_job job.now) extent) result) }
-    ensures works { UsesDisk D.Drives 2 mounted.old mounted.new cache.old cache.new drives.old drives.new steps.old steps.new result }
+    ensures { DoesByDisk D.Drives 2 mounted.old mounted.new cache.old cache.new drives.old drives.new steps.old steps.new (λ image files does. job.now.user < 16 → extent ≤ LAST_EXTENT → get files.extents (entry_name files.kind (file_of_job job.now) extent) ≡ None
+        → free_entries files ≢ 0 → does (AddsEntry (file_of_job job.now) extent)) result }
 {
     mounted.tell_directory();
     if job.user > 15 || extent > LAST_EXTENT {

@@ -1,9 +1,9 @@
 ghost use Rattle.std.specs.Prelude.{◌≡◌, Some, None};
 ghost use Rattle.mpm_sectors.specs.Disks.{IsReadyDisk};
 ghost use Rattle.mpm_jobs.specs.declared.jobs.JobKind.TheVariants as kinds;
-ghost use Rattle.mpm_files.specs.Turning.{DoesNext};
 ghost use Rattle.mpm_files.specs.Turning as turning;
-ghost use Rattle.mpm_files.specs.Working.{UsesDisk, KeepsCounts, DoesNextOf};
+ghost use Rattle.mpm_files.specs.Working.{DoesNextOf};
+ghost use Rattle.mpm_files.specs.UnitParts.{PutsNext};
 
 use crate::adding::add_entry;
 use crate::entries::put_entry;
@@ -113,11 +113,7 @@ pub(crate) fn put_next<D: Drives, L: Ledger>(
     steps: &mut Steps<L>,
 ) -> Result<(), Failed>
     requires ready { IsReadyDisk (D.disks drives.old) mounted.old.drive mounted.old.kind cache.old }
-    ensures label { work.old.job.kind ≡ kinds.Label → DoesNext (D.disks drives.old) (D.disks drives.new) mounted.old mounted.new work.old work.new result }
-    ensures xfcb { work.old.job.kind ≡ kinds.Xfcb → DoesNext (D.disks drives.old) (D.disks drives.new) mounted.old mounted.new work.old work.new result }
-    ensures nothing { work.old.job.kind ≡ kinds.Nothing → DoesNext (D.disks drives.old) (D.disks drives.new) mounted.old mounted.new work.old work.new result }
-    ensures counts { KeepsCounts work.old work.new }
-    ensures works { UsesDisk D.Drives 2 mounted.old mounted.new cache.old cache.new drives.old drives.new steps.old steps.new result }
+    ensures { PutsNext D.Drives mounted.old mounted.new work.old work.new cache.old cache.new drives.old drives.new steps.old steps.new result }
 {
     work.cleared = None;
     match work.job.kind {

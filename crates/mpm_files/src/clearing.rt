@@ -1,12 +1,8 @@
-ghost use Rattle.std.specs.Prelude.{◌≡◌, ℕ, Some, None, IfOk, if◌then◌else◌, true};
-ghost use Rattle.mpm_mount.specs.Drives.{FileName};
-ghost use Rattle.mpm_mount.specs.Directories.{free_block};
+ghost use Rattle.std.specs.Prelude.{◌≡◌};
 ghost use Rattle.mpm_sectors.specs.Disks.{IsReadyDisk};
-ghost use Rattle.mpm_sectors.specs.Writes.{Puts, zeros_from, block_sector};
-ghost use Rattle.mpm_files.specs.Units.{ClearsBlock};
+ghost use Rattle.mpm_sectors.specs.Writes.{zeros_from, block_sector};
 ghost use Rattle.mpm_files.specs.Plans as plans;
-ghost use Rattle.mpm_files.specs.Standing.{OnItsImage, DoesUnit, StandsCleared};
-ghost use Rattle.mpm_files.specs.Working.{UsesDisk};
+ghost use Rattle.mpm_files.specs.DiskParts.{MayClearBlock, ClearsByDisk, PutsByDisk};
 
 use crate::entries::disk_of;
 use mpm_base::{Kind, Steps};
@@ -35,10 +31,7 @@ pub(crate) fn clear_block<D: Drives, L: Ledger>(
     steps: &mut Steps<L>,
 ) -> Result<Option<u16>, Failed>
     requires ready { IsReadyDisk (D.disks drives.old) mounted.now.drive mounted.now.kind cache.old }
-    ensures block { IfOk result (λ block. block ≡ (if plans.clears_blocks mounted.now.kind then free_block mounted.now else None)) }
-    ensures does { OnItsImage (D.disks drives.old) mounted.now (λ image files. (file : FileName) (n : ℕ) → DoesUnit (D.disks drives.new) mounted.now.drive mounted.now files (ClearsBlock file n) result) }
-    ensures cleared { OnItsImage (D.disks drives.old) mounted.now (λ image files. IfOk result (λ block. StandsCleared (D.disks drives.new) mounted.now files block)) }
-    ensures works { UsesDisk D.Drives 18 mounted.now mounted.now cache.old cache.new drives.old drives.new steps.old steps.new result }
+    ensures { ClearsByDisk D.Drives mounted.now cache.old cache.new drives.old drives.new steps.old steps.new result }
 {
     if !clears_blocks(mounted.kind()) {
         return Ok(None);
@@ -61,11 +54,8 @@ fn clear_first<D: Drives, L: Ledger>(
     block: u16,
     steps: &mut Steps<L>,
 ) -> Result<(), Failed>
-    requires ready { IsReadyDisk (D.disks drives.old) mounted.now.drive mounted.now.kind cache.old }
-    requires clears { plans.clears_blocks mounted.now.kind ≡ true }
-    requires free { free_block mounted.now ≡ Some block }
-    ensures puts { Puts mounted.now.drive mounted.now.kind (zeros_from (block_sector mounted.now.kind block) 18) (D.disks drives.old) (D.disks drives.new) result }
-    ensures works { UsesDisk D.Drives 18 mounted.now mounted.now cache.old cache.new drives.old drives.new steps.old steps.new result }
+    requires { MayClearBlock (D.disks drives.old) mounted.now cache.old block }
+    ensures { PutsByDisk D.Drives 18 mounted.now cache.old cache.new drives.old drives.new steps.old steps.new (zeros_from (block_sector mounted.now.kind block) 18) result }
 {
     let first = u32::from(block) * block_records(mounted.kind());
     disk_of(mounted).clear(cache, drives, first, u32::from(CLEARED), steps)

@@ -1,11 +1,13 @@
 ghost use Rattle.std.specs.Prelude.{◌≡◌, ◌+◌, ◌-◌, ◌≤◌, Some, None, false, if◌then◌else◌};
-ghost use Rattle.mpm_dirent.specs.declared.limits.TheConstants.{LAST_NAMED, LAST_POSITION};
+ghost use Rattle.mpm_dirent.specs.declared.limits.TheConstants.{LAST_NAMED};
 ghost use Rattle.mpm_base.specs.Counts.{one_if};
 ghost use Rattle.mpm_blocks.specs.Geometries as geometries;
 ghost use Rattle.mpm_mount.specs.Directories as directory;
 ghost use Rattle.mpm_files.specs.Plans as plans;
 ghost use Rattle.mpm_files.specs.Counting as spec;
 ghost use Rattle.mpm_mount.specs.Records as records;
+ghost use Rattle.mpm_files.specs.Finding.{HasFewRecords, HasFreeRoom, HasNeeds};
+ghost use Rattle.mpm_names.specs.Readings.{IsNumber};
 
 use crate::records;
 use mpm_base::Kind;
@@ -57,8 +59,7 @@ struct Needs {
 /// Counts the records of a job that can be read.
 #[tactic(auto, using(crate::proofs::ReadCounts::none_read))]
 pub(crate) fn count_reads(mounted: &Mounted, job: &Job) -> Count
-    requires first { job.now.first ≤ LAST_POSITION }
-    requires count { job.now.count ≤ 16 }
+    requires { HasFewRecords job.now }
     ensures { result ≡ spec.read_count (records.record_error mounted.now (plans.file_of_job job.now)) job.now.first job.now.count }
 {
     let count = u32::from(job.count);
@@ -74,8 +75,7 @@ pub(crate) fn count_reads(mounted: &Mounted, job: &Job) -> Count
 impl Room {
     /// What is free on a drive.
     fn of(mounted: &Mounted) -> Room
-        ensures entries { result.entries ≡ directory.free_entries_in mounted.now }
-        ensures records { result.records ≡ directory.free_records_in mounted.now }
+        ensures { HasFreeRoom (directory.free_entries_in mounted.now) (directory.free_records_in mounted.now) result }
     {
         Room {
             entries: u32::from(mounted.free_entries()),
@@ -98,8 +98,7 @@ impl Room {
 
     /// What is free after it is written.
     fn after(self, needs: Needs, kind: Kind) -> Room
-        ensures entries { result.entries ≡ self.entries - one_if needs.entry }
-        ensures records { result.records ≡ self.records - (if needs.block then geometries.block_records kind else 0) }
+        ensures { HasFreeRoom (self.entries - one_if needs.entry) (self.records - (if needs.block then geometries.block_records kind else 0)) result }
     {
         let records = if needs.block { block_records(kind) } else { 0 };
         Room {
@@ -112,8 +111,7 @@ impl Room {
 impl Needs {
     /// The units of such a record: its own, and one for an entry, and one for a block where that is cleared by itself.
     fn units(self, kind: Kind) -> u32
-        ensures units { result ≡ spec.record_units kind self.entry self.block }
-        ensures few { result ≤ 3 }
+        ensures { IsNumber (spec.record_units kind self.entry self.block) 3 result }
     {
         let clears = geometry(kind).mask != 0 && self.block;
         1 + u32::from(self.entry) + u32::from(clears)
@@ -136,9 +134,8 @@ fn are_in_one_block(kind: Kind, m: u32, n: u32) -> bool
 
 /// What record n of a job needs, after others of the job or as the first.
 fn needs_of(mounted: &Mounted, job: &Job, is_later: bool, n: u32) -> Needs
-    requires record { n ≤ LAST_NAMED }
-    ensures entry { result.entry ≡ spec.entry_more mounted.now.kind (spec.lacks_entry mounted.now (plans.file_of_job job.now)) is_later n }
-    ensures block { result.block ≡ spec.block_more mounted.now.kind (spec.lacks_block mounted.now (plans.file_of_job job.now)) is_later n }
+    requires { n ≤ LAST_NAMED }
+    ensures { HasNeeds (spec.entry_more mounted.now.kind (spec.lacks_entry mounted.now (plans.file_of_job job.now)) is_later n) (spec.block_more mounted.now.kind (spec.lacks_block mounted.now (plans.file_of_job job.now)) is_later n) result }
 {
     let kind = mounted.kind();
     let before = n.saturating_sub(1);
@@ -153,8 +150,7 @@ fn needs_of(mounted: &Mounted, job: &Job, is_later: bool, n: u32) -> Needs
 /// Counts the units of the records that a job writes.
 #[tactic(auto, using(crate::proofs::WritesCounted::none_written))]
 pub(crate) fn count_writes(mounted: &Mounted, job: &Job) -> Count
-    requires first { job.now.first ≤ LAST_POSITION }
-    requires count { job.now.count ≤ 16 }
+    requires { HasFewRecords job.now }
     ensures { result ≡ spec.write_count mounted.now.kind (spec.lacks_entry mounted.now (plans.file_of_job job.now)) (spec.lacks_block mounted.now (plans.file_of_job job.now))
         (directory.free_entries_in mounted.now) (directory.free_records_in mounted.now) false job.now.first job.now.count }
 {

@@ -1,15 +1,11 @@
-ghost use Rattle.std.specs.Prelude.{◌≡◌, ◌/◌, ◌≤◌, [], ◌∷◌, None};
-ghost use Rattle.mpm_blocks.specs.Geometries.{geometry_of};
+ghost use Rattle.std.specs.Prelude.{◌≡◌, [], ◌∷◌};
 ghost use Rattle.mpm_blocks.specs.Sectors.{Sectors};
-ghost use Rattle.mpm_dirent.specs.Proper.{IsProper};
 ghost use Rattle.mpm_mount.specs.Drives.{Drive};
-ghost use Rattle.mpm_mount.specs.Faults.{cause_of};
 ghost use Rattle.mpm_mount.specs.Changes.{exchanged};
-ghost use Rattle.mpm_mount.specs.Directories.{others, entry_in, with_entry};
-ghost use Rattle.mpm_sectors.specs.Disks.{IsReadyDisk};
+ghost use Rattle.mpm_mount.specs.Directories.{entry_in, with_entry};
 ghost use Rattle.mpm_files.specs.Lookups.{IsSoundDirectory};
-ghost use Rattle.mpm_files.specs.Standing.{OnItsImage, exchanged_in, GoesThrough};
-ghost use Rattle.mpm_files.specs.Working.{UsesDisk};
+ghost use Rattle.mpm_files.specs.Standing.{exchanged_in};
+ghost use Rattle.mpm_files.specs.DiskParts.{MayPutEntry, MayPutEntries, GoesByDisk};
 
 use mpm_base::Steps;
 use mpm_cache::Cache;
@@ -40,12 +36,8 @@ pub(crate) fn put_entry<D: Drives, L: Ledger>(
     entry: &Entry,
     steps: &mut Steps<L>,
 ) -> Result<(), Failed>
-    requires ready { IsReadyDisk (D.disks drives.old) mounted.old.drive mounted.old.kind cache.old }
-    requires slot { slot ≤ (geometry_of mounted.old.kind).drm }
-    requires proper { IsProper (geometry_of mounted.old.kind).wide entry.now }
-    requires faultless { cause_of mounted.old.kind (others mounted.old.entries slot) entry.now ≡ None }
-    ensures puts { OnItsImage (D.disks drives.old) mounted.old (λ image files. GoesThrough (D.disks drives.new) mounted.old.drive mounted.new files (exchanged_in image mounted.old files slot entry.now ∷ []) result) }
-    ensures works { UsesDisk D.Drives 2 mounted.old mounted.new cache.old cache.new drives.old drives.new steps.old steps.new result }
+    requires { MayPutEntry (D.disks drives.old) mounted.old cache.old slot entry.now }
+    ensures { GoesByDisk D.Drives 2 mounted.old mounted.new cache.old cache.new drives.old drives.new steps.old steps.new (λ image files goes. goes (exchanged_in image mounted.old files slot entry.now ∷ [])) result }
 {
     let disk = disk_of(mounted);
     match disk.put_slot(cache, drives, slot, entry, steps) {
@@ -67,17 +59,10 @@ pub(crate) fn put_entries<D: Drives, L: Ledger>(
     second: &SlotEntry,
     steps: &mut Steps<L>,
 ) -> Result<(), Failed>
-    requires ready { IsReadyDisk (D.disks drives.old) mounted.old.drive mounted.old.kind cache.old }
-    requires slot { first.now.slot ≤ (geometry_of mounted.old.kind).drm }
-    requires same { second.now.slot / 4 ≡ first.now.slot / 4 }
-    requires proper { IsProper (geometry_of mounted.old.kind).wide first.now.entry }
-    requires second_proper { IsProper (geometry_of mounted.old.kind).wide second.now.entry }
-    requires faultless { cause_of mounted.old.kind (others mounted.old.entries first.now.slot) first.now.entry ≡ None }
-    requires second_faultless { cause_of mounted.old.kind (others (with_entry mounted.old first.now.slot first.now.entry).entries second.now.slot) second.now.entry ≡ None }
-    ensures puts { OnItsImage (D.disks drives.old) mounted.old (λ image files. (last : Drive)
+    requires { MayPutEntries (D.disks drives.old) mounted.old cache.old first.now second.now }
+    ensures { GoesByDisk D.Drives 2 mounted.old mounted.new cache.old cache.new drives.old drives.new steps.old steps.new (λ image files goes. (last : Drive)
         → ((sectors : Sectors) → exchanged sectors (exchanged_in image mounted.old files first.now.slot first.now.entry) (entry_in (with_entry mounted.old first.now.slot first.now.entry) second.now.slot) second.now.entry ≡ last)
-        → GoesThrough (D.disks drives.new) mounted.old.drive mounted.new files (exchanged_in image mounted.old files first.now.slot first.now.entry ∷ last ∷ []) result) }
-    ensures works { UsesDisk D.Drives 2 mounted.old mounted.new cache.old cache.new drives.old drives.new steps.old steps.new result }
+        → goes (exchanged_in image mounted.old files first.now.slot first.now.entry ∷ last ∷ [])) result }
 {
     let disk = disk_of(mounted);
     match disk.put_slots(cache, drives, first, second, steps) {

@@ -1,11 +1,8 @@
-ghost use Rattle.std.specs.Prelude.{◌≡◌, ◌/◌, ◌%◌, ◌<◌, ◌≤◌, None, IfSome, IfNone};
+ghost use Rattle.std.specs.Prelude.{◌≡◌, ◌%◌, ◌<◌, ◌≤◌};
 ghost use Rattle.mpm_dirent.specs.declared.limits.TheConstants.{LAST_NAMED};
 ghost use Rattle.mpm_blocks.specs.Geometries as geometries;
-ghost use Rattle.mpm_mount.specs.Drives as extents;
-ghost use Rattle.mpm_mount.specs.Faults.{block_at};
-ghost use Rattle.mpm_mount.specs.Directories.{extent_slot, xfcb_slot};
 ghost use Rattle.mpm_files.specs.Plans.{file_of_job};
-ghost use Rattle.mpm_files.specs.Lookups.{HasEntry, HasXfcb, HasXfcbBeside, IsHeldAt};
+ghost use Rattle.mpm_files.specs.Finding.{FindsEntry, FindsXfcb, FindsXfcbBeside, FindsSector};
 
 use crate::records::slot_of;
 use mpm_dirent::{Entry, FileEntry, XfcbEntry};
@@ -29,8 +26,7 @@ pub(crate) struct FoundXfcb {
 /// Finds the directory entry of a record of a job's file.
 pub(crate) fn find_entry(mounted: &Mounted, job: &Job, n: u32) -> Option<FoundEntry>
     requires { n ≤ LAST_NAMED }
-    ensures found { IfSome result (λ found. HasEntry mounted.now (file_of_job job.now) n found.slot found.file) }
-    ensures missing { IfNone result (extent_slot mounted.now (file_of_job job.now) (n / 128) ≡ None) }
+    ensures { FindsEntry mounted.now (file_of_job job.now) n result }
 {
     mounted.tell_directory();
     let slot = match slot_of(mounted, job, n) {
@@ -48,8 +44,7 @@ pub(crate) fn find_entry(mounted: &Mounted, job: &Job, n: u32) -> Option<FoundEn
 
 /// Finds the XFCB of a job's file.
 pub(crate) fn find_xfcb(mounted: &Mounted, job: &Job) -> Option<FoundXfcb>
-    ensures found { IfSome result (λ found. HasXfcb mounted.now (file_of_job job.now) found.slot found.xfcb) }
-    ensures missing { IfNone result (xfcb_slot mounted.now (file_of_job job.now) ≡ None) }
+    ensures { FindsXfcb mounted.now (file_of_job job.now) result }
 {
     mounted.tell_directory();
     let slot = match mounted.xfcb(job.user, &job.name) {
@@ -67,8 +62,7 @@ pub(crate) fn find_xfcb(mounted: &Mounted, job: &Job) -> Option<FoundXfcb>
 
 /// The sector of a record, where its directory entry holds its block.
 pub(crate) fn held_sector(mounted: &Mounted, file: &FileEntry, n: u32) -> Option<u32>
-    ensures held { IfSome result (λ sector. IsHeldAt mounted.now.kind file.now n sector) }
-    ensures none { IfNone result (block_at file.now (extents.block_place mounted.now.kind n) ≡ 0) }
+    ensures { FindsSector mounted.now.kind file.now n result }
 {
     let kind = mounted.kind();
     let block = file.blocks[block_place(kind, n)];
@@ -89,9 +83,7 @@ pub(crate) fn index_in(mounted: &Mounted, n: u32) -> u8
 /// Finds the XFCB of a job's file where it is in the sector of a slot.
 #[tactic(auto, using(crate::proofs::FoundEntries::none_beside, crate::proofs::FoundEntries::not_beside))]
 pub(crate) fn find_xfcb_beside(mounted: &Mounted, job: &Job, slot: u16) -> Option<FoundXfcb>
-    ensures found { IfSome result (λ found. HasXfcb mounted.now (file_of_job job.now) found.slot found.xfcb) }
-    ensures beside { IfSome result (λ found. found.slot / 4 ≡ slot / 4) }
-    ensures missing { IfNone result (HasXfcbBeside mounted.now (file_of_job job.now) slot → ⊥) }
+    ensures { FindsXfcbBeside mounted.now (file_of_job job.now) slot result }
 {
     match find_xfcb(mounted, job) {
         Some(found) => {

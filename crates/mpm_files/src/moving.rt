@@ -1,14 +1,13 @@
-ghost use Rattle.mpm_files.specs.declared.moving.Step.TheVariants as steps_of;
 ghost use Rattle.mpm_files.specs.Stepping as stepping;
 ghost use Rattle.std.specs.Prelude.{length, ◌≡◌, ◌+◌, ◌*◌, ◌<◌, ◌≤◌, None};
 ghost use Rattle.mpm_dirent.specs.declared.limits.TheConstants.{LAST_NAMED};
 ghost use Rattle.mpm_sectors.specs.Disks.{IsReadyDisk};
 ghost use Rattle.mpm_jobs.specs.declared.jobs.JobKind.TheVariants as kinds;
-ghost use Rattle.mpm_files.specs.Turning.{DoesNext};
 ghost use Rattle.mpm_files.specs.Plans.{record_at};
 ghost use Rattle.mpm_files.specs.Serving.{stamp_left};
 ghost use Rattle.mpm_files.specs.Turning as turning;
-ghost use Rattle.mpm_files.specs.Working.{UsesDisk, KeepsCounts, DoesNextOf};
+ghost use Rattle.mpm_files.specs.Working.{DoesNextOf};
+ghost use Rattle.mpm_files.specs.UnitParts.{ReadsNext, WritesNext};
 
 use crate::adding::add_entry;
 use crate::clearing::{clear_block, clears_blocks};
@@ -63,8 +62,7 @@ pub(crate) fn read_next<D: Drives, L: Ledger>(
     steps: &mut Steps<L>,
 ) -> Result<(), Failed>
     requires ready { IsReadyDisk (D.disks drives.old) mounted.old.drive mounted.old.kind cache.old }
-    ensures next { DoesNextOf kinds.Read D.Drives 1 mounted.old mounted.new work.old work.new cache.old cache.new drives.old drives.new steps.old steps.new result }
-    ensures reads { turning.OnlyReads cache.old mounted.old work.old steps.old steps.new (D.unsynced drives.old) (D.unsynced drives.new) }
+    ensures { ReadsNext D.Drives mounted.old mounted.new work.old work.new cache.old cache.new drives.old drives.new steps.old steps.new result }
 {
     work.cleared = None;
     let n = work.job.first.saturating_add(work.ended);
@@ -121,10 +119,7 @@ fn write_record<D: Drives, L: Ledger>(
     steps: &mut Steps<L>,
 ) -> Result<(), Failed>
     requires ready { IsReadyDisk (D.disks drives.old) mounted.old.drive mounted.old.kind cache.old }
-    ensures write { work.old.job.kind ≡ kinds.Write → stepping.step_of mounted.old work.old (stepping.record_next work.old) ≡ steps_of.Record
-        → DoesNext (D.disks drives.old) (D.disks drives.new) mounted.old mounted.new work.old work.new result }
-    ensures counts { KeepsCounts work.old work.new }
-    ensures works { UsesDisk D.Drives 20 mounted.old mounted.new cache.old cache.new drives.old drives.new steps.old steps.new result }
+    ensures { WritesNext D.Drives mounted.old mounted.new work.old work.new cache.old cache.new drives.old drives.new steps.old steps.new result }
 {
     let n = work.job.first.saturating_add(u32::from(work.moved));
     if n > LAST_NAMED {
@@ -198,10 +193,7 @@ pub(crate) fn test_next<D: Drives, L: Ledger>(
         return Ok(());
     }
     let mut there = [0; 128];
-    match read_record(mounted, cache, drives, &work.job, n, &mut there, steps) {
-        Ok(()) => {}
-        Err(failed) => return Err(failed),
-    }
+    read_record(mounted, cache, drives, &work.job, n, &mut there, steps)?;
     if there != bytes_at(&work.job, work.ended) {
         work.has_missed = true;
         return Ok(());

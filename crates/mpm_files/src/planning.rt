@@ -1,9 +1,7 @@
-ghost use Rattle.std.specs.Prelude.{◌≡◌, ◌≤◌, List, ℕ};
-ghost use Rattle.mpm_dirent.specs.declared.limits.TheConstants.{LAST_POSITION};
-ghost use Rattle.mpm_mount.specs.Drives.{Drive};
-ghost use Rattle.mpm_mount.specs.Directories.{Stands};
+ghost use Rattle.std.specs.Prelude.{◌≡◌};
 ghost use Rattle.mpm_files.specs.Counting.{unit_count, renamed_count};
-ghost use Rattle.mpm_files.specs.Serving.{begun, turns_in, IsInService};
+ghost use Rattle.mpm_files.specs.Serving.{turns_in};
+ghost use Rattle.mpm_files.specs.Finding.{HasFewRecords, BeginsJobOn};
 
 use crate::counting::{Count, count_reads, count_writes};
 use crate::searching::{Sought, count_entries};
@@ -14,8 +12,7 @@ use mpm_mount::Mounted;
 /// How many units a job has, and why it ends after them.
 #[tactic(auto, unfolding(crate::specs::Counting::unit_count))]
 fn count_units(mounted: &Mounted, job: &Job) -> Count
-    requires first { job.now.first ≤ LAST_POSITION }
-    requires count { job.now.count ≤ 16 }
+    requires { HasFewRecords job.now }
     ensures { result ≡ unit_count mounted.now job.now }
 {
     match job.kind {
@@ -40,10 +37,8 @@ fn count_renamed(mounted: &Mounted, job: &Job) -> u32
 
 /// Begins a job on a mounted drive: how many turns it takes. No device is asked.
 pub fn plan(mounted: &Mounted, job: &Job) -> Work
-    requires first { job.now.first ≤ LAST_POSITION }
-    requires count { job.now.count ≤ 16 }
-    ensures work { result ≡ begun job.now (unit_count mounted.now job.now) }
-    ensures service { (image : List ℕ) (before : Drive) → Stands image mounted.now before → IsInService image mounted.now before job.now 0 result }
+    requires { HasFewRecords job.now }
+    ensures { BeginsJobOn mounted.now job.now result }
 {
     let count = count_units(mounted, job);
     Work {

@@ -3,11 +3,10 @@ ghost use Rattle.std.specs.FinMap.{get};
 ghost use Rattle.mpm_base.specs.Counts.{one_if};
 ghost use Rattle.mpm_mount.specs.Drives.{free_entries};
 ghost use Rattle.mpm_sectors.specs.Disks.{IsReadyDisk};
-ghost use Rattle.mpm_files.specs.Standing.{OnItsImage, DoesUnit};
 ghost use Rattle.mpm_files.specs.Units.{PutsXfcb, PutsLabel};
 ghost use Rattle.mpm_files.specs.Plans.{file_of_job, protection_in};
 ghost use Rattle.mpm_files.specs.Turning.{xfcb_of_job, label_of_job};
-ghost use Rattle.mpm_files.specs.Working.{UsesDisk};
+ghost use Rattle.mpm_files.specs.DiskParts.{DoesByDisk};
 
 use crate::entries::put_entry;
 use mpm_base::Steps;
@@ -67,9 +66,8 @@ pub(crate) fn put_xfcb<D: Drives, L: Ledger>(
     steps: &mut Steps<L>,
 ) -> Result<(), Failed>
     requires ready { IsReadyDisk (D.disks drives.old) mounted.old.drive mounted.old.kind cache.old }
-    ensures does { OnItsImage (D.disks drives.old) mounted.old (λ image files. job.now.user < 16 → one_if (not (is_some (get files.xfcbs (file_of_job job.now)))) ≤ free_entries files
-        → DoesUnit (D.disks drives.new) mounted.old.drive mounted.new files (PutsXfcb (file_of_job job.now) (protection_in job.now)) result) }
-    ensures works { UsesDisk D.Drives 2 mounted.old mounted.new cache.old cache.new drives.old drives.new steps.old steps.new result }
+    ensures { DoesByDisk D.Drives 2 mounted.old mounted.new cache.old cache.new drives.old drives.new steps.old steps.new (λ image files does. job.now.user < 16 → one_if (not (is_some (get files.xfcbs (file_of_job job.now)))) ≤ free_entries files
+        → does (PutsXfcb (file_of_job job.now) (protection_in job.now))) result }
 {
     mounted.tell_directory();
     if job.user > 15 {
@@ -95,9 +93,8 @@ pub(crate) fn put_label<D: Drives, L: Ledger>(
     steps: &mut Steps<L>,
 ) -> Result<(), Failed>
     requires ready { IsReadyDisk (D.disks drives.old) mounted.old.drive mounted.old.kind cache.old }
-    ensures does { OnItsImage (D.disks drives.old) mounted.old (λ image files. one_if (not (is_some files.label)) ≤ free_entries files
-        → DoesUnit (D.disks drives.new) mounted.old.drive mounted.new files (PutsLabel (record { name = job.now.new_name; protection = protection_in job.now })) result) }
-    ensures works { UsesDisk D.Drives 2 mounted.old mounted.new cache.old cache.new drives.old drives.new steps.old steps.new result }
+    ensures { DoesByDisk D.Drives 2 mounted.old mounted.new cache.old cache.new drives.old drives.new steps.old steps.new (λ image files does. one_if (not (is_some files.label)) ≤ free_entries files
+        → does (PutsLabel (record { name = job.now.new_name; protection = protection_in job.now }))) result }
 {
     mounted.tell_directory();
     let entry = Entry::Label {

@@ -1,14 +1,5 @@
-ghost use Rattle.std.specs.Prelude.{◌≡◌, ◌≤◌, ℕ, Some, None, OnOk, false};
-ghost use Rattle.mpm_dirent.specs.declared.limits.TheConstants.{LAST_NAMED};
-ghost use Rattle.mpm_mount.specs.Drives.{record_of, visible_of};
-ghost use Rattle.mpm_sectors.specs.Disks.{IsReadyDisk};
-ghost use Rattle.mpm_files.specs.Units.{ReadsRecord};
 ghost use Rattle.mpm_files.specs.Plans.{file_of_job};
-ghost use Rattle.mpm_files.specs.Counting.{lacks_block};
-ghost use Rattle.mpm_mount.specs.Records.{record_error};
-ghost use Rattle.mpm_files.specs.Lookups.{IsRecordCached};
-ghost use Rattle.mpm_files.specs.Standing.{OnItsImage, DoesUnit};
-ghost use Rattle.mpm_files.specs.Working.{UsesDisk};
+ghost use Rattle.mpm_files.specs.DiskParts.{MayMoveRecord, ReadsByDisk};
 
 use crate::entries::disk_of;
 use crate::lookups::{find_entry, held_sector};
@@ -31,15 +22,8 @@ pub(crate) fn read_record<D: Drives, L: Ledger>(
     out: &mut [u8; 128],
     steps: &mut Steps<L>,
 ) -> Result<(), Failed>
-    requires number { n ≤ LAST_NAMED }
-    requires ready { IsReadyDisk (D.disks drives.old) mounted.now.drive mounted.now.kind cache.old }
-    ensures record { OnItsImage (D.disks drives.old) mounted.now (λ image files. lacks_block mounted.now (file_of_job job.now) n ≡ false → OnOk result (record_of files (file_of_job job.now) n ≡ Some out.new)) }
-    ensures visible { OnItsImage (D.disks drives.old) mounted.now (λ image files. record_error mounted.now (file_of_job job.now) n ≡ None → OnOk result (visible_of files (file_of_job job.now) n ≡ Some out.new)) }
-    ensures does { OnItsImage (D.disks drives.old) mounted.now (λ image files. DoesUnit (D.disks drives.new) mounted.now.drive mounted.now files (ReadsRecord (file_of_job job.now) n) result) }
-    ensures cached { IsRecordCached cache.old mounted.now (file_of_job job.now) n → steps.new ≡ steps.old }
-    ensures disks { D.disks drives.new ≡ D.disks drives.old }
-    ensures unsynced { (other : ℕ) → D.unsynced drives.new other ≡ D.unsynced drives.old other }
-    ensures works { UsesDisk D.Drives 1 mounted.now mounted.now cache.old cache.new drives.old drives.new steps.old steps.new result }
+    requires { MayMoveRecord (D.disks drives.old) mounted.now cache.old n }
+    ensures { ReadsByDisk D.Drives mounted.now cache.old cache.new drives.old drives.new steps.old steps.new (file_of_job job.now) n out.new result }
 {
     let found = match find_entry(mounted, job, n) {
         Some(found) => found,

@@ -1,9 +1,8 @@
-ghost use Rattle.std.specs.Prelude.{◌≡◌, ◌≤◌, Some, None, IsSome, IfSome};
+ghost use Rattle.std.specs.Prelude.{◌≡◌, ◌≤◌, Some, None};
 ghost use Rattle.std.specs.FinMap.{get};
 ghost use Rattle.mpm_blocks.specs.Geometries.{geometry_of};
 ghost use Rattle.mpm_mount.specs.Directories.{entry_in};
 ghost use Rattle.mpm_sectors.specs.Disks.{IsReadyDisk};
-ghost use Rattle.mpm_files.specs.Standing.{OnItsImage, DoesUnit};
 ghost use Rattle.mpm_dirent.specs.declared.kinds.Entry.TheVariants.{File};
 ghost use Rattle.mpm_dirent.specs.declared.kinds.FileEntry.{FileEntry};
 ghost use Rattle.mpm_mount.specs.Faults.{name_of};
@@ -11,8 +10,8 @@ ghost use Rattle.mpm_mount.specs.Attributes.{attributes_in};
 ghost use Rattle.mpm_mount.specs.Files.{file_in};
 ghost use Rattle.mpm_files.specs.Units.{SetsAttributes, RenamesEntry, RenamesXfcb};
 ghost use Rattle.mpm_files.specs.Plans.{file_of_job, new_file_of_job};
-ghost use Rattle.mpm_files.specs.Turning.{IsFileAt};
-ghost use Rattle.mpm_files.specs.Working.{UsesDisk};
+ghost use Rattle.mpm_files.specs.DiskParts.{MayChangeSlot, DoesByDisk};
+ghost use Rattle.mpm_files.specs.Finding.{FindsFile};
 
 use crate::entries::put_entry;
 use crate::lookups::find_xfcb;
@@ -28,8 +27,7 @@ use std::sync::ledger::Ledger;
 /// The file's entry in a slot.
 pub(crate) fn file_at(mounted: &Mounted, slot: u16) -> Option<FileEntry>
     requires { slot ≤ (geometry_of mounted.now.kind).drm }
-    ensures found { IfSome result (λ file. IsFileAt mounted.now slot file) }
-    ensures missing { (f : FileEntry) → entry_in mounted.now slot ≡ File f → IsSome result }
+    ensures { FindsFile mounted.now slot result }
 {
     mounted.tell_directory();
     match mounted.entry(slot) {
@@ -48,11 +46,9 @@ pub(crate) fn set_attributes<D: Drives, L: Ledger>(
     job: &Job,
     steps: &mut Steps<L>,
 ) -> Result<(), Failed>
-    requires ready { IsReadyDisk (D.disks drives.old) mounted.old.drive mounted.old.kind cache.old }
-    requires slot { slot ≤ (geometry_of mounted.old.kind).drm }
-    ensures does { OnItsImage (D.disks drives.old) mounted.old (λ image files. (f : FileEntry) → entry_in mounted.old slot ≡ File f
-        → DoesUnit (D.disks drives.new) mounted.old.drive mounted.new files (SetsAttributes (file_in f.user f.name) (name_of files.kind f).number (attributes_in job.now.name)) result) }
-    ensures works { UsesDisk D.Drives 2 mounted.old mounted.new cache.old cache.new drives.old drives.new steps.old steps.new result }
+    requires { MayChangeSlot (D.disks drives.old) mounted.old cache.old slot }
+    ensures { DoesByDisk D.Drives 2 mounted.old mounted.new cache.old cache.new drives.old drives.new steps.old steps.new (λ image files does. (f : FileEntry) → entry_in mounted.old slot ≡ File f
+        → does (SetsAttributes (file_in f.user f.name) (name_of files.kind f).number (attributes_in job.now.name))) result }
 {
     let Some(file) = file_at(mounted, slot) else {
         return Ok(());
@@ -73,12 +69,10 @@ pub(crate) fn rename_entry<D: Drives, L: Ledger>(
     job: &Job,
     steps: &mut Steps<L>,
 ) -> Result<(), Failed>
-    requires ready { IsReadyDisk (D.disks drives.old) mounted.old.drive mounted.old.kind cache.old }
-    requires slot { slot ≤ (geometry_of mounted.old.kind).drm }
-    ensures does { OnItsImage (D.disks drives.old) mounted.old (λ image files. (f : FileEntry) → entry_in mounted.old slot ≡ File f → f.user ≡ job.now.user
+    requires { MayChangeSlot (D.disks drives.old) mounted.old cache.old slot }
+    ensures { DoesByDisk D.Drives 2 mounted.old mounted.new cache.old cache.new drives.old drives.new steps.old steps.new (λ image files does. (f : FileEntry) → entry_in mounted.old slot ≡ File f → f.user ≡ job.now.user
         → get files.extents (record { user = job.now.user; name = (new_file_of_job job.now).name; number = (name_of files.kind f).number }) ≡ None
-        → DoesUnit (D.disks drives.new) mounted.old.drive mounted.new files (RenamesEntry (file_in f.user f.name) (name_of files.kind f).number (new_file_of_job job.now)) result) }
-    ensures works { UsesDisk D.Drives 2 mounted.old mounted.new cache.old cache.new drives.old drives.new steps.old steps.new result }
+        → does (RenamesEntry (file_in f.user f.name) (name_of files.kind f).number (new_file_of_job job.now))) result }
 {
     mounted.tell_directory();
     let Some(file) = file_at(mounted, slot) else {
@@ -104,9 +98,8 @@ pub(crate) fn rename_xfcb<D: Drives, L: Ledger>(
     steps: &mut Steps<L>,
 ) -> Result<(), Failed>
     requires ready { IsReadyDisk (D.disks drives.old) mounted.old.drive mounted.old.kind cache.old }
-    ensures does { OnItsImage (D.disks drives.old) mounted.old (λ image files. get files.xfcbs (new_file_of_job job.now) ≡ None
-        → DoesUnit (D.disks drives.new) mounted.old.drive mounted.new files (RenamesXfcb (file_of_job job.now) (new_file_of_job job.now)) result) }
-    ensures works { UsesDisk D.Drives 2 mounted.old mounted.new cache.old cache.new drives.old drives.new steps.old steps.new result }
+    ensures { DoesByDisk D.Drives 2 mounted.old mounted.new cache.old cache.new drives.old drives.new steps.old steps.new (λ image files does. get files.xfcbs (new_file_of_job job.now) ≡ None
+        → does (RenamesXfcb (file_of_job job.now) (new_file_of_job job.now))) result }
 {
     let Some(found) = find_xfcb(mounted, job) else {
         return Ok(());

@@ -1,8 +1,9 @@
-ghost use Rattle.std.specs.Prelude.{◌≡◌, ◌≤◌, count_by, bytes_eq};
+ghost use Rattle.std.specs.Prelude.{◌≡◌, count_by, bytes_eq};
 ghost use Rattle.std.specs.List.{list_any};
 ghost use Rattle.mpm_dirent.specs.Names as names;
 ghost use Rattle.mpm_mount.specs.Files as lookups;
 ghost use Rattle.mpm_files.specs.Counting as spec;
+ghost use Rattle.mpm_names.specs.Readings.{IsNumber};
 
 use mpm_blocks::geometry;
 use mpm_dirent::{Entry, plain_name};
@@ -83,8 +84,7 @@ fn is_sought(mounted: &Mounted, job: &Job, sought: Sought, entry: &Entry) -> boo
 /// How many directory entries are such.
 #[tactic(auto, using(crate::proofs::EntryCounts::count_more, crate::proofs::EntryCounts::taken_whole))]
 pub(crate) fn count_entries(mounted: &Mounted, job: &Job, sought: Sought) -> u32
-    ensures count { result ≡ count_by (spec.is_sought mounted.now job.now sought) mounted.now.entries }
-    ensures few { result ≤ 512 }
+    ensures { IsNumber (count_by (spec.is_sought mounted.now job.now sought) mounted.now.entries) 512 result }
 {
     let kind = mounted.kind();
     let mut count = 0;

@@ -1,16 +1,11 @@
-ghost use Rattle.std.specs.Prelude.{◌≡◌, ◌+◌, ◌≤◌, [], ◌∷◌, Some, None, IsSome, ◌/◌, true};
-ghost use Rattle.mpm_blocks.specs.Geometries.{geometry_of};
+ghost use Rattle.std.specs.Prelude.{◌≡◌, [], ◌∷◌, Some, ◌/◌};
 ghost use Rattle.mpm_dirent.specs.declared.kinds.Entry.TheVariants.{File};
-ghost use Rattle.mpm_dirent.specs.Proper.{IsProper};
-ghost use Rattle.mpm_mount.specs.Faults.{cause_of};
-ghost use Rattle.mpm_mount.specs.Directories.{others, entry_in};
-ghost use Rattle.mpm_mount.specs.Files.{is_file};
 ghost use Rattle.mpm_sectors.specs.Disks.{IsReadyDisk};
 ghost use Rattle.mpm_files.specs.Units.{Idles, stamped, with_stamp};
 ghost use Rattle.mpm_files.specs.Plans.{file_of_job};
-ghost use Rattle.mpm_files.specs.Lookups.{HasXfcbBeside, stamped_in, stamped_entry};
-ghost use Rattle.mpm_files.specs.Standing.{OnItsImage, exchanged_in, GoesThrough, DoesUnit};
-ghost use Rattle.mpm_files.specs.Working.{UsesDisk};
+ghost use Rattle.mpm_files.specs.Lookups.{stamped_in, stamped_entry};
+ghost use Rattle.mpm_files.specs.Standing.{exchanged_in};
+ghost use Rattle.mpm_files.specs.DiskParts.{MayPutEntry, MayPutStamped, GoesByDisk, DoesByDisk, PutsStamped};
 
 use crate::entries::{put_entries, put_entry};
 use crate::lookups::{FoundEntry, FoundXfcb, find_xfcb, find_xfcb_beside};
@@ -60,8 +55,7 @@ pub(crate) fn put_stamp<D: Drives, L: Ledger>(
     steps: &mut Steps<L>,
 ) -> Result<(), Failed>
     requires ready { IsReadyDisk (D.disks drives.old) mounted.old.drive mounted.old.kind cache.old }
-    ensures puts { OnItsImage (D.disks drives.old) mounted.old (λ image files. GoesThrough (D.disks drives.new) mounted.old.drive mounted.new files (stamped (stamped_in stamp) (file_of_job job.now) moment files) result) }
-    ensures works { UsesDisk D.Drives 2 mounted.old mounted.new cache.old cache.new drives.old drives.new steps.old steps.new result }
+    ensures { GoesByDisk D.Drives 2 mounted.old mounted.new cache.old cache.new drives.old drives.new steps.old steps.new (λ image files goes. goes (stamped (stamped_in stamp) (file_of_job job.now) moment files)) result }
 {
     let moment = match moment {
         Some(moment) => moment,
@@ -92,8 +86,7 @@ pub(crate) fn idle<D: Drives, L: Ledger>(
     steps: &mut Steps<L>,
 ) -> Result<(), Failed>
     requires ready { IsReadyDisk (D.disks drives.old) mounted.old.drive mounted.old.kind cache.old }
-    ensures does { OnItsImage (D.disks drives.old) mounted.old (λ image files. DoesUnit (D.disks drives.new) mounted.old.drive mounted.new files (Idles (file_of_job job.now) moment) result) }
-    ensures works { UsesDisk D.Drives 2 mounted.old mounted.new cache.old cache.new drives.old drives.new steps.old steps.new result }
+    ensures { DoesByDisk D.Drives 2 mounted.old mounted.new cache.old cache.new drives.old drives.new steps.old steps.new (λ image files does. does (Idles (file_of_job job.now) moment)) result }
 {
     put_stamp(mounted, cache, drives, job, Stamp::First, moment, steps)
 }
@@ -109,15 +102,8 @@ pub(crate) fn put_stamped<D: Drives, L: Ledger>(
     moment: Option<[u8; 4]>,
     steps: &mut Steps<L>,
 ) -> Result<(), Failed>
-    requires ready { IsReadyDisk (D.disks drives.old) mounted.old.drive mounted.old.kind cache.old }
-    requires slot { placed.now.slot ≤ (geometry_of mounted.old.kind).drm }
-    requires was { is_file (entry_in mounted.old placed.now.slot) ≡ true }
-    requires proper { IsProper (geometry_of mounted.old.kind).wide (File placed.now.file) }
-    requires faultless { cause_of mounted.old.kind (others mounted.old.entries placed.now.slot) (File placed.now.file) ≡ None }
-    ensures puts { OnItsImage (D.disks drives.old) mounted.old (λ image files. GoesThrough (D.disks drives.new) mounted.old.drive mounted.new files
-        (with_stamp (file_of_job job.now) moment files (exchanged_in image mounted.old files placed.now.slot (File placed.now.file) ∷ [])) result) }
-    ensures beside { IsSome moment → HasXfcbBeside mounted.old (file_of_job job.now) placed.now.slot → steps.new ≤ steps.old + 2 }
-    ensures works { UsesDisk D.Drives 4 mounted.old mounted.new cache.old cache.new drives.old drives.new steps.old steps.new result }
+    requires { MayPutStamped (D.disks drives.old) mounted.old cache.old placed.now }
+    ensures { PutsStamped D.Drives 4 mounted.old mounted.new cache.old cache.new drives.old drives.new steps.old steps.new placed.now (file_of_job job.now) moment result }
 {
     let second = match moment {
         Some(second) => second,
@@ -151,13 +137,8 @@ fn put_apart<D: Drives, L: Ledger>(
     moment: Option<[u8; 4]>,
     steps: &mut Steps<L>,
 ) -> Result<(), Failed>
-    requires ready { IsReadyDisk (D.disks drives.old) mounted.old.drive mounted.old.kind cache.old }
-    requires slot { placed.now.slot ≤ (geometry_of mounted.old.kind).drm }
-    requires proper { IsProper (geometry_of mounted.old.kind).wide (File placed.now.file) }
-    requires faultless { cause_of mounted.old.kind (others mounted.old.entries placed.now.slot) (File placed.now.file) ≡ None }
-    ensures puts { OnItsImage (D.disks drives.old) mounted.old (λ image files. GoesThrough (D.disks drives.new) mounted.old.drive mounted.new files
-        (with_stamp (file_of_job job.now) moment files (exchanged_in image mounted.old files placed.now.slot (File placed.now.file) ∷ [])) result) }
-    ensures works { UsesDisk D.Drives 4 mounted.old mounted.new cache.old cache.new drives.old drives.new steps.old steps.new result }
+    requires { MayPutEntry (D.disks drives.old) mounted.old cache.old placed.now.slot (File placed.now.file) }
+    ensures { GoesByDisk D.Drives 4 mounted.old mounted.new cache.old cache.new drives.old drives.new steps.old steps.new (λ image files goes. goes (with_stamp (file_of_job job.now) moment files (exchanged_in image mounted.old files placed.now.slot (File placed.now.file) ∷ []))) result }
 {
     match put_entry(
         mounted,

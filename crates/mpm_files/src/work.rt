@@ -49,7 +49,7 @@ impl Work {
         }
     }
 
-    /// The error as a code, as functions 33 and 41 answer it; 0 where all records were moved. A full directory is 1, as
+    /// The error as a code, as functions 33 and 41 answer it; 0 where turns are left, or all records were moved. A full directory is 1, as
     /// function 21 has it; 34 and 40 answer 5.
     pub fn code(&self) -> u8
         ensures { result ≡ error_code (told_error self.now) }

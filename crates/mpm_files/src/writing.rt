@@ -1,22 +1,18 @@
-ghost use Rattle.std.specs.Prelude.{◌≡◌, ◌+◌, ◌<◌, ◌≤◌, [], ◌∷◌, length, slice_set, ◌/◌, ◌%◌, Some, None, true, false};
-ghost use Rattle.mpm_dirent.specs.declared.limits.TheConstants.{LAST_NAMED, LAST_RECORD};
-ghost use Rattle.mpm_blocks.specs.Geometries as geometries;
+ghost use Rattle.std.specs.Prelude.{◌≡◌, ◌+◌, ◌≤◌, [], ◌∷◌, length, slice_set, ◌/◌, ◌%◌, None, true, false};
+ghost use Rattle.mpm_dirent.specs.declared.limits.TheConstants.{LAST_RECORD};
 ghost use Rattle.mpm_blocks.specs.Sectors.{sectors_of};
 ghost use Rattle.mpm_mount.specs.Drives.{with_extent};
 ghost use Rattle.mpm_mount.specs.Faults.{name_of};
 ghost use Rattle.mpm_mount.specs.Images.{contents_of, extent_in};
-ghost use Rattle.mpm_mount.specs.Directories.{free_block};
-ghost use Rattle.mpm_sectors.specs.Disks.{IsReadyDisk};
-ghost use Rattle.mpm_sectors.specs.Writes.{Puts, block_writes, block_calls};
+ghost use Rattle.mpm_sectors.specs.Writes.{block_writes};
 ghost use Rattle.mpm_files.specs.Units.{WritesRecord, with_stamp};
 ghost use Rattle.mpm_files.specs.Plans as plans;
 ghost use Rattle.mpm_files.specs.Plans.{file_of_job};
 ghost use Rattle.mpm_files.specs.Counting.{lacks_entry, lacks_block};
-ghost use Rattle.mpm_files.specs.Lookups.{HasEntry};
 ghost use Rattle.mpm_files.specs.Lookups as entries;
 ghost use Rattle.mpm_files.specs.Standing as spec;
-ghost use Rattle.mpm_files.specs.Standing.{OnItsImage, DoesUnit, GoesThrough, HasFreshBlock};
-ghost use Rattle.mpm_files.specs.Working.{UsesDisk};
+ghost use Rattle.mpm_files.specs.Standing.{HasFreshBlock};
+ghost use Rattle.mpm_files.specs.DiskParts.{MayMoveRecord, MayPutSector, MayRaiseEntry, MayPutBlock, MayTakeBlock, GoesByDisk, DoesByDisk, PutsRecordByDisk};
 
 use crate::clearing::{CLEARED, clears_blocks};
 use crate::entries::disk_of;
@@ -110,11 +106,9 @@ pub(crate) fn put_held<D: Drives, L: Ledger>(
     written: &Record,
     steps: &mut Steps<L>,
 ) -> Result<(), Failed>
-    requires ready { IsReadyDisk (D.disks drives.old) mounted.old.drive mounted.old.kind cache.old }
-    requires number { written.now.number ≤ LAST_NAMED }
-    ensures does { OnItsImage (D.disks drives.old) mounted.old (λ image files. lacks_block mounted.old (file_of_job job.now) written.now.number ≡ false
-        → DoesUnit (D.disks drives.new) mounted.old.drive mounted.new files (WritesRecord (file_of_job job.now) written.now.number written.now.bytes written.now.moment) result) }
-    ensures works { UsesDisk D.Drives 5 mounted.old mounted.new cache.old cache.new drives.old drives.new steps.old steps.new result }
+    requires { MayMoveRecord (D.disks drives.old) mounted.old cache.old written.now.number }
+    ensures { DoesByDisk D.Drives 5 mounted.old mounted.new cache.old cache.new drives.old drives.new steps.old steps.new (λ image files does. lacks_block mounted.old (file_of_job job.now) written.now.number ≡ false
+        → does (WritesRecord (file_of_job job.now) written.now.number written.now.bytes written.now.moment)) result }
 {
     let found = match find_entry(mounted, job, written.number) {
         Some(found) => found,
@@ -142,12 +136,10 @@ pub(crate) fn put_fresh<D: Drives, L: Ledger>(
     cleared: Option<u16>,
     steps: &mut Steps<L>,
 ) -> Result<(), Failed>
-    requires ready { IsReadyDisk (D.disks drives.old) mounted.old.drive mounted.old.kind cache.old }
-    requires number { written.now.number ≤ LAST_NAMED }
-    ensures does { OnItsImage (D.disks drives.old) mounted.old (λ image files. lacks_entry mounted.old (file_of_job job.now) written.now.number ≡ false → lacks_block mounted.old (file_of_job job.now) written.now.number ≡ true
+    requires { MayMoveRecord (D.disks drives.old) mounted.old cache.old written.now.number }
+    ensures { DoesByDisk D.Drives 20 mounted.old mounted.new cache.old cache.new drives.old drives.new steps.old steps.new (λ image files does. lacks_entry mounted.old (file_of_job job.now) written.now.number ≡ false → lacks_block mounted.old (file_of_job job.now) written.now.number ≡ true
         → HasFreshBlock (plans.clears_blocks mounted.old.kind) (sectors_of image mounted.old.kind) mounted.old cleared
-        → DoesUnit (D.disks drives.new) mounted.old.drive mounted.new files (WritesRecord (file_of_job job.now) written.now.number written.now.bytes written.now.moment) result) }
-    ensures works { UsesDisk D.Drives 20 mounted.old mounted.new cache.old cache.new drives.old drives.new steps.old steps.new result }
+        → does (WritesRecord (file_of_job job.now) written.now.number written.now.bytes written.now.moment)) result }
 {
     let found = match find_entry(mounted, job, written.number) {
         Some(found) => found,
@@ -182,11 +174,8 @@ fn put_sector<D: Drives, L: Ledger>(
     bytes: &[u8; 128],
     steps: &mut Steps<L>,
 ) -> Result<(), Failed>
-    requires ready { IsReadyDisk (D.disks drives.old) mounted.now.drive mounted.now.kind cache.old }
-    requires within { sector < geometries.logical_sectors mounted.now.kind }
-    ensures puts { Puts mounted.now.drive mounted.now.kind (record { sector = sector; bytes = bytes.now } ∷ []) (D.disks drives.old) (D.disks drives.new) result }
-    ensures long { length bytes.now ≡ 128 }
-    ensures works { UsesDisk D.Drives 1 mounted.now mounted.now cache.old cache.new drives.old drives.new steps.old steps.new result }
+    requires { MayPutSector (D.disks drives.old) mounted.now cache.old sector }
+    ensures { PutsRecordByDisk D.Drives 1 mounted.now cache.old cache.new drives.old drives.new steps.old steps.new bytes.now (record { sector = sector; bytes = bytes.now } ∷ []) result }
 {
     disk_of(mounted).put(cache, drives, sector, bytes, steps)
 }
@@ -201,11 +190,9 @@ fn put_raised<D: Drives, L: Ledger>(
     found: &FoundEntry,
     steps: &mut Steps<L>,
 ) -> Result<(), Failed>
-    requires ready { IsReadyDisk (D.disks drives.old) mounted.old.drive mounted.old.kind cache.old }
-    requires entry { HasEntry mounted.old (file_of_job job.now) written.now.number found.now.slot found.now.file }
-    ensures puts { OnItsImage (D.disks drives.old) mounted.old (λ image files. GoesThrough (D.disks drives.new) mounted.old.drive mounted.new files (with_stamp (file_of_job job.now) written.now.moment files
-        (spec.raises mounted.old.kind written.now.number found.now.file files (extent_in (sectors_of image mounted.old.kind) mounted.old.kind found.now.file))) result) }
-    ensures works { UsesDisk D.Drives 4 mounted.old mounted.new cache.old cache.new drives.old drives.new steps.old steps.new result }
+    requires { MayRaiseEntry (D.disks drives.old) mounted.old cache.old (file_of_job job.now) written.now.number found.now.slot found.now.file }
+    ensures { GoesByDisk D.Drives 4 mounted.old mounted.new cache.old cache.new drives.old drives.new steps.old steps.new (λ image files goes. goes (with_stamp (file_of_job job.now) written.now.moment files
+        (spec.raises mounted.old.kind written.now.number found.now.file files (extent_in (sectors_of image mounted.old.kind) mounted.old.kind found.now.file)))) result }
 {
     if is_above(&found.file, written.number) {
         let raised = FoundEntry {
@@ -236,14 +223,8 @@ fn put_with_block<D: Drives, L: Ledger>(
     bytes: &[u8; 128],
     steps: &mut Steps<L>,
 ) -> Result<(), Failed>
-    requires ready { IsReadyDisk (D.disks drives.old) mounted.now.drive mounted.now.kind cache.old }
-    requires free { free_block mounted.now ≡ Some block.number }
-    requires clear { block.clear ≤ geometries.block_records mounted.now.kind }
-    requires index { index < geometries.block_records mounted.now.kind }
-    requires few { block_calls mounted.now.kind block.clear index ≤ 16 }
-    ensures puts { Puts mounted.now.drive mounted.now.kind (block_writes mounted.now.kind block.number block.clear index bytes.now) (D.disks drives.old) (D.disks drives.new) result }
-    ensures long { length bytes.now ≡ 128 }
-    ensures works { UsesDisk D.Drives 16 mounted.now mounted.now cache.old cache.new drives.old drives.new steps.old steps.new result }
+    requires { MayPutBlock (D.disks drives.old) mounted.now cache.old block index }
+    ensures { PutsRecordByDisk D.Drives 16 mounted.now cache.old cache.new drives.old drives.new steps.old steps.new bytes.now (block_writes mounted.now.kind block.number block.clear index bytes.now) result }
 {
     disk_of(mounted).put_block(cache, drives, block, index, bytes, steps)
 }
@@ -265,13 +246,10 @@ fn put_taken<D: Drives, L: Ledger>(
     taking: &Taking,
     steps: &mut Steps<L>,
 ) -> Result<(), Failed>
-    requires ready { IsReadyDisk (D.disks drives.old) mounted.old.drive mounted.old.kind cache.old }
-    requires entry { HasEntry mounted.old (file_of_job job.now) written.now.number taking.now.found.slot taking.now.found.file }
-    requires free { free_block mounted.old ≡ Some taking.now.block }
-    ensures puts { OnItsImage (D.disks drives.old) mounted.old (λ image files. GoesThrough (D.disks drives.new) mounted.old.drive mounted.new files (with_stamp (file_of_job job.now) written.now.moment files
+    requires { MayTakeBlock (D.disks drives.old) mounted.old cache.old (file_of_job job.now) written.now.number taking.now.found.slot taking.now.found.file taking.now.block }
+    ensures { GoesByDisk D.Drives 4 mounted.old mounted.new cache.old cache.new drives.old drives.new steps.old steps.new (λ image files goes. goes (with_stamp (file_of_job job.now) written.now.moment files
         (with_extent files (name_of mounted.old.kind taking.now.found.file) (spec.with_taken mounted.old.kind written.now.number
-        (contents_of (sectors_of image mounted.old.kind) mounted.old.kind taking.now.block) (extent_in (sectors_of image mounted.old.kind) mounted.old.kind taking.now.found.file)) ∷ [])) result) }
-    ensures works { UsesDisk D.Drives 4 mounted.old mounted.new cache.old cache.new drives.old drives.new steps.old steps.new result }
+        (contents_of (sectors_of image mounted.old.kind) mounted.old.kind taking.now.block) (extent_in (sectors_of image mounted.old.kind) mounted.old.kind taking.now.found.file)) ∷ []))) result }
 {
     let found = &taking.found;
     let taken = FoundEntry {

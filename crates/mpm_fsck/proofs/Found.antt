@@ -22,7 +22,8 @@ use Rattle.mpm_repair.proofs.OwnList.{few_listed}
 use Rattle.mpm_repair.proofs.Staying.{none_listed, freed_listed}
 use Rattle.mpm_fsck.specs.declared.checking.Findings.{Findings}
 use Rattle.mpm_fsck.specs.Endings.{said_of, status_of}
-use Rattle.mpm_fsck.specs.Steps.{said_by, ended_by, Finds, FindsNone, FindsOf}
+use Rattle.mpm_fsck.specs.Steps.{said_by, ended_by, FindsFaults, FindsNone, FindsOf}
+use Rattle.mpm_fsck.specs.Parts.{ListsFew}
 
 -- where nothing is listed all entries stay
 pub all_stay_listed : (kind : Kind) (entries : List Entry) → fault_list kind entries ≡ [] → staying kind entries (length entries) ≡ entries
@@ -55,7 +56,7 @@ ended_same kind image (fault ∷ faults) size are =
     (sym (files_by_list image kind size ∙ ap (λ list. unless (first_of list) drive) are))
 
 pub finds_image : (kind : Kind) (image : List ℕ) (entries : List Entry) (found : Findings) → length image ≡ (geometry_of kind).bytes → entries ≡ entries_of (sectors_of image kind) kind
-    → Finds kind entries found → FindsOf kind found image
+    → FindsFaults kind entries found → FindsOf kind found image
 finds_image kind image entries found size are finds = record {
   text = finds.text ∙ ap (λ (es : List Entry). said_by kind es (fault_list kind es)) are ∙ said_same kind image (faults_of image kind) size refl;
   ends = ap ended_by (finds.count ∙ ap (λ (es : List Entry). length (fault_list kind es)) are) ∙ ended_same kind image (faults_of image kind) size refl;
@@ -67,7 +68,7 @@ no_items [] none = refl
 no_items (x ∷ xs) none = absurd (omega arith)
 
 pub sound_finds : {E : Type 0} (kind : Kind) (old new : List Entry) (result : Result Findings E) → fault_list kind old ≡ [] → new ≡ old
-    → IfOk result (FindsNone kind new) → IfOk result (Finds kind old)
+    → IfOk result (FindsNone kind new) → IfOk result (FindsFaults kind old)
 sound_finds kind old new (Ok found) none same finds = record {
   text = finds.text ∙ ap (λ (es : List Entry). said_by kind es []) same ∙ ap (said_by kind old) (sym none);
   count = finds.count ∙ ap (λ (faults : List SlotFault). length faults) (sym none);
@@ -83,3 +84,8 @@ few_found kind entries lent after (Ok faults) full is lists =
     let same = ap (λ (xs : List SlotFault). length xs) (lists.list ∙ ap (fault_list kind) is) in
     omega (arith, few, small, same, full)
 few_found kind entries lent after (Err error) full is lists = tt
+
+pub lists_few : {E A : Type 0} (kind : Kind) (entries now : List Entry) (result : Result (Vec SlotFault A) E) → IfOk result (λ faults. ListsFaults kind entries now faults.items)
+    → IfOk result (λ faults. length faults.items ≤ 512) → IfOk result (λ faults. ListsFew kind entries now faults.items)
+lists_few kind entries now (Ok faults) lists few = record { lists = lists; few = few }
+lists_few kind entries now (Err error) lists few = tt

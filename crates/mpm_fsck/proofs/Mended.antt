@@ -1,5 +1,5 @@
 -- How a list that is applied ends, by the steps.
-use Rattle.std.proofs.Common.{◌≡◌, ℕ, ◌+◌, ◌*◌, ◌≤◌, inl, inr, Bool, false, List, ◌++◌, Option, Some, Ok, Err, ap, subst, ◌∙◌, arith}
+use Rattle.std.proofs.Common.{◌≡◌, ◌≢◌, ℕ, ◌+◌, ◌*◌, ◌≤◌, inl, inr, Bool, false, List, ◌++◌, Option, Some, Ok, Err, ap, subst, ◌∙◌, arith}
 use Rattle.std.specs.Prelude.{⊤}
 use Rattle.mpm_base.specs.declared.kind.Kind.{Kind}
 use Rattle.mpm_blocks.specs.Geometries.{geometry_of}
@@ -10,14 +10,14 @@ use Rattle.mpm_fault_lines.specs.Lists.{listed, different}
 use Rattle.mpm_repair.specs.Freeing.{freed_image, FreesOn}
 use Rattle.mpm_fsck.specs.declared.status.FsckStatus.{FsckStatus}
 use Rattle.mpm_fsck.specs.declared.status.FsckStatus.TheVariants.{Done, Usage, Unsound, WrongSize, BadList, NotEnough, ReadFault, DiskFault, WriteFault, OutOfMemory, TooLong}
-use Rattle.mpm_fsck.specs.Outside.{DrivesSeen, Seen, Freed}
+use Rattle.mpm_fsck.specs.Outside.{DrivesSeen, SeenOutside, Freed}
 use Rattle.mpm_fsck.specs.Endings.{Mends, Applies, slots_in, drive_without}
 use Rattle.mpm_fsck.specs.Steps.{Unopened, Opened, ReadsSlots, Unlisted, FreesAll, Mending, IsSaid, slots_marked}
 use Rattle.mpm_fsck.proofs.Left.{marked_in}
 use Rattle.mpm_fsck.proofs.Opened.{attached_still, keeps_images, lost_later}
 
 -- an image that isn't opened: nothing else was done
-pub unopened_applies : (missing : List ℕ → Type 0) (kind : Kind) (name list : List ℕ) (old new : Seen) (status : FsckStatus) → Unopened kind name old.drives new.drives status
+pub unopened_applies : (missing : List ℕ → Type 0) (kind : Kind) (name list : List ℕ) (old new : SeenOutside) (status : FsckStatus) → Unopened kind name old.drives new.drives status
     → Applies missing kind name list old new status
 unopened_applies missing kind name list old new Done un = absurd un
 unopened_applies missing kind name list old new Usage un = un
@@ -32,7 +32,7 @@ unopened_applies missing kind name list old new OutOfMemory un = un.keeps
 unopened_applies missing kind name list old new TooLong un = absurd un
 
 -- its list isn't read
-pub unlisted_applies : (missing : List ℕ → Type 0) (kind : Kind) (name list : List ℕ) (old new : Seen) (status : FsckStatus) → Opened kind name old.drives new.drives (λ image. ⊤)
+pub unlisted_applies : (missing : List ℕ → Type 0) (kind : Kind) (name list : List ℕ) (old new : SeenOutside) (status : FsckStatus) → Opened kind name old.drives new.drives (λ image. ⊤)
     → Unlisted (missing list) (old.contents list) kind list old.unread new.unread status → Applies missing kind name list old new status
 unlisted_applies missing kind name list old new Done opened un = absurd un
 unlisted_applies missing kind name list old new Usage opened un = un
@@ -51,8 +51,8 @@ unlisted_applies missing kind name list old new TooLong opened un =
 
 -- slots were freed of an opened image
 frees_opened : (kind : Kind) (name slots : List ℕ) (old mid new : DrivesSeen) (opened : Opened kind name old mid (λ image. ⊤)) → FreesOn 0 kind slots mid.disks new.disks
-    → KeepsTold (mid.disks.name_of 0) mid.known new.known → Freed name opened.checked.image kind slots old new
-frees_opened kind name slots old mid new opened frees known = record {
+    → KeepsTold (mid.disks.name_of 0) mid.known new.known → ((other : ℕ) → other ≢ 0 → new.unsynced other ≡ mid.unsynced other) → Freed name opened.checked.image kind slots old new
+frees_opened kind name slots old mid new opened frees known beside = record {
   brought = opened.checked.attached.brought;
   here = frees.here opened.checked.image opened.checked.attached.here;
   between = mid.disks;
@@ -60,6 +60,7 @@ frees_opened kind name slots old mid new opened frees known = record {
   frees = frees;
   known = subst (λ (images : List ℕ → ToldImage). KeepsTold (Some name) images new.known) opened.checked.attached.known
       (subst (λ (o : Option (List ℕ)). KeepsTold o mid.known new.known) opened.checked.attached.attaches.here known);
+  beside = λ other apart. beside other apart ∙ opened.checked.attached.beside other apart;
 }
 
 -- the marked slots are those of the list
@@ -67,7 +68,7 @@ marked_slots : (missing : Type 0) (contents : Option (List ℕ)) (kind : Kind) (
     → count ≤ (geometry_of kind).drm + 1 → listed marks count ≡ different count reads.lines
 marked_slots missing contents kind old new marks reads count within = ap (λ m. listed m count) reads.marks_are ∙ marked_in kind reads.lines count within
 
-mends_all : (missing : List ℕ → Type 0) (kind : Kind) (name list : List ℕ) (old new : Seen) (mid : DrivesSeen) (marks : List Bool) (Said : List ℕ → Type 0)
+mends_all : (missing : List ℕ → Type 0) (kind : Kind) (name list : List ℕ) (old new : SeenOutside) (mid : DrivesSeen) (marks : List Bool) (Said : List ℕ → Type 0)
     (opened : Opened kind name old.drives mid (λ image. ⊤)) → ReadsSlots (missing list) (old.contents list) kind old.unread new.unread marks
     → FreesAll kind (slots_marked kind marks) opened.checked.image mid new.drives Said → Mends kind name (missing list) (old.contents list) old.drives new.drives Said
 mends_all missing kind name list old new mid marks Said opened reads frees =
@@ -78,13 +79,13 @@ mends_all missing kind name list old new mid marks Said opened reads frees =
       size = opened.checked.size;
       lines = reads.lines;
       listed = reads.listed;
-      freed = frees_opened kind name (slots_in kind reads.lines) old.drives mid new.drives opened all.frees all.known;
+      freed = frees_opened kind name (slots_in kind reads.lines) old.drives mid new.drives opened all.frees all.known all.beside;
       stands = all.stands;
       synced = all.synced;
       is_said = all.is_said;
     }
 
-pub mended_applies : (missing : List ℕ → Type 0) (kind : Kind) (name list : List ℕ) (old new : Seen) (mid : DrivesSeen) (marks : List Bool) (status : FsckStatus)
+pub mended_applies : (missing : List ℕ → Type 0) (kind : Kind) (name list : List ℕ) (old new : SeenOutside) (mid : DrivesSeen) (marks : List Bool) (status : FsckStatus)
     (opened : Opened kind name old.drives mid (λ image. ⊤)) → ReadsSlots (missing list) (old.contents list) kind old.unread new.unread marks
     → Mending kind marks opened.checked.image mid new.drives (IsSaid old.text new.text) status → Applies missing kind name list old new status
 mended_applies missing kind name list old new mid marks Done opened reads mending =
@@ -121,7 +122,7 @@ mended_applies missing kind name list old new mid marks DiskFault opened reads (
       sectors = some.frees.sectors;
       within = some.frees.within;
       freed = frees_opened kind name (different (4 * some.frees.sectors) reads.lines) old.drives mid new.drives opened
-          (subst (λ slots. FreesOn 0 kind slots mid.disks new.drives.disks) first some.frees.frees) some.known;
+          (subst (λ slots. FreesOn 0 kind slots mid.disks new.drives.disks) first some.frees.frees) some.known some.beside;
     })
 mended_applies missing kind name list old new mid marks WriteFault opened reads mending =
     mends_all missing kind name list old new mid marks (IsSaid old.text new.text false) opened reads mending

@@ -14,8 +14,8 @@ use Rattle.mpm_repair.proofs.FreedImages.{files_freed}
 use Rattle.mpm_fsck.specs.declared.status.FsckStatus.{FsckStatus}
 use Rattle.mpm_fsck.specs.declared.status.FsckStatus.TheVariants.{Done, Usage, Unsound, WrongSize, BadList, NotEnough, ReadFault, DiskFault, WriteFault, OutOfMemory, TooLong}
 use Rattle.mpm_fsck.specs.Requests.{Request, Check, Apply}
-use Rattle.mpm_fsck.specs.Outside.{Seen}
-use Rattle.mpm_fsck.specs.Endings.{HasBadLine, Lists, Lacks, Applies, IsUnrefused, TakesOwnList, slots_in, drive_without}
+use Rattle.mpm_fsck.specs.Outside.{SeenOutside}
+use Rattle.mpm_fsck.specs.Endings.{HasBadListLine, Lists, Lacks, Applies, IsUnrefused, TakesOwnList, slots_in, drive_without}
 use Rattle.mpm_repair.proofs.FreedSlots.{all_different}
 use Rattle.mpm_repair.proofs.OwnList.{own_read, own_left, own_short}
 
@@ -35,7 +35,7 @@ not_both result x e ok err = absurd (cc)
 same_ok : {X E : Type 0} (result : Result X E) (x y : X) → result ≡ Ok x → result ≡ Ok y → x ≡ y
 same_ok result x y one other = cc
 
-own_not_bad : (kind : Kind) (image : List ℕ) (missing : Type 0) (contents : Option (List ℕ)) (line : ℕ) → IsKnown contents (list_text (faults_of image kind)) → HasBadLine missing contents kind line → ⊥
+own_not_bad : (kind : Kind) (image : List ℕ) (missing : Type 0) (contents : Option (List ℕ)) (line : ℕ) → IsKnown contents (list_text (faults_of image kind)) → HasBadListLine missing contents kind line → ⊥
 own_not_bad kind image missing contents line is bad =
     let text = held contents bad.text (list_text (faults_of image kind)) is bad.holds.known in
     not_both (slots_of (geometry_of kind).drm bad.text) (map slot_of (faults_of image kind)) line (ap (slots_of (geometry_of kind).drm) text ∙ own_read kind image) bad.bad
@@ -58,7 +58,7 @@ own_enough kind image missing contents fault size is lacks =
 brought : (known : ToldImage) (bytes image : List ℕ) → known ≡ Bytes bytes → Brings known image → image ≡ bytes
 brought known bytes image is brings = subst (λ (one : ToldImage). Brings one image) is brings
 
-pub own_unrefused : (missing : List ℕ → Type 0) (kind : Kind) (name list bytes : List ℕ) (old new : Seen) (status : FsckStatus) → Applies missing kind name list old new status
+pub own_unrefused : (missing : List ℕ → Type 0) (kind : Kind) (name list bytes : List ℕ) (old new : SeenOutside) (status : FsckStatus) → Applies missing kind name list old new status
     → old.drives.known name ≡ Bytes bytes → length bytes ≡ (geometry_of kind).bytes → old.contents list ≡ Some (list_text (faults_of bytes kind)) → IsUnrefused status
 own_unrefused missing kind name list bytes old new Done applies known size is = tt
 own_unrefused missing kind name list bytes old new Usage applies known size is = applies

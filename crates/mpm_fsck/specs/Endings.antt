@@ -17,7 +17,7 @@ use Rattle.mpm_repair.specs.Freeing.{freed, freed_image}
 use Rattle.mpm_fsck.specs.declared.status.FsckStatus.{FsckStatus}
 use Rattle.mpm_fsck.specs.declared.status.FsckStatus.TheVariants.{Done, Usage, Unsound, WrongSize, BadList, NotEnough, ReadFault, DiskFault, WriteFault, OutOfMemory, TooLong}
 use Rattle.mpm_fsck.specs.Requests.{Request, Check, Apply}
-use Rattle.mpm_fsck.specs.Outside.{DrivesSeen, Seen, FailsNowhere, FailsSomewhere, Attached, KeepsImages, Freed}
+use Rattle.mpm_fsck.specs.Outside.{DrivesSeen, SeenOutside, FailsNowhere, FailsSomewhere, Attached, KeepsEveryImage, Freed}
 
 -- What a check says: an image that can be mounted is sound, with the free records of its drive; else the entries at fault are listed.
 abbrev pub said_of : Result Drive ImageFault → List SlotFault → List ℕ
@@ -52,7 +52,7 @@ pub record IsOfWrongSize (kind : Kind) (name : List ℕ) (old new : DrivesSeen) 
 -- a drive failed, and no image has changed
 pub record IsLost (name : List ℕ) (old new : DrivesSeen) : Type 0 where
   pub why : FailsSomewhere name old new
-  pub keeps : KeepsImages name old new
+  pub keeps : KeepsEveryImage name old new
 
 -- how a check ends, by the drives and by what was written before and after
 abbrev pub Checks : Kind → List ℕ → DrivesSeen → DrivesSeen → List ℕ → List ℕ → FsckStatus → Type 0
@@ -65,11 +65,11 @@ Checks kind name old new first written (NotEnough slot cause) = ⊥
 Checks kind name old new first written ReadFault = ⊥
 Checks kind name old new first written DiskFault = IsLost name old new
 Checks kind name old new first written WriteFault = Checked kind name old new (λ image. AppendsPart first (said kind image) written)
-Checks kind name old new first written OutOfMemory = KeepsImages name old new
+Checks kind name old new first written OutOfMemory = KeepsEveryImage name old new
 Checks kind name old new first written TooLong = ⊥
 
 -- A file is there and holds a text, that which it is known to hold; it isn't too long for a list.
-pub record Holds (missing : Type 0) (contents : Option (List ℕ)) (text : List ℕ) : Type 0 where
+pub record HoldsList (missing : Type 0) (contents : Option (List ℕ)) (text : List ℕ) : Type 0 where
   pub there : missing → ⊥
   pub known : MatchOption contents ⊤ (λ file. text ≡ file)
   pub fits : length text ≤ 65536
@@ -82,13 +82,13 @@ pub record IsLonger (missing : Type 0) (contents : Option (List ℕ)) : Type 0 w
 -- each of its lines is one of a list, and these are the slots that they name, line by line
 pub record Lists (missing : Type 0) (contents : Option (List ℕ)) (kind : Kind) (lines : List ℕ) : Type 0 where
   pub text : List ℕ
-  pub holds : Holds missing contents text
+  pub holds : HoldsList missing contents text
   pub read : slots_of (geometry_of kind).drm text ≡ Ok lines
 
 -- that line is the first which isn't
-pub record HasBadLine (missing : Type 0) (contents : Option (List ℕ)) (kind : Kind) (line : ℕ) : Type 0 where
+pub record HasBadListLine (missing : Type 0) (contents : Option (List ℕ)) (kind : Kind) (line : ℕ) : Type 0 where
   pub text : List ℕ
-  pub holds : Holds missing contents text
+  pub holds : HoldsList missing contents text
   pub bad : slots_of (geometry_of kind).drm text ≡ Err line
 
 -- the different slots of lines, rising
@@ -131,14 +131,14 @@ pub record IsLostBetween (kind : Kind) (name : List ℕ) (missing : Type 0) (lis
   pub freed : Freed name image kind (different (4 * sectors) lines) old new
 
 -- how a list ends that is applied
-abbrev pub Applies : (List ℕ → Type 0) → Kind → List ℕ → List ℕ → Seen → Seen → FsckStatus → Type 0
+abbrev pub Applies : (List ℕ → Type 0) → Kind → List ℕ → List ℕ → SeenOutside → SeenOutside → FsckStatus → Type 0
 Applies missing kind name list old new Done =
     Mends kind name (missing list) (old.contents list) old.drives new.drives (λ text. new.text ≡ old.text ++ text)
 Applies missing kind name list old new Usage = ⊥
 Applies missing kind name list old new (Unsound count) = ⊥
 Applies missing kind name list old new WrongSize = IsOfWrongSize kind name old.drives new.drives
 Applies missing kind name list old new (BadList line) =
-    Checked kind name old.drives new.drives (λ image. HasBadLine (missing list) (old.contents list) kind line)
+    Checked kind name old.drives new.drives (λ image. HasBadListLine (missing list) (old.contents list) kind line)
 Applies missing kind name list old new (NotEnough slot cause) =
     Checked kind name old.drives new.drives (λ image. Lacks (missing list) (old.contents list) kind image (record { cause = cause; place = slot }))
 Applies missing kind name list old new ReadFault = Checked kind name old.drives new.drives (λ image. new.unread ≡ old.unread ++ (list ∷ []))
@@ -146,13 +146,13 @@ Applies missing kind name list old new DiskFault =
     IsLost name old.drives new.drives ⊎ IsLostBetween kind name (missing list) (old.contents list) old.drives new.drives
 Applies missing kind name list old new WriteFault =
     Mends kind name (missing list) (old.contents list) old.drives new.drives (λ text. AppendsPart old.text text new.text)
-Applies missing kind name list old new OutOfMemory = KeepsImages name old.drives new.drives
+Applies missing kind name list old new OutOfMemory = KeepsEveryImage name old.drives new.drives
 Applies missing kind name list old new TooLong = Checked kind name old.drives new.drives (λ image. IsLonger (missing list) (old.contents list))
 
 -- how a request ends
-abbrev pub Ends : (List ℕ → Type 0) → Request → Seen → Seen → FsckStatus → Type 0
-Ends missing (Check kind name) old new status = Checks kind name old.drives new.drives old.text new.text status
-Ends missing (Apply kind name list) old new status = Applies missing kind name list old new status
+abbrev pub EndsRequest : (List ℕ → Type 0) → Request → SeenOutside → SeenOutside → FsckStatus → Type 0
+EndsRequest missing (Check kind name) old new status = Checks kind name old.drives new.drives old.text new.text status
+EndsRequest missing (Apply kind name list) old new status = Applies missing kind name list old new status
 
 -- one of four, by what ended the program: no device, a file, a drive, or the output
 abbrev pub by_fault : Type 0 → Type 0 → Type 0 → Type 0 → FsckStatus → Type 0
@@ -178,24 +178,24 @@ FailsDrives old new status = by_fault (FailsNowhere old new) (FailsNowhere old n
 abbrev pub FailsOutput : ℕ → ℕ → FsckStatus → Type 0
 FailsOutput before after status = by_fault (after ≡ before) (after ≡ before) (after ≡ before) (Rose before after) status
 
-pub record Fails (old new : Seen) (status : FsckStatus) : Type 0 where
+pub record FailsByEnding (old new : SeenOutside) (status : FsckStatus) : Type 0 where
   pub files : FailsFiles old.unread new.unread status
   pub drives : FailsDrives old.drives new.drives status
   pub output : FailsOutput old.faults new.faults status
 
 -- the endings at which nothing is written
-abbrev pub WritesNothing : FsckStatus → Type 0
-WritesNothing Done = ⊥
-WritesNothing Usage = ⊤
-WritesNothing (Unsound count) = ⊥
-WritesNothing WrongSize = ⊤
-WritesNothing (BadList line) = ⊤
-WritesNothing (NotEnough slot cause) = ⊤
-WritesNothing ReadFault = ⊤
-WritesNothing DiskFault = ⊤
-WritesNothing WriteFault = ⊥
-WritesNothing OutOfMemory = ⊤
-WritesNothing TooLong = ⊤
+abbrev pub WritesNoText : FsckStatus → Type 0
+WritesNoText Done = ⊥
+WritesNoText Usage = ⊤
+WritesNoText (Unsound count) = ⊥
+WritesNoText WrongSize = ⊤
+WritesNoText (BadList line) = ⊤
+WritesNoText (NotEnough slot cause) = ⊤
+WritesNoText ReadFault = ⊤
+WritesNoText DiskFault = ⊤
+WritesNoText WriteFault = ⊥
+WritesNoText OutOfMemory = ⊤
+WritesNoText TooLong = ⊤
 
 -- those of a list that is not refused
 abbrev pub IsUnrefused : FsckStatus → Type 0

@@ -3,3 +3,4 @@ pub mod Numbers
 pub mod Outside
 pub mod Endings
 pub mod Steps
+pub mod Parts

@@ -48,6 +48,6 @@ request_of (word ∷ kind ∷ image ∷ list ∷ []) = apply_by word (kind_of ki
 request_of (word ∷ kind ∷ image ∷ list ∷ more ∷ rest) = None
 
 -- words ask what a kind makes of them, or nothing
-abbrev pub Asks : Option Request → (Kind → Request) → Option Kind → Type 0
-Asks request of None = request ≡ None
-Asks request of (Some kind) = request ≡ Some (of kind)
+abbrev pub AsksByKind : Option Request → (Kind → Request) → Option Kind → Type 0
+AsksByKind request of None = request ≡ None
+AsksByKind request of (Some kind) = request ≡ Some (of kind)

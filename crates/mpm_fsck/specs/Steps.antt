@@ -1,5 +1,5 @@
 -- The steps of a run: an image that is opened, a list that is read, and what each leaves where it refuses.
-use Rattle.std.specs.Prelude.{◌≡◌, ◌⊎◌, ℕ, zero, suc, ◌+◌, List, [], ◌∷◌, ◌++◌, Bool, true, false, Option, Some, None, Result, Ok, Err, ⊤, length}
+use Rattle.std.specs.Prelude.{◌≡◌, ◌≢◌, ◌⊎◌, ℕ, zero, suc, ◌+◌, List, [], ◌∷◌, ◌++◌, Bool, true, false, Option, Some, None, Result, Ok, Err, ⊤, length}
 use Rattle.mpm_base.specs.declared.kind.Kind.{Kind}
 use Rattle.mpm_blocks.specs.Geometries.{geometry_of}
 use Rattle.mpm_dirent.specs.declared.kinds.Entry.{Entry}
@@ -17,8 +17,8 @@ use Rattle.mpm_repair.specs.Freeing.{freed_image, FreesOn, FreesFirst}
 use Rattle.mpm_fsck.specs.declared.checking.Findings.{Findings}
 use Rattle.mpm_fsck.specs.declared.status.FsckStatus.{FsckStatus}
 use Rattle.mpm_fsck.specs.declared.status.FsckStatus.TheVariants.{Done, Usage, Unsound, WrongSize, BadList, NotEnough, ReadFault, DiskFault, WriteFault, OutOfMemory, TooLong}
-use Rattle.mpm_fsck.specs.Outside.{DrivesSeen, FailsNowhere, KeepsImages}
-use Rattle.mpm_fsck.specs.Endings.{Checked, IsOfWrongSize, IsLost, IsLonger, Lists, HasBadLine, said, status_of, drive_without, by_fault}
+use Rattle.mpm_fsck.specs.Outside.{DrivesSeen, FailsNowhere, KeepsEveryImage}
+use Rattle.mpm_fsck.specs.Endings.{Checked, IsOfWrongSize, IsLost, IsLonger, Lists, HasBadListLine, said, status_of, drive_without, by_fault}
 
 -- an image of another size
 pub record Mismatches (kind : Kind) (name : List ℕ) (old new : DrivesSeen) : Type 0 where
@@ -27,7 +27,7 @@ pub record Mismatches (kind : Kind) (name : List ℕ) (old new : DrivesSeen) : T
 
 -- no memory for it
 pub record Starves (name : List ℕ) (old new : DrivesSeen) : Type 0 where
-  pub keeps : KeepsImages name old new
+  pub keeps : KeepsEveryImage name old new
   pub fails : FailsNowhere old new
 
 -- how an image isn't opened or its directory isn't read
@@ -62,7 +62,7 @@ abbrev pub ended_by : ℕ → FsckStatus
 ended_by zero = Done
 ended_by (suc more) = Unsound (suc more)
 
-pub record Finds (kind : Kind) (entries : List Entry) (found : Findings) : Type 0 where
+pub record FindsFaults (kind : Kind) (entries : List Entry) (found : Findings) : Type 0 where
   pub text : found.text.items ≡ said_by kind entries (fault_list kind entries)
   pub count : found.count ≡ length (fault_list kind entries)
 
@@ -77,7 +77,7 @@ pub record FindsOf (kind : Kind) (found : Findings) (image : List ℕ) : Type 0 
   pub ends : ended_by found.count ≡ status_of (files_of image kind) (faults_of image kind)
 
 -- a text was written, with an ending, or a first part of it
-pub record Puts (text : List ℕ) (old new : List ℕ) (before after : ℕ) : Type 0 where
+pub record PutsText (text : List ℕ) (old new : List ℕ) (before after : ℕ) : Type 0 where
   pub written : new ≡ old ++ text
   pub faults : after ≡ before
 
@@ -87,12 +87,13 @@ pub record PutsPart (text : List ℕ) (old new : List ℕ) (before after : ℕ) 
 
 abbrev pub Tells : List ℕ → FsckStatus → List ℕ → List ℕ → ℕ → ℕ → FsckStatus → Type 0
 Tells text ending old new before after status =
-    ((status ≡ ending) × Puts text old new before after) ⊎ ((status ≡ WriteFault) × PutsPart text old new before after)
+    ((status ≡ ending) × PutsText text old new before after) ⊎ ((status ≡ WriteFault) × PutsPart text old new before after)
 
 -- nothing of the drives has changed but perhaps their count of faults
 pub record Untouched (old new : DrivesSeen) : Type 0 where
   pub disks : new.disks ≡ old.disks
   pub known : new.known ≡ old.known
+  pub unsynced : new.unsynced ≡ old.unsynced
   pub failed : new.failed ≡ old.failed
 
 -- what holds where an opened image's directory isn't read: of a drive that failed, and of want of memory
@@ -127,7 +128,7 @@ Unlisted missing contents kind list old new Done = ⊥
 Unlisted missing contents kind list old new Usage = ⊥
 Unlisted missing contents kind list old new (Unsound count) = ⊥
 Unlisted missing contents kind list old new WrongSize = ⊥
-Unlisted missing contents kind list old new (BadList line) = HasBadLine missing contents kind line × (new ≡ old)
+Unlisted missing contents kind list old new (BadList line) = HasBadListLine missing contents kind line × (new ≡ old)
 Unlisted missing contents kind list old new (NotEnough slot cause) = ⊥
 Unlisted missing contents kind list old new ReadFault = new ≡ old ++ (list ∷ [])
 Unlisted missing contents kind list old new DiskFault = ⊥
@@ -135,24 +136,24 @@ Unlisted missing contents kind list old new WriteFault = ⊥
 Unlisted missing contents kind list old new OutOfMemory = new ≡ old
 Unlisted missing contents kind list old new TooLong = IsLonger missing contents × (new ≡ old)
 
-abbrev pub Reads : Type 0 → Option (List ℕ) → Kind → List ℕ → List (List ℕ) → List (List ℕ) → Result (List Bool) FsckStatus → Type 0
-Reads missing contents kind list old new (Ok marks) = ReadsSlots missing contents kind old new marks
-Reads missing contents kind list old new (Err status) = Unlisted missing contents kind list old new status
+abbrev pub ReadsListText : Type 0 → Option (List ℕ) → Kind → List ℕ → List (List ℕ) → List (List ℕ) → Result (List Bool) FsckStatus → Type 0
+ReadsListText missing contents kind list old new (Ok marks) = ReadsSlots missing contents kind old new marks
+ReadsListText missing contents kind list old new (Err status) = Unlisted missing contents kind list old new status
 
 -- what freed entries are: so many, and without a fault; or with this one
-abbrev pub IsLeft : List ℕ → Option ImageFault → Result ℕ FsckStatus → Type 0
-IsLeft slots fault (Ok count) = (count ≡ length slots) × (fault ≡ None)
-IsLeft slots fault (Err Done) = ⊥
-IsLeft slots fault (Err Usage) = ⊥
-IsLeft slots fault (Err (Unsound count)) = ⊥
-IsLeft slots fault (Err WrongSize) = ⊥
-IsLeft slots fault (Err (BadList line)) = ⊥
-IsLeft slots fault (Err (NotEnough slot cause)) = fault ≡ Some (record { cause = cause; place = slot })
-IsLeft slots fault (Err ReadFault) = ⊥
-IsLeft slots fault (Err DiskFault) = ⊥
-IsLeft slots fault (Err WriteFault) = ⊥
-IsLeft slots fault (Err OutOfMemory) = ⊤
-IsLeft slots fault (Err TooLong) = ⊥
+abbrev pub IsLeftAtFault : List ℕ → Option ImageFault → Result ℕ FsckStatus → Type 0
+IsLeftAtFault slots fault (Ok count) = (count ≡ length slots) × (fault ≡ None)
+IsLeftAtFault slots fault (Err Done) = ⊥
+IsLeftAtFault slots fault (Err Usage) = ⊥
+IsLeftAtFault slots fault (Err (Unsound count)) = ⊥
+IsLeftAtFault slots fault (Err WrongSize) = ⊥
+IsLeftAtFault slots fault (Err (BadList line)) = ⊥
+IsLeftAtFault slots fault (Err (NotEnough slot cause)) = fault ≡ Some (record { cause = cause; place = slot })
+IsLeftAtFault slots fault (Err ReadFault) = ⊥
+IsLeftAtFault slots fault (Err DiskFault) = ⊥
+IsLeftAtFault slots fault (Err WriteFault) = ⊥
+IsLeftAtFault slots fault (Err OutOfMemory) = ⊤
+IsLeftAtFault slots fault (Err TooLong) = ⊥
 
 -- the marked slots of a directory
 abbrev pub slots_marked : Kind → List Bool → List ℕ
@@ -185,6 +186,7 @@ pub record FreesAll (kind : Kind) (slots image : List ℕ) (old new : DrivesSeen
   pub known : KeepsTold (old.disks.name_of 0) old.known new.known
   pub fails : FailsNowhere old new
   pub synced : new.unsynced 0 ≡ false
+  pub beside : (other : ℕ) → other ≢ 0 → new.unsynced other ≡ old.unsynced other
   pub is_said : Said (freed_line (length slots))
 
 -- those of its first sectors, as the drive failed; all of them would have been enough
@@ -192,11 +194,12 @@ pub record FreesSome (kind : Kind) (marks : List Bool) (image : List ℕ) (old n
   pub enough : files_of (freed_image kind (slots_marked kind marks) image) kind ≡ Ok (drive_without kind (slots_marked kind marks) image)
   pub frees : FreesFirst 0 kind marks old.disks new.disks
   pub known : KeepsTold (old.disks.name_of 0) old.known new.known
+  pub beside : (other : ℕ) → other ≢ 0 → new.unsynced other ≡ old.unsynced other
   pub failed : new.failed ≡ old.failed
   pub rose : Rose old.faults new.faults
 
 -- it is as it was
-pub record Refuses (old new : DrivesSeen) (Why : Type 0) : Type 0 where
+pub record RefusesDrive (old new : DrivesSeen) (Why : Type 0) : Type 0 where
   pub same : Untouched old new
   pub faults : new.faults ≡ old.faults
   pub why : Why
@@ -209,11 +212,11 @@ Mending kind marks image old new Said (Unsound count) = ⊥
 Mending kind marks image old new Said WrongSize = ⊥
 Mending kind marks image old new Said (BadList line) = ⊥
 Mending kind marks image old new Said (NotEnough slot cause) =
-    Refuses old new (files_of (freed_image kind (slots_marked kind marks) image) kind ≡ Err (record { cause = cause; place = slot }))
+    RefusesDrive old new (files_of (freed_image kind (slots_marked kind marks) image) kind ≡ Err (record { cause = cause; place = slot }))
 Mending kind marks image old new Said ReadFault = ⊥
 Mending kind marks image old new Said DiskFault = (Untouched old new × Rose old.faults new.faults) ⊎ FreesSome kind marks image old new
 Mending kind marks image old new Said WriteFault = FreesAll kind (slots_marked kind marks) image old new (Said false)
-Mending kind marks image old new Said OutOfMemory = Refuses old new ⊤
+Mending kind marks image old new Said OutOfMemory = RefusesDrive old new ⊤
 Mending kind marks image old new Said TooLong = ⊥
 
 -- what is said, whole or in part

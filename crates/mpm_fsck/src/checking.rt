@@ -1,10 +1,9 @@
-ghost use Rattle.std.specs.Prelude.{◌≡◌, ◌≢◌, ◌≤◌, ◌+◌, IfOk, length};
+ghost use Rattle.std.specs.Prelude.{◌≡◌, ◌+◌, IfOk, length};
 ghost use Rattle.mpm_blocks.specs.Geometries.{geometry_of};
 ghost use Rattle.mpm_mount.specs.Mounting.{FillDirectory};
-ghost use Rattle.mpm_repair.specs.FaultLists.{ListsFaults};
 ghost use Rattle.mpm_fsck.specs.Outside.{drives_seen};
-ghost use Rattle.mpm_fsck.specs.Endings.{Checks, FailsDrives, FailsOutput, WritesNothing};
-ghost use Rattle.mpm_fsck.specs.Steps.{Opens, Finds, FindsNone, FindsOf, Tells, ended_by};
+ghost use Rattle.mpm_fsck.specs.Steps.{Opens, FindsFaults, FindsNone, FindsOf, Tells, ended_by};
+ghost use Rattle.mpm_fsck.specs.Parts.{EndsCheck, ListsFew};
 
 use crate::OutOfMemory;
 use crate::opening::{open, read};
@@ -32,11 +31,8 @@ pub(crate) fn check<D: Drives, S: Sink>(
     drives: &mut D,
     sink: &mut S,
 ) -> FsckStatus
-    ensures checks { Checks kind name.now (drives_seen D.Drives drives.old) (drives_seen D.Drives drives.new) (S.written sink.old) (S.written sink.new) result }
-    ensures drives { FailsDrives (drives_seen D.Drives drives.old) (drives_seen D.Drives drives.new) result }
-    ensures output { FailsOutput (S.faults sink.old) (S.faults sink.new) result }
-    ensures nothing { WritesNothing result → sink.new ≡ sink.old }
-    ensures usage { result ≢ FsckStatus.Usage }
+    ensures { EndsCheck (sink.new ≡ sink.old) kind name.now (drives_seen D.Drives drives.old) (drives_seen D.Drives drives.new)
+        (S.written sink.old) (S.written sink.new) (S.faults sink.old) (S.faults sink.new) result }
 {
     match find(alloc, kind, name, drives) {
         Ok(found) => tell(&found, sink),
@@ -44,7 +40,7 @@ pub(crate) fn check<D: Drives, S: Sink>(
     }
 }
 
-/// Finds what is wrong with the image of a name.
+/// FindsFaults what is wrong with the image of a name.
 fn find<D: Drives>(
     alloc: Global,
     kind: Kind,
@@ -70,7 +66,7 @@ fn find<D: Drives>(
 /// What is found of a directory.
 fn judge(alloc: Global, kind: Kind, entries: Vec<Entry>) -> Result<Findings, OutOfMemory>
     requires { FillDirectory kind entries.items }
-    ensures { IfOk result (Finds kind entries.items) }
+    ensures { IfOk result (FindsFaults kind entries.items) }
 {
     let mut entries = entries;
     let faults = list_faults(alloc, kind, &mut entries)?;
@@ -91,8 +87,7 @@ fn list_faults(
     entries: &mut Vec<Entry>,
 ) -> Result<Vec<SlotFault>, OutOfMemory>
     requires { length entries.old.items ≡ (geometry_of kind).drm + 1 }
-    ensures lists { IfOk result (λ faults. ListsFaults kind entries.old.items entries.new.items faults.items) }
-    ensures few { IfOk result (λ faults. length faults.items ≤ 512) }
+    ensures { IfOk result (λ faults. ListsFew kind entries.old.items entries.new.items faults.items) }
 {
     fault_list(alloc, kind, entries.as_mut_slice())
 }

@@ -1,7 +1,7 @@
 ghost use Rattle.std.specs.Prelude.{◌≡◌, ◌↔◌, ℕ, List, Some, None};
 ghost use Rattle.mpm_fsck.specs.Requests.{Request, texts, request_of};
 ghost use Rattle.mpm_fsck.specs.Outside.{drives_seen, seen};
-ghost use Rattle.mpm_fsck.specs.Endings.{Ends, TakesOwnList, Fails, WritesNothing};
+ghost use Rattle.mpm_fsck.specs.Endings.{EndsRequest, TakesOwnList, FailsByEnding, WritesNoText};
 
 use crate::checking::check;
 use crate::mending::apply;
@@ -25,14 +25,14 @@ pub fn fsck_words<F: Files, D: Drives, S: Sink>(
     ensures usage_drives { result ≡ FsckStatus.Usage → drives.new ≡ drives.old }
 
     // Each ending has its reason, and says what was written, and what is left of the image.
-    ensures ends { (request : Request) → request_of (texts words.now) ≡ Some request → Ends (F.missing files.old) request (seen F.Files D.Drives S.Sink files.old drives.old sink.old) (seen F.Files D.Drives S.Sink files.new drives.new sink.new) result }
+    ensures ends { (request : Request) → request_of (texts words.now) ≡ Some request → EndsRequest (F.missing files.old) request (seen F.Files D.Drives S.Sink files.old drives.old sink.old) (seen F.Files D.Drives S.Sink files.new drives.new sink.new) result }
 
     // The list that a check of an image writes is never refused.
     ensures own_list { (request : Request) → request_of (texts words.now) ≡ Some request → TakesOwnList (F.contents files.old) (D.told drives.old) request result }
 
     // What failed, that nothing is written at a refusal, and that what the files hold stays.
-    ensures fails { Fails (seen F.Files D.Drives S.Sink files.old drives.old sink.old) (seen F.Files D.Drives S.Sink files.new drives.new sink.new) result }
-    ensures nothing { WritesNothing result → sink.new ≡ sink.old }
+    ensures fails { FailsByEnding (seen F.Files D.Drives S.Sink files.old drives.old sink.old) (seen F.Files D.Drives S.Sink files.new drives.new sink.new) result }
+    ensures nothing { WritesNoText result → sink.new ≡ sink.old }
     ensures files { (other : List ℕ) → F.contents files.new other ≡ F.contents files.old other }
 {
     match words {

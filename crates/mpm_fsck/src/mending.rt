@@ -1,15 +1,13 @@
-ghost use Rattle.std.specs.Prelude.{◌≡◌, ◌≢◌, ◌≤◌, ℕ, List, Some, length};
+ghost use Rattle.std.specs.Prelude.{◌≡◌, ◌≤◌, Some, length};
 ghost use Rattle.mpm_blocks.specs.Geometries.{geometry_of};
 ghost use Rattle.mpm_port.specs.Disks.{size_of};
 ghost use Rattle.mpm_mount.specs.Mounting.{FillDirectory};
 ghost use Rattle.mpm_mount.specs.Faults.{first_fault};
-ghost use Rattle.mpm_port.specs.Frames.{OnlyCountsFaults};
 ghost use Rattle.mpm_fault_lines.specs.Lists.{listed};
 ghost use Rattle.mpm_repair.specs.Freeing.{freed, FreesEntries};
 ghost use Rattle.mpm_fsck.specs.Outside.{drives_seen, seen};
-ghost use Rattle.mpm_fsck.specs.Requests.{Apply};
-ghost use Rattle.mpm_fsck.specs.Endings.{Applies, TakesOwnList, Fails, FailsDrives, FailsOutput, WritesNothing};
-ghost use Rattle.mpm_fsck.specs.Steps.{Reads, IsLeft, LeavesImage, CountsLeft, Mending, IsSaid, slots_marked};
+ghost use Rattle.mpm_fsck.specs.Steps.{IsLeftAtFault, slots_marked};
+ghost use Rattle.mpm_fsck.specs.Parts.{EndsList, EndsMending, ReadsList, CountsFreed};
 
 use crate::opening::{open, read};
 use crate::status::FsckStatus;
@@ -35,12 +33,8 @@ pub(crate) fn apply<F: Files, D: Drives, S: Sink>(
     drives: &mut D,
     sink: &mut S,
 ) -> FsckStatus
-    ensures applies { Applies (F.missing files.old) kind name.now list.now (seen F.Files D.Drives S.Sink files.old drives.old sink.old) (seen F.Files D.Drives S.Sink files.new drives.new sink.new) result }
-    ensures own_list { TakesOwnList (F.contents files.old) (D.told drives.old) (Apply kind name.now list.now) result }
-    ensures fails { Fails (seen F.Files D.Drives S.Sink files.old drives.old sink.old) (seen F.Files D.Drives S.Sink files.new drives.new sink.new) result }
-    ensures nothing { WritesNothing result → sink.new ≡ sink.old }
-    ensures files { (other : List ℕ) → F.contents files.new other ≡ F.contents files.old other }
-    ensures usage { result ≢ FsckStatus.Usage }
+    ensures { EndsList (sink.new ≡ sink.old) (F.missing files.old) kind name.now list.now
+        (seen F.Files D.Drives S.Sink files.old drives.old sink.old) (seen F.Files D.Drives S.Sink files.new drives.new sink.new) result }
 {
     match open(kind, name, drives) {
         Ok(()) => {}
@@ -59,8 +53,7 @@ fn read_list<F: Files>(
     list: &str,
     files: &mut F,
 ) -> Result<Slots, FsckStatus>
-    ensures reads { Reads (F.missing files.old list.now) (F.contents files.old list.now) kind list.now (F.failed_names files.old) (F.failed_names files.new) result }
-    ensures files { (other : List ℕ) → F.contents files.new other ≡ F.contents files.old other }
+    ensures { ReadsList F.Files kind list.now files.old files.new result }
 {
     let mut text = Vec::new(alloc);
     match files.fetch(list, LIST_ROOM, &mut text) {
@@ -84,10 +77,8 @@ fn mend<D: Drives, S: Sink>(
     sink: &mut S,
 ) -> FsckStatus
     requires { size_of (D.disks drives.old) 0 ≡ Some (geometry_of kind).bytes }
-    ensures ends { (image : List ℕ) → (D.disks drives.old).image 0 ≡ Some image → Mending kind slots.now image (drives_seen D.Drives drives.old) (drives_seen D.Drives drives.new) (IsSaid (S.written sink.old) (S.written sink.new)) result }
-    ensures drives { FailsDrives (drives_seen D.Drives drives.old) (drives_seen D.Drives drives.new) result }
-    ensures output { FailsOutput (S.faults sink.old) (S.faults sink.new) result }
-    ensures nothing { WritesNothing result → sink.new ≡ sink.old }
+    ensures { EndsMending (sink.new ≡ sink.old) kind slots.now (drives_seen D.Drives drives.old) (drives_seen D.Drives drives.new)
+        (S.written sink.old) (S.written sink.new) (S.faults sink.old) (S.faults sink.new) result }
 {
     let count = match count_freed(alloc, kind, slots, drives) {
         Ok(count) => count,
@@ -111,9 +102,7 @@ fn count_freed<D: Drives>(
     drives: &mut D,
 ) -> Result<u16, FsckStatus>
     requires { size_of (D.disks drives.old) 0 ≡ Some (geometry_of kind).bytes }
-    ensures left { (image : List ℕ) → (D.disks drives.old).image 0 ≡ Some image → LeavesImage kind (slots_marked kind slots.now) image result }
-    ensures count { CountsLeft (D.faults drives.old) (D.faults drives.new) result }
-    ensures same { OnlyCountsFaults D.Drives drives.old drives.new }
+    ensures { CountsFreed D.Drives kind slots.now drives.old drives.new result }
 {
     match read(alloc, kind, drives) {
         Ok(entries) => count_left(alloc, kind, slots, entries),
@@ -129,7 +118,7 @@ fn count_left(
     entries: Vec<Entry>,
 ) -> Result<u16, FsckStatus>
     requires { FillDirectory kind entries.items }
-    ensures { IsLeft (slots_marked kind slots.now) (first_fault kind (freed (slots_marked kind slots.now) entries.items)) result }
+    ensures { IsLeftAtFault (slots_marked kind slots.now) (first_fault kind (freed (slots_marked kind slots.now) entries.items)) result }
 {
     let mut entries = entries;
     let count = free_listed(slots, &mut entries);

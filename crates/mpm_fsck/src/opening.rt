@@ -1,12 +1,9 @@
-ghost use Rattle.std.specs.Prelude.{◌≡◌, Some, ⊤, IfOk, IfSome};
+ghost use Rattle.std.specs.Prelude.{◌≡◌, Some, ⊤};
 ghost use Rattle.mpm_blocks.specs.Geometries.{geometry_of};
-ghost use Rattle.mpm_blocks.specs.Sectors.{sectors_of};
 ghost use Rattle.mpm_port.specs.Disks.{size_of};
-ghost use Rattle.mpm_mount.specs.Mounting.{FillDirectory};
-ghost use Rattle.mpm_mount.specs.Images.{entries_of};
-ghost use Rattle.mpm_port.specs.Frames.{OnlyCountsFaults};
 ghost use Rattle.mpm_fsck.specs.Outside.{drives_seen};
-ghost use Rattle.mpm_fsck.specs.Steps.{Opens, CountsRead};
+ghost use Rattle.mpm_fsck.specs.Steps.{Opens};
+ghost use Rattle.mpm_fsck.specs.Parts.{ReadsImageEntries};
 
 use crate::status::FsckStatus;
 use mpm_base::Kind;
@@ -39,10 +36,7 @@ pub(crate) fn read<D: Drives>(
     drives: &mut D,
 ) -> Result<Vec<Entry>, FsckStatus>
     requires { size_of (D.disks drives.old) 0 ≡ Some (geometry_of kind).bytes }
-    ensures entries { IfOk result (λ entries. IfSome ((D.disks drives.old).image 0) (λ image. entries.items ≡ entries_of (sectors_of image kind) kind)) }
-    ensures slots { IfOk result (λ entries. FillDirectory kind entries.items) }
-    ensures count { CountsRead (D.faults drives.old) (D.faults drives.new) result }
-    ensures same { OnlyCountsFaults D.Drives drives.old drives.new }
+    ensures { ReadsImageEntries D.Drives kind drives.old drives.new result }
 {
     match read_directory(alloc, drives, 0, kind) {
         Ok(entries) => Ok(entries),

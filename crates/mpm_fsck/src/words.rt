@@ -21,7 +21,7 @@ fn kind_of(word: &str) -> Option<Kind>
 
 /// The kind of the image that is to be checked, where three words ask that.
 pub(crate) fn kind_to_check(word: &str, kind: &str, image: &str) -> Option<Kind>
-    ensures { spec.Asks (spec.check_by word.now (spec.kind_of kind.now) image.now) (λ said. Check said image.now) result }
+    ensures { spec.AsksByKind (spec.check_by word.now (spec.kind_of kind.now) image.now) (λ said. Check said image.now) result }
 {
     if word != "check" {
         return None;
@@ -31,7 +31,7 @@ pub(crate) fn kind_to_check(word: &str, kind: &str, image: &str) -> Option<Kind>
 
 /// The kind of the image of which slots are to be freed, where four words ask that.
 pub(crate) fn kind_to_mend(word: &str, kind: &str, image: &str, list: &str) -> Option<Kind>
-    ensures { spec.Asks (spec.apply_by word.now (spec.kind_of kind.now) image.now list.now) (λ said. Apply said image.now list.now) result }
+    ensures { spec.AsksByKind (spec.apply_by word.now (spec.kind_of kind.now) image.now list.now) (λ said. Apply said image.now list.now) result }
 {
     if word != "apply" {
         return None;
@@ -42,7 +42,7 @@ pub(crate) fn kind_to_mend(word: &str, kind: &str, image: &str, list: &str) -> O
 /// The kind that a word says, of an image that has a name.
 #[tactic(auto, using(crate::proofs::RequestLaws::check_named, crate::proofs::RequestLaws::check_unknown, crate::proofs::RequestLaws::check_unnamed))]
 fn kind_of_named(kind: &str, image: &str) -> Option<Kind>
-    ensures { spec.Asks (spec.check_of (spec.kind_of kind.now) image.now) (λ said. Check said image.now) result }
+    ensures { spec.AsksByKind (spec.check_of (spec.kind_of kind.now) image.now) (λ said. Check said image.now) result }
 {
     if image.is_empty() {
         return None;
@@ -53,7 +53,7 @@ fn kind_of_named(kind: &str, image: &str) -> Option<Kind>
 /// The kind that a word says, of an image and a list that have names.
 #[tactic(auto, using(crate::proofs::RequestLaws::apply_named, crate::proofs::RequestLaws::apply_unknown, crate::proofs::RequestLaws::apply_unnamed, crate::proofs::RequestLaws::apply_unlisted))]
 fn kind_of_listed(kind: &str, image: &str, list: &str) -> Option<Kind>
-    ensures { spec.Asks (spec.apply_of (spec.kind_of kind.now) image.now list.now) (λ said. Apply said image.now list.now) result }
+    ensures { spec.AsksByKind (spec.apply_of (spec.kind_of kind.now) image.now list.now) (λ said. Apply said image.now list.now) result }
 {
     if image.is_empty() || list.is_empty() {
         return None;

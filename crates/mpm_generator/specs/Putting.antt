@@ -3,7 +3,7 @@ use Rattle.std.specs.Prelude.{◌≡◌, ◌≤◌, ℕ, List, length, Result, O
 use Rattle.mpm_generator.specs.Draws.{nth_behind}
 
 -- these bytes, at most so many
-pub record Puts {A E : Type 0} (all : List ℕ) (most : ℕ) (now : List ℕ) (result : Result A E) : Type 0 where
+pub record PutsBytes {A E : Type 0} (all : List ℕ) (most : ℕ) (now : List ℕ) (result : Result A E) : Type 0 where
   pub bytes : OnOk result (now ≡ all)
   pub size : OnOk result (length now ≤ most)
 

@@ -1,7 +1,7 @@
 ghost use Rattle.std.specs.Prelude.{◌≡◌, ◌<◌, ◌+◌, ◌++◌, length};
 ghost use Rattle.mpm_generator.specs.Draws.{nth_behind};
 ghost use Rattle.mpm_generator.specs.Programs.{block_of as block_said, block_behind, code_of, lock_code};
-ghost use Rattle.mpm_generator.specs.Putting.{Puts};
+ghost use Rattle.mpm_generator.specs.Putting.{PutsBytes};
 
 use crate::draws::Draws;
 use std::alloc::AllocError;
@@ -58,7 +58,7 @@ impl Block {
 
     /// Its code comes after other code.
     pub(crate) fn put(self, code: &mut Vec<u8>) -> Result<(), AllocError>
-        ensures { Puts (code.old.items ++ code_of self) (length code.old.items + 23) code.new.items result }
+        ensures { PutsBytes (code.old.items ++ code_of self) (length code.old.items + 23) code.new.items result }
     {
         match self {
             Block::Write { number, letter } => code.extend_from_slice(&[
@@ -83,7 +83,7 @@ impl Block {
 
 /// The code that locks or unlocks a record comes after other code.
 fn put_lock(code: &mut Vec<u8>, function: u8, number: u8) -> Result<(), AllocError>
-    ensures { Puts (code.old.items ++ lock_code function number) (length code.old.items + 23) code.new.items result }
+    ensures { PutsBytes (code.old.items ++ lock_code function number) (length code.old.items + 23) code.new.items result }
 {
     code.extend_from_slice(&[
         0x2A, 0x30, 0x01, 0x22, 0x80, 0x00, 0x21, number, 0x00, 0x22, 0x24, 0x01, 0x0E, function,

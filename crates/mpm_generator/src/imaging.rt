@@ -1,6 +1,6 @@
 ghost use Rattle.std.specs.Prelude.{◌≡◌, ◌≤◌, ◌+◌, ◌++◌, [], length, OnOk, IfOk};
 ghost use Rattle.mpm_generator.specs.Programs.{program_behind};
-ghost use Rattle.mpm_generator.specs.Putting.{Puts, PutsAll, AreSmall};
+ghost use Rattle.mpm_generator.specs.Putting.{PutsBytes, PutsAll, AreSmall};
 ghost use Rattle.mpm_generator.specs.Sizes.{blocks_for, in_blocks};
 ghost use Rattle.mpm_generator.specs.Images.{numbers_from as numbers_said, entry_for, directory_of, files_of, image_of, image_with};
 
@@ -70,7 +70,7 @@ fn put_image(image: &mut Vec<u8>, first: &[u8], second: &[u8]) -> Result<(), All
 fn put_files(image: &mut Vec<u8>, first: &[u8], second: &[u8]) -> Result<(), AllocError>
     requires directory { length image.old.items ≡ 16384 }
     requires programs { AreSmall (length first.now) (length second.now) }
-    ensures { Puts (image.old.items ++ files_of first.now second.now) 40960 image.new.items result }
+    ensures { PutsBytes (image.old.items ++ files_of first.now second.now) 40960 image.new.items result }
 {
     put_file(image, first)?;
     put_file(image, second)?;

@@ -6,7 +6,8 @@ use Rattle.mpm_base.specs.Calls.{Taken, Answer, answering, word_at}
 use Rattle.mpm_base.specs.declared.functions.TheConstants.{POLL, FLAG_WAIT, READ_QUEUE, WRITE_QUEUE, DELAY, SEND_CLI_COMMAND, CALL_RESIDENT_SYSTEM_PROCEDURE}
 use Rattle.mpm_queues.specs.Queue.{block_size}
 
--- the value, by the call's function: these alone are held and then completed, so that FFFFh is never answered
+-- the value, by the call's function. A reader's message has no such value, and a chaining process ends: no other call is held, so that
+-- FFFFh is never answered
 abbrev pub completion_value : ℕ → ℕ
 completion_value function =
     if function == POLL || (function == FLAG_WAIT || (function == WRITE_QUEUE || (function == DELAY || (function == SEND_CLI_COMMAND || function == CALL_RESIDENT_SYSTEM_PROCEDURE)))) then 0

@@ -15,3 +15,5 @@ pub mod Events
 pub mod Lending
 pub mod Awaiting
 pub mod Parts
+pub mod Asking
+pub mod Leaving

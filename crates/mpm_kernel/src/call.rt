@@ -16,10 +16,11 @@ pub(crate) const NO_FUNCTION: u16 = 0xFFFF;
 
 impl Kernel {
     ghost use Rattle.mpm_procs.specs.Table.{call_of, process_in};
-    ghost use Rattle.mpm_kernel.specs.Kernel.{IsSoundKernel, MayCall, CompletedLive};
+    ghost use Rattle.mpm_kernel.specs.Kernel.{MayCall};
     ghost use Rattle.mpm_kernel.specs.Parts.{BeginsCall};
     ghost use Rattle.mpm_kernel.specs.Called.{Yields};
-    ghost use Rattle.mpm_kernel.specs.Calls.{called, call_done};
+    ghost use Rattle.mpm_kernel.specs.Calls.{call_done};
+    ghost use Rattle.mpm_kernel.specs.Leaving.{ServesCall};
 
     /// Does the call that a ready process keeps. A function that isn't there answers FFFFh. So does one that a crate
     /// above does: mpm_system has functions 47, 128 to 130, 150 and 152, mpm_xdos 144, 154, 156 and 157, and mpm_bdos those on
@@ -28,9 +29,7 @@ impl Kernel {
     #[tactic(auto, using(crate::proofs::SoundLaws::sound_begun))]
     pub fn call(&mut self, p: Pid, reply: &mut Reply) -> Outcome
         requires { MayCall p self.old }
-        ensures yields { Yields (called p self.old) self.new result reply.new }
-        ensures sound { IsSoundKernel self.new }
-        ensures live { CompletedLive self.new }
+        ensures { ServesCall p self.old self.new result reply.new }
     {
         let call = self.dispatcher.procs.call(p);
         let function = call.function;

@@ -1,5 +1,3 @@
-ghost use Rattle.std.specs.Prelude.{◌≡◌, MatchOption};
-
 use crate::Kernel;
 use mpm_base::{Outcome, Pid, Reply, functions};
 use mpm_consoles::{AWAIT_KEY, POLL_KEY, TELL_STATUS, Unit, is_cooked, is_raw, writes};
@@ -7,12 +5,12 @@ use mpm_dispatcher::done;
 use mpm_line_input::{answer_line, edited, full_line, is_full, key_echo};
 
 impl Kernel {
-    ghost use Rattle.mpm_procs.specs.Table.{Lives, call_of, process_in};
-    ghost use Rattle.mpm_line_input.specs.Lines.{ends};
+    ghost use Rattle.mpm_procs.specs.Table.{Lives, call_of};
     ghost use Rattle.mpm_kernel.specs.Kernel.{IsConsole, OwnsConsole, UsesConsole, MayCall};
     ghost use Rattle.mpm_kernel.specs.Called.{Yields};
     ghost use Rattle.mpm_kernel.specs.Consoling.{awaited};
-    ghost use Rattle.mpm_kernel.specs.ConsoleInput.{raw_if, key_taken, next_key, shown_key, read_key, polled_key, direct, line_of, greatest, line_done, key_joined, line_with, line_read, console_served, unless_stopped, console_called, MayJoinLine};
+    ghost use Rattle.mpm_kernel.specs.ConsoleInput.{next_key, shown_key, read_key, polled_key, direct, line_done, line_with, line_read, console_served, unless_stopped, console_called, MayJoinLine};
+    ghost use Rattle.mpm_kernel.specs.Leaving.{EditsLine, TakesKey, SetsRawIf};
 
     /// The calls that read from the caller's console or write to it: it is attached first, or waited for. (MP/M II Programmer's
     /// Guide, functions 1 to 4, 6 and 9 to 11.)
@@ -153,8 +151,7 @@ impl Kernel {
     #[tactic(auto, unfolding(crate::specs::ConsoleInput::key_joined))]
     fn edit_line(&mut self, p: Pid, console: u8, key: u8) -> bool
         requires { MayJoinLine p console self.old }
-        ensures kernel { self.new ≡ key_joined (call_of self.old.dispatcher.procs p) p console key self.old }
-        ensures ends { result ≡ ends (line_of (process_in self.old.dispatcher.procs p)) (greatest (call_of self.old.dispatcher.procs p)) key }
+        ensures { EditsLine p console key self.old self.new result }
     {
         let greatest = self.dispatcher.procs.call(p).byte(0);
         let process = self.dispatcher.procs.get_mut(p);
@@ -184,9 +181,7 @@ impl Kernel {
     #[tactic(auto, using(crate::proofs::UnitLaws::nothing_taken, crate::proofs::InputLaws::has_after_take))]
     fn take_key(&mut self, console: u8) -> Option<u8>
         requires { IsConsole self.old console }
-        ensures key { result ≡ next_key console self.old }
-        ensures has { IsConsole self.new console }
-        ensures kernel { MatchOption result (self.new ≡ self.old) (λ key. self.new ≡ key_taken console self.old) }
+        ensures { TakesKey console self.old self.new result }
     {
         self.units.take(console)
     }
@@ -195,8 +190,7 @@ impl Kernel {
     #[tactic(auto, using(crate::proofs::InputLaws::has_made_raw))]
     fn set_raw_if(&mut self, changes: bool, p: Pid, console: u8, raw: bool)
         requires { OwnsConsole p console self.old }
-        ensures kernel { self.new ≡ raw_if changes console raw self.old }
-        ensures console { OwnsConsole p console self.new }
+        ensures { SetsRawIf changes p console raw self.old self.new }
     {
         let _owner = p.0;
         if changes {

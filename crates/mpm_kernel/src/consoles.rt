@@ -1,4 +1,4 @@
-ghost use Rattle.std.specs.Prelude.{◌≡◌, ◌<◌, Some, length, IfSome};
+ghost use Rattle.std.specs.Prelude.{◌≡◌, Some};
 ghost use Rattle.mpm_consoles.specs.Consoles.{console_at, HasUnit};
 
 use crate::Kernel;
@@ -9,25 +9,25 @@ use mpm_dispatcher::{READY, done};
 use mpm_line_input::Echo;
 
 impl Kernel {
-    ghost use Rattle.mpm_procs.specs.Table.{Lives, call_of};
+    ghost use Rattle.mpm_procs.specs.Table.{call_of};
     ghost use Rattle.mpm_consoles.specs.Consoles.{owner_of};
     ghost use Rattle.mpm_consoles.specs.Handling.{may_attach};
     ghost use Rattle.mpm_base.specs.declared.unit.Unit.TheVariants.{Console as ConsoleUnit, Printer as PrinterUnit};
-    ghost use Rattle.mpm_consoles.specs.Console.{Yields as Makes};
-    ghost use Rattle.mpm_kernel.specs.Kernel.{IsSoundKernel, IsConsole, LivesInKernel, MayCall, MayUseUnit, HasSoundUnit};
+    ghost use Rattle.mpm_consoles.specs.Console.{MakesAndAnswers};
+    ghost use Rattle.mpm_kernel.specs.Kernel.{IsSoundKernel, IsConsole, LivesInKernel, MayCall, MayUseUnit, HasSoundUnit, BecomesSound};
     ghost use Rattle.mpm_kernel.specs.Called.{Yields, done};
     ghost use Rattle.mpm_kernel.specs.Parts.{MayHandOver, MayAssign};
-    ghost use Rattle.mpm_kernel.specs.Columns.{spoke, wrote, spaces_for};
-    ghost use Rattle.mpm_kernel.specs.Consoling.{unit_left, attaching, attached, attached_now, console_changed, printer_changed, console_set, printer_set, owner_made, assigned_to, assigned, printer_called, unit_called, given, handed_over, echoed, key_done, KeyNames, is_of_resident, key_came, abort_taken};
+    ghost use Rattle.mpm_kernel.specs.Asking.{MayGive, MayMakeOwner, MayFinishKey};
+    ghost use Rattle.mpm_kernel.specs.Leaving.{WritesUnit, TakesAbort, TellsOwner};
+    ghost use Rattle.mpm_kernel.specs.Columns.{spoke};
+    ghost use Rattle.mpm_kernel.specs.Consoling.{unit_left, attaching, attached, attached_now, console_changed, printer_changed, console_set, printer_set, owner_made, assigned_to, assigned, printer_called, unit_called, given, handed_over, echoed, key_done, is_of_resident, key_came};
 
     /// A byte is written to a console or a printer: the column of a console moves. Answers the number of spaces that stand for a
     /// tab that is expanded, 0 where the byte stands for itself. (MP/M II Programmer's Guide, "Function 2: Console Output".)
     #[tactic(auto, unfolding(crate::specs::Columns::wrote))]
     pub fn write(&mut self, unit: Unit, byte: u8, tabs: bool) -> u8
         requires { HasUnit self.old.units unit }
-        ensures kernel { self.new ≡ wrote self.old unit byte tabs }
-        ensures spaces { result ≡ spaces_for self.old unit byte tabs }
-        ensures sound { IsSoundKernel self.old → IsSoundKernel self.new }
+        ensures { WritesUnit unit byte tabs self.old self.new result }
     {
         self.units.output(unit, byte, tabs)
     }
@@ -42,9 +42,7 @@ impl Kernel {
 
     /// Hands out the process that the last event aborts; None where it aborts nobody, or its process was handed out already.
     pub fn take_abort(&mut self) -> Option<Pid>
-        ensures process { result ≡ self.old.aborted }
-        ensures kernel { self.new ≡ abort_taken self.old }
-        ensures sound { IsSoundKernel self.old → IsSoundKernel self.new }
+        ensures { TakesAbort self.old self.new result }
     {
         let aborted = self.aborted;
         self.aborted = None;
@@ -63,12 +61,8 @@ impl Kernel {
     /// for it first. Nothing changes where `from` isn't its owner.
     #[tactic(auto, unfolding(crate::specs::Consoling::given))]
     pub fn give(&mut self, console: u8, from: Option<Pid>, to: Option<Pid>)
-        requires sound { IsSoundKernel self.old }
-        requires console { console < length self.old.units.consoles }
-        requires from { IfSome from (λ p. Lives self.old.dispatcher.procs p) }
-        requires to { IfSome to (λ p. Lives self.old.dispatcher.procs p) }
-        ensures kernel { self.new ≡ given console from to self.old }
-        ensures sound { IsSoundKernel self.new }
+        requires { MayGive console from to self.old }
+        ensures { BecomesSound (given console from to self.old) self.new }
     {
         let owner = self.console_owner(console);
         match from {
@@ -190,7 +184,7 @@ impl Kernel {
     #[tactic(auto, using(crate::proofs::UnitLaws::waits_at_none))]
     pub(crate) fn attach(&mut self, p: Pid, unit: Unit, wait: bool) -> bool
         requires { MayUseUnit p unit self.old }
-        ensures { Makes (attaching p unit wait self.old) (may_attach self.old.units p unit) self.new result }
+        ensures { MakesAndAnswers (attaching p unit wait self.old) (may_attach self.old.units p unit) self.new result }
     {
         let priority = self.dispatcher.procs.get(p).priority;
         self.units.attach(p, priority, unit, wait)
@@ -308,8 +302,7 @@ impl Kernel {
     /// A process becomes the owner of a console; where it waited for that one, it becomes ready.
     #[tactic(auto, unfolding(crate::specs::Consoling::owner_made, mpm_dispatcher::specs::Dispatch::lists_ready))]
     fn make_owner(&mut self, console: u8, to: Pid)
-        requires process { LivesInKernel to self.old }
-        requires console { console < length self.old.units.consoles }
+        requires { MayMakeOwner to console self.old }
         ensures { self.new ≡ owner_made console to self.old }
     {
         if self.units.assign(console, to) {
@@ -337,8 +330,7 @@ impl Kernel {
     #[tactic(auto, using(crate::proofs::UnitLaws::owner_fits))]
     fn console_owner(&self, console: u8) -> Option<Pid>
         requires { HasSoundUnit (ConsoleUnit console) self.now }
-        ensures owner { result ≡ owner_of self.now.units (ConsoleUnit console) }
-        ensures lives { IfSome result (λ p. Lives self.now.dispatcher.procs p) }
+        ensures { TellsOwner console self.now result }
     {
         self.units.owner(Unit::Console { n: console })
     }
@@ -357,8 +349,7 @@ impl Kernel {
     /// What becomes of the processes by a key; `waited` tells that the owner of its console waited at its gate before.
     #[tactic(auto, unfolding(crate::specs::Consoling::key_done, mpm_dispatcher::specs::Dispatch::lists_ready))]
     fn finish_key(&mut self, key: KeyDone, console: u8, waited: bool)
-        requires names { KeyNames self.old.dispatcher.procs key }
-        requires console { IsConsole self.old console }
+        requires { MayFinishKey key console self.old }
         ensures { self.new ≡ key_done key console waited self.old }
     {
         match key {

@@ -1,21 +1,20 @@
-ghost use Rattle.std.specs.Prelude.{◌≡◌, ◌<◌, ◌+◌, IfSome};
-ghost use Rattle.mpm_service.specs.Disk.{HasBegun, HasEntered};
+ghost use Rattle.std.specs.Prelude.{◌≡◌};
 
 use crate::Kernel;
 use mpm_base::Pid;
 use mpm_service::{Service, Turn};
 
 impl Kernel {
-    ghost use Rattle.mpm_dispatcher.specs.Dispatch.{IsReady};
-    ghost use Rattle.mpm_kernel.specs.Kernel.{IsSoundKernel, MayCall, BecomesSound};
-    ghost use Rattle.mpm_kernel.specs.Disk.{is_served, in_turns, waiting_for_disk, ready_again, IsOver, TurnsDisk, FinishesCall};
+    ghost use Rattle.mpm_kernel.specs.Kernel.{IsSoundKernel, BecomesSound};
+    ghost use Rattle.mpm_kernel.specs.Disk.{is_served, in_turns, waiting_for_disk, TurnsDisk, FinishesCall};
     ghost use Rattle.mpm_kernel.specs.Parts.{BeginsService, PassesSteps};
+    ghost use Rattle.mpm_kernel.specs.Asking.{MayWaitForDisk, MayTurnDisk, MayBeginDiskCall, MayPassDisk, MayEndDiskCall};
+    ghost use Rattle.mpm_kernel.specs.Leaving.{KeepsSoundKernel, EndsDiskCall};
 
     /// The disk serves in turns of so many steps, and nobody yet, where `Kernel::new` lets no call wait for it. It is called before
     /// any does.
     pub fn set_disk_turn(&mut self, turn_steps: u32)
-        ensures kernel { self.new ≡ in_turns turn_steps self.old }
-        ensures sound { IsSoundKernel self.old → IsSoundKernel self.new }
+        ensures { KeepsSoundKernel (in_turns turn_steps self.old) self.old self.new }
     {
         self.disk = Service::new(turn_steps);
     }
@@ -42,8 +41,7 @@ impl Kernel {
     /// more, and stands in no list of the dispatcher.
     #[tactic(auto, using(crate::proofs::DiskLaws::ready_waits_not, crate::proofs::DiskLaws::ready_served_not), unfolding(crate::specs::Disk::waiting_for_disk))]
     pub fn wait_for_disk(&mut self, p: Pid)
-        requires caller { MayCall p self.old }
-        requires steps { 0 < self.old.disk.turn_steps }
+        requires { MayWaitForDisk p self.old }
         ensures { BecomesSound (waiting_for_disk p self.old) self.new }
     {
         let priority = self.dispatcher.procs.get(p).priority;
@@ -55,8 +53,7 @@ impl Kernel {
     /// A step of the disk. After the `last` turn of a call its process stands nowhere, until `end_disk_call` makes it ready; then
     /// it is made once more, so that the next call enters service. It asks that `begin_disk_call` followed each `Starts`.
     pub fn turn_disk(&mut self) -> Turn
-        requires sound { IsSoundKernel self.old }
-        requires begun { HasBegun self.old.disk }
+        requires { MayTurnDisk self.old }
         ensures { TurnsDisk self.old self.new result }
     {
         self.disk.turn()
@@ -64,9 +61,7 @@ impl Kernel {
 
     /// The call that has just entered service takes so many turns, of which the first begins with the disk's next step.
     pub fn begin_disk_call(&mut self, turns: u32)
-        requires sound { IsSoundKernel self.old }
-        requires entered { HasEntered self.old.disk }
-        requires some { 0 < turns }
+        requires { MayBeginDiskCall turns self.old }
         ensures { BeginsService turns self.old self.new }
     {
         self.disk.begin(turns);
@@ -74,8 +69,7 @@ impl Kernel {
 
     /// So many steps of the disk at once, that only pass.
     pub fn pass_disk(&mut self, steps: u32)
-        requires sound { IsSoundKernel self.old }
-        requires few { IfSome self.old.disk.served (λ call. call.passed + steps < self.old.disk.turn_steps) }
+        requires { MayPassDisk steps self.old }
         ensures { PassesSteps steps self.old self.new }
     {
         self.disk.pass(steps);
@@ -92,11 +86,8 @@ impl Kernel {
 
     /// The process whose call at the disk is over is ready again.
     pub fn end_disk_call(&mut self, p: Pid)
-        requires sound { IsSoundKernel self.old }
-        requires over { IsOver p self.old }
-        ensures kernel { self.new ≡ ready_again p self.old }
-        ensures sound { IsSoundKernel self.new }
-        ensures ready { IsReady self.new.dispatcher p }
+        requires { MayEndDiskCall p self.old }
+        ensures { EndsDiskCall p self.old self.new }
     {
         self.dispatcher.make_one_ready(Some(p));
     }

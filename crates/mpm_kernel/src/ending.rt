@@ -1,4 +1,4 @@
-ghost use Rattle.std.specs.Prelude.{◌≡◌, ◌≤◌, length};
+ghost use Rattle.std.specs.Prelude.{◌≡◌, length};
 ghost use Rattle.std.specs.List.{range_with_len};
 
 use crate::Kernel;
@@ -7,7 +7,8 @@ use mpm_consoles::Unit;
 
 impl Kernel {
     ghost use Rattle.mpm_kernel.specs.Kernel.{IsSoundKernel, LivesInKernel};
-    ghost use Rattle.mpm_kernel.specs.Ending.{dropped_out, all_returned, consoles_left, printers_left, IsLeaving};
+    ghost use Rattle.mpm_kernel.specs.Ending.{dropped_out, all_returned, consoles_left, printers_left};
+    ghost use Rattle.mpm_kernel.specs.Asking.{MayReturnHeld};
     ghost use Rattle.mpm_kernel.specs.Parts.{Discharges};
 
     /// A process ends: it stands in no list and waits for nothing. The message of its resident procedure goes back, and then those of the
@@ -44,8 +45,7 @@ impl Kernel {
     /// The messages of mutual exclusion queues that a process holds go back, by rising number.
     #[tactic(auto, using(crate::proofs::EndingLaws::held_made))]
     fn return_held(&mut self, p: Pid)
-        requires leaves { IsLeaving p self.old }
-        requires few { length self.old.dispatcher.completed ≤ 2 }
+        requires { MayReturnHeld p self.old }
         ensures { self.new ≡ all_returned (range_with_len 0 32) p self.old }
     {
         for q in 0..32 {

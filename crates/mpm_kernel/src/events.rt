@@ -1,4 +1,4 @@
-ghost use Rattle.std.specs.Prelude.{◌≡◌, ◌<◌};
+ghost use Rattle.std.specs.Prelude.{◌≡◌};
 ghost use Rattle.mpm_kernel.specs.Kernel.{IsSoundKernel, BecomesWhole};
 
 use crate::Kernel;
@@ -6,13 +6,13 @@ use crate::waiting::{FIRST_FLAG, LAST_FLAG, POLLERS};
 use mpm_script::Event;
 
 impl Kernel {
-    ghost use Rattle.mpm_kernel.specs.Events.{MayCome, clock_ticked, device_ready as device_is_ready, flag_came, happened};
+    ghost use Rattle.mpm_kernel.specs.Asking.{MayHappen, MayBecomeReady};
+    ghost use Rattle.mpm_kernel.specs.Events.{clock_ticked, device_ready as device_is_ready, flag_came, happened};
 
     /// An event comes: a tick of the clock, a device that is ready, a flag that is set, or a key.
     #[tactic(auto, using(crate::proofs::SoundLaws::sound_afresh), unfolding(crate::specs::Events::happens))]
     pub fn event(&mut self, event: Event)
-        requires sound { IsSoundKernel self.old }
-        requires comes { MayCome event }
+        requires { MayHappen event self.old }
         ensures { BecomesWhole (happened event self.old) self.new }
     {
         self.begin_event();
@@ -49,8 +49,7 @@ impl Kernel {
     /// A device is ready with a byte: those who poll it are woken.
     #[tactic(auto, unfolding(crate::specs::Events::device_ready, crate::specs::Events::pollers))]
     fn device_ready(&mut self, device: u8, byte: u8)
-        requires sound { IsSoundKernel self.old }
-        requires below { device < 16 }
+        requires { MayBecomeReady device self.old }
         ensures { self.new ≡ device_is_ready self.old device byte }
     {
         let place = usize::from(device);

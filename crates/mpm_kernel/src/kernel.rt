@@ -1,6 +1,5 @@
-ghost use Rattle.std.specs.Prelude.{◌≡◌, ◌↔◌, length, ◌<◌, ◌≤◌, [], Some, None, false, IfOk, OnErr, MatchOption};
+ghost use Rattle.std.specs.Prelude.{◌≡◌, length, Some, None, IfOk, MatchOption};
 ghost use Rattle.std.specs.Borrow.{sem};
-ghost use Rattle.mpm_clock.specs.Times.{IsTime};
 
 use crate::OutOfMemory;
 use crate::completion::complete;
@@ -42,19 +41,17 @@ impl Model for Kernel {
 }
 
 impl Kernel {
-    ghost use Rattle.mpm_procs.specs.Table.{Lives, lives, process_at, process_in, call_of, lowest_free, free_slots};
+    ghost use Rattle.mpm_procs.specs.Table.{Lives, lives, process_at, process_in, call_of, free_slots};
     ghost use Rattle.mpm_ready.specs.Order.{first_of};
     ghost use Rattle.std.specs.Prelude.{is_some};
     ghost use Rattle.mpm_ready.specs.Tables.{list_at};
     ghost use Rattle.mpm_queues.specs.Queues.{lowest_held};
-    ghost use Rattle.mpm_dispatcher.specs.Dispatch.{ready, in_slot, picked, first_completed};
-    ghost use Rattle.mpm_kernel.specs.Kernel.{IsSoundKernel, LivesInKernel, CompletedLive, BecomesSound, call_begun, afresh, new_kernel, dispatched, with_changed};
-    ghost use Rattle.mpm_kernel.specs.Waiting.{completion_reply};
-    ghost use Rattle.mpm_kernel.specs.Events.{handed_out};
-    ghost use Rattle.mpm_clock.specs.Times.{moment_of};
+    ghost use Rattle.mpm_dispatcher.specs.Dispatch.{ready, picked};
+    ghost use Rattle.mpm_dispatcher.specs.Calling.{TellsWhetherSome};
+    ghost use Rattle.mpm_kernel.specs.Kernel.{IsSoundKernel, CompletedLive, BecomesSound, call_begun, afresh, new_kernel, dispatched};
     ghost use Rattle.mpm_kernel.specs.Lending.{KernelLendsProcess, LendsRegs, KernelLendsCall, LendsDevices};
-    ghost use Rattle.mpm_banks.specs.Memory.{HasSegment, segment_of};
-    ghost use Rattle.mpm_banks.specs.Sides.{with_sides, reach_of};
+    ghost use Rattle.mpm_kernel.specs.Asking.{MayBeKernel, MayLendToBurst};
+    ghost use Rattle.mpm_kernel.specs.Leaving.{LendsToBurst, AdmitsToKernel, TellsMoment, HandsOutCall};
 
     /// The kernel of a machine with 1 to 8 consoles and at most 4 printers, in which no process lives, at a moment. No call waits
     /// for its disk.
@@ -68,12 +65,8 @@ impl Kernel {
         printers: u8,
         now: Moment,
     ) -> Result<Kernel, OutOfMemory>
-        requires some { 1 ≤ consoles }
-        requires few { consoles ≤ 8 }
-        requires printers { printers ≤ 4 }
-        requires time { IsTime now }
-        ensures kernel { IfOk result (λ kernel. kernel ≡ new_kernel consoles printers now) }
-        ensures sound { IfOk result (λ kernel. IsSoundKernel kernel) }
+        requires { MayBeKernel consoles printers now }
+        ensures { IfOk result (λ kernel. BecomesSound (new_kernel consoles printers now) kernel) }
     {
         Ok(Kernel {
             dispatcher: Dispatcher::new(alloc)?,
@@ -221,12 +214,8 @@ impl Kernel {
     /// Does a burst of what a living process of a segment does. Its registers and the devices are lent, not copied.
     #[inline(always)]
     pub fn run_burst<B: Burst>(&mut self, p: Pid, burst: &B, seg: Seg, banks: &mut Banks) -> u64
-        requires process { LivesInKernel p self.old }
-        requires segment { HasSegment banks.old seg }
-        ensures ran { B.ran burst.now (process_in self.old.dispatcher.procs p).regs (reach_of banks.old seg) self.old.devices result (process_in self.new.dispatcher.procs p).regs (reach_of banks.new seg) self.new.devices }
-        ensures others { banks.new ≡ with_sides banks.old seg (segment_of banks.new seg).bytes banks.new.common }
-        ensures kernel { self.new ≡ with_changed (record self.old { devices = self.new.devices }) p (record (process_in self.old.dispatcher.procs p) { regs = (process_in self.new.dispatcher.procs p).regs }) }
-        ensures sound { IsSoundKernel self.new }
+        requires { MayLendToBurst p seg banks.old self.old }
+        ensures { LendsToBurst (B.ran burst.now) p seg self.old self.new banks.old banks.new result }
     {
         let process = self.dispatcher.procs.get_mut(p);
         banks.run(burst, seg, &mut process.regs, &mut self.devices)
@@ -239,10 +228,7 @@ impl Kernel {
     #[tactic(auto, using(crate::proofs::SoundLaws::free_is_unlisted))]
     pub fn admit(&mut self, new: NewProcess) -> Result<Pid, NoSlot>
         requires { IsSoundKernel self.old }
-        ensures slot { IfOk result (λ p. lowest_free self.old.dispatcher.procs ≡ Some p) }
-        ensures refused { OnErr result (lowest_free self.old.dispatcher.procs ≡ None) }
-        ensures kernel { self.new ≡ dispatched (in_slot new (lowest_free self.old.dispatcher.procs)) self.old }
-        ensures sound { new.console < length self.old.units.consoles → IsSoundKernel self.new }
+        ensures { AdmitsToKernel new self.old self.new result }
     {
         self.dispatcher.admit(new)
     }
@@ -268,8 +254,7 @@ impl Kernel {
 
     /// The date and the time.
     pub fn now(&self) -> Moment
-        ensures moment { result ≡ moment_of self.now.clock }
-        ensures time { IsTime result }
+        ensures { TellsMoment self.now.clock result }
     {
         self.clock.now()
     }
@@ -277,8 +262,7 @@ impl Kernel {
     /// Whether held calls were completed by the last call or event that were not handed out yet: at most 64.
     #[inline]
     pub fn has_completed(&self) -> bool
-        ensures some { (result ≡ false) ↔ (self.now.dispatcher.completed ≡ []) }
-        ensures few { length self.now.dispatcher.completed ≤ 64 }
+        ensures { TellsWhetherSome self.now.dispatcher.completed result }
     {
         self.dispatcher.completed.has_some()
     }
@@ -288,11 +272,7 @@ impl Kernel {
     #[tactic(auto, using(crate::proofs::SoundLaws::completed_lives), unfolding(crate::specs::Events::handed_out))]
     pub fn completed(&mut self, reply: &mut Reply) -> Option<Pid>
         requires { CompletedLive self.old }
-        ensures process { result ≡ first_completed self.old.dispatcher.completed }
-        ensures kernel { self.new ≡ handed_out self.old }
-        ensures reply { MatchOption result (reply.new ≡ reply.old) (λ p. reply.new ≡ completion_reply self.old p) }
-        ensures sound { IsSoundKernel self.old → IsSoundKernel self.new }
-        ensures live { IsSoundKernel self.old → CompletedLive self.new }
+        ensures { HandsOutCall self.old self.new reply.old reply.new result }
     {
         let p = self.dispatcher.hand_out()?;
         complete(self.dispatcher.procs.call(p), reply);

@@ -1,4 +1,4 @@
-ghost use Rattle.std.specs.Prelude.{◌≡◌, ◌<◌, Some, None, IfSome, length};
+ghost use Rattle.std.specs.Prelude.{◌≡◌, Some, None};
 
 use crate::Kernel;
 use crate::call::NO_FUNCTION;
@@ -10,13 +10,14 @@ use mpm_queues::{BLOCK_SIZE, QueueOutcome, address_of, write_call};
 const ADDRESS: u16 = 2;
 
 impl Kernel {
-    ghost use Rattle.mpm_procs.specs.Table.{Lives, process_in, call_of};
-    ghost use Rattle.mpm_queues.specs.Queues.{IsMade};
-    ghost use Rattle.mpm_dispatcher.specs.Dispatch.{first_completed, with_completed};
-    ghost use Rattle.mpm_kernel.specs.Kernel.{IsSoundKernel, LivesInKernel, MayComplete, CompletedLive, dispatched};
+    ghost use Rattle.mpm_procs.specs.Table.{Lives, call_of};
+    ghost use Rattle.mpm_queues.specs.Queues.{FindsQueue};
+    ghost use Rattle.mpm_kernel.specs.Kernel.{LivesInKernel, MayComplete, BecomesWhole};
+    ghost use Rattle.mpm_kernel.specs.Asking.{MayWriteBack};
+    ghost use Rattle.mpm_kernel.specs.Leaving.{LeavesProcedure, KeepsCompleted};
     ghost use Rattle.mpm_kernel.specs.Called.{Yields};
     ghost use Rattle.mpm_kernel.specs.Events.{with_procedure};
-    ghost use Rattle.mpm_kernel.specs.Procedures.{procedure_called, procedure_queue, still_completed, outside, given_back_to, given_back};
+    ghost use Rattle.mpm_kernel.specs.Procedures.{procedure_called, procedure_queue, given_back_to, given_back};
 
     /// A process calls a resident procedure: it reads the message of the queue that it names, and waits for one where there is
     /// none. It is refused by FFFFh where the process is in a procedure, and where there is no such queue of two bytes. (MP/M II
@@ -50,8 +51,7 @@ impl Kernel {
     #[tactic(auto, unfolding(crate::specs::Procedures::of_two_bytes))]
     fn procedure_queue(&self, p: Pid) -> Option<u8>
         requires { Lives self.now.dispatcher.procs p }
-        ensures number { result ≡ procedure_queue self.now.queues (call_of self.now.dispatcher.procs p) }
-        ensures made { IfSome result (λ q. IsMade self.now.queues q) }
+        ensures { FindsQueue (procedure_queue self.now.queues (call_of self.now.dispatcher.procs p)) self.now.queues result }
     {
         let Some(q) = self.queues.find(self.dispatcher.procs.call(p).name(4)) else {
             return None;
@@ -84,9 +84,7 @@ impl Kernel {
     #[tactic(auto, using(crate::proofs::ProcedureLaws::sound_outside, crate::proofs::ProcedureLaws::lives_outside), unfolding(crate::specs::Procedures::given_back, crate::specs::Procedures::given_back_to))]
     pub fn put_back(&mut self, p: Pid)
         requires { LivesInKernel p self.old }
-        ensures kernel { self.new ≡ given_back p self.old }
-        ensures sound { IsSoundKernel self.new }
-        ensures live { CompletedLive self.new }
+        ensures { BecomesWhole (given_back p self.old) self.new }
     {
         let queue = self.leave_procedure(p);
         if let Some(q) = queue {
@@ -101,9 +99,7 @@ impl Kernel {
     #[tactic(auto, using(mpm_procs::proofs::MapLaws::lives_changed), unfolding(crate::specs::Procedures::outside))]
     fn leave_procedure(&mut self, p: Pid) -> Option<u8>
         requires { Lives self.old.dispatcher.procs p }
-        ensures kernel { self.new ≡ outside p self.old }
-        ensures queue { result ≡ (process_in self.old.dispatcher.procs p).procedure }
-        ensures room { length self.new.dispatcher.completed < 64 }
+        ensures { LeavesProcedure p self.old self.new result }
     {
         self.keep_completed(p);
         let process = self.dispatcher.procs.get_mut(p);
@@ -117,8 +113,7 @@ impl Kernel {
     /// Whose held call was completed first is still to be answered, where it lives and is another process. No others are forgotten
     /// by that: what a process did before it ends or leaves its procedure completed one held call at most.
     fn keep_completed(&mut self, p: Pid)
-        ensures kernel { self.new ≡ dispatched (with_completed (still_completed (first_completed self.old.dispatcher.completed) p self.old.dispatcher.procs)) self.old }
-        ensures room { length self.new.dispatcher.completed < 64 }
+        ensures { KeepsCompleted p self.old self.new }
     {
         let first = self.dispatcher.completed.take();
         self.dispatcher.completed.clear();
@@ -132,9 +127,7 @@ impl Kernel {
     /// A process writes the message of its call to a queue that is there, where there is room.
     #[tactic(auto, unfolding(crate::specs::Procedures::given_back_to, mpm_dispatcher::specs::Dispatch::lists_ready, mpm_dispatcher::specs::Dispatch::also_completed))]
     pub(crate) fn write_back(&mut self, p: Pid, q: u8)
-        requires process { LivesInKernel p self.old }
-        requires queue { IsMade self.old.queues q }
-        requires room { length self.old.dispatcher.completed < 64 }
+        requires { MayWriteBack p q self.old }
         ensures { self.new ≡ given_back_to (Some q) p self.old }
     {
         match self.give_to(p, q) {

@@ -1,5 +1,3 @@
-ghost use Rattle.std.specs.Prelude.{◌≡◌, None, true, false, IfSome};
-
 use crate::Kernel;
 use mpm_base::{FAILURE_CODE, Name8, Outcome, Pid, Reply};
 use mpm_dispatcher::done;
@@ -7,19 +5,17 @@ use mpm_queues::QueueOutcome;
 
 impl Kernel {
     ghost use Rattle.mpm_procs.specs.Table.{Lives, call_of};
-    ghost use Rattle.mpm_queues.specs.Queues.{IsMade, make_error};
-    ghost use Rattle.mpm_queues.specs.Handling.{woken_by, must_wait, read_outcome, read_reply, write_outcome};
-    ghost use Rattle.mpm_kernel.specs.Kernel.{IsSoundKernel, LivesInKernel, MayCall, MayComplete, BecomesSound};
+    ghost use Rattle.mpm_kernel.specs.Kernel.{MayComplete, BecomesSound};
     ghost use Rattle.mpm_kernel.specs.Called.{Yields};
-    ghost use Rattle.mpm_kernel.specs.Queueing.{with_system_queue, OnlySystems, IfNotNow, queue_made, queue_opened, queue_deleted, pointed, blocked_or_refused, taken_from, queue_read, given_to, queue_written};
+    ghost use Rattle.mpm_kernel.specs.Asking.{MayMakeSystemQueue, MayReadFrom, MayWriteTo, MayWaitAtQueue};
+    ghost use Rattle.mpm_kernel.specs.Leaving.{ReadsFromQueue, WritesToQueue};
+    ghost use Rattle.mpm_kernel.specs.Queueing.{with_system_queue, queue_made, queue_opened, queue_deleted, pointed, blocked_or_refused, queue_read, queue_written};
 
     /// Makes a queue of the system, which no process deletes, for `count` messages of `message_length` bytes. It is made at
     /// boot, before any other.
     #[tactic(auto, using(crate::proofs::QueueingLaws::system_is_lowest, crate::proofs::QueueingLaws::number_below), unfolding(crate::specs::Queueing::with_system_queue, crate::specs::Queueing::with_queue))]
     pub fn system_queue(&mut self, name: Name8, message_length: u16, count: u16)
-        requires sound { IsSoundKernel self.old }
-        requires boot { OnlySystems self.old }
-        requires room { make_error self.old.queues name message_length count ≡ None }
+        requires { MayMakeSystemQueue name message_length count self.old }
         ensures { BecomesSound (with_system_queue self.old name message_length count) self.new }
     {
         if let Ok(number) = self.queues.make(name, message_length, count) {
@@ -135,13 +131,8 @@ impl Kernel {
     /// A process reads the first message of a queue into a reply.
     #[tactic(auto, using(crate::proofs::QueueingLaws::waiters_live))]
     pub(crate) fn take_from(&mut self, p: Pid, q: u8, reply: &mut Reply) -> QueueOutcome
-        requires sound { IsSoundKernel self.old }
-        requires queue { IsMade self.old.queues q }
-        ensures kernel { self.new ≡ taken_from self.old p q }
-        ensures outcome { result ≡ read_outcome self.old.queues q }
-        ensures other { IfSome (woken_by result) (λ w. Lives self.new.dispatcher.procs w) }
-        ensures not_now { IfNotNow result ((self.new ≡ self.old) × (must_wait self.old.queues q true ≡ true)) }
-        ensures reply { reply.new ≡ read_reply self.old.queues q reply.old }
+        requires { MayReadFrom q self.old }
+        ensures { ReadsFromQueue p q self.old self.new reply.old reply.new result }
     {
         self.queues.read(p, q, &mut self.dispatcher.procs, reply)
     }
@@ -149,12 +140,8 @@ impl Kernel {
     /// A process writes the message of its call to a queue.
     #[tactic(auto, using(crate::proofs::QueueingLaws::waiters_live, crate::proofs::QueueingLaws::lives_by_write))]
     pub(crate) fn give_to(&mut self, p: Pid, q: u8) -> QueueOutcome
-        requires process { LivesInKernel p self.old }
-        requires queue { IsMade self.old.queues q }
-        ensures kernel { self.new ≡ given_to self.old p q }
-        ensures outcome { result ≡ write_outcome self.old.queues q }
-        ensures other { IfSome (woken_by result) (λ w. Lives self.new.dispatcher.procs w) }
-        ensures not_now { IfNotNow result ((self.new ≡ self.old) × (must_wait self.old.queues q false ≡ true)) }
+        requires { MayWriteTo p q self.old }
+        ensures { WritesToQueue p q self.old self.new result }
     {
         self.queues.write(p, q, &mut self.dispatcher.procs)
     }
@@ -170,9 +157,7 @@ impl Kernel {
         waits: bool,
         reply: &mut Reply,
     ) -> Outcome
-        requires caller { MayCall p self.old }
-        requires queue { IsMade self.old.queues q }
-        requires waits { must_wait self.old.queues q reader ≡ true }
+        requires { MayWaitAtQueue p q reader self.old }
         ensures { Yields (blocked_or_refused waits p q reader self.old) self.new result reply.new }
     {
         if waits {

@@ -1,4 +1,4 @@
-ghost use Rattle.std.specs.Prelude.{◌≡◌, ◌<◌};
+ghost use Rattle.std.specs.Prelude.{◌≡◌};
 
 use crate::Kernel;
 use mpm_base::{FAILURE_CODE, Outcome, Pid, Reply};
@@ -17,10 +17,10 @@ pub(crate) const FIRST_FLAG: u8 = 4;
 pub(crate) const LAST_FLAG: u8 = 31;
 
 impl Kernel {
-    ghost use Rattle.mpm_procs.specs.Table.{Lives, call_of};
+    ghost use Rattle.mpm_procs.specs.Table.{call_of};
     ghost use Rattle.mpm_flags.specs.States.{flag_at, set_answer};
-    ghost use Rattle.mpm_consoles.specs.Console.{Yields as Makes};
-    ghost use Rattle.mpm_kernel.specs.Kernel.{IsSoundKernel, MayCall};
+    ghost use Rattle.mpm_consoles.specs.Console.{MakesAndAnswers};
+    ghost use Rattle.mpm_kernel.specs.Asking.{MayPoll, MaySetFlag, MayDelay, MaySignal};
     ghost use Rattle.mpm_kernel.specs.Called.{Yields, low_parameter};
     ghost use Rattle.mpm_kernel.specs.Waiting.{polled, flag_waited, flag_set as flag_set_by, process_delayed, signalled};
 
@@ -29,8 +29,7 @@ impl Kernel {
     #[inline(never)]
     #[tactic(auto, unfolding(crate::specs::Waiting::polled))]
     pub(crate) fn poll(&mut self, p: Pid, device: u8, reply: &mut Reply) -> Outcome
-        requires lives { Lives self.old.dispatcher.procs p }
-        requires device { device ≡ low_parameter (call_of self.old.dispatcher.procs p) }
+        requires { MayPoll p device self.old }
         ensures { Yields (polled (call_of self.old.dispatcher.procs p) p self.old) self.new result reply.new }
     {
         if DEVICES <= device {
@@ -69,8 +68,7 @@ impl Kernel {
     #[inline(never)]
     #[tactic(auto, unfolding(crate::specs::Waiting::flag_set))]
     pub(crate) fn set_flag(&mut self, p: Pid, flag: u8, reply: &mut Reply) -> Outcome
-        requires sound { IsSoundKernel self.old }
-        requires flag { flag ≡ low_parameter (call_of self.old.dispatcher.procs p) }
+        requires { MaySetFlag p flag self.old }
         ensures { Yields (flag_set_by (call_of self.old.dispatcher.procs p) self.old) self.new result reply.new }
     {
         if flag < FIRST_FLAG || LAST_FLAG < flag {
@@ -88,8 +86,7 @@ impl Kernel {
     #[inline(never)]
     #[tactic(auto, using(crate::proofs::SoundLaws::not_delayed), unfolding(crate::specs::Waiting::process_delayed))]
     pub(crate) fn delay(&mut self, p: Pid, ticks: u16, reply: &mut Reply) -> Outcome
-        requires caller { MayCall p self.old }
-        requires ticks { ticks ≡ (call_of self.old.dispatcher.procs p).word }
+        requires { MayDelay p ticks self.old }
         ensures { Yields (process_delayed (call_of self.old.dispatcher.procs p) p self.old) self.new result reply.new }
     {
         if ticks == 0 {
@@ -104,9 +101,8 @@ impl Kernel {
     /// A flag is set; who waits for it is woken.
     #[tactic(auto, using(crate::proofs::SoundLaws::waiter_lives), unfolding(crate::specs::Waiting::signalled, crate::specs::Waiting::with_woken))]
     pub(crate) fn signal(&mut self, flag: u8) -> FlagSet
-        requires sound { IsSoundKernel self.old }
-        requires below { flag < 32 }
-        ensures { Makes (signalled flag self.old) (set_answer (flag_at self.old.flags flag)) self.new result }
+        requires { MaySignal flag self.old }
+        ensures { MakesAndAnswers (signalled flag self.old) (set_answer (flag_at self.old.flags flag)) self.new result }
     {
         let answer = self.flags.set(flag);
         if let FlagSet::Woke { p } = answer {

@@ -1,6 +1,6 @@
 //! Scenes of file calls at the disk, beside processes that run: who waits, who is served, and who is ready again.
 ghost use Rattle.std.specs.Prelude.{◌<◌};
-ghost use Rattle.mpm_kernel_scenes.specs.Serving.{Serves};
+ghost use Rattle.mpm_kernel_scenes.specs.Serving.{ServesScene};
 
 use crate::scene::{begin, kernel_of_one, slot};
 use mpm_base::{Pid, Seg};
@@ -44,16 +44,16 @@ pub enum Line {
 
 /// Another process of that priority begins, where a slot is free.
 fn begin_another(kernel: &mut Kernel, priority: u8) -> bool
-    requires { Serves kernel.old }
-    ensures { Serves kernel.new }
+    requires { ServesScene kernel.old }
+    ensures { ServesScene kernel.new }
 {
     begin(kernel, b"OTHER   ", priority, Some(Seg(0)))
 }
 
 /// Who runs after what was no instruction.
 fn next(kernel: &mut Kernel) -> Option<u8>
-    requires { Serves kernel.old }
-    ensures { Serves kernel.new }
+    requires { ServesScene kernel.old }
+    ensures { ServesScene kernel.new }
 {
     kernel.pick(false);
     slot(kernel.running())
@@ -61,8 +61,8 @@ fn next(kernel: &mut Kernel) -> Option<u8>
 
 /// Who runs waits for the disk, if anybody does.
 fn wait(kernel: &mut Kernel) -> bool
-    requires { Serves kernel.old }
-    ensures { Serves kernel.new }
+    requires { ServesScene kernel.old }
+    ensures { ServesScene kernel.new }
 {
     let Some(p) = kernel.running() else {
         return false;
@@ -73,8 +73,8 @@ fn wait(kernel: &mut Kernel) -> bool
 
 /// A process ends, if it lives.
 fn end(kernel: &mut Kernel, p: u8) -> bool
-    requires { Serves kernel.old }
-    ensures { Serves kernel.new }
+    requires { ServesScene kernel.old }
+    ensures { ServesScene kernel.new }
 {
     if 32 <= p || !kernel.lives(Pid(p)) {
         return false;
@@ -85,8 +85,8 @@ fn end(kernel: &mut Kernel, p: u8) -> bool
 
 /// The clock ticks.
 fn tick(kernel: &mut Kernel) -> bool
-    requires { Serves kernel.old }
-    ensures { Serves kernel.new }
+    requires { ServesScene kernel.old }
+    ensures { ServesScene kernel.new }
 {
     kernel.event(Event::Tick);
     true
@@ -95,8 +95,8 @@ fn tick(kernel: &mut Kernel) -> bool
 /// A step of the disk: whose call is over is ready again, and one that enters service takes so many turns.
 fn turn(kernel: &mut Kernel, turns: u32) -> Turn
     requires some { 0 < turns }
-    requires serves { Serves kernel.old }
-    ensures { Serves kernel.new }
+    requires serves { ServesScene kernel.old }
+    ensures { ServesScene kernel.new }
 {
     let turn = kernel.turn_disk();
     match turn {
@@ -114,8 +114,8 @@ fn turn(kernel: &mut Kernel, turns: u32) -> Turn
 
 /// So many steps of the disk pass that aren't the last of a turn.
 fn pass(kernel: &mut Kernel, steps: u32) -> bool
-    requires { Serves kernel.old }
-    ensures { Serves kernel.new }
+    requires { ServesScene kernel.old }
+    ensures { ServesScene kernel.new }
 {
     for _step in 0..steps {
         if turn(kernel, 1) != Turn::Passing {
@@ -127,8 +127,8 @@ fn pass(kernel: &mut Kernel, steps: u32) -> bool
 
 /// So many of them pass at once, if there are as many.
 fn pass_at_once(kernel: &mut Kernel, steps: u32) -> bool
-    requires { Serves kernel.old }
-    ensures { Serves kernel.new }
+    requires { ServesScene kernel.old }
+    ensures { ServesScene kernel.new }
 {
     match kernel.disk().quiet() {
         Some(quiet) if steps <= quiet => {
@@ -141,8 +141,8 @@ fn pass_at_once(kernel: &mut Kernel, steps: u32) -> bool
 
 /// The service of a call ends: whose it was, who is ready again, and how many turns were left.
 fn finish(kernel: &mut Kernel) -> Option<(u8, u32)>
-    requires { Serves kernel.old }
-    ensures { Serves kernel.new }
+    requires { ServesScene kernel.old }
+    ensures { ServesScene kernel.new }
 {
     let Some(p) = kernel.disk().serving() else {
         return None;
@@ -154,8 +154,8 @@ fn finish(kernel: &mut Kernel) -> Option<(u8, u32)>
 
 /// Whether a step of the disk is the last of a turn of that process, which is its last turn or not.
 fn works(kernel: &mut Kernel, number: u8, ends: bool) -> bool
-    requires { Serves kernel.old }
-    ensures { Serves kernel.new }
+    requires { ServesScene kernel.old }
+    ensures { ServesScene kernel.new }
 {
     match turn(kernel, 1) {
         Turn::Work { p, last } => p.0 == number && last == ends,
@@ -165,8 +165,8 @@ fn works(kernel: &mut Kernel, number: u8, ends: bool) -> bool
 
 /// Whether that process enters service in a step of the disk, for so many turns.
 fn starts(kernel: &mut Kernel, number: u8, turns: u32) -> bool
-    requires { Serves kernel.old }
-    ensures { Serves kernel.new }
+    requires { ServesScene kernel.old }
+    ensures { ServesScene kernel.new }
 {
     match turn(kernel, turns.max(1)) {
         Turn::Starts { p } => p.0 == number,
@@ -176,8 +176,8 @@ fn starts(kernel: &mut Kernel, number: u8, turns: u32) -> bool
 
 /// A line comes to pass, and all is so that it says.
 fn passes(kernel: &mut Kernel, line: Line) -> bool
-    requires { Serves kernel.old }
-    ensures { Serves kernel.new }
+    requires { ServesScene kernel.old }
+    ensures { ServesScene kernel.new }
 {
     match line {
         Line::Begin(priority) => begin_another(kernel, priority),
@@ -209,7 +209,7 @@ pub fn play(alloc: Global, lines: &[Line]) -> Result<(), Fail> {
 
 /// A scene of such a kernel.
 fn play_on(kernel: &mut Kernel, lines: &[Line]) -> Result<(), Fail>
-    requires { Serves kernel.old }
+    requires { ServesScene kernel.old }
 {
     for (number, line) in lines.iter().enumerate() {
         if !passes(kernel, *line) {

@@ -35,11 +35,11 @@ use Rattle.mpm_system.specs.Loading.{ChangesOnly, moved, moving, placing, beginn
 use Rattle.mpm_system.specs.declared.system.System.{System}
 use Rattle.mpm_system.proofs.LoadingLaws.{changes_placing, changes_beginning}
 use Rattle.mpm_machine.specs.Interpreting.{HasReserved, Interprets}
-use Rattle.mpm_machine.specs.Loaded.{IsPiece, code_byte, HasCode, HasLoadedAt}
+use Rattle.mpm_machine.specs.Loaded.{IsPieceOf, code_byte, HasCode, HasLoadedAt}
 use Rattle.mpm_machine.proofs.InterpretingLaws.{moves_always, range_is_there}
 
 -- what a piece has of a part of the file
-part_at : (before low high i : ℕ) (file piece : List ℕ) → IsPiece file before piece → i < length (part before low high piece)
+part_at : (before low high i : ℕ) (file piece : List ℕ) → IsPieceOf file before piece → i < length (part before low high piece)
     → get_or (part before low high piece) i 0 ≡ get_or file (before + (low - before + i)) 0
 unfolding part
 part_at before low high i file piece is below =
@@ -91,7 +91,7 @@ writes_range memory seg address range bytes is some = record {
 }
 
 -- a piece's code is placed
-code_placed : (plan : Plan) (file piece : List ℕ) (before page seg marked : ℕ) (old new : Memory) → IsPiece file before piece → marked ≤ before
+code_placed : (plan : Plan) (file piece : List ℕ) (before page seg marked : ℕ) (old new : Memory) → IsPieceOf file before piece → marked ≤ before
     → HasCode plan file page seg before marked old → Writes old new seg (256 * page + 256 + (before - plan.start)) (part before plan.start (code_end plan) piece)
     → HasCode plan file page seg (before + length piece) marked new
 code_placed plan file piece before page seg marked old new is few h w place within came = elim (cases_lt (plan.start + place) before) [
@@ -118,7 +118,7 @@ nothing_placed plan file piece before page seg marked memory none h place within
 
 -- code is moved by a piece's marks
 
-code_moved : (plan : Plan) (file piece code : List ℕ) (before page seg : ℕ) (old new : Memory) → IsPiece file before piece
+code_moved : (plan : Plan) (file piece code : List ℕ) (before page seg : ℕ) (old new : Memory) → IsPieceOf file before piece
     → HasCode plan file page seg (before + length piece) (min before (all_bytes plan)) old
     → length code ≡ min (8 * length (part before (code_end plan) (all_bytes plan) piece)) (plan.length - 8 * (before - code_end plan))
     → ((k : ℕ) → k < length code → get_or code k 0 ≡ byte_at old seg (256 * page + 256 + 8 * (before - code_end plan) + k))
@@ -224,7 +224,7 @@ pub loaded_first : (cli : Interpreter) (file : List ℕ) (memory : Memory) → c
 loaded_first cli file memory first = for_piece cli file memory (λ place within came. absurd (omega (arith, first, came)))
 
 -- a row places a piece's code
-loaded_placed : (cli : Interpreter) (file : List ℕ) (memory : Memory) → IsMemory memory → HasReserved cli memory → StandsIn Place cli → IsPiece file cli.load.before cli.load.piece
+loaded_placed : (cli : Interpreter) (file : List ℕ) (memory : Memory) → IsMemory memory → HasReserved cli memory → StandsIn Place cli → IsPieceOf file cli.load.before cli.load.piece
     → HasLoadedAt Place cli file memory
     → HasLoadedAt (row_behind_code cli.load) cli file (with_bytes memory cli.seg (code_address cli.spec (code_place cli.load)) (code_in cli.load))
 loaded_placed cli file memory m has s piece h =
@@ -241,7 +241,7 @@ loaded_placed cli file memory m has s piece h =
     (subst (λ n. Writes memory new cli.seg n code) at writes))
 
 -- and one moves code
-moved_in : (range : Option Range) (cli : Interpreter) (file : List ℕ) (memory : Memory) → StandsIn Patch cli → IsPiece file cli.load.before cli.load.piece → HasLoadedAt Patch cli file memory
+moved_in : (range : Option Range) (cli : Interpreter) (file : List ℕ) (memory : Memory) → StandsIn Patch cli → IsPieceOf file cli.load.before cli.load.piece → HasLoadedAt Patch cli file memory
     → range_of memory cli.seg (code_address cli.spec (marked_place cli.load)) (marked_length cli.load) ≡ range → is_some range ≡ true
     → HasLoadedAt ReadOn cli file (moved range (marks_in cli.load) cli.spec.base memory)
 moved_in None cli file memory s piece h is there = absurd (false≢true there)
@@ -270,7 +270,7 @@ moved_in (Some range) cli file memory s piece h is there =
     (subst (λ n. Writes memory (put_range memory range new) cli.seg n new) at writes)
 
 loaded_moved : (cli : Interpreter) (file : List ℕ) (system : System) → IsMemory system.memory → HasReserved cli system.memory → StandsIn Patch cli
-    → IsPiece file cli.load.before cli.load.piece → HasLoadedAt Patch cli file system.memory
+    → IsPieceOf file cli.load.before cli.load.piece → HasLoadedAt Patch cli file system.memory
     → HasLoadedAt (row_behind_marks cli.load) cli file
     (moving cli.seg (code_address cli.spec (marked_place cli.load)) (marked_length cli.load) (marks_in cli.load) cli.spec.base system).memory
 loaded_moved cli file system m has s piece h =
@@ -323,7 +323,7 @@ loaded_begun cli file p system s h =
 
 -- in each row in which it has the segment: by what it hands over, and by the answer
 pub loaded_goes_on : (row : Row) (cli : Interpreter) (file : List ℕ) (reply : Answer) (system : System) → is_loading row ≡ true → IsMemory system.memory → HasReserved cli system.memory
-    → StandsIn row cli → IsPiece file cli.load.before cli.load.piece → HasLoadedAt row cli file system.memory
+    → StandsIn row cli → IsPieceOf file cli.load.before cli.load.piece → HasLoadedAt row cli file system.memory
     → HasLoadedAt (took_at row cli reply).row (took_at row cli reply) file (handed_over (act_at row cli) (call_at row cli).bytes 0 system).memory
 loaded_goes_on Place cli file reply system loading m has s piece h = loaded_placed cli file system.memory m has s piece h
 loaded_goes_on Patch cli file reply system loading m has s piece h = loaded_moved cli file system m has s piece h
@@ -349,7 +349,7 @@ loaded_goes_on (Tell message) cli file reply system loading m has s piece h = ab
 loaded_goes_on Give cli file reply system loading m has s piece h = absurd (false≢true loading)
 
 pub loaded_in_step : (system : System) (i : Interprets system) (file : List ℕ) (reply : Answer) → is_loading i.acting.cli.row ≡ true → IsMemory system.memory
-    → IsPiece file i.acting.cli.load.before i.acting.cli.load.piece → HasLoadedAt i.acting.cli.row i.acting.cli file system.memory
+    → IsPieceOf file i.acting.cli.load.before i.acting.cli.load.piece → HasLoadedAt i.acting.cli.row i.acting.cli file system.memory
     → HasLoadedAt (took i.acting.cli reply).row (took i.acting.cli reply) file (handed_over (next_act i.acting.cli) (next_call i.acting.cli).bytes 0 system).memory
 unfolding took next_act next_call
 loaded_in_step system i file reply loading m piece h =

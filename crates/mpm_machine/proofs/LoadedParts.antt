@@ -44,7 +44,7 @@ use Rattle.mpm_machine.proofs.OwnLaws.{occupied_or_own}
 use Rattle.mpm_machine.proofs.ResidingLaws.{residents_stay}
 use Rattle.mpm_machine.specs.Ending.{ended}
 use Rattle.mpm_machine.specs.Interpreting.{HasReserved, Interprets}
-use Rattle.mpm_machine.specs.Loaded.{IsPiece, IsLoading, IsReading}
+use Rattle.mpm_machine.specs.Loaded.{IsPieceOf, IsLoading, IsReading}
 use Rattle.mpm_machine.specs.Residing.{calling_step, native_outcome, native_step, resided}
 use Rattle.mpm_machine.specs.Serving.{aborted, aborting, aborting_this, completing, creating, fulfilling, gate_step, outcome_of, returning, served, served_to_all, with_entry}
 use Rattle.mpm_machine.specs.Step.{acted, acted_at, acted_by, begun_by, event_come, executed, gate_before, happened_to, illegal, instructed, instruction_at, interrupted, key_aborted, running_segment}
@@ -253,7 +253,7 @@ record IsNext (cli : Interpreter) (file : List ℕ) (system : System) : Type 0 w
   pub memory : IsMemory system.memory
   pub has : is_loading cli.row ≡ true → HasReserved cli system.memory
   pub stands : StandsIn cli.row cli
-  pub piece : is_loading cli.row ≡ true → IsPiece file cli.load.before cli.load.piece
+  pub piece : is_loading cli.row ≡ true → IsPieceOf file cli.load.before cli.load.piece
   pub loaded : IsLoadedAs file system.memory cli
 
 pub handed_residents : (act : Act) (bytes : List ℕ) (p : ℕ) (system : System) → (handed_over act bytes p system).residents ≡ system.residents

@@ -20,7 +20,7 @@ use Rattle.mpm_system.specs.Loading.{handed_over}
 use Rattle.mpm_system.specs.declared.system.System.{System}
 use Rattle.mpm_machine.proofs.LoadedLaws.{loaded_first, loaded_read, loaded_goes_on}
 use Rattle.mpm_machine.specs.Interpreting.{HasReserved}
-use Rattle.mpm_machine.specs.Loaded.{IsPiece, HasLoadedAt, HasCome, IsLoadedIn}
+use Rattle.mpm_machine.specs.Loaded.{IsPieceOf, HasLoadedAt, HasCome, IsLoadedIn}
 
 -- the rows in which it hands over what comes into its segment
 abbrev pub hands : Row → Bool
@@ -172,7 +172,7 @@ came_handed (Tell message) cli reply hands came = absurd (false≢true hands)
 came_handed Give cli reply hands came = absurd (false≢true hands)
 
 pub handed_so : (row : Row) (cli : Interpreter) (reply : Answer) (file : List ℕ) (system : System) → hands row ≡ true → is_loading row ≡ true → IsMemory system.memory
-    → HasReserved cli system.memory → StandsIn row cli → IsPiece file cli.load.before cli.load.piece → IsLoadedIn row cli file system.memory
+    → HasReserved cli system.memory → StandsIn row cli → IsPieceOf file cli.load.before cli.load.piece → IsLoadedIn row cli file system.memory
     → IsLoadedAs file (handed_over (act_at row cli) (call_at row cli).bytes 0 system).memory (took_at row cli reply)
 handed_so row cli reply file system hands loading m has s piece h =
     record { code = λ _. loaded_goes_on row cli file reply system loading m has s piece (h.code loading); came = came_handed row cli reply hands h.came }

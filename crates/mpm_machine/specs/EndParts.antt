@@ -58,7 +58,7 @@ pub record EndsCall {A : Type 0} (p : ℕ) (old_outside new_outside : Outside) (
   pub kept : EndKeeps old.bdos new.bdos
 
 -- each drive is synced, in order of the letters, and unfinished lines are closed
-pub record Closes {D A : Type 0} (of : Ghosts D) (old new : Setup D) (result : Result A StepFault) : Type 0 where
+pub record SyncsAndCloses {D A : Type 0} (of : Ghosts D) (old new : Setup D) (result : Result A StepFault) : Type 0 where
   pub ok : (outputs : List Output) (first : List ℕ) → Shows old.outside.kept old.outside.written outputs first
       → OnOk result (new.outside.written ≡ first ++ closed old.outside.kept.trace outputs)
   pub err : (outputs : List Output) (first : List ℕ) → Shows old.outside.kept old.outside.written outputs first

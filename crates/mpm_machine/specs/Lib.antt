@@ -37,3 +37,5 @@ pub mod Housing
 pub mod Printed
 pub mod Spooling
 pub mod Scheduling
+pub mod PartCalls
+pub mod BootCalls

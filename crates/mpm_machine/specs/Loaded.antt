@@ -17,8 +17,8 @@ use Rattle.mpm_machine.specs.State.{State}
 use Rattle.mpm_machine.specs.After.{after}
 
 -- a piece of a file, before which so many bytes of it stand
-abbrev pub IsPiece : List ℕ → ℕ → List ℕ → Type 0
-IsPiece file before piece = (k : ℕ) → k < length piece → slice_index piece k ≡ slice_index file (before + k)
+abbrev pub IsPieceOf : List ℕ → ℕ → List ℕ → Type 0
+IsPieceOf file before piece = (k : ℕ) → k < length piece → slice_index piece k ≡ slice_index file (before + k)
 
 -- a byte of code as it stands at a page, where so many bytes of the file were gone through for marks
 abbrev pub code_byte : Plan → List ℕ → ℕ → ℕ → ℕ → ℕ
@@ -68,7 +68,7 @@ IsLoading file system =
 abbrev pub IsReading : List ℕ → System → Type 0
 IsReading file system =
     (cli : Interpreter) → native_in system.residents 0 ≡ Some (Cli cli) → is_loading cli.row ≡ true
-    → IsPiece file cli.load.before cli.load.piece
+    → IsPieceOf file cli.load.before cli.load.piece
 
 -- so it is before each of n steps of a state
 abbrev pub IsReadIn : List ℕ → ℕ → State → Type 0

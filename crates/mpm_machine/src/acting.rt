@@ -1,16 +1,10 @@
-ghost use Rattle.std.specs.Prelude.{◌≡◌, ◌<◌, ◌≤◌, ◌+◌, true, Some, None, is_some, IfOk, OnOk, length};
-ghost use Rattle.mpm_script.specs.declared.line.TheConstants.{GREATEST_STEP};
-ghost use Rattle.mpm_procs.specs.Table.{Lives};
-ghost use Rattle.mpm_output.specs.Writing.{WritesAlone};
-ghost use Rattle.mpm_gate.specs.Gates.{IsHome};
+ghost use Rattle.std.specs.Prelude.{◌<◌, ◌+◌, true, Some, None};
 ghost use Rattle.mpm_gate.specs.declared.gate.Gate.TheVariants.{Return};
 ghost use Rattle.mpm_system.specs.Procedures.{is_inside};
-ghost use Rattle.mpm_system.specs.Whole.{IsWhole, NoCompletions, HasRoom, HasRoomForAll};
 ghost use Rattle.mpm_system.specs.Coming.{coming};
 ghost use Rattle.mpm_machine.specs.Acting.{LivesInSystem, ActsIn, Makes};
 ghost use Rattle.mpm_machine.specs.Step.{acted, acted_at, at_instruction, gate_before, is_no_gate, begun_by, instruction_unless, instruction_at, instructed, executed, illegal as at_unlisted, IsAtNoGate};
-ghost use Rattle.mpm_machine.specs.Finishing.{all_answered};
-ghost use Rattle.mpm_machine.specs.Stepping.{begun_alone, is_instruction};
+ghost use Rattle.mpm_machine.specs.PartCalls.{MayBeginAlone, BeginsAlone, MayBeginActing, MayAct, DoesAct, LivesAtHome, FindsGate, RunsInstruction};
 
 use crate::call::{call, end};
 use crate::finish::answer_all;
@@ -33,13 +27,8 @@ pub(crate) fn begin_alone<S: Sink>(
     render: &mut Render,
     sink: &mut S,
 ) -> Result<bool, Failed>
-    requires most { system.old.steps < GREATEST_STEP }
-    requires whole { IsWhole system.old }
-    requires no_completions { NoCompletions system.old }
-    ensures system { OnOk result (system.new ≡ all_answered (begun_alone system.old).system) }
-    ensures room { OnOk result (HasRoomForAll (length system.new.records + 1)) }
-    ensures instruction { IfOk result (λ instruction. instruction ≡ is_instruction None system.old) }
-    ensures wrote { WritesAlone S.written S.faults render.old sink.old render.new sink.new (begun_alone system.old).emitted result }
+    requires { MayBeginAlone system.old }
+    ensures { BeginsAlone S.written S.faults system.old system.new render.old sink.old render.new sink.new result }
 {
     system.steps += 1;
     let instruction = begin(system, reply, render, sink)?;
@@ -56,11 +45,8 @@ fn begin<S: Sink>(
     render: &mut Render,
     sink: &mut S,
 ) -> Result<bool, Failed>
-    requires most { system.old.steps ≤ GREATEST_STEP }
-    requires whole { IsWhole system.old }
-    requires room { HasRoom system.old }
-    ensures done { Makes S.written S.faults (begun_by (coming system.old) system.old) system.new render.old sink.old render.new sink.new result }
-    ensures instruction { IfOk result (λ instruction. instruction ≡ instruction_unless (coming system.old) system.old) }
+    requires { MayBeginActing system.old }
+    ensures { DoesAct S.written S.faults (begun_by (coming system.old) system.old) (instruction_unless (coming system.old) system.old) system.new render.old sink.old render.new sink.new result }
 {
     let came = interrupt(system, render, sink)?;
     if came {
@@ -78,10 +64,8 @@ fn act<S: Sink>(
     render: &mut Render,
     sink: &mut S,
 ) -> Result<bool, Failed>
-    requires whole { IsWhole system.old }
-    requires room { HasRoom system.old }
-    ensures done { Makes S.written S.faults (acted system.old) system.new render.old sink.old render.new sink.new result }
-    ensures instruction { IfOk result (λ instruction. instruction ≡ at_instruction system.old) }
+    requires { MayAct system.old }
+    ensures { DoesAct S.written S.faults (acted system.old) (at_instruction system.old) system.new render.old sink.old render.new sink.new result }
 {
     let Some(p) = system.kernel.running() else {
         return Ok(false);
@@ -106,8 +90,7 @@ fn act_at<S: Sink>(
     sink: &mut S,
 ) -> Result<bool, Failed>
     requires { ActsIn p seg system.old }
-    ensures done { Makes S.written S.faults (acted_at (gate_before p seg system.old) p seg system.old) system.new render.old sink.old render.new sink.new result }
-    ensures instruction { IfOk result (λ instruction. instruction ≡ is_no_gate (gate_before p seg system.old)) }
+    ensures { DoesAct S.written S.faults (acted_at (gate_before p seg system.old) p seg system.old) (is_no_gate (gate_before p seg system.old)) system.new render.old sink.old render.new sink.new result }
 {
     match gate(system, p, seg) {
         Some(Gate::End) => {
@@ -132,10 +115,8 @@ fn act_at<S: Sink>(
 /// The gate at which a process of a segment stands, if any.
 #[tactic(auto, using(mpm_gate::proofs::GateLaws::returns_inside))]
 pub(crate) fn gate(system: &System, p: Pid, seg: Seg) -> Option<Gate>
-    requires lives { Lives system.now.kernel.dispatcher.procs p }
-    requires home { IsHome system.now.memory seg }
-    ensures gate { result ≡ gate_before p seg system.now }
-    ensures inside { result ≡ Some Return → is_inside system.now.kernel.dispatcher.procs p ≡ true }
+    requires { LivesAtHome p seg system.now }
+    ensures { FindsGate p seg system.now result }
 {
     let page = page_of_gates(&system.memory, seg);
     gate_at(system.is_inside(p), page, system.kernel.regs(p).pc)
@@ -166,8 +147,7 @@ fn execute<S: Sink>(
 #[tactic(auto, unfolding(crate::specs::Step::instructed))]
 fn instruct(system: &mut System, p: Pid, seg: Seg) -> bool
     requires { IsAtNoGate p seg system.old }
-    ensures listed { result ≡ is_some (instruction_at p seg system.old) }
-    ensures system { system.new ≡ instructed (instruction_at p seg system.old) p seg system.old }
+    ensures { RunsInstruction p seg system.old system.new result }
 {
     let inside = system.is_inside(p);
     let mut regs = *system.kernel.regs(p);

@@ -1,10 +1,8 @@
-ghost use Rattle.std.specs.Prelude.{◌≡◌, ◌+◌, ◌-◌, ◌≤◌, ◌<◌, true, min, Some, None, IfSome};
-ghost use Rattle.std.specs.Bool.{OnTrue};
+ghost use Rattle.std.specs.Prelude.{◌≡◌, ◌+◌, ◌-◌, ◌<◌, true, min, Some, None};
 ghost use Rattle.mpm_script.specs.declared.line.TheConstants.{GREATEST_STEP};
-ghost use Rattle.mpm_system.specs.Whole.{IsWhole, NoCompletions};
-ghost use Rattle.mpm_machine.specs.Moving.{RunsAhead, Moved, IsUntraced, MayRunBurst};
-ghost use Rattle.mpm_machine.specs.OwnCalls.{MakesOwnCall, with_own_call, IsRecord};
+ghost use Rattle.mpm_machine.specs.Moving.{MayRunBurst};
 ghost use Rattle.mpm_machine.specs.Quietly.{GoesSilently, RunsBurst};
+ghost use Rattle.mpm_machine.specs.PartCalls.{MayLookAhead, LooksAhead, MayRunAhead, RunsProcess, MayLookAtCall, FindsOwnCall, MayIdle, MayCallAlone, CallsAlone};
 
 use crate::machine::Machine;
 use mpm_base::{Pid, Seg};
@@ -17,9 +15,7 @@ use mpm_system::{System, is_own};
 
 impl Machine {
     ghost use Rattle.mpm_output.specs.Outside.{seen};
-    ghost use Rattle.mpm_system.specs.Whole.{IsWhole, NoCompletions};
-    ghost use Rattle.mpm_machine.specs.Quietly.{WentOn};
-    ghost use Rattle.mpm_machine.specs.Parts.{IsBetweenSteps};
+    ghost use Rattle.mpm_machine.specs.PartCalls.{MayRunOn, RunsQuietly};
 
     /// Steps at most so many, as long as each is an instruction of the process that runs, or its call that concerns it alone, or no
     /// process runs. Answers how many were done. Nothing is written, and no drive is called.
@@ -31,10 +27,8 @@ impl Machine {
         render: &Render,
         sink: &S,
     ) -> u64
-        requires between { IsBetweenSteps D.disks self.old drives.now }
-        requires room { self.old.system.steps + most ≤ GREATEST_STEP }
-        ensures count { result ≤ most }
-        ensures went { WentOn D.disks drives.now (seen S.written S.faults render.now sink.now) result self.old self.new }
+        requires { MayRunOn D.disks most self.old drives.now }
+        ensures { RunsQuietly D.disks drives.now (seen S.written S.faults render.now sink.now) most result self.old self.new }
     {
         let ahead = look_ahead(&self.system, render.is_tracing());
         let Some(here) = &ahead else {
@@ -73,11 +67,8 @@ pub(crate) struct Ahead {
 /// of calls are asked for or not (`traced`).
 #[inline(always)]
 fn look_ahead(system: &System, traced: bool) -> Option<Ahead>
-    requires whole { IsWhole system.now }
-    requires no_completions { NoCompletions system.now }
-    requires most { system.now.steps ≤ GREATEST_STEP }
-    ensures ahead { IfSome result (λ ahead. RunsAhead ahead system.now) }
-    ensures untraced { IsUntraced result traced }
+    requires { MayLookAhead system.now }
+    ensures { LooksAhead traced system.now result }
 {
     if system.abort_deferred {
         return None;
@@ -104,9 +95,7 @@ fn look_ahead(system: &System, traced: bool) -> Option<Ahead>
 /// that is known. Answers how many were done.
 #[inline(always)]
 fn run_burst(system: &mut System, ahead: &Ahead, most: u64) -> u64
-    requires whole { IsWhole system.old }
-    requires room { system.old.steps + most ≤ GREATEST_STEP }
-    requires ahead { RunsAhead ahead.now system.old }
+    requires { MayRunAhead ahead.now most system.old }
     ensures { RunsBurst ahead.now most result system.old system.new }
 {
     let few = steps_ahead(system, ahead.last, most);
@@ -126,8 +115,7 @@ fn steps_ahead(system: &System, last: u64, most: u64) -> u64
 #[inline(always)]
 fn run_process(system: &mut System, p: Pid, seg: Seg, most: u64) -> u64
     requires { MayRunBurst p seg most system.old }
-    ensures count { result ≤ most }
-    ensures moved { Moved result p seg system.old system.new }
+    ensures { RunsProcess p seg most result system.old system.new }
 {
     let inside = system.is_inside(p);
     let burst = Instructions { inside, most };
@@ -140,10 +128,8 @@ fn run_process(system: &mut System, p: Pid, seg: Seg, most: u64) -> u64
 #[inline(always)]
 #[tactic(auto, using(crate::proofs::OwnCallStepLaws::makes_ahead))]
 fn makes_own_call(system: &System, ahead: &Ahead) -> bool
-    requires whole { IsWhole system.now }
-    requires ahead { RunsAhead ahead.now system.now }
-    ensures own { OnTrue result (MakesOwnCall ahead.now.p ahead.now.seg system.now) }
-    ensures alone { OnTrue result (ahead.now.alone ≡ true) }
+    requires { MayLookAtCall ahead.now system.now }
+    ensures { FindsOwnCall ahead.now system.now result }
 {
     let regs = system.kernel.regs(ahead.p);
     regs.pc == ahead.gate && is_own(regs.c) && ahead.alone && system.steps < ahead.last
@@ -153,9 +139,7 @@ fn makes_own_call(system: &System, ahead: &Ahead) -> bool
 #[cold]
 #[inline(never)]
 fn idle(system: &mut System, most: u64) -> u64
-    requires whole { IsWhole system.old }
-    requires no_completions { NoCompletions system.old }
-    requires room { system.old.steps + most ≤ GREATEST_STEP }
+    requires { MayIdle most system.old }
     ensures { GoesSilently most result system.old system.new }
 {
     if !system.is_idle() {
@@ -170,11 +154,8 @@ fn idle(system: &mut System, most: u64) -> u64
 /// for.
 #[inline(always)]
 fn do_own_call(system: &mut System, p: Pid, seg: Seg)
-    requires most { system.old.steps < GREATEST_STEP }
-    requires whole { IsWhole system.old }
-    requires makes { MakesOwnCall p seg system.old }
-    ensures system { system.new ≡ (with_own_call p seg system.old).system }
-    ensures emitted { IsRecord (with_own_call p seg system.old).emitted }
+    requires { MayCallAlone p seg system.old }
+    ensures { CallsAlone p seg system.old system.new }
 {
     let regs = system.kernel.regs(p);
     let function = regs.c;

@@ -1,12 +1,12 @@
-ghost use Rattle.std.specs.Prelude.{◌≡◌, ◌≢◌, ◌≤◌, length};
+ghost use Rattle.std.specs.Prelude.{◌≡◌};
 ghost use Rattle.mpm_base.specs.declared.call.Outcome.TheVariants.{Done};
 ghost use Rattle.mpm_procs.specs.Table.{Lives, call_of};
 ghost use Rattle.mpm_base.specs.Calls.{Answer};
 ghost use Rattle.mpm_system.specs.Whole.{silent};
-ghost use Rattle.mpm_system.specs.Taking.{IsTaken};
 ghost use Rattle.mpm_machine.specs.Acting.{LivesInSystem, IsReadyWithin, ActsIn, MayAnswer, CallGives, Makes};
 ghost use Rattle.mpm_machine.specs.Serving.{served, served_to_all, creating, telling_system, telling_descriptor, fulfilling, completing, after_echo, outcome_of, gate_step};
 ghost use Rattle.mpm_machine.specs.Ending.{ended};
+ghost use Rattle.mpm_machine.specs.PartCalls.{MayServe, MayCreateChain, MayBringAbout};
 
 use crate::abort::abort;
 use crate::procedures::enter;
@@ -80,8 +80,7 @@ fn conclude_undone<S: Sink>(
     render: &mut Render,
     sink: &mut S,
 ) -> Result<(), Failed>
-    requires living { LivesInSystem p system.old }
-    requires undone { outcome ≢ Done }
+    requires { MayBringAbout p outcome system.old }
     ensures { (reply : Answer) → Makes S.written S.faults (after_echo (call_of system.old.kernel.dispatcher.procs p) p system.old (outcome_of outcome reply (call_of system.old.kernel.dispatcher.procs p) p seg system.old)) system.new render.old sink.old render.new sink.new result }
 {
     system.put_echo(p, render, sink)?;
@@ -91,8 +90,7 @@ fn conclude_undone<S: Sink>(
 
 /// What the outcome of the call that a process keeps brings about, where it isn't done.
 fn bring_about(system: &mut System, outcome: Outcome, p: Pid, seg: Seg)
-    requires living { LivesInSystem p system.old }
-    requires undone { outcome ≢ Done }
+    requires { MayBringAbout p outcome system.old }
     ensures { (reply : Answer) → silent system.new ≡ outcome_of outcome reply (call_of system.old.kernel.dispatcher.procs p) p seg system.old }
 {
     match outcome {
@@ -106,8 +104,7 @@ fn bring_about(system: &mut System, outcome: Outcome, p: Pid, seg: Seg)
 #[inline(always)]
 #[tactic(auto, using(crate::proofs::TakenLaws::few_descriptors, crate::proofs::TakenLaws::short_text), unfolding(crate::specs::Serving::served))]
 fn serve(system: &mut System, p: Pid, reply: &mut Reply) -> Outcome
-    requires acts { IsReadyWithin p system.old }
-    requires taken { IsTaken (call_of system.old.kernel.dispatcher.procs p) }
+    requires { MayServe p system.old }
     ensures { CallGives (served (call_of system.old.kernel.dispatcher.procs p) p system.old) system.new result reply.new }
 {
     match system.kernel.kept_call(p).function {
@@ -141,8 +138,7 @@ pub(crate) fn serve_to_all(system: &mut System, p: Pid, reply: &mut Reply) -> Ou
 #[inline(never)]
 #[tactic(auto, using(mpm_system::proofs::WholeLaws::segment_is_there), unfolding(crate::specs::Serving::creating))]
 fn create(system: &mut System, p: Pid, reply: &mut Reply) -> Outcome
-    requires living { LivesInSystem p system.old }
-    requires few { length (call_of system.old.kernel.dispatcher.procs p).bytes ≤ 576 }
+    requires { MayCreateChain p system.old }
     ensures { CallGives (creating p system.old) system.new result reply.new }
 {
     mpm_xdos::create(&mut system.kernel, &system.memory, p, reply);

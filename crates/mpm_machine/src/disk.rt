@@ -1,9 +1,8 @@
-ghost use Rattle.std.specs.Prelude.{◌≡◌, true, None, IsSome};
 ghost use Rattle.mpm_procs.specs.Table.{Lives, call_of};
-ghost use Rattle.mpm_file_functions.specs.Functions.{function_of};
 ghost use Rattle.mpm_machine.specs.Acting.{MayEndCall, Makes};
 ghost use Rattle.mpm_machine.specs.FileCalls.{told_of};
-ghost use Rattle.mpm_machine.specs.DiskStep.{is_done_at_once as done_at_once, call_over};
+ghost use Rattle.mpm_machine.specs.DiskStep.{call_over};
+ghost use Rattle.mpm_machine.specs.PartCalls.{TellsAtOnce};
 
 use crate::file_calls::conclude_file_call;
 use crate::finish::finish_all;
@@ -17,8 +16,7 @@ use mpm_system::System;
 #[tactic(auto, unfolding(crate::specs::DiskStep::is_done_at_once))]
 pub(crate) fn is_done_at_once(system: &System, p: Pid) -> bool
     requires lives { Lives system.now.kernel.dispatcher.procs p }
-    ensures done { result ≡ done_at_once p system.now }
-    ensures apart { result ≡ true → IsSome system.now.kernel.disk.served → function_of (call_of system.now.kernel.dispatcher.procs p).function ≡ None }
+    ensures { TellsAtOnce p system.now result }
 {
     // Asked only for what is so of the disk: where it serves a call its turns have steps, as the clause `apart` says.
     let _serving = system.kernel.disk().serving();

@@ -1,11 +1,9 @@
-ghost use Rattle.std.specs.Prelude.{◌≡◌, ◌<◌, true, Some, None, is_some, IfSome, is_none};
-ghost use Rattle.mpm_script.specs.declared.line.TheConstants.{GREATEST_STEP};
-ghost use Rattle.mpm_procs.specs.Table.{Lives, call_of};
-ghost use Rattle.mpm_gate.specs.Gates.{IsHome};
+ghost use Rattle.std.specs.Prelude.{◌≡◌, ◌<◌, true, Some, None, is_some, is_none};
+ghost use Rattle.mpm_procs.specs.Table.{call_of};
 ghost use Rattle.mpm_file_functions.specs.declared.refusals.Extended.{Extended};
-ghost use Rattle.mpm_system.specs.Whole.{IsWhole};
 ghost use Rattle.mpm_machine.specs.Acting.{LivesInSystem, MayAnswer, Makes};
-ghost use Rattle.mpm_machine.specs.FileCalls.{is_of_files as is_file_function, called_next, is_file_number, calls_files as files_called, file_caller as caller_of_files, told_of, answered_or_ended, told_then, error_met, concluded};
+ghost use Rattle.mpm_machine.specs.FileCalls.{is_of_files as is_file_function, called_next, is_file_number, calls_files as files_called, told_of, answered_or_ended, told_then, error_met, concluded};
+ghost use Rattle.mpm_machine.specs.PartCalls.{LivesAtHome, MayLookForCall, FindsFileCaller};
 
 use crate::acting::gate;
 use crate::call::end;
@@ -25,10 +23,8 @@ const TELLS_AND_ANSWERS: u8 = 0xFE;
 #[inline(always)]
 #[tactic(auto, using(mpm_kernel::proofs::SoundLaws::runner_lives), unfolding(crate::specs::FileCalls::file_caller))]
 pub(crate) fn file_caller(system: &System) -> Option<Pid>
-    requires whole { IsWhole system.now }
-    requires most { system.now.steps < GREATEST_STEP }
-    ensures caller { result ≡ caller_of_files system.now }
-    ensures lives { IfSome result (λ p. Lives system.now.kernel.dispatcher.procs p) }
+    requires { MayLookForCall system.now }
+    ensures { FindsFileCaller system.now result }
 {
     match system.kernel.running() {
         Some(p) => {
@@ -70,8 +66,7 @@ fn asks_for_files(system: &System, p: Pid) -> bool
 #[inline(always)]
 #[tactic(auto, using(crate::proofs::FileStepLaws::no_file_called))]
 fn calls_files_at_gate(system: &System, p: Pid, seg: Seg) -> bool
-    requires lives { Lives system.now.kernel.dispatcher.procs p }
-    requires home { IsHome system.now.memory seg }
+    requires { LivesAtHome p seg system.now }
     ensures { result ≡ is_file_number (called_next (Some seg) p system.now) }
 {
     if !is_of_files(system.kernel.regs(p).c) {

@@ -1,19 +1,14 @@
-ghost use Rattle.std.specs.Prelude.{◌≡◌, ◌<◌, ◌≤◌, ◌+◌, ◌*◌, ℕ, false, List, Option, Some, None, IsSome, IsOk, IfOk, OnOk, OnErr};
+ghost use Rattle.std.specs.Prelude.{◌≡◌, ◌<◌, ◌*◌, Option, Some, None, IfOk};
 ghost use Rattle.mpm_procs.specs.Table.{Lives, call_of};
-ghost use Rattle.mpm_mount.specs.Drives.{Drive};
 ghost use Rattle.mpm_file_functions.specs.declared.functions.FileFunction.{FileFunction};
 ghost use Rattle.mpm_file_functions.specs.Functions.{function_of};
-ghost use Rattle.mpm_bdos.specs.Serving.{IsCaller, filing_of, nothing_kept};
+ghost use Rattle.mpm_bdos.specs.Serving.{nothing_kept};
 ghost use Rattle.mpm_directories.specs.Places.{in_places as in_their_places};
-ghost use Rattle.mpm_bdos.specs.Starting.{caller_of};
-ghost use Rattle.mpm_bdos.specs.Turns.{FitsDrives, has_work};
-ghost use Rattle.mpm_machine.specs.Acting.{LivesInSystem};
 ghost use Rattle.mpm_machine.specs.Files.{all_left};
 ghost use Rattle.mpm_machine.specs.Holding.{HoldsKept};
-ghost use Rattle.mpm_machine.specs.FileCalls.{looked_at as as_looked_at};
-ghost use Rattle.mpm_machine.specs.Mounting.{HasNoDrive};
 ghost use Rattle.mpm_machine.specs.Filed.{left_if};
-ghost use Rattle.mpm_machine.specs.Parts.{DoesCall, StartsCall, WorksOnDrives, CallsDirectly};
+ghost use Rattle.mpm_machine.specs.Parts.{DoesCall, WorksOnDrives, CallsDirectly};
+ghost use Rattle.mpm_machine.specs.PartCalls.{CountsRecords, LooksAt, MayCallAtOnce, MayCallDisk, MayStartCall, HasEnteredService, GivesBack};
 
 use mpm_base::{Pid, Reply, Steps};
 use mpm_bdos::{Bdos, Extended, FileFunction, in_places};
@@ -27,8 +22,7 @@ use std::sync::ledger::Ledger;
 
 /// Gives back what those had open and marked who ended and owe it, slot by slot.
 pub(crate) fn give_back(bdos: &mut Bdos, owed: &Owed)
-    ensures filing { (drives : List (Option Drive)) → filing_of bdos.new drives ≡ all_left owed.now (filing_of bdos.old drives) }
-    ensures rest { bdos.new ≡ record bdos.old { opens = bdos.new.opens; marks = bdos.new.marks; searches = bdos.new.searches } }
+    ensures { GivesBack (all_left owed.now) bdos.old bdos.new }
 {
     for number in 0..32 {
         let gone = owed.owes(number);
@@ -38,8 +32,7 @@ pub(crate) fn give_back(bdos: &mut Bdos, owed: &Owed)
 
 /// Gives back what a process has open and marked, if it is gone.
 fn leave_if(bdos: &mut Bdos, p: Pid, gone: bool)
-    ensures filing { (drives : List (Option Drive)) → filing_of bdos.new drives ≡ left_if gone p (filing_of bdos.old drives) }
-    ensures rest { bdos.new ≡ record bdos.old { opens = bdos.new.opens; marks = bdos.new.marks; searches = bdos.new.searches } }
+    ensures { GivesBack (left_if gone p) bdos.old bdos.new }
 {
     if gone {
         bdos.give_back(p);
@@ -48,10 +41,8 @@ fn leave_if(bdos: &mut Bdos, p: Pid, gone: bool)
 
 /// A process as a file call looks at it.
 fn looked_at(process: &Process) -> Process
-    requires some { 1 ≤ process.now.multi }
-    requires few { process.now.multi ≤ 16 }
-    ensures process { result ≡ as_looked_at process.now }
-    ensures caller { (p : ℕ) → IsCaller (caller_of p result) }
+    requires { CountsRecords process.now }
+    ensures { LooksAt process.now result }
 {
     Process {
         user: process.user % 16,
@@ -69,8 +60,7 @@ pub(crate) fn call_files<D: Drives, L: Ledger>(
     drives: &mut D,
     calls: &mut Steps<L>,
 ) -> Result<Option<Extended>, Failed>
-    requires living { LivesInSystem p system.now }
-    requires fits { FitsDrives D.disks bdos.old.mounted bdos.old.cached drives.old }
+    requires { MayCallAtOnce D.disks p system.now bdos.old drives.old }
     ensures { DoesCall D.Drives p system.now bdos.old bdos.new reply.new drives.old drives.new calls.old calls.new result }
 {
     let call = system.kernel.kept_call(p);
@@ -89,9 +79,7 @@ fn call_disk<D: Drives, L: Ledger>(
     drives: &mut D,
     calls: &mut Steps<L>,
 ) -> Result<Option<Extended>, Failed>
-    requires living { LivesInSystem p system.now }
-    requires fits { FitsDrives D.disks bdos.old.mounted bdos.old.cached drives.old }
-    requires function { IsSome (function_of (call_of system.now.kernel.dispatcher.procs p).function) }
+    requires { MayCallDisk D.disks p system.now bdos.old drives.old }
     ensures { DoesCall D.Drives p system.now bdos.old bdos.new reply.new drives.old drives.new calls.old calls.new result }
 {
     let caller = looked_at(system.kernel.living(p));
@@ -121,11 +109,8 @@ fn call_directly(system: &System, bdos: &Bdos, p: Pid, reply: &mut Reply) -> Opt
 #[cold]
 #[inline(never)]
 pub(crate) fn start_call(system: &System, bdos: &mut Bdos, p: Pid) -> u32
-    requires living { LivesInSystem p system.now }
-    requires function { IsSome (function_of (call_of system.now.kernel.dispatcher.procs p).function) }
-    ensures starts { StartsCall p result system.now bdos.old bdos.new }
-    ensures workless { HasNoDrive bdos.old.mounted → has_work bdos.new.service ≡ false }
-    ensures kept { bdos.new ≡ record bdos.old { service = bdos.new.service } }
+    requires { MayStartCall p system.now }
+    ensures { HasEnteredService p result system.now bdos.old bdos.new }
 {
     let caller = looked_at(system.kernel.living(p));
     bdos.start(p, system.kernel.kept_call(p), &caller, system.kernel.now())

@@ -1,8 +1,9 @@
-ghost use Rattle.std.specs.Prelude.{◌≡◌, ◌≤◌, ◌+◌, length, IfSome, IfNone};
+ghost use Rattle.std.specs.Prelude.{◌≡◌};
 ghost use Rattle.mpm_procs.specs.Table.{process_in};
-ghost use Rattle.mpm_system.specs.Whole.{IsWhole, HasRoomForAll, most_records};
+ghost use Rattle.mpm_system.specs.Whole.{IsWhole};
 ghost use Rattle.mpm_machine.specs.Acting.{MayAnswerAll};
 ghost use Rattle.mpm_machine.specs.Finishing.{finished, all_finished, command_let_in, finished_or_ended, all_answered, HandsOut, MayFinish};
+ghost use Rattle.mpm_machine.specs.PartCalls.{MayFinishAll, MayFinishEach, AnswersHeld};
 
 use crate::call::{end, fulfil};
 use mpm_base::{Pid, Reply};
@@ -13,8 +14,7 @@ use mpm_system::System;
 #[inline(always)]
 pub(crate) fn answer_all(system: &mut System, reply: &mut Reply)
     requires { MayAnswerAll system.old }
-    ensures system { system.new ≡ all_answered system.old }
-    ensures few { length system.new.records ≤ length system.old.records + 65 }
+    ensures { AnswersHeld (all_answered system.old) 65 system.old system.new }
 {
     if system.kernel.has_completed() {
         answer_each(system, reply);
@@ -26,8 +26,7 @@ pub(crate) fn answer_all(system: &mut System, reply: &mut Reply)
 #[inline(never)]
 fn answer_each(system: &mut System, reply: &mut Reply)
     requires { MayAnswerAll system.old }
-    ensures system { system.new ≡ all_answered system.old }
-    ensures few { length system.new.records ≤ length system.old.records + 65 }
+    ensures { AnswersHeld (all_answered system.old) 65 system.old system.new }
 {
     if let Some(p) = next_completed(system, reply) {
         finish_first(system, p, reply);
@@ -51,10 +50,8 @@ fn finish_first(system: &mut System, p: Pid, reply: &mut Reply)
 /// The held calls that were completed are answered: mostly there are none.
 #[inline(always)]
 pub(crate) fn finish_all(system: &mut System, reply: &mut Reply)
-    requires whole { IsWhole system.old }
-    requires room { HasRoomForAll (length system.old.records) }
-    ensures system { system.new ≡ all_finished system.old }
-    ensures few { length system.new.records ≤ length system.old.records + 64 }
+    requires { MayFinishAll system.old }
+    ensures { AnswersHeld (all_finished system.old) 64 system.old system.new }
 {
     if system.kernel.has_completed() {
         finish_each(system, reply);
@@ -64,8 +61,7 @@ pub(crate) fn finish_all(system: &mut System, reply: &mut Reply)
 /// The held calls that were completed are answered, in order: each reply is placed, and its record joins the others.
 #[inline(never)]
 fn finish_each(system: &mut System, reply: &mut Reply)
-    requires whole { IsWhole system.old }
-    requires room { length system.old.records + length system.old.kernel.dispatcher.completed ≤ most_records }
+    requires { MayFinishEach system.old }
     ensures { system.new ≡ all_finished system.old }
 {
     while let Some(p) = next_completed(system, reply) {

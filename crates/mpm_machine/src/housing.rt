@@ -1,4 +1,4 @@
-ghost use Rattle.std.specs.Prelude.{◌≡◌, ◌<◌, IfSome, option_map};
+ghost use Rattle.std.specs.Prelude.{◌≡◌, ◌<◌, option_map};
 
 use crate::machine::Machine;
 use mpm_base::{Pid, Seg};
@@ -18,16 +18,15 @@ pub struct Home {
 impl Machine {
     ghost use Rattle.std.specs.Option.{option_copied};
     ghost use Rattle.mpm_banks.specs.Ranges.{range_of, range_bytes};
-    ghost use Rattle.mpm_gate.specs.Gates.{IsHome};
     ghost use Rattle.mpm_system.specs.Whole.{IsWhole};
+    ghost use Rattle.mpm_machine.specs.PartCalls.{TellsHome};
     ghost use Rattle.mpm_machine.specs.Housing.{home_of};
 
     /// Where the process of that number lives. None comes exactly where it doesn't live, or is a resident, which has no segment.
     #[tactic(auto, using(mpm_system::proofs::WholeLaws::segment_is_there), unfolding(crate::specs::Housing::home_of))]
     pub fn home(&self, p: Pid) -> Option<Home>
         requires whole { IsWhole self.now.system }
-        ensures home { result ≡ home_of self.now.system p }
-        ensures is_home { IfSome result (λ home. IsHome self.now.system.memory home.seg) }
+        ensures { TellsHome p self.now.system result }
     {
         if !self.system.kernel.lives(p) {
             return None;

@@ -1,12 +1,11 @@
-ghost use Rattle.std.specs.Prelude.{◌≡◌, ◌≤◌, None, is_some, IfOk};
-ghost use Rattle.mpm_script.specs.declared.line.TheConstants.{GREATEST_STEP};
+ghost use Rattle.std.specs.Prelude.{◌≡◌, None};
 ghost use Rattle.mpm_script.specs.Events.{IsEvent};
-ghost use Rattle.mpm_kernel.specs.Consoling.{AbortLives};
 ghost use Rattle.mpm_output.specs.Writing.{WritesAlone};
 ghost use Rattle.mpm_system.specs.Whole.{IsWhole};
 ghost use Rattle.mpm_system.specs.Coming.{coming};
 ghost use Rattle.mpm_machine.specs.Acting.{Makes};
 ghost use Rattle.mpm_machine.specs.Step.{interrupted_by, event_come, key_aborted, event_text};
+ghost use Rattle.mpm_machine.specs.PartCalls.{MayMeetEvent, MeetsEvent, MayAbortByKey};
 
 use crate::abort::abort_process;
 use mpm_output::put_bytes;
@@ -23,10 +22,8 @@ pub(crate) fn interrupt<S: Sink>(
     render: &mut Render,
     sink: &mut S,
 ) -> Result<bool, Failed>
-    requires whole { IsWhole system.old }
-    requires most { system.old.steps ≤ GREATEST_STEP }
-    ensures came { IfOk result (λ came. came ≡ is_some (coming system.old)) }
-    ensures done { Makes S.written S.faults (interrupted_by (coming system.old) system.old) system.new render.old sink.old render.new sink.new result }
+    requires { MayMeetEvent system.old }
+    ensures { MeetsEvent S.written S.faults (interrupted_by (coming system.old) system.old) system.old system.new render.old sink.old render.new sink.new result }
 {
     if !system.is_open() {
         return Ok(false);
@@ -84,8 +81,7 @@ fn put_event<S: Sink>(
 
 /// The process that a key aborts, if any, ends, or its end is put off.
 fn abort_by_key(system: &mut System)
-    requires whole { IsWhole system.old }
-    requires lives { AbortLives system.old.kernel }
+    requires { MayAbortByKey system.old }
     ensures { system.new ≡ key_aborted system.old.kernel.aborted system.old }
 {
     if let Some(p) = system.kernel.take_abort() {

@@ -1,4 +1,4 @@
-ghost use Rattle.std.specs.Prelude.{◌≡◌, ℕ, ◌+◌, ◌-◌, ◌*◌, ◌<◌, ◌≤◌, true, false, [], Option, Some, None, IfOk, OnOk, IfErr, MatchOption, MatchResult, length, option_map};
+ghost use Rattle.std.specs.Prelude.{◌≡◌, ℕ, ◌+◌, ◌-◌, ◌*◌, ◌<◌, ◌≤◌, true, false, [], Option, Some, None, IfOk, OnOk, IfErr, MatchOption, length, option_map};
 ghost use Rattle.mpm_script.specs.declared.line.TheConstants.{GREATEST_STEP};
 
 use crate::filing::{bdos_of, work};
@@ -43,12 +43,11 @@ pub struct Machine {
 impl Machine {
     ghost use Rattle.std.specs.Option.{option_copied};
     ghost use Rattle.mpm_banks.specs.Memory.{byte_at};
-    ghost use Rattle.mpm_procs.specs.Table.{process_at, lowest_free};
+    ghost use Rattle.mpm_procs.specs.Table.{process_at};
     ghost use Rattle.mpm_kernel.specs.Kernel.{IsConsole};
     ghost use Rattle.mpm_consoles.specs.Consoles.{console_at};
     ghost use Rattle.mpm_machine_file.specs.MachineFiles.{IsMachine};
-    ghost use Rattle.mpm_directories.specs.Places.{directory_at, in_places};
-    ghost use Rattle.mpm_bdos.specs.Serving.{nothing_kept};
+    ghost use Rattle.mpm_directories.specs.Places.{directory_at};
     ghost use Rattle.mpm_system.specs.Whole.{IsWhole, NoCompletions};
     ghost use Rattle.mpm_machine.specs.State.{State, IsAt, StandsWithDrives};
     ghost use Rattle.mpm_machine.specs.Holding.{HoldsDrives};
@@ -60,15 +59,17 @@ impl Machine {
     ghost use Rattle.mpm_refusals.specs.Filing.{Filing};
     ghost use Rattle.mpm_machine.specs.Printing.{at_beginning, IsPrinting};
     ghost use Rattle.mpm_machine.specs.Spooling.{IsSpooling};
-    ghost use Rattle.mpm_system.specs.Opening.{booted, opened, IsBare, MayPlace, with_placed, opening_system};
+    ghost use Rattle.mpm_system.specs.Opening.{booted, opened, MayPlace, opening_system};
     ghost use Rattle.mpm_machine.specs.OneStep.{StepsLeave, StopsStep, StopsRun, LeavesDrives, turns_in};
     ghost use Rattle.mpm_machine.specs.Standing.{StandingFor, StandingAt};
     ghost use Rattle.mpm_machine.specs.Parts.{IsBetweenSteps};
     ghost use Rattle.mpm_machine.specs.After.{next, after, IsStepOf};
-    ghost use Rattle.mpm_machine.specs.Booting.{IsBootedOn, LeavesUnlisted, MayBeginResidents, HasBegunResidents, IsOfProgram};
+    ghost use Rattle.mpm_machine.specs.Booting.{IsBootedOn, LeavesUnlisted, MayBeginResidents, HasBegunResidents};
+    ghost use Rattle.mpm_machine.specs.BootCalls.{BootsBare, MakesBare, BootsProgram, PutsProgram};
     ghost use Rattle.mpm_machine.specs.Mounting.{HasNoDrive};
     ghost use Rattle.mpm_machine.specs.Failing.{leaving, does_work, turns_done, working_in};
     ghost use Rattle.mpm_machine.specs.Setup.{set_up};
+    ghost use Rattle.mpm_machine.specs.PartCalls.{MayAdvance};
     ghost use Rattle.mpm_machine.specs.StepParts.{TakesStep, Advances};
     ghost use Rattle.mpm_machine.specs.Scheduling.{IsScheduling};
     ghost use Rattle.mpm_base.specs.Counts.{one_if};
@@ -142,11 +143,7 @@ impl Machine {
         drives: &mut D,
     ) -> Result<Box<Machine>, BootError>
         requires { IsMachine file.now }
-        ensures booted { IfOk result (λ machine. machine.value.system ≡ booted file.now script) }
-        ensures bare { IfOk result (λ machine. IsBare machine.value.system) }
-        ensures disk { IfOk result (λ machine. machine.value.system.kernel.disk ≡ no_service file.now.disk_turn) }
-        ensures stands { IfOk result (λ machine. IsBootedOn D.disks (D.told drives.old) (D.unsynced drives.new) file.now.drives machine.value drives.new) }
-        ensures leaves { LeavesUnlisted D.Drives file.now.drives drives.old drives.new result }
+        ensures { BootsBare D.Drives file.now script drives.old drives.new result }
     {
         let mounted = match MountedDrives::mount(alloc, file.drives.as_slice(), drives) {
             Ok(mounted) => mounted,
@@ -167,11 +164,7 @@ impl Machine {
         mounted: Vec<Mounted>,
     ) -> Result<Box<Machine>, BootError>
         requires { IsMachine file.now }
-        ensures booted { IfOk result (λ machine. machine.value.system ≡ booted file.now script) }
-        ensures bare { IfOk result (λ machine. IsBare machine.value.system) }
-        ensures disk { IfOk result (λ machine. machine.value.system.kernel.disk ≡ no_service file.now.disk_turn) }
-        ensures bdos { IfOk result (λ machine. machine.value.bdos ≡ nothing_kept (in_places mounted.items)) }
-        ensures memory { IfErr result (λ error. error ≡ BootError.OutOfMemory) }
+        ensures { MakesBare file.now script mounted.items result }
     {
         let bdos = match bdos_of(alloc, mounted) {
             Ok(bdos) => bdos,
@@ -200,8 +193,7 @@ impl Machine {
     #[tactic(auto, unfolding(mpm_system::specs::Opening::opening_system))]
     pub fn boot_program(alloc: Global, program: &[u8]) -> Result<Box<Machine>, BootError>
         requires { length program.now ≤ 48512 }
-        ensures program { IfOk result (λ machine. IsOfProgram program.now machine.value) }
-        ensures memory { IfErr result (λ error. error ≡ BootError.OutOfMemory) }
+        ensures { BootsProgram program.now result }
     {
         let file = match program_file(alloc) {
             Ok(file) => file,
@@ -221,11 +213,7 @@ impl Machine {
     /// gates' page.
     pub fn place(&mut self, seg: Seg, name: Name8, priority: u8, console: u8, program: &[u8]) -> Pid
         requires { MayPlace self.old.system seg console (length program.now) }
-        ensures slot { lowest_free self.old.system.kernel.dispatcher.procs ≡ Some result }
-        ensures system { self.new.system ≡ with_placed self.old.system result seg name priority console program.now }
-        ensures bare { IsBare self.new.system }
-        ensures disk { self.new.system.kernel.disk ≡ self.old.system.kernel.disk }
-        ensures bdos { self.new.bdos ≡ self.old.bdos }
+        ensures { PutsProgram seg name priority console program.now self.old self.new result }
     {
         self.system.place(seg, name, priority, console, program)
     }
@@ -296,12 +284,13 @@ impl Machine {
         // which nobody lives. An instruction leaves all bytes but its own. A call is served by what it took. A spooler prints its file. It
         // asks for a file's deletion only after it closed it, wholly printed. A scheduler sends what it accepted in order.
         ensures law { (s : State) → s.system ≡ self.old.system → IsStepOf s }
-        // A success counts one step and leaves the machine whole. No end of a process is due, and no two locks are of one record.
+        // A success counts one step. The machine is whole again, nobody is left to be answered, no end of a process is due, and no two
+        // locks are of one record. An interpreter that acts keeps its segment, and the disk's turns have as many steps as before.
         ensures leaves { OnOk result (StepsLeave 1 self.old self.new) }
         // Then the images stand for files again: the machine may be stepped on.
         ensures holds { OnOk result (HoldsDrives D.disks self.new.system.kernel self.new.bdos drives.new) }
-        // In any case each drive keeps its name, kind and size. Other images stay as they were. A drive that isn't synced
-        // isn't so after it.
+        // In any case each drive keeps its name, kind and size, and images of other names stay. No name joins the failed ones. A drive
+        // that isn't synced isn't so after it.
         ensures drives { LeavesDrives D.Drives self.old.bdos.mounted self.new.bdos.mounted drives.old drives.new }
         // A success leaves the counts of faults. An error comes only where the count of the device that it names rose; the other count
         // stays. Whether calls are traced stays too.
@@ -375,13 +364,13 @@ impl Machine {
         ensures stops { StandingAt self.old render.old (S.written sink.old) (D.disks drives.old) (λ s first. IfErr result (λ error. StopsRun error render.old.trace (leaving S.written D.disks render.new sink.new drives.new self.new.bdos.mounted) n s first)) }
         // Each of the steps keeps to what `law` of `step` says.
         ensures each { (s : State) → s.system ≡ self.old.system → (k : ℕ) → k < n → IsStepOf (after k s) }
-        // A success counts `n` steps and leaves the machine whole. After a step no end of a process is due. No two locks are of one
-        // record.
+        // A success counts `n` steps. The machine is whole again, nobody is left to be answered, no end of a process is due after a step,
+        // and no two locks are of one record. An interpreter that acts keeps its segment, and the disk's turns have as many steps.
         ensures leaves { OnOk result (StepsLeave n self.old self.new) }
         // Then the images stand for files again: the machine may be run on.
         ensures holds { OnOk result (HoldsDrives D.disks self.new.system.kernel self.new.bdos drives.new) }
-        // In any case each drive keeps its name, kind and size. Other images stay as they were. A drive that isn't synced
-        // isn't so after it.
+        // In any case each drive keeps its name, kind and size, and images of other names stay. No name joins the failed ones. A drive
+        // that isn't synced isn't so after it.
         ensures drives { LeavesDrives D.Drives self.old.bdos.mounted self.new.bdos.mounted drives.old drives.new }
         // A success leaves the counts of faults. An error comes only where the count of the device that it names rose; the other count
         // stays. Whether calls are traced stays too.
@@ -417,9 +406,7 @@ impl Machine {
         sink: &mut S,
         calls: &mut Steps<L>,
     ) -> Result<u64, RunFault>
-        requires some { 0 < most }
-        requires room { self.old.system.steps + most ≤ GREATEST_STEP }
-        requires between { IsBetweenSteps D.disks self.old drives.old }
+        requires { MayAdvance D.disks most self.old drives.old }
         ensures { Advances D.Drives most (set_up S.Sink self.old drives.old render.old sink.old calls.old) (set_up S.Sink self.new drives.new render.new sink.new calls.new) result }
     {
         let done = self.run_on(most, drives, render, sink);

@@ -1,9 +1,7 @@
-ghost use Rattle.std.specs.Prelude.{◌≡◌, true};
-ghost use Rattle.mpm_procs.specs.Table.{process_in};
-ghost use Rattle.mpm_xdos.specs.Procedures.{entered, entry_reply};
-ghost use Rattle.mpm_system.specs.Procedures.{is_inside};
+ghost use Rattle.std.specs.Prelude.{◌≡◌};
 ghost use Rattle.mpm_machine.specs.Acting.{LivesInSystem};
 ghost use Rattle.mpm_machine.specs.Serving.{is_entry as got_message, with_entry, reply_at_entry, returning, EntersIfAnswered};
+ghost use Rattle.mpm_machine.specs.PartCalls.{IsInProcedure, HasEnteredProcedure};
 
 use mpm_base::{Call, Pid, Reply, functions};
 use mpm_system::System;
@@ -39,8 +37,7 @@ fn enter_if_answered(system: &mut System, p: Pid, reply: &mut Reply)
 #[tactic(auto, using(mpm_system::proofs::WholeLaws::segment_is_there))]
 fn enter_procedure(system: &mut System, p: Pid, reply: &mut Reply)
     requires { LivesInSystem p system.old }
-    ensures system { system.new ≡ record system.old { kernel = entered p system.old.kernel } }
-    ensures reply { reply.new ≡ entry_reply system.old.memory (process_in system.old.kernel.dispatcher.procs p) }
+    ensures { HasEnteredProcedure p reply.new system.old system.new }
 {
     mpm_xdos::enter_procedure(&mut system.kernel, &system.memory, p, reply);
 }
@@ -50,8 +47,7 @@ fn enter_procedure(system: &mut System, p: Pid, reply: &mut Reply)
 #[inline(never)]
 #[tactic(auto, unfolding(crate::specs::Serving::returning))]
 pub(crate) fn leave_procedure(system: &mut System, p: Pid)
-    requires living { LivesInSystem p system.old }
-    requires inside { is_inside system.old.kernel.dispatcher.procs p ≡ true }
+    requires { IsInProcedure p system.old }
     ensures { system.new ≡ returning p system.old }
 {
     mpm_xdos::leave_procedure(&mut system.kernel, p);

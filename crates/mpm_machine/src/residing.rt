@@ -1,9 +1,9 @@
-ghost use Rattle.std.specs.Prelude.{◌≡◌, is_some, true};
 ghost use Rattle.mpm_residents.specs.declared.cli.act.Act.TheVariants.{Ask};
 ghost use Rattle.mpm_procs.specs.Table.{call_of};
 ghost use Rattle.mpm_residents.specs.Natives.{native_in};
-ghost use Rattle.mpm_machine.specs.Acting.{LivesInSystem, IsReadyWithin, Makes};
+ghost use Rattle.mpm_machine.specs.Acting.{IsReadyWithin, Makes};
 ghost use Rattle.mpm_machine.specs.Residing.{resided, native_step, native_outcome, calling_step, MayReside};
+ghost use Rattle.mpm_machine.specs.PartCalls.{MayConcludeResident};
 
 use crate::call::{end, serve_to_all};
 use mpm_base::{Outcome, Pid, Reply};
@@ -99,8 +99,7 @@ fn conclude_residing<S: Sink>(
     render: &mut Render,
     sink: &mut S,
 ) -> Result<(), Failed>
-    requires living { LivesInSystem p system.old }
-    requires has { is_some (native_in system.old.residents p) ≡ true }
+    requires { MayConcludeResident p system.old }
     ensures { Makes S.written S.faults (native_outcome outcome reply.now (call_of system.old.kernel.dispatcher.procs p) p system.old) system.new render.old sink.old render.new sink.new result }
 {
     match outcome {

@@ -24,7 +24,7 @@ impl Machine {
     ghost use Rattle.mpm_machine.specs.Parts.{IsBetweenSteps};
     ghost use Rattle.mpm_machine.specs.AtEnd.{EndsRun, StopsAtEnd, StopsSettling, drive_calls, SyncsAll, AfterTurns};
     ghost use Rattle.mpm_machine.specs.Setup.{set_up};
-    ghost use Rattle.mpm_machine.specs.EndParts.{Carries, MayEndLast, EndsCall, Closes};
+    ghost use Rattle.mpm_machine.specs.EndParts.{Carries, MayEndLast, EndsCall, SyncsAndCloses};
 
     /// The end of a run: the call in service is carried to its end, each drive is synced, in order of the letters, and unfinished lines
     /// are closed. Where a drive fails nothing more is written, and the lines are left to `Render::finish`. Only `Render::finish` may
@@ -83,7 +83,7 @@ impl Machine {
         calls: &mut Steps<L>,
     ) -> Result<(), StepFault>
         requires { FitsDrives D.disks self.now.bdos.mounted self.now.bdos.cached drives.old }
-        ensures { Closes D.Drives (set_up S.Sink self.now drives.old render.old sink.old calls.old) (set_up S.Sink self.now drives.new render.new sink.new calls.new) result }
+        ensures { SyncsAndCloses D.Drives (set_up S.Sink self.now drives.old render.old sink.old calls.old) (set_up S.Sink self.now drives.new render.new sink.new calls.new) result }
     {
         if let Err(Failed) = self.bdos.sync(drives, calls) {
             return Err(StepFault::DiskFault);

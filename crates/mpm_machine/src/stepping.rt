@@ -1,4 +1,4 @@
-ghost use Rattle.std.specs.Prelude.{◌≡◌, ℕ, ◌+◌, ◌*◌, ◌<◌, ◌≤◌, ◌&&◌, false, List, [], Option, Some, None, IfOk, OnOk, IfErr, OnErr, IsSome, is_some};
+ghost use Rattle.std.specs.Prelude.{◌≡◌, ◌<◌, false, Option, Some, None, is_some};
 
 use crate::acting::begin_alone;
 use crate::disk::{end_file_call, is_done_at_once};
@@ -17,12 +17,12 @@ use std::sync::ledger::Ledger;
 impl Machine {
     ghost use Rattle.mpm_procs.specs.Table.{call_of};
     ghost use Rattle.mpm_output.specs.Outside.{seen};
-    ghost use Rattle.mpm_output.specs.Writing.{CameOut, Stopped};
     ghost use Rattle.mpm_machine.specs.Acting.{MayAnswer, MayEndCall};
     ghost use Rattle.mpm_machine.specs.DiskStep.{is_done_at_once};
     ghost use Rattle.mpm_machine.specs.FileCalls.{file_caller, told_of, concluded};
     ghost use Rattle.mpm_machine.specs.Parts.{MayBeginStep, MayCallFiles, MayEnd, MayEndStep};
     ghost use Rattle.mpm_machine.specs.Setup.{set_up};
+    ghost use Rattle.mpm_machine.specs.PartCalls.{ConcludesCall};
     ghost use Rattle.mpm_machine.specs.StepParts.{BeginsStep, CallsFiles, EndsStep, ServesDisk, PassesTurn, AnswersCall, PaysBack, EntersCall};
 
     /// What a step begins with, and the held calls that this completed. Answers whether it was an instruction. A drive may fail only
@@ -110,11 +110,7 @@ impl Machine {
         sink: &mut S,
     ) -> Result<(), StepFault>
         requires { MayAnswer p self.old.system }
-        ensures system { OnOk result (self.new.system ≡ (concluded (told_of (call_of self.old.system.kernel.dispatcher.procs p) self.old.reply extended) p self.old.system).system) }
-        ensures wrote { OnOk result (CameOut (seen S.written S.faults render.old sink.old) (seen S.written S.faults render.new sink.new) (concluded (told_of (call_of self.old.system.kernel.dispatcher.procs p) self.old.reply extended) p self.old.system).emitted) }
-        ensures err { IfErr result (λ fault. (fault ≡ StepFault.WriteFault) × Stopped (seen S.written S.faults render.old sink.old) (seen S.written S.faults render.new sink.new)
-            (concluded (told_of (call_of self.old.system.kernel.dispatcher.procs p) self.old.reply extended) p self.old.system).emitted) }
-        ensures bdos { self.new.bdos ≡ self.old.bdos }
+        ensures { ConcludesCall (concluded (told_of (call_of self.old.system.kernel.dispatcher.procs p) self.old.reply extended) p self.old.system) (seen S.written S.faults render.old sink.old) (seen S.written S.faults render.new sink.new) self.old self.new result }
     {
         match conclude_file_call(&mut self.system, p, extended, &self.reply, render, sink) {
             Ok(()) => Ok(()),

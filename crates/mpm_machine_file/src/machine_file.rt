@@ -10,7 +10,7 @@ pub struct MachineFile {
     pub printers: u8,
     /// The number of steps between two ticks of the clock, 100 to 1,000,000; 0 where it does not tick by itself.
     pub tick_every: u32,
-    /// The number of steps that a disk takes for a record, at most 1,000; 0 where it takes none.
+    /// The number of steps that a disk takes for each turn of a call on files, at most 1,000; 0 where it takes none.
     pub disk_turn: u32,
     /// The day at boot, counted from 1 for 1 January 1978.
     pub date: u16,

@@ -1,14 +1,12 @@
-ghost use Rattle.std.specs.Prelude.{◌≡◌, ◌<◌, ◌≤◌, ◌+◌, ◌-◌, ◌*◌, ℕ, List, true, None, IsSome, IfSome, is_none, is_some, option_map};
-ghost use Rattle.z80_regs.specs.declared.regs.Regs.{Regs};
-ghost use Rattle.z80_ext.specs.Instruction.{IsRareAt, IsLoadUpAt, instruction, registers_after, actions_of};
+ghost use Rattle.std.specs.Prelude.{◌≡◌, option_map};
+ghost use Rattle.z80_ext.specs.Instruction.{IsRareAt, IsLoadUpAt};
 ghost use Rattle.z80_ext.specs.Steps.{IsFetched};
 ghost use Rattle.mpm_banks.specs.Allocations.{FitsBelowCommon};
 ghost use Rattle.mpm_banks.specs.Memory.{byte_at};
 ghost use Rattle.mpm_banks.specs.Sides.{alone};
-ghost use Rattle.mpm_banks.specs.Ports.{port_byte};
-ghost use Rattle.mpm_banks.specs.Actions.{memory_after, devices_after};
-ghost use Rattle.mpm_gate.specs.Gates.{IsHome, gate_in, gate_of};
-ghost use Rattle.mpm_processor.specs.Moving.{CanMove, Moves, Bursts, Executes, ExecutesUnbegun, MayExecute, IsPaused, view_of};
+ghost use Rattle.mpm_gate.specs.Gates.{IsHome};
+ghost use Rattle.mpm_processor.specs.Moving.{Bursts, Executes, ExecutesUnbegun, MayExecute, IsPaused, view_of};
+ghost use Rattle.mpm_processor.specs.Executing.{ReadsBelowGates, FetchesBelowGates, FetchesUnlessGate, TellsLoadUp, ExecutesListed, ExecutesIfListed, MayExecuteAt, MovesAtMost, MovesUnlessStopped, MayExecutePlain, MayPauseInHalt};
 
 use mpm_banks::{Banks, Burst, SliceBus, last_page};
 use mpm_base::{Devices, Seg, SegmentSpec};
@@ -31,8 +29,7 @@ pub struct Instructions {
 #[tactic(auto, unfolding(mpm_banks::specs::Memory::place_of, mpm_banks::specs::Memory::byte_at))]
 fn opcode_below_gates(spec: SegmentSpec, address: u16, segment: &[u8]) -> Option<u8>
     requires { FitsBelowCommon spec }
-    ensures byte { (common : List ℕ) → IfSome result (λ opcode. opcode ≡ byte_at (alone spec segment.now common) 0 address) }
-    ensures below { IsSome result → address < 256 * (spec.base + spec.pages - 1) }
+    ensures { ReadsBelowGates spec address segment.now result }
 {
     let first = 256 * usize::from(spec.base);
     let size = (256 * usize::from(spec.pages - 1)).min(segment.len());
@@ -48,8 +45,7 @@ fn opcode_below_gates(spec: SegmentSpec, address: u16, segment: &[u8]) -> Option
 #[tactic(auto, unfolding(mpm_banks::specs::Memory::place_of, mpm_banks::specs::Memory::byte_at))]
 fn fetch_below_gates(spec: SegmentSpec, address: u16, segment: &[u8]) -> Option<Fetched>
     requires { FitsBelowCommon spec }
-    ensures fetched { (common : List ℕ) → IfSome result (λ fetched. IsFetched (byte_at (alone spec segment.now common) 0) address fetched) }
-    ensures below { IsSome result → address < 256 * (spec.base + spec.pages - 1) }
+    ensures { FetchesBelowGates spec address segment.now result }
 {
     let first = 256 * usize::from(spec.base);
     let size = (256 * usize::from(spec.pages - 1)).min(segment.len().saturating_sub(2));
@@ -77,11 +73,7 @@ fn fetch(
     devices: &mut Devices,
 ) -> Option<Fetched>
     requires { FitsBelowCommon spec }
-    ensures fetched { IfSome result (λ fetched. IsFetched (byte_at (alone spec segment.old common.old) 0) address fetched) }
-    ensures gate { is_none result ≡ is_some (gate_in inside (spec.base + spec.pages - 1) address) }
-    ensures segment { segment.new ≡ segment.old }
-    ensures common { common.new ≡ common.old }
-    ensures devices { devices.new ≡ devices.old }
+    ensures { FetchesUnlessGate inside spec address segment.old segment.new common.old common.new devices.old devices.new result }
 {
     if let Some(fetched) = fetch_below_gates(spec, address, segment) {
         return Some(fetched);
@@ -153,8 +145,7 @@ fn execute_other(
 #[inline(always)]
 fn is_load_up(spec: SegmentSpec, regs: &Regs, segment: &[u8]) -> bool
     requires { FitsBelowCommon spec }
-    ensures load { (common : List ℕ) → result ≡ true → IsLoadUpAt regs.now (byte_at (alone spec segment.now common) 0) }
-    ensures below { result ≡ true → regs.now.pc < 256 * (spec.base + spec.pages - 1) }
+    ensures { TellsLoadUp spec regs.now segment.now result }
 {
     if regs.halted {
         return false;
@@ -178,10 +169,8 @@ fn execute_load(
     devices: &mut Devices,
 )
     requires { IsLoadUpAt regs.old (byte_at (alone spec segment.old common.old) 0) }
-    ensures listed { IsSome (instruction regs.old (byte_at (alone spec segment.old common.old) 0) (port_byte devices.old)) }
-    ensures registers { regs.new ≡ registers_after (instruction regs.old (byte_at (alone spec segment.old common.old) 0) (port_byte devices.old)) regs.old }
-    ensures memory { alone spec segment.new common.new ≡ memory_after (actions_of (instruction regs.old (byte_at (alone spec segment.old common.old) 0) (port_byte devices.old))) 0 (alone spec segment.old common.old) }
-    ensures devices { devices.new ≡ devices_after (actions_of (instruction regs.old (byte_at (alone spec segment.old common.old) 0) (port_byte devices.old))) devices.old }
+    ensures { ExecutesListed (view_of spec regs.old segment.old common.old devices.old)
+        (view_of spec regs.new segment.new common.new devices.new) }
 {
     let mut bus = SliceBus {
         spec,
@@ -204,8 +193,7 @@ fn execute_loads(
     devices: &mut Devices,
 ) -> u64
     requires { FitsBelowCommon spec }
-    ensures count { result ≤ most }
-    ensures moved { Moves inside result 0 (view_of spec regs.old segment.old common.old devices.old)
+    ensures { MovesAtMost inside most result (view_of spec regs.old segment.old common.old devices.old)
         (view_of spec regs.new segment.new common.new devices.new) }
 {
     for done in 0..most {
@@ -230,10 +218,8 @@ fn execute_others(
     devices: &mut Devices,
 ) -> u64
     requires { MayExecute opcode burst spec (view_of spec regs.old segment.old common.old devices.old) }
-    ensures count { result ≤ burst.most }
-    ensures moved { Moves burst.inside result 0 (view_of spec regs.old segment.old common.old devices.old)
+    ensures { MovesUnlessStopped burst.inside burst.most result (view_of spec regs.old segment.old common.old devices.old)
         (view_of spec regs.new segment.new common.new devices.new) }
-    ensures stopped { result ≡ 0 → CanMove burst.inside 0 (view_of spec regs.new segment.new common.new devices.new) → ⊥ }
 {
     let pc = regs.pc;
     match execute_other(opcode, spec, regs, segment, common, devices) {
@@ -287,9 +273,7 @@ fn pause_in_halt(
     common: &mut [u8],
     devices: &mut Devices,
 ) -> Paused
-    requires fits { FitsBelowCommon spec }
-    requires some { 0 < most }
-    requires halted { regs.now.halted ≡ true }
+    requires { MayPauseInHalt most spec regs.now }
     ensures { IsPaused inside most (view_of spec regs.now segment.old common.old devices.old)
         (view_of spec regs.now segment.new common.new devices.new) result }
 {
@@ -312,8 +296,7 @@ fn execute_plain(
     common: &mut [u8],
     devices: &mut Devices,
 ) -> Paused
-    requires fits { FitsBelowCommon spec }
-    requires some { 0 < most }
+    requires { MayExecutePlain most spec }
     ensures { IsPaused inside most (view_of spec regs.old segment.old common.old devices.old)
         (view_of spec regs.new segment.new common.new devices.new) result }
 {
@@ -359,10 +342,8 @@ fn execute_from(
     devices: &mut Devices,
 ) -> u64
     requires { MayExecute opcode burst spec (view_of spec regs.old segment.old common.old devices.old) }
-    ensures count { result ≤ burst.most }
-    ensures moved { Moves burst.inside result 0 (view_of spec regs.old segment.old common.old devices.old)
+    ensures { Bursts burst.inside burst.most 0 result (view_of spec regs.old segment.old common.old devices.old)
         (view_of spec regs.new segment.new common.new devices.new) }
-    ensures stopped { result < burst.most → CanMove burst.inside 0 (view_of spec regs.new segment.new common.new devices.new) → ⊥ }
 {
     let Instructions { inside, most } = burst;
     let mut rare = opcode;
@@ -447,12 +428,9 @@ pub fn execute(
     seg: Seg,
     devices: &mut Devices,
 ) -> bool
-    requires home { IsHome banks.old seg }
-    requires gate { gate_of inside banks.old seg regs.old.pc ≡ None }
-    ensures listed { result ≡ is_some (instruction regs.old (byte_at banks.old seg) (port_byte devices.old)) }
-    ensures registers { regs.new ≡ registers_after (instruction regs.old (byte_at banks.old seg) (port_byte devices.old)) regs.old }
-    ensures memory { banks.new ≡ memory_after (actions_of (instruction regs.old (byte_at banks.old seg) (port_byte devices.old))) seg banks.old }
-    ensures devices { devices.new ≡ devices_after (actions_of (instruction regs.old (byte_at banks.old seg) (port_byte devices.old))) devices.old }
+    requires { MayExecuteAt inside seg (record { regs = regs.old; memory = banks.old; devices = devices.old }) }
+    ensures { ExecutesIfListed seg (record { regs = regs.old; memory = banks.old; devices = devices.old })
+        (record { regs = regs.new; memory = banks.new; devices = devices.new }) result }
 {
     run_instructions(inside, regs, banks, seg, devices, 1) == 1
 }

@@ -103,12 +103,12 @@ pub record MayEnlist (p q : ℕ) (reader : Bool) (t : Queues) : Type 0 where
   pub must : must_wait t q reader ≡ true
 
 -- a queue is there, and those who wait at it live
-pub record MayRead (q : ℕ) (procs : Table) (t : Queues) : Type 0 where
+pub record MayReadQueue (q : ℕ) (procs : Table) (t : Queues) : Type 0 where
   pub queue : IsMade t q
   pub waiting : (w : ℕ) → waits_at t q w ≡ true → Lives procs w
 
 -- and so does the process that writes
-pub record MayWrite (p q : ℕ) (procs : Table) (t : Queues) : Type 0 where
+pub record MayWriteQueue (p q : ℕ) (procs : Table) (t : Queues) : Type 0 where
   pub queue : IsMade t q
   pub lives : Lives procs p
   pub waiting : (w : ℕ) → waits_at t q w ≡ true → Lives procs w

@@ -136,8 +136,3 @@ pub record FindsQueue (sought : Option ℕ) (t : Queues) (result : Option ℕ) :
   pub number : result ≡ sought
   pub there : IfSome result (λ q. IsMade t q)
   pub sound : AreSoundQueues t
-
--- a call makes other queues of these, and answers something
-pub record Yields {A : Type 0} (t : Queues) (answer : A) (new : Queues) (result : A) : Type 0 where
-  pub queues : new ≡ t
-  pub answered : result ≡ answer

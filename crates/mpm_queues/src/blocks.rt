@@ -1,4 +1,4 @@
-ghost use Rattle.std.specs.Prelude.{◌≡◌, Some, None, IfSome};
+ghost use Rattle.std.specs.Prelude.{◌≡◌};
 ghost use Rattle.mpm_queues.specs.Blocks.{address_of as address_in, writing};
 
 use crate::queues::Queues;
@@ -11,14 +11,12 @@ pub const BLOCK_SIZE: usize = 12;
 const LAST_POINTER: u16 = 32;
 
 impl Queues {
-    ghost use Rattle.mpm_queues.specs.Queues.{IsMade};
-    ghost use Rattle.mpm_queues.specs.Blocks.{pointed};
+    ghost use Rattle.mpm_queues.specs.Blocks.{NamesQueue};
 
     /// The queue that a pointer names, None where there is none.
     #[tactic(auto, unfolding(crate::specs::Blocks::pointed))]
     pub fn pointed(&self, pointer: u16) -> Option<u8>
-        ensures number { result ≡ pointed self.now pointer }
-        ensures made { IfSome result (λ q. IsMade self.now q) }
+        ensures { NamesQueue self.now pointer result }
     {
         if pointer < 1 || LAST_POINTER < pointer {
             return None;

@@ -1,6 +1,7 @@
-ghost use Rattle.std.specs.Prelude.{◌≡◌, ◌↔◌, ◌+◌, ◌<◌, false, IfOk, IfSome, IsSome, replicate};
-ghost use Rattle.mpm_queues.specs.Queue.{no_queue, is_drained, is_full, first_message};
-ghost use Rattle.mpm_queues.specs.Handling.{place_for, let_in as message_let_in, read_by_waiter, delivered_to, MayServeFirst, ServesFirst};
+ghost use Rattle.std.specs.Prelude.{◌≡◌, ◌+◌, ◌<◌, false, IfOk, replicate};
+ghost use Rattle.mpm_queues.specs.Queue.{no_queue, is_drained, is_full};
+ghost use Rattle.mpm_queues.specs.Handling.{place_for, MayServeFirst};
+ghost use Rattle.mpm_queues.specs.Exchanges.{LetsWriterIn, ServesReader};
 
 use crate::OutOfMemory;
 use crate::store::{ROOM, Store};
@@ -58,9 +59,9 @@ impl Queues {
     ghost use Rattle.std.specs.Prelude.{is_some};
     ghost use Rattle.mpm_ready.specs.Tables.{list_of};
     ghost use Rattle.mpm_queues.specs.Queue.{is_drained, is_full};
-    ghost use Rattle.mpm_queues.specs.Queues.{no_queues, IsMade, AreSoundQueues, FindsQueue, MakesQueue, found, is_named, lowest_free, is_free, holds, width_of, lowest_held, may_end, without_queue, Yields};
-    ghost use Rattle.mpm_queues.specs.Handling.{message_read, read_outcome, read_reply, message_written, write_outcome, procs_after_write, MayRead, MayWrite, MayEnlist, enlisted, queues_without_waiter, may_wait};
-    ghost use Rattle.mpm_queues.specs.Runs.{ConservesMessages, out_by_read, in_by_read, out_by_write, in_by_write};
+    ghost use Rattle.mpm_queues.specs.Queues.{no_queues, IsMade, FindsQueue, MakesQueue, found, is_named, is_free, holds, lowest_held, may_end};
+    ghost use Rattle.mpm_queues.specs.Handling.{MayReadQueue, MayWriteQueue, MayEnlist, enlisted, queues_without_waiter, may_wait};
+    ghost use Rattle.mpm_queues.specs.Exchanges.{FindsFree, TellsWidth, DeletesQueue, TakesMessage, ReadsMessage, PutsMessage, WritesMessage};
 
     /// No queues. All memory that they will need is taken here.
     #[tactic(auto, using(crate::proofs::SoundLaws::sound_blank), unfolding(crate::specs::Queues::no_queues))]
@@ -128,8 +129,7 @@ impl Queues {
     /// The lowest number that names no queue.
     #[tactic(auto, using(crate::proofs::Finding::failed_none, crate::proofs::Finding::failed_more, crate::proofs::Finding::found_lowest, crate::proofs::Finding::found_none))]
     fn lowest_free(&self) -> Option<usize>
-        ensures value { result ≡ lowest_free self.now }
-        ensures below { IfSome result (λ q. q < 32) }
+        ensures { FindsFree self.now result }
     {
         for q in 0..QUEUES {
             if self.is_free(q) {
@@ -152,7 +152,7 @@ impl Queues {
     #[tactic(auto, using(crate::proofs::SoundLaws::sound_without), unfolding(crate::specs::Queues::without_queue, crate::specs::Queues::without))]
     pub fn delete(&mut self, q: u8) -> bool
         requires { IsMade self.old q }
-        ensures { Yields (without_queue self.old q) (may_end self.old q) self.new result }
+        ensures { DeletesQueue self.old q self.new result }
     {
         if !self.may_end(q) {
             return false;
@@ -180,11 +180,8 @@ impl Queues {
     /// Conditional Read Queue".)
     #[tactic(auto, using(crate::proofs::RunLaws::conserves_read))]
     pub fn read(&mut self, p: Pid, q: u8, procs: &mut Procs, reply: &mut Reply) -> QueueOutcome
-        requires { MayRead q procs.old self.old }
-        ensures yields { Yields (message_read self.old p q procs.old) (read_outcome self.old q) self.new result }
-        ensures reply { reply.new ≡ read_reply self.old q reply.old }
-        ensures procs { procs.new ≡ procs.old }
-        ensures messages { ConservesMessages self.old self.new q (out_by_read self.old q) (in_by_read self.old q procs.old) }
+        requires { MayReadQueue q procs.old self.old }
+        ensures { ReadsMessage p q self.old procs.old reply.old self.new procs.new reply.new result }
     {
         self.take_message(p, q, procs, reply)
     }
@@ -192,10 +189,8 @@ impl Queues {
     /// A process reads the first message of a queue, and the writer that waits first is let in.
     #[tactic(auto, unfolding(crate::specs::Handling::message_read, crate::specs::Handling::read_outcome, crate::specs::Handling::read_reply))]
     fn take_message(&mut self, p: Pid, q: u8, procs: &Procs, reply: &mut Reply) -> QueueOutcome
-        requires { MayRead q procs.now self.old }
-        ensures yields { Yields (message_read self.old p q procs.now) (read_outcome self.old q) self.new result }
-        ensures reply { reply.new ≡ read_reply self.old q reply.old }
-        ensures sound { AreSoundQueues self.old }
+        requires { MayReadQueue q procs.now self.old }
+        ensures { TakesMessage p q self.old procs.now reply.old self.new reply.new result }
     {
         let store = &mut self.queues[usize::from(q)];
         if store.is_drained() {
@@ -211,10 +206,8 @@ impl Queues {
     /// no room. (MP/M II Programmer's Guide, "Function 139: Write Queue", "Function 140: Conditional Write Queue".)
     #[tactic(auto, using(crate::proofs::RunLaws::conserves_write))]
     pub fn write(&mut self, p: Pid, q: u8, procs: &mut Procs) -> QueueOutcome
-        requires { MayWrite p q procs.old self.old }
-        ensures yields { Yields (message_written self.old p q procs.old) (write_outcome self.old q) self.new result }
-        ensures procs { procs.new ≡ procs_after_write self.old p q procs.old }
-        ensures messages { ConservesMessages self.old self.new q (out_by_write self.old p q procs.old) (in_by_write self.old p q procs.old) }
+        requires { MayWriteQueue p q procs.old self.old }
+        ensures { WritesMessage p q self.old procs.old self.new procs.new result }
     {
         self.put_message(p, q, procs)
     }
@@ -222,11 +215,8 @@ impl Queues {
     /// A process writes a message to a queue, or to the reader that waits first.
     #[tactic(auto, unfolding(crate::specs::Handling::message_written, crate::specs::Handling::write_outcome, crate::specs::Handling::procs_after_write))]
     fn put_message(&mut self, p: Pid, q: u8, procs: &mut Procs) -> QueueOutcome
-        requires { MayWrite p q procs.old self.old }
-        ensures outcome { result ≡ write_outcome self.old q }
-        ensures queues { self.new ≡ message_written self.old p q procs.old }
-        ensures procs { procs.new ≡ procs_after_write self.old p q procs.old }
-        ensures sound { AreSoundQueues self.old }
+        requires { MayWriteQueue p q procs.old self.old }
+        ensures { PutsMessage p q self.old procs.old self.new procs.new result }
     {
         let store = &mut self.queues[usize::from(q)];
         if store.is_full() {
@@ -281,9 +271,7 @@ impl Queues {
 
     /// The length of a queue's messages, in bytes; None exactly where no queue has that number.
     pub fn length(&self, q: u8) -> Option<u16>
-        ensures value { result ≡ width_of self.now q }
-        ensures made { IsSome result ↔ IsMade self.now q }
-        ensures sound { AreSoundQueues self.now }
+        ensures { TellsWidth self.now q result }
     {
         let place = usize::from(q);
         if place < QUEUES && self.alive[place] {
@@ -340,8 +328,7 @@ fn list_for(q: u8, reader: bool) -> u8
 /// Where a process waits to write to a queue, the message of the first one goes in, and it waits no more.
 fn let_in(store: &mut Store, waiters: &mut Lists, q: u8, procs: &Procs) -> Option<Pid>
     requires { MayServeFirst q (32 + q) (is_full store.old) waiters.old procs.now }
-    ensures first { ServesFirst (32 + q) waiters.old waiters.new result }
-    ensures queue { store.new ≡ message_let_in procs.now result store.old }
+    ensures { LetsWriterIn q procs.now store.old store.new waiters.old waiters.new result }
 {
     let other = waiters.first(WRITERS + q);
     if let Some(writer) = other {
@@ -354,9 +341,7 @@ fn let_in(store: &mut Store, waiters: &mut Lists, q: u8, procs: &Procs) -> Optio
 /// Where a process waits to read from a queue, the first message goes to the first one, and it waits no more.
 fn hand_over(store: &mut Store, waiters: &mut Lists, q: u8, procs: &mut Procs) -> Option<Pid>
     requires { MayServeFirst q q (is_drained store.old) waiters.old procs.old }
-    ensures first { ServesFirst q waiters.old waiters.new result }
-    ensures queue { store.new ≡ read_by_waiter result store.old }
-    ensures procs { procs.new ≡ delivered_to result (first_message store.old) procs.old }
+    ensures { ServesReader q store.old store.new waiters.old waiters.new procs.old procs.new result }
 {
     let other = waiters.first(q);
     if let Some(reader) = other {

@@ -1,7 +1,8 @@
 ghost use Rattle.std.specs.Prelude.{◌≡◌, ◌+◌, ◌*◌, ◌≤◌, ◌++◌, Some, None, false, length, drop, replicate, IfOk};
 ghost use Rattle.circular_buffer.specs.Buffer.{buffer};
 ghost use Rattle.mpm_base.specs.Lists.{in_width};
-ghost use Rattle.mpm_queues.specs.Queue.{no_queue, new_queue, is_drained, is_full, is_exclusive, first_message, shortened, held_by, read_by, with_message, message_of, with_given, block_size};
+ghost use Rattle.mpm_queues.specs.Queue.{no_queue, new_queue, is_drained, is_full, is_exclusive, held_by, with_message, message_of, block_size};
+ghost use Rattle.mpm_queues.specs.Exchanges.{MayTakeFirst, TakesOutFirst, IsFirstSize, AnswersMessage, GivesMessage};
 
 use crate::OutOfMemory;
 use crate::blocks::BLOCK_SIZE;
@@ -138,10 +139,8 @@ impl Store {
     /// Takes the first message out, into a slice of its length.
     #[tactic(auto, using(crate::proofs::MessageLaws::first_parted, crate::proofs::MessageLaws::rest_parted, crate::proofs::MessageLaws::length_parted), unfolding(crate::specs::Queue::shortened, crate::specs::Queue::first_message))]
     fn take_first(&mut self, into: &mut [u8])
-        requires some { is_drained self.old ≡ false }
-        requires width { length into.old ≡ self.old.width }
-        ensures queue { self.new ≡ shortened self.old }
-        ensures message { into.new ≡ first_message self.old }
+        requires { MayTakeFirst self.old into.old }
+        ensures { TakesOutFirst self.old self.new into.new }
     {
         self.bytes.read_into(into);
         self.stored -= 1;
@@ -151,9 +150,7 @@ impl Store {
     #[tactic(auto, using(crate::proofs::MessageLaws::width_few, crate::proofs::MessageLaws::first_width, crate::proofs::MessageLaws::counted))]
     fn first_size(&self) -> usize
         requires { is_drained self.now ≡ false }
-        ensures size { result ≡ self.now.width }
-        ensures few { result ≤ 2048 }
-        ensures first { length (first_message self.now) ≡ result }
+        ensures { IsFirstSize self.now result }
     {
         usize::from(self.width)
     }
@@ -161,8 +158,7 @@ impl Store {
     /// A process reads the first message into the bytes of a reply, whose other parts stay.
     pub fn answer(&mut self, p: Pid, reply: &mut Reply)
         requires some { is_drained self.old ≡ false }
-        ensures queue { self.new ≡ read_by p self.old }
-        ensures reply { reply.new ≡ record reply.old { bytes = first_message self.old } }
+        ensures { AnswersMessage p self.old self.new reply.old reply.new }
     {
         let size = self.first_size();
         reply.length = size as u16;
@@ -173,8 +169,7 @@ impl Store {
     /// A process reads the first message into the call that it keeps.
     pub fn give(&mut self, p: Pid, call: &mut Call)
         requires some { is_drained self.old ≡ false }
-        ensures queue { self.new ≡ read_by p self.old }
-        ensures call { call.new ≡ with_given (first_message self.old) call.old }
+        ensures { GivesMessage p self.old self.new call.old call.new }
     {
         let size = self.first_size();
         keep_block(call);

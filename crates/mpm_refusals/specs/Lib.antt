@@ -4,3 +4,4 @@ pub mod Subjects
 pub mod Refusals
 pub mod Looking
 pub mod Asking
+pub mod Lookups

@@ -1,5 +1,4 @@
--- What a file call is refused for: one table by function, how each refusal is answered, and when it applies. The first that
--- applies is answered. (MP/M II Programmer's Guide, "BDOS Error Handling", and the functions.)
+-- When each refusal applies to a file call. The first that applies, in the order of the table of mpm_file_functions, is answered. (MP/M II Programmer's Guide, "BDOS Error Handling", and the functions.)
 use Rattle.std.specs.Option.{option_or}
 use Rattle.std.specs.Prelude.{ℕ, ◌+◌, ◌==◌, ◌&&◌, ◌||◌, not, Bool, true, false, List, [], ◌∷◌, ◌++◌, Option, Some, None, is_some, option_map, length, map, find, nat_lt, if◌then◌else◌}
 use Rattle.std.specs.List.{flat_map}

@@ -1,11 +1,7 @@
-ghost use Rattle.std.specs.Prelude.{◌≡◌, ◌<◌, ℕ, List, Option, unwrap_or, IfSome, length};
-ghost use Rattle.mpm_fcb.specs.Blocks.{block_of};
-ghost use Rattle.mpm_mount.specs.Drives.{Drive};
-ghost use Rattle.mpm_mount.specs.Directories.{Stands};
+ghost use Rattle.std.specs.Prelude.{◌≡◌, unwrap_or};
 ghost use Rattle.mpm_refusals.specs.Searches.{searched};
 ghost use Rattle.mpm_refusals.specs.Subjects as spec;
-ghost use Rattle.mpm_refusals.specs.Asking.{called, asked_of, IsOwnItem};
-ghost use Rattle.mpm_refusals.specs.Filing.{HaveUsers};
+ghost use Rattle.mpm_refusals.specs.Lookups.{ReadsBlock, AsksOf};
 
 use crate::caller::{Caller, FileCall};
 use crate::finding::found;
@@ -45,16 +41,14 @@ pub struct Asked {
 
 /// The file control block in a call's 36 bytes.
 fn read_block(bytes: &[u8; 36]) -> ControlBlock
-    ensures block { result ≡ block_of bytes.now }
-    ensures size { length bytes.now ≡ 36 }
+    ensures { ReadsBlock bytes.now result }
 {
     ControlBlock::read(bytes)
 }
 
 /// The file control block of a call.
 pub fn block_of_call(call: &Call) -> ControlBlock
-    ensures block { result ≡ block_of call.now.fcb }
-    ensures size { length call.now.fcb ≡ 36 }
+    ensures { ReadsBlock call.now.fcb result }
 {
     read_block(&call.fcb)
 }
@@ -90,12 +84,7 @@ pub fn ask(
     searches: &Searches,
     file_call: &FileCall<'_>,
 ) -> Asked
-    ensures caller { result.caller ≡ file_call.now.caller }
-    ensures owner { HaveUsers opens.now → file_call.now.caller.user < 16 → result.owner < 16 }
-    ensures own { IfSome result.item (λ item. IsOwnItem opens.now file_call.now.caller.process item) }
-    ensures asked { (image : List ℕ) (drives : List (Option Drive)) (marks moment : List ℕ)
-        → Stands image mounted.now (spec.drive_at (called drives protected.now opens.now marks searches.now file_call.now.caller file_call.now.function file_call.now.call.now moment))
-        → result ≡ asked_of (called drives protected.now opens.now marks searches.now file_call.now.caller file_call.now.function file_call.now.call.now moment) }
+    ensures { AsksOf mounted.now protected.now opens.now searches.now file_call.now result }
 {
     let FileCall {
         caller,

@@ -3,8 +3,9 @@ ghost use Rattle.mpm_dirent.specs.Names.{plain};
 ghost use Rattle.mpm_mount.specs.Standing.{OnItsDrive};
 ghost use Rattle.mpm_opens.specs.Items.{file_named};
 ghost use Rattle.mpm_refusals.specs.Searches.{searched};
-ghost use Rattle.mpm_refusals.specs.Asking.{opened_as, key_of_item, IsOwnItem};
+ghost use Rattle.mpm_refusals.specs.Asking.{opened_as, key_of_item};
 ghost use Rattle.mpm_refusals.specs.Subjects as spec;
+ghost use Rattle.mpm_refusals.specs.Lookups.{FindsItem, IsFirstRecord};
 
 use crate::searches::LastSearch;
 use crate::sharing::is_shared;
@@ -80,8 +81,7 @@ pub(crate) fn open_item(
     drive: u8,
     name: &[u8; 11],
 ) -> Option<OpenItem>
-    ensures item { result ≡ option_and_then (λ n. option_map (opened_as opens.now n) (file_named opens.now.items p n drive (plain name.now))) number }
-    ensures own { IfSome result (λ item. IsOwnItem opens.now p item) }
+    ensures { FindsItem opens.now p (option_and_then (λ n. option_map (opened_as opens.now n) (file_named opens.now.items p n drive (plain name.now))) number) result }
 {
     match number {
         Some(number) => named_item(opens, p, number, drive, &plain_name(name)),
@@ -92,8 +92,7 @@ pub(crate) fn open_item(
 /// The open file of a number, if that is the process's, on a drive and of a name.
 fn named_item(opens: &Opens, p: Pid, number: u8, drive: u8, name: &[u8; 11]) -> Option<OpenItem>
     requires { plain name.now ≡ name.now }
-    ensures item { result ≡ option_map (opened_as opens.now number) (file_named opens.now.items p number drive name.now) }
-    ensures own { IfSome result (λ item. IsOwnItem opens.now p item) }
+    ensures { FindsItem opens.now p (option_map (opened_as opens.now number) (file_named opens.now.items p number drive name.now)) result }
 {
     match opens.named(p, number, drive, name) {
         Some(file) => Some(OpenItem {
@@ -157,8 +156,7 @@ pub(crate) fn owner(
 
 /// The first of the records that a call names, below 2^24.
 pub fn first_record(block: &ControlBlock, function: FileFunction) -> u32
-    ensures value { result ≡ spec.first_by block.now function }
-    ensures small { result < 16777216 }
+    ensures { IsFirstRecord block.now function result }
 {
     match function {
         FileFunction::ReadSequential | FileFunction::WriteSequential => block.sequential_record(),

@@ -3,3 +3,4 @@ pub mod Completions
 pub mod Outputs
 pub mod Shown
 pub mod Puts
+pub mod Calls

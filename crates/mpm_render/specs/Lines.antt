@@ -50,6 +50,6 @@ line_with byte kept =
     else (if length kept == 199 then [] else (kept ++ (byte ∷ [])))
 
 -- a text has another one after it, of so many bytes at most
-pub record Appends (more : List ℕ) (most : ℕ) (old new : List ℕ) : Type 0 where
+pub record AppendsBytes (more : List ℕ) (most : ℕ) (old new : List ℕ) : Type 0 where
   pub text : new ≡ old ++ more
   pub size : length new ≤ length old + most

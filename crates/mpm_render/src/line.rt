@@ -1,7 +1,7 @@
-ghost use Rattle.std.specs.Prelude.{◌≡◌, ℕ, ◌<◌, List, [], length, OnOk, OnErr};
+ghost use Rattle.std.specs.Prelude.{◌≡◌, ℕ, ◌<◌, List, [], length};
 ghost use Rattle.mpm_render.specs.Lines.{text_with, line_with};
 ghost use Rattle.mpm_render.specs.Outputs.{closing};
-ghost use Rattle.mpm_render.specs.Puts.{WritesText};
+ghost use Rattle.mpm_render.specs.Calls.{WritesLine};
 
 use crate::text::LineText;
 use arrayvec::ArrayVec;
@@ -38,9 +38,7 @@ impl Line {
     #[tactic(auto, unfolding(crate::specs::Lines::ended_line, crate::specs::Lines::cut_line, crate::specs::Lines::text_with, crate::specs::Lines::line_with))]
     pub fn put<S: Sink>(&mut self, place: u8, byte: u8, sink: &mut S) -> Result<(), Failed>
         requires { place < 12 }
-        ensures text { WritesText S.Sink (text_with place byte self.old) sink.old sink.new result }
-        ensures line { OnOk result (self.new ≡ line_with byte self.old) }
-        ensures kept { OnErr result (self.new ≡ self.old) }
+        ensures { WritesLine S.Sink (text_with place byte self.old) (line_with byte self.old) self.old self.new sink.old sink.new result }
     {
         if byte == b'\n' {
             let mut text = LineText::begin(place, self.bytes.as_slice());
@@ -59,9 +57,7 @@ impl Line {
     #[tactic(auto, unfolding(crate::specs::Lines::cut_line, crate::specs::Outputs::closing))]
     pub fn close<S: Sink>(&mut self, place: u8, sink: &mut S) -> Result<(), Failed>
         requires { place < 12 }
-        ensures text { WritesText S.Sink (closing place self.old) sink.old sink.new result }
-        ensures line { OnOk result (self.new ≡ []) }
-        ensures kept { OnErr result (self.new ≡ self.old) }
+        ensures { WritesLine S.Sink (closing place self.old) [] self.old self.new sink.old sink.new result }
     {
         if self.bytes.is_empty() {
             return Ok(());
@@ -75,9 +71,7 @@ impl Line {
     #[tactic(auto, using(crate::proofs::Putting::puts_some))]
     fn write<S: Sink>(&mut self, text: &LineText, sink: &mut S) -> Result<(), Failed>
         requires { 0 < length text.now }
-        ensures text { WritesText S.Sink text.now sink.old sink.new result }
-        ensures line { OnOk result (self.new ≡ []) }
-        ensures kept { OnErr result (self.new ≡ self.old) }
+        ensures { WritesLine S.Sink text.now [] self.old self.new sink.old sink.new result }
     {
         sink.put(text.as_slice())?;
         self.bytes.clear();

@@ -1,5 +1,4 @@
-ghost use Rattle.std.specs.Prelude.{◌≡◌, ℕ, ◌<◌, List, [], ◌++◌, OnOk, OnErr};
-ghost use Rattle.mpm_port.specs.Causes.{HasCause};
+ghost use Rattle.std.specs.Prelude.{◌≡◌};
 ghost use Rattle.mpm_render.specs.Completions.{completion, trace_line};
 ghost use Rattle.mpm_render.specs.Puts.{WritesText};
 
@@ -28,14 +27,11 @@ impl Model for Render {
 impl Render {
     ghost use Rattle.mpm_base.specs.Units.{IsUnit};
     ghost use Rattle.mpm_render.specs.Completions.{completion};
-    ghost use Rattle.mpm_render.specs.Outputs.{Output, Said, Completed, rendered, closed};
-    ghost use Rattle.mpm_render.specs.Shown.{Shows, EndsBetween, line_of};
-    ghost use Rattle.mpm_render.specs.Puts.{WritesText, ShowsOutput, PutsEach, StopsClosing, text_put, text_traced, texts_closed};
+    ghost use Rattle.mpm_render.specs.Calls.{BeginsEmpty, TakesByte, RecordsCall, ClosesLines};
 
     /// Empty lines; `trace` says whether the records of completed calls are written.
     pub fn new(trace: bool) -> Render
-        ensures fresh { (written : List ℕ) → Shows result written [] written }
-        ensures trace { result.trace ≡ trace }
+        ensures { BeginsEmpty trace result }
     {
         Render {
             lines: Default::default(),
@@ -54,10 +50,7 @@ impl Render {
     /// writes the line with one `put`; any other byte puts nothing. If the `put` fails, the lines stay as they were.
     pub fn put<S: Sink>(&mut self, stream: Unit, byte: u8, sink: &mut S) -> Result<(), Failed>
         requires { IsUnit stream }
-        ensures shown { ShowsOutput S.Sink (Said stream byte) self.old self.new sink.old sink.new result }
-        ensures text { WritesText S.Sink (text_put stream byte self.old) sink.old sink.new result }
-        ensures lines { OnErr result (self.new ≡ self.old) }
-        ensures trace { self.new.trace ≡ self.old.trace }
+        ensures { TakesByte S.Sink stream byte self.old self.new sink.old sink.new result }
     {
         let place = stream.place();
         let line = &mut self.lines[place as usize];
@@ -79,9 +72,7 @@ impl Render {
         hl: u16,
         sink: &mut S,
     ) -> Result<(), Failed>
-        ensures shown { ShowsOutput S.Sink (Completed (completion step p function a bc de hl)) self.old self.new sink.old sink.new result }
-        ensures text { WritesText S.Sink (text_traced (completion step p function a bc de hl) self.old) sink.old sink.new result }
-        ensures lines { self.new ≡ self.old }
+        ensures { RecordsCall S.Sink (completion step p function a bc de hl) self.old self.new sink.old sink.new result }
     {
         if !self.trace {
             return Ok(());
@@ -92,15 +83,7 @@ impl Render {
     /// Writes each line that isn't empty, consoles first, by number, each with one `put`, up to the first that fails. Each line
     /// that was written is empty then; the one that failed and those after it stay.
     pub fn finish<S: Sink>(&mut self, sink: &mut S) -> Result<(), Failed>
-        ensures ok { (os : List Output) (first : List ℕ) → Shows self.old (S.written sink.old) os first
-            → OnOk result (S.written sink.new ≡ first ++ closed self.old.trace os) }
-        ensures err { (os : List Output) (first : List ℕ) → Shows self.old (S.written sink.old) os first
-            → OnErr result (EndsBetween (S.written sink.new) first (rendered self.old.trace os) (closed self.old.trace os)) }
-        ensures puts { OnOk result (PutsEach S.took (texts_closed self.old) sink.old sink.new) }
-        ensures stops { OnErr result (StopsClosing S.took S.dropped self.old self.new sink.old sink.new) }
-        ensures cause { HasCause (S.faults sink.old) (S.faults sink.new) result }
-        ensures empty { OnOk result ((place : ℕ) → place < 12 → line_of self.new place ≡ []) }
-        ensures trace { self.new.trace ≡ self.old.trace }
+        ensures { ClosesLines S.Sink self.old self.new sink.old sink.new result }
     {
         for place in 0..12 {
             let line = &mut self.lines[place as usize];

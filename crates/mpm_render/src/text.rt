@@ -1,6 +1,7 @@
 ghost use Rattle.std.specs.Prelude.{◌≡◌, ℕ, ◌+◌, ◌*◌, ◌/◌, ◌%◌, ◌<◌, ◌≤◌, List, [], ◌∷◌, ◌++◌, length, flat_map, decimal};
-ghost use Rattle.mpm_render.specs.Lines.{Appends, escaped, label, hex_digit, hex_byte, hex_word as word_text, cut_line};
+ghost use Rattle.mpm_render.specs.Lines.{AppendsBytes, escaped, label, hex_digit, hex_byte, hex_word as word_text, cut_line};
 ghost use Rattle.mpm_render.specs.Completions.{completion, trace_line};
+ghost use Rattle.mpm_render.specs.Calls.{IsSomeText};
 
 use arrayvec::ArrayVec;
 use itoa::Buffer;
@@ -24,8 +25,7 @@ impl LineText {
     pub fn begin(place: u8, bytes: &[u8]) -> LineText
         requires place { place < 12 }
         requires few { length bytes.now ≤ 200 }
-        ensures text { result ≡ label place ++ flat_map escaped bytes.now }
-        ensures size { length result ≤ 3 + 4 * length bytes.now }
+        ensures { AppendsBytes (label place ++ flat_map escaped bytes.now) (3 + 4 * length bytes.now) [] result }
     {
         let mut text = LineText::labelled(place);
         for byte in bytes {
@@ -39,8 +39,7 @@ impl LineText {
     pub fn full(place: u8, bytes: &[u8], last: u8) -> LineText
         requires place { place < 12 }
         requires few { length bytes.now ≡ 199 }
-        ensures text { result ≡ cut_line place (bytes.now ++ (last ∷ [])) }
-        ensures size { 0 < length result }
+        ensures { IsSomeText (cut_line place (bytes.now ++ (last ∷ []))) result }
     {
         let mut text = LineText::begin(place, bytes);
         text.push_escaped(last);
@@ -60,8 +59,7 @@ impl LineText {
         de: u16,
         hl: u16,
     ) -> LineText
-        ensures text { result ≡ trace_line (completion step process function a bc de hl) }
-        ensures size { 0 < length result }
+        ensures { IsSomeText (trace_line (completion step process function a bc de hl)) result }
     {
         let mut bytes = ArrayVec::new();
         bytes.push(b't');
@@ -104,7 +102,7 @@ impl LineText {
     #[tactic(auto, unfolding(crate::specs::Lines::escaped))]
     pub fn push_escaped(&mut self, byte: u8)
         requires { length self.old + 4 ≤ 805 }
-        ensures { Appends (escaped byte) 4 self.old self.new }
+        ensures { AppendsBytes (escaped byte) 4 self.old self.new }
     {
         match byte {
             b'\\' => self.push_pair(b'\\'),
@@ -121,8 +119,7 @@ impl LineText {
     /// The text with the words before a line.
     fn labelled(place: u8) -> LineText
         requires { place < 12 }
-        ensures text { result ≡ label place }
-        ensures size { length result ≡ 3 }
+        ensures { AppendsBytes (label place) 3 [] result }
     {
         let mut bytes = ArrayVec::new();
         if place < 8 {
@@ -148,7 +145,7 @@ impl LineText {
     /// The text with a space and a number after it, in decimal.
     fn push_decimal(&mut self, number: u64)
         requires { length self.old + 21 ≤ 805 }
-        ensures { Appends (32 ∷ decimal number) 21 self.old self.new }
+        ensures { AppendsBytes (32 ∷ decimal number) 21 self.old self.new }
     {
         self.bytes.push(b' ');
         let mut buffer = Buffer::new();
@@ -159,7 +156,7 @@ impl LineText {
     /// The text with a space and a byte after it, in two hexadecimal digits.
     fn push_byte(&mut self, byte: u8)
         requires { length self.old + 3 ≤ 805 }
-        ensures { Appends (32 ∷ hex_byte byte) 3 self.old self.new }
+        ensures { AppendsBytes (32 ∷ hex_byte byte) 3 self.old self.new }
     {
         self.bytes.push(b' ');
         self.push_hex(byte);
@@ -168,7 +165,7 @@ impl LineText {
     /// The text with a space and a word of 16 bits after it, in four hexadecimal digits.
     fn push_word(&mut self, word: u16)
         requires { length self.old + 5 ≤ 805 }
-        ensures { Appends (32 ∷ word_text word) 5 self.old self.new }
+        ensures { AppendsBytes (32 ∷ word_text word) 5 self.old self.new }
     {
         self.bytes.push(b' ');
         self.bytes.try_extend_from_slice(&hex_word(word)).unwrap();
@@ -178,7 +175,7 @@ impl LineText {
     #[tactic(auto, unfolding(crate::specs::Lines::hex_byte))]
     fn push_hex(&mut self, byte: u8)
         requires { length self.old + 2 ≤ 805 }
-        ensures { Appends (hex_byte byte) 2 self.old self.new }
+        ensures { AppendsBytes (hex_byte byte) 2 self.old self.new }
     {
         self.bytes.push(digit_of(byte / 16));
         self.bytes.push(digit_of(byte % 16));

@@ -44,7 +44,7 @@ freed_within (slot ∷ slots) bytes = freed_within slots (slice_set bytes (32 * 
 unfoldable pub listed_from : List Bool → ℕ → ℕ → List ℕ
 listed_from marks first count = filter (λ slot. slice_index_or marks slot false) (range_with_len first count)
 
--- some slots of a drive are free: no other byte of its image has changed, and no other image
+-- some slots of a drive are free: no other byte of its image has changed, and no image of another name
 pub record FreesOn (drive : ℕ) (kind : Kind) (slots : List ℕ) (old new : Disks) : Type 0 where
   pub here : (image : List ℕ) → old.image drive ≡ Some image → new.image drive ≡ Some (freed_image kind slots image)
   pub beside : Elsewhere drive old new
@@ -59,8 +59,8 @@ pub record FreesFirst (drive : ℕ) (kind : Kind) (marks : List Bool) (old new :
   pub within : 4 * sectors ≤ (geometry_of kind).drm + 1
   pub frees : FreesOn drive kind (listed marks (4 * sectors)) old new
 
--- slots of a drive were freed, or some of them where it failed. Nothing else of the drives has changed
-pub record Frees {D A E : Type 0} (of : Ghosts D) (drive : ℕ) (Whole Part : Disks → Disks → Type 0) (old new : D) (result : Result A E) : Type 0 where
+-- slots of a drive were freed, or some of them where it failed. No image of another name has changed
+pub record FreesSlots {D A E : Type 0} (of : Ghosts D) (drive : ℕ) (Whole Part : Disks → Disks → Type 0) (old new : D) (result : Result A E) : Type 0 where
   pub ok : OnOk result (Whole (of.disks old) (of.disks new))
   pub err : OnErr result (Part (of.disks old) (of.disks new))
   pub told : KeepsTold ((of.disks old).name_of drive) (of.told old) (of.told new)

@@ -21,7 +21,7 @@ pub fn free_slots<D: Drives>(
     slots: &Slots,
 ) -> Result<(), Failed>
     requires { size_of (D.disks drives.old) drive ≡ Some (geometry_of kind).bytes }
-    ensures frees { spec.Frees D.Drives drive (spec.FreesOn drive kind (listed slots.now ((geometry_of kind).drm + 1))) (spec.FreesFirst drive kind slots.now) drives.old drives.new result }
+    ensures frees { spec.FreesSlots D.Drives drive (spec.FreesOn drive kind (listed slots.now ((geometry_of kind).drm + 1))) (spec.FreesFirst drive kind slots.now) drives.old drives.new result }
     ensures synced { OnOk result (D.unsynced drives.new drive ≡ false) }
 {
     match free_sectors(drives, drive, kind, slots) {
@@ -38,7 +38,7 @@ fn free_sectors<D: Drives>(
     slots: &Slots,
 ) -> Result<(), Failed>
     requires { size_of (D.disks drives.old) drive ≡ Some (geometry_of kind).bytes }
-    ensures { spec.Frees D.Drives drive (spec.FreesOn drive kind (listed slots.now ((geometry_of kind).drm + 1))) (spec.FreesFirst drive kind slots.now) drives.old drives.new result }
+    ensures { spec.FreesSlots D.Drives drive (spec.FreesOn drive kind (listed slots.now ((geometry_of kind).drm + 1))) (spec.FreesFirst drive kind slots.now) drives.old drives.new result }
 {
     for sector in 0..(u32::from(geometry(kind).drm) + 1) / 4 {
         match free_sector(drives, drive, kind, sector, slots) {
@@ -59,7 +59,7 @@ fn free_sector<D: Drives>(
 ) -> Result<(), Failed>
     requires size { size_of (D.disks drives.old) drive ≡ Some (geometry_of kind).bytes }
     requires within { 4 * sector + 4 ≤ (geometry_of kind).drm + 1 }
-    ensures { spec.Frees D.Drives drive (spec.FreesOn drive kind (spec.listed_from slots.now (4 * sector) 4)) (spec.FreesPerhaps drive kind (spec.listed_from slots.now (4 * sector) 4)) drives.old drives.new result }
+    ensures { spec.FreesSlots D.Drives drive (spec.FreesOn drive kind (spec.listed_from slots.now (4 * sector) 4)) (spec.FreesPerhaps drive kind (spec.listed_from slots.now (4 * sector) 4)) drives.old drives.new result }
 {
     if !has_any(slots, sector) {
         return Ok(());

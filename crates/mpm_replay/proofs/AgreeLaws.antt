@@ -20,7 +20,7 @@ use Rattle.mpm_replay.specs.declared.stopping.Why.{Why}
 use Rattle.mpm_replay.specs.declared.stopping.Why.TheVariants.{Steps, Input}
 use Rattle.mpm_replay.specs.declared.replaying.Replayed.{Replayed}
 use Rattle.mpm_replay.specs.Replays.{bytes_at, stop_of, stop_unless, stop_by, stop_at, IsReplay}
-use Rattle.mpm_replay.specs.Agreeing.{reads_in, own_of, Follows, FollowEach, Agrees}
+use Rattle.mpm_replay.specs.Agreeing.{reads_in, own_of, FollowsByOne, FollowEach, Agrees}
 use Rattle.mpm_replay.proofs.PortLaws.{same_ports}
 
 -- what a process reaches of memory after an instruction of its own
@@ -64,7 +64,7 @@ moved_like seg whole own there like none =
           ∙ sym (reach_after (actions_of outcome) seg whole.memory there);
     }
 
-like_on : (inside : Bool) (seg : ℕ) (old new own : View) → Follows inside seg old new → Like seg (moved seg old) own → Like seg new own
+like_on : (inside : Bool) (seg : ℕ) (old new own : View) → FollowsByOne inside seg old new → Like seg (moved seg old) own → Like seg new own
 like_on inside seg old new own f like = record { regs = like.regs ∙ sym f.regs; memory = like.memory ∙ sym f.memory }
 
 likes : (k : ℕ) (inside : Bool) (seg count : ℕ) (views : ℕ → View) → FollowEach inside seg count views → k ≤ count

@@ -17,7 +17,7 @@ use Rattle.mpm_processor.proofs.MovingLaws.{unmoved, ran_or_not}
 use Rattle.mpm_replay.specs.declared.stopping.Why.{Why}
 use Rattle.mpm_replay.specs.declared.stopping.Why.TheVariants.{Steps, Illegal}
 use Rattle.mpm_replay.specs.Ports.{reads_of, reads_unless}
-use Rattle.mpm_replay.specs.Replays.{no_devices, bytes_at, stop_of, stop_by, stop_unless, stop_at, input_if, held_by, held_at, left_by, Executes, Advances, IsReplay}
+use Rattle.mpm_replay.specs.Replays.{no_devices, bytes_at, stop_of, stop_by, stop_unless, stop_at, input_if, held_by, held_at, left_by, ReplaysInstruction, AdvancesView, IsReplay}
 
 pub no_devices_yet : (devices : Devices) → devices.ready ≡ replicate 16 false → devices.last ≡ replicate 16 0 → devices ≡ no_devices
 no_devices_yet devices ready last = ap (λ r. record devices { ready = r }) ready ∙ ap (λ l. record no_devices { last = l }) last
@@ -55,7 +55,7 @@ unlisted_stops None true bytes free runs none = absurd (false≢true (sym runs))
 unlisted_stops None false bytes free runs none = unlisted_instr (instr_of bytes) none
 
 pub holds : (inside : Bool) (old new : View) (held : Option Why) (why : Why) → held ≡ held_at inside old → new ≡ old → held ≡ Some why
-    → Advances inside old new (Some why)
+    → AdvancesView inside old new (Some why)
 unfolding held_at stop_at
 holds inside old new held why is same some = record {
   stop = sym (held_stops (gate_of inside old.memory 0 old.regs.pc) old.regs.halted (bytes_at old) why (sym is ∙ some));
@@ -63,7 +63,7 @@ holds inside old new held why is same some = record {
 }
 
 -- a transfer of LDIR is an instruction
-pub loaded : (old new : View) → IsSome (instruction_in 0 old) → new ≡ moved 0 old → Executes old new Ran
+pub loaded : (old new : View) → IsSome (instruction_in 0 old) → new ≡ moved 0 old → ReplaysInstruction old new Ran
 loaded old new listed is = record {
   illegal = ((λ unlisted. absurd (ran_or_not Ran refl unlisted)), (λ none. absurd (false≢true (sym none ∙ listed))));
   unlisted = (
@@ -73,16 +73,16 @@ loaded old new listed is = record {
   moves = is;
 }
 
-pub ran_on : (inside : Bool) (now new : View) (stepped : Stepped) → held_at inside now ≡ None → Executes now new stepped → stepped ≡ Ran
-    → Advances inside now new None
+pub ran_on : (inside : Bool) (now new : View) (stepped : Stepped) → held_at inside now ≡ None → ReplaysInstruction now new stepped → stepped ≡ Ran
+    → AdvancesView inside now new None
 unfolding held_at stop_at
 ran_on inside now new stepped free executes ran = record {
   stop = sym (free_goes (gate_of inside now.memory 0 now.regs.pc) now.regs.halted (bytes_at now) free (λ runs none. ran_or_not stepped ran (executes.unlisted.1 (runs, none))));
   left = executes.moves;
 }
 
-pub ran_none : (inside : Bool) (now new : View) (stepped : Stepped) → held_at inside now ≡ None → Executes now new stepped → stepped ≡ Unlisted
-    → Advances inside now new (Some Illegal)
+pub ran_none : (inside : Bool) (now new : View) (stepped : Stepped) → held_at inside now ≡ None → ReplaysInstruction now new stepped → stepped ≡ Unlisted
+    → AdvancesView inside now new (Some Illegal)
 unfolding held_at stop_at
 ran_none inside now new stepped free executes unlisted =
     let none = executes.unlisted.0 unlisted in
@@ -100,7 +100,7 @@ pub goes_none : (inside : Bool) (old now : View) → now ≡ old → Goes inside
 unfolding moves
 goes_none inside old now is = record { goes = λ k below. absurd (omega (arith, below)); is = is }
 
-pub goes_more : (inside : Bool) (done : ℕ) (old now new : View) (stopped : Option Why) → Goes inside done old now → Advances inside now new stopped
+pub goes_more : (inside : Bool) (done : ℕ) (old now new : View) (stopped : Option Why) → Goes inside done old now → AdvancesView inside now new stopped
     → stopped ≡ None → Goes inside (done + 1) old new
 unfolding moves
 goes_more inside done old now new stopped before advances none =
@@ -115,7 +115,7 @@ goes_more inside done old now new stopped before advances none =
 
 -- it stops
 pub replay_stops : (inside : Bool) (most done : ℕ) (why : Why) (old now new : View) (stopped : Option Why) → done < most → Goes inside done old now
-    → Advances inside now new stopped → stopped ≡ Some why → IsReplay inside most old new.regs new.memory (record { done = done; why = why })
+    → AdvancesView inside now new stopped → stopped ≡ Some why → IsReplay inside most old new.regs new.memory (record { done = done; why = why })
 replay_stops inside most done why old now new stopped less before advances some =
     let is : new ≡ moves done 0 old = advances.left ∙ ap (λ s. left_by s now) some ∙ before.is in
     record {

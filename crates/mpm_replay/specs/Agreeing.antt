@@ -21,7 +21,7 @@ own_of seg view = record { regs = view.regs; memory = reach_of view.memory seg; 
 
 -- one view follows upon another by a listed instruction of the process of a segment that reads no port: it has its registers, and its
 -- process reaches of memory what the instruction left; whatever else there is
-pub record Follows (inside : Bool) (seg : ℕ) (old new : View) : Type 0 where
+pub record FollowsByOne (inside : Bool) (seg : ℕ) (old new : View) : Type 0 where
   pub there : HasSegment old.memory seg
   pub can : CanMove inside seg old
   pub portless : reads_in seg old ≡ false
@@ -30,7 +30,7 @@ pub record Follows (inside : Bool) (seg : ℕ) (old new : View) : Type 0 where
 
 -- so does each of so many of the one before
 abbrev pub FollowEach : Bool → ℕ → ℕ → (ℕ → View) → Type 0
-FollowEach inside seg count views = (k : ℕ) → k < count → Follows inside seg (views k) (views (k + 1))
+FollowEach inside seg count views = (k : ℕ) → k < count → FollowsByOne inside seg (views k) (views (k + 1))
 
 -- all of them were done, and left the registers, and the memory that the process reaches, of a view
 pub record Agrees (seg count : ℕ) (view : View) (regs : Regs) (memory : Memory) (replayed : Replayed) : Type 0 where

@@ -92,7 +92,7 @@ pub record FindsNext (stop : View → Option Why) (view : View) (old new : Reach
   pub devices : new.devices ≡ old.devices
 
 -- one instruction was done, or none is listed and nothing has changed
-pub record Executes (old new : View) (answer : Stepped) : Type 0 where
+pub record ReplaysInstruction (old new : View) (answer : Stepped) : Type 0 where
   pub illegal : (answer ≡ stepped.Illegal) ↔ IsNone (instruction_in 0 old)
   pub unlisted : (answer ≡ stepped.Illegal) ↔ ((old.regs.halted ≡ false) × IsNone (instr_of (bytes_at old)))
   pub moves : new ≡ moved 0 old
@@ -103,7 +103,7 @@ left_by None view = moved 0 view
 left_by (Some why) view = view
 
 -- one instruction is done, or none is for a reason
-pub record Advances (inside : Bool) (old new : View) (stopped : Option Why) : Type 0 where
+pub record AdvancesView (inside : Bool) (old new : View) (stopped : Option Why) : Type 0 where
   pub stop : stopped ≡ stop_at inside old
   pub left : new ≡ left_by stopped old
 

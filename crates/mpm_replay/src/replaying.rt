@@ -3,7 +3,7 @@ ghost use Rattle.mpm_banks.specs.Allocations.{FitsBelowCommon};
 ghost use Rattle.mpm_banks.specs.Memory.{byte_at};
 ghost use Rattle.mpm_banks.specs.Sides.{alone};
 ghost use Rattle.mpm_processor.specs.Moving.{view_of};
-ghost use Rattle.mpm_replay.specs.Replays.{IsReplay, Advances, Executes, portless};
+ghost use Rattle.mpm_replay.specs.Replays.{IsReplay, AdvancesView, ReplaysInstruction, portless};
 ghost use Rattle.mpm_replay.specs.Agreeing.{AgreesWithAll};
 
 use crate::stopping::{Next, Why, find_next};
@@ -28,7 +28,7 @@ fn execute(
     common: &mut [u8],
     devices: &mut Devices,
 ) -> Stepped
-    ensures { Executes (view_of spec regs.old segment.old common.old devices.old) (view_of spec regs.new segment.new common.new devices.new) result }
+    ensures { ReplaysInstruction (view_of spec regs.old segment.old common.old devices.old) (view_of spec regs.new segment.new common.new devices.new) result }
 {
     let mut bus = SliceBus {
         spec,
@@ -49,7 +49,7 @@ fn execute_load(
     devices: &mut Devices,
 )
     requires { IsLoadUpAt regs.old (byte_at (alone spec segment.old common.old) 0) }
-    ensures { Executes (view_of spec regs.old segment.old common.old devices.old) (view_of spec regs.new segment.new common.new devices.new) Stepped.Ran }
+    ensures { ReplaysInstruction (view_of spec regs.old segment.old common.old devices.old) (view_of spec regs.new segment.new common.new devices.new) Stepped.Ran }
 {
     let mut bus = SliceBus {
         spec,
@@ -71,7 +71,7 @@ fn advance(
     devices: &mut Devices,
 ) -> Option<Why>
     requires { FitsBelowCommon spec }
-    ensures { Advances inside (view_of spec regs.old segment.old common.old devices.old) (view_of spec regs.new segment.new common.new devices.new) result }
+    ensures { AdvancesView inside (view_of spec regs.old segment.old common.old devices.old) (view_of spec regs.new segment.new common.new devices.new) result }
 {
     match find_next(inside, spec, regs, segment, common, devices) {
         Next::Stops(why) => Some(why),

@@ -43,6 +43,6 @@ hex_byte high low = do
   Some (16 * first + second)
 
 -- what a reader answers: the number that is known, if there is one, which is no greater than that
-pub record IsNumber (known : Option ℕ) (greatest : ℕ) (read : Option ℕ) : Type 0 where
+pub record IsNumeral (known : Option ℕ) (greatest : ℕ) (read : Option ℕ) : Type 0 where
   pub number : read ≡ known
   pub limit : IfSome read (λ n. n ≤ greatest)

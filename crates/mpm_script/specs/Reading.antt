@@ -12,9 +12,9 @@ Refuses Bad found = found ≡ None
 Refuses OutOfMemory found = Unit {0}
 
 -- what is found joins the old events
-abbrev pub Adds : List Timed → List Timed → Result (Unit {0}) LineRefusal → Option (List Timed) → Type 0
-Adds old new (Ok _) found = option_map (λ events. old ++ events) found ≡ Some new
-Adds old new (Err refusal) found = Refuses refusal found
+abbrev pub AddsEvent : List Timed → List Timed → Result (Unit {0}) LineRefusal → Option (List Timed) → Type 0
+AddsEvent old new (Ok _) found = option_map (λ events. old ++ events) found ≡ Some new
+AddsEvent old new (Err refusal) found = Refuses refusal found
 
 -- the first bad line is reported; want of memory may come in any case
 abbrev pub FaultsScript : {A : Type 0} → ScriptError → Result A ℕ → Type 0

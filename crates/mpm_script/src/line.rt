@@ -1,5 +1,5 @@
 ghost use Rattle.std.specs.Prelude.{◌≡◌, ◌==◌, option_map};
-ghost use Rattle.mpm_script.specs.Reading.{Adds};
+ghost use Rattle.mpm_script.specs.Reading.{AddsEvent};
 ghost use Rattle.mpm_script.specs.Keys.{keys_of};
 ghost use Rattle.mpm_script.specs.Events as spec;
 ghost use Rattle.mpm_script.specs.Scripts as script;
@@ -26,10 +26,10 @@ const GREATEST_FLAG: u32 = 31;
 /// The first flag that isn't the system's.
 const LEAST_FLAG: u8 = 4;
 
-/// Adds the events of a line.
+/// AddsEvent the events of a line.
 #[tactic(auto, unfolding(crate::specs::Events::line_of))]
 pub fn add_line(events: &mut Vec<Timed>, line: &[u8]) -> Result<(), LineRefusal>
-    ensures { Adds events.old.items events.new.items result (spec.line_of (script.last_step events.old.items) line.now) }
+    ensures { AddsEvent events.old.items events.new.items result (spec.line_of (script.last_step events.old.items) line.now) }
 {
     if line.is_empty() || byte_at(line, 0) == b'#' {
         return Ok(());
@@ -51,10 +51,10 @@ fn last_step(events: &[Timed]) -> u64
     }
 }
 
-/// Adds the events of a text at a step.
+/// AddsEvent the events of a text at a step.
 #[tactic(auto, unfolding(crate::specs::Events::events_of))]
 fn add_events(events: &mut Vec<Timed>, step: u64, text: &[u8]) -> Result<(), LineRefusal>
-    ensures { Adds events.old.items events.new.items result (option_map (spec.at_step step) (spec.events_of text.now)) }
+    ensures { AddsEvent events.old.items events.new.items result (option_map (spec.at_step step) (spec.events_of text.now)) }
 {
     if before(text, b' ') == b"key".as_slice() {
         return add_typed(events, step, after(text, b' '));
@@ -112,10 +112,10 @@ fn flag(text: &[u8]) -> Option<Event>
     Some(Event::Int { flag })
 }
 
-/// Adds the keys that are typed at a console.
+/// AddsEvent the keys that are typed at a console.
 #[tactic(auto, unfolding(crate::specs::Events::typed_events, crate::specs::Keys::typed_of))]
 fn add_typed(events: &mut Vec<Timed>, step: u64, text: &[u8]) -> Result<(), LineRefusal>
-    ensures { Adds events.old.items events.new.items result (option_map (spec.at_step step) (spec.typed_events text.now)) }
+    ensures { AddsEvent events.old.items events.new.items result (option_map (spec.at_step step) (spec.typed_events text.now)) }
 {
     let console = number(before(text, b' '), GREATEST_CONSOLE).ok_or(LineRefusal::Bad)?;
     let keys = after(text, b' ');
@@ -125,9 +125,9 @@ fn add_typed(events: &mut Vec<Timed>, step: u64, text: &[u8]) -> Result<(), Line
     add_keys(events, step, console as u8, keys)
 }
 
-/// Adds the keys of a text, at most 128.
+/// AddsEvent the keys of a text, at most 128.
 fn add_keys(events: &mut Vec<Timed>, step: u64, console: u8, text: &[u8]) -> Result<(), LineRefusal>
-    ensures { Adds events.old.items events.new.items result (option_map (spec.keys_at step console) (keys_of 128 text.now)) }
+    ensures { AddsEvent events.old.items events.new.items result (option_map (spec.keys_at step console) (keys_of 128 text.now)) }
 {
     let mut rest = text;
     let mut most = MOST_KEYS;

@@ -1,11 +1,11 @@
 ghost use Rattle.std.specs.Prelude.{◌≡◌};
-ghost use Rattle.mpm_script.specs.Numbers.{is_plain as is_plain_text, decimal_of, number_of, hex_digit as hex_digit_of, hex_byte as hex_byte_of, IsNumber};
+ghost use Rattle.mpm_script.specs.Numbers.{is_plain as is_plain_text, decimal_of, number_of, hex_digit as hex_digit_of, hex_byte as hex_byte_of, IsNumeral};
 
 /// The number of decimal digits without sign and without a needless zero before them, where it is no greater than the
 /// greatest; else None.
 #[tactic(auto, unfolding(crate::specs::Numbers::number_of))]
 pub fn number(digits: &[u8], greatest: u32) -> Option<u32>
-    ensures { IsNumber (number_of greatest digits.now) greatest result }
+    ensures { IsNumeral (number_of greatest digits.now) greatest result }
 {
     if is_plain(digits) {
         decimal(digits, greatest)
@@ -28,7 +28,7 @@ fn is_plain(digits: &[u8]) -> bool
 
 /// The number that decimal digits stand for, where all are digits and it is no greater than the greatest.
 fn decimal(digits: &[u8], greatest: u32) -> Option<u32>
-    ensures { IsNumber (decimal_of greatest 0 digits.now) greatest result }
+    ensures { IsNumeral (decimal_of greatest 0 digits.now) greatest result }
 {
     let mut value = 0u64;
     for &byte in digits {
@@ -55,7 +55,7 @@ pub fn hex_byte(high: u8, low: u8) -> Option<u8>
 /// The number of a hexadecimal digit of either case.
 #[tactic(auto, unfolding(crate::specs::Numbers::hex_digit))]
 fn hex_digit(digit: u8) -> Option<u8>
-    ensures { IsNumber (hex_digit_of digit) 15 result }
+    ensures { IsNumeral (hex_digit_of digit) 15 result }
 {
     match digit {
         b'0'..=b'9' => Some(digit - b'0'),

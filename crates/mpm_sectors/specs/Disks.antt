@@ -24,8 +24,8 @@ pub record TakesCalls {A E : Type 0} (before now calls : ℕ) (result : Result A
 abbrev pub slot_calls : List (SectorPlace × List ℕ) → ℕ → Kind → ℕ → ℕ
 slot_calls cached drive kind sector = if is_some (cached_at cached drive (place_of kind sector)) then 1 else 2
 
--- what is cached is what the images have, and drives stay apart, this one too. All is as before but the image of one drive, what is known
--- of it by its name, that it stays unsynced where it was, and the count of faults
+-- what is cached is what the images have, and drives stay apart, this one too. All is as before but the images of one drive's name, what is
+-- known of that name, whether this drive is synced, and the count of faults. It stays unsynced where it was
 pub record LeavesDisks {D : Type 0} (disks : D → Disks) (told : D → List ℕ → ToldImage) (failed : D → List (List ℕ)) (unsynced : D → ℕ → Bool) (drive : ℕ) (cached new : List (SectorPlace × List ℕ)) (old now : D) : Type 0 where
   pub coherent : IsCoherent new (disks now)
   pub apart : StayApart drive cached new (disks old) (disks now)

@@ -147,7 +147,7 @@ impl Disk {
     }
 
     /// Writes a directory entry into its slot: its sector is read, which costs a call of the drives where it isn't cached, and
-    /// written by one more. Bytes that the entry has no field for stay as they were.
+    /// written by one more. Of an XFCB or a label the bytes without a field stay where the slot had one of the two; else they become 0.
     #[tactic(auto, using(crate::proofs::LeavesLaws::ready_after))]
     pub fn put_slot<D: Drives, L: Ledger>(
         &self,

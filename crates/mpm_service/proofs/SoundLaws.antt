@@ -8,7 +8,7 @@ use Rattle.mpm_ready.proofs.OrderLaws.{in_list_put_in, all_put_in, in_list_witho
 use Rattle.mpm_service.specs.declared.service.Served.{Served}
 use Rattle.mpm_service.specs.declared.service.Turn.{Turn}
 use Rattle.mpm_service.specs.declared.service.Turn.TheVariants.{Idle, Passing, Work, Starts}
-use Rattle.mpm_service.specs.Disk.{DiskService, left_by, starting, after_step, step_answer, HasBegun, IsAfter, IsSoundService, Leaves}
+use Rattle.mpm_service.specs.Disk.{DiskService, left_by, starting, after_step, step_answer, HasBegun, IsAfter, IsSoundService, LeavesDisk}
 
 absent_with : (served : Option Served) (waiting : List Member) (p priority : ℕ) → IfSome served (λ call. call.p ≢ p) → IfSome served (λ call. in_list call.p waiting ≡ false)
     → IfSome served (λ call. in_list call.p (put_in waiting (record { slot = p; priority = priority })) ≡ false)
@@ -72,7 +72,7 @@ served_stays service p sound = by_case service.served service.waiting p sound.ap
     by_case (Some call) waiting p absent = λ same. subst (λ (k : ℕ). in_list k waiting ≡ false) same absent
 
 -- a call that waits is dropped
-pub leaves_left : (p : ℕ) (service : DiskService) → IsSoundService service → Leaves p service (left_by service p) (in_list p service.waiting)
+pub leaves_left : (p : ℕ) (service : DiskService) → IsSoundService service → LeavesDisk p service (left_by service p) (in_list p service.waiting)
 unfolding left_by
 leaves_left p service sound = record {
   service = refl;

@@ -119,7 +119,7 @@ pub record Turns (old new : DiskService) (result : Turn) : Type 0 where
   pub steps : new.turn_steps ≡ old.turn_steps
 
 -- the call of a process waits no more; where none of it waits, as where it is in service, nothing changes
-pub record Leaves (p : ℕ) (old new : DiskService) (result : Bool) : Type 0 where
+pub record LeavesDisk (p : ℕ) (old new : DiskService) (result : Bool) : Type 0 where
   pub service : new ≡ left_by old p
   pub answer : result ≡ in_list p old.waiting
   pub gone : in_list p new.waiting ≡ false

@@ -3,3 +3,4 @@ pub mod Disk
 pub mod Turns
 pub mod Ahead
 pub mod Places
+pub mod Calling

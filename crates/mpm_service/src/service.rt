@@ -1,5 +1,4 @@
-ghost use Rattle.std.specs.Prelude.{◌≡◌, ℕ, ◌+◌, ◌<◌, ◌≤◌, true, None, IfSome, unwrap_or};
-ghost use Rattle.mpm_service.specs.Waiting.{IsWaitList};
+ghost use Rattle.std.specs.Prelude.{◌≡◌, ◌+◌, ◌<◌, None, IfSome};
 ghost use Rattle.mpm_service.specs.Places.{served_without};
 
 use crate::waiting::Waiting;
@@ -49,17 +48,14 @@ impl Model for Service {
 }
 
 impl Service {
-    ghost use Rattle.mpm_service.specs.Disk.{no_service, entered, served_process, turn_answer, begun, HasBegun, HasEntered, IsSoundService, MayEnter, Becomes, Turns, Leaves};
-    ghost use Rattle.mpm_service.specs.Turns.{TakesTurns};
+    ghost use Rattle.mpm_service.specs.Disk.{turn_answer, HasBegun, MayEnter, Becomes, Turns, LeavesDisk};
     ghost use Rattle.mpm_service.specs.Places.{without_call};
-    ghost use Rattle.mpm_service.specs.Ahead.{turned_by, quiet_steps, passed_by, turns_left, unserved};
+    ghost use Rattle.mpm_service.specs.Calling.{MakesService, EntersService, TurnsService, MayBeginTurns, BeginsTurns, TellsQuiet, PassesQuietly, FinishesService, TellsServed};
 
     /// Nobody waits or is served. A turn has `disk_turn` steps; where that is 0 no call may wait.
     #[tactic(auto, unfolding(crate::specs::Disk::no_service))]
     pub fn new(disk_turn: u32) -> Service
-        ensures service { result ≡ no_service disk_turn }
-        ensures steps { result.turn_steps ≡ disk_turn }
-        ensures begun { HasBegun result }
+        ensures { MakesService disk_turn result }
     {
         Service {
             turn_steps: disk_turn,
@@ -72,8 +68,7 @@ impl Service {
     #[tactic(auto, using(crate::proofs::SoundLaws::stays_begun), unfolding(crate::specs::Disk::entered))]
     pub fn enter(&mut self, p: Pid, priority: u8)
         requires { MayEnter p self.old }
-        ensures becomes { Becomes (entered self.old p priority) self.old self.new }
-        ensures same { self.new.served ≡ self.old.served }
+        ensures { EntersService p priority self.old self.new }
     {
         self.waiting.put(p, priority);
     }
@@ -84,8 +79,7 @@ impl Service {
     #[tactic(auto, using(crate::proofs::SoundLaws::has_begun, crate::proofs::SoundLaws::after_answer, crate::proofs::SoundLaws::last_ends), unfolding(crate::specs::Disk::turned, crate::specs::Disk::turn_answer))]
     pub fn turn(&mut self) -> Turn
         requires begun { HasBegun self.old }
-        ensures turns { Turns self.old self.new result }
-        ensures last { (p : ℕ) → result ≡ Turn.Work p true → self.new.served ≡ None }
+        ensures { TurnsService self.old self.new result }
     {
         match self.served {
             Some(call) => {
@@ -118,12 +112,8 @@ impl Service {
     /// The call that has just entered service takes so many turns, of which the first begins with the next step.
     #[tactic(auto, unfolding(crate::specs::Disk::begun))]
     pub fn begin(&mut self, turns: u32)
-        requires entered { HasEntered self.old }
-        requires some { 0 < turns }
-        ensures service { self.new ≡ begun self.old turns }
-        ensures begun { HasBegun self.new }
-        ensures turns { IfSome self.new.served (TakesTurns self.new.turn_steps turns) }
-        ensures steps { self.new.turn_steps ≡ self.old.turn_steps }
+        requires { MayBeginTurns turns self.old }
+        ensures { BeginsTurns turns self.old self.new }
     {
         if let Some(call) = self.served {
             self.served = Some(Served {
@@ -137,7 +127,7 @@ impl Service {
     /// Drops the call of a process that waits; false, and nothing changes, exactly where it doesn't wait: the one that is served
     /// doesn't.
     pub fn leave(&mut self, p: Pid) -> bool
-        ensures { Leaves p self.old self.new result }
+        ensures { LeavesDisk p self.old self.new result }
     {
         self.waiting.remove(p)
     }
@@ -145,9 +135,7 @@ impl Service {
     /// Drops the call of a process, whether it waits or is in service.
     #[tactic(auto, unfolding(crate::specs::Places::without_call))]
     pub fn drop_call(&mut self, p: Pid)
-        ensures service { self.new ≡ without_call self.old p }
-        ensures steps { self.new.turn_steps ≡ self.old.turn_steps }
-        ensures begun { HasBegun self.old → HasBegun self.new }
+        ensures { Becomes (without_call self.old p) self.old self.new }
     {
         let _waited = self.waiting.remove(p);
         self.served = without(self.served, p);
@@ -170,8 +158,7 @@ impl Service {
     /// How many steps of the disk only pass before one that is more; None where the disk has no call, so that any number does.
     #[tactic(auto, unfolding(crate::specs::Ahead::quiet_steps))]
     pub fn quiet(&self) -> Option<u32>
-        ensures steps { result ≡ quiet_steps self.now }
-        ensures few { (n : ℕ) → n ≤ unwrap_or result n → IfSome self.now.served (λ call. call.passed + n < self.now.turn_steps) }
+        ensures { TellsQuiet self.now result }
     {
         match self.served {
             Some(call) => Some(self.turn_steps - 1 - call.passed),
@@ -186,8 +173,7 @@ impl Service {
     #[tactic(auto, using(crate::proofs::AheadLaws::many_pass), unfolding(crate::specs::Ahead::passed_by))]
     pub fn pass(&mut self, steps: u32)
         requires few { IfSome self.old.served (λ call. call.passed + steps < self.old.turn_steps) }
-        ensures becomes { Becomes (passed_by steps self.old) self.old self.new }
-        ensures turned { IfSome self.old.served (λ _. self.new ≡ turned_by steps self.old) }
+        ensures { PassesQuietly steps self.old self.new }
     {
         if let Some(call) = self.served {
             self.served = Some(Served {
@@ -201,10 +187,7 @@ impl Service {
     /// The service of the call that is served ends without further steps: how many turns were left to it.
     #[tactic(auto, unfolding(crate::specs::Ahead::unserved, crate::specs::Ahead::turns_left))]
     pub fn finish(&mut self) -> u32
-        ensures service { self.new ≡ unserved self.old }
-        ensures turns { result ≡ turns_left self.old }
-        ensures steps { self.new.turn_steps ≡ self.old.turn_steps }
-        ensures begun { HasBegun self.new }
+        ensures { FinishesService self.old self.new result }
     {
         let left = match self.served {
             Some(call) => call.left,
@@ -224,11 +207,9 @@ impl Service {
     /// The process whose call is in service, none exactly where none is.
     #[tactic(auto, unfolding(crate::specs::Disk::served_process))]
     pub fn serving(&self) -> Option<Pid>
-        ensures served { result ≡ served_process self.now }
-        ensures sound { IsSoundService self.now }
-        ensures waiting { IsWaitList self.now.waiting }
+        ensures { TellsServed self.now result }
     {
-        // Asked only for what is so of the list, which the clause `waiting` says.
+        // Asked only for what is so of the list, which `waiting` of the contract says.
         let _first = self.waiting.first();
         match self.served {
             Some(call) => Some(call.p),
@@ -249,6 +230,7 @@ fn without(served: Option<Served>, p: Pid) -> Option<Served>
 
 impl Served {
     ghost use Rattle.mpm_service.specs.Disk.{is_last_step, after_step, step_answer};
+    ghost use Rattle.mpm_service.specs.Calling.{HasTurnsLeft};
 
     /// Whether one more step is the last of its turn.
     fn is_last_step(&self, turn_steps: u32) -> bool
@@ -261,8 +243,7 @@ impl Served {
     /// The call after one more step, none where that was the last of its last turn.
     #[tactic(auto, unfolding(crate::specs::Disk::after_step))]
     fn pass(&self, turn_steps: u32) -> Option<Served>
-        requires within { self.now.passed < turn_steps }
-        requires begun { 0 < self.now.left }
+        requires { HasTurnsLeft turn_steps self.now }
         ensures { result ≡ after_step turn_steps self.now }
     {
         if !self.is_last_step(turn_steps) {

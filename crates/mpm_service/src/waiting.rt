@@ -1,6 +1,6 @@
 ghost use Rattle.std.specs.Prelude.{◌≡◌, [], false};
-ghost use Rattle.mpm_ready.specs.Order.{put_in, without_slot, in_list, first_of};
-ghost use Rattle.mpm_service.specs.Waiting.{IsWaitList};
+ghost use Rattle.mpm_ready.specs.Order.{put_in, in_list};
+ghost use Rattle.mpm_service.specs.Calling.{TellsFirst, RemovesWaiter};
 
 use mpm_base::Pid;
 use mpm_ready::Lists;
@@ -50,8 +50,7 @@ impl Waiting {
 
     /// The first that waits, none exactly where nobody does.
     pub(crate) fn first(&self) -> Option<Pid>
-        ensures first { result ≡ first_of self.now }
-        ensures proper { IsWaitList self.now }
+        ensures { TellsFirst self.now result }
     {
         self.lists.first(LIST)
     }
@@ -59,8 +58,7 @@ impl Waiting {
     /// Takes a process out; false, and nothing changes, exactly where it doesn't wait.
     #[tactic(auto, using(crate::proofs::OneList::one_after_removal, crate::proofs::OneList::list_after_removal, crate::proofs::OneList::listed_in_one))]
     pub(crate) fn remove(&mut self, p: Pid) -> bool
-        ensures list { self.new ≡ without_slot p self.old }
-        ensures answer { result ≡ in_list p self.old }
+        ensures { RemovesWaiter p self.old self.new result }
     {
         self.lists.remove(p).is_some()
     }

@@ -1,3 +1,4 @@
 pub mod RequestLaws
+pub mod Saved
 pub mod SaveLaws
 pub mod ResumeLaws

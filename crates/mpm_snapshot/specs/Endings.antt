@@ -61,16 +61,16 @@ pub record HasCore (process : ℕ) (Writes : List ℕ → Type 0) (system : Syst
   pub wrote : Writes (core_bytes core)
 
 -- what was found of the process of a system, and written: its core; a first part of it where the output failed; or it has none
-abbrev pub Finds : ℕ → List ℕ → List ℕ → SnapStatus → System → Type 0
-Finds process first written Done system = HasCore process (λ bytes. written ≡ first ++ bytes) system
-Finds process first written WriteFault system = HasCore process (λ bytes. AppendsPart first bytes written) system
-Finds process first written status system = core_at process system ≡ None
+abbrev pub FindsCore : ℕ → List ℕ → List ℕ → SnapStatus → System → Type 0
+FindsCore process first written Done system = HasCore process (λ bytes. written ≡ first ++ bytes) system
+FindsCore process first written WriteFault system = HasCore process (λ bytes. AppendsPart first bytes written) system
+FindsCore process first written status system = core_at process system ≡ None
 
 -- How a save ends: the run keeps all promises of `run_words`; and after its last step, before its end, that was found of the process
 pub record Saves (missing : List ℕ → Type 0) (command : Command) (process : ℕ) (old new : Seen) (status : SnapStatus) : Type 0 where
   pub text : List ℕ
   pub run : Promises (text ≡ []) missing command (unheard old []) (unheard new text) (run_of status)
-  pub last : by_run (SeesLast (Finds process old.printed.text new.printed.text status) command (unheard old []) (unheard new text)) ⊤ ⊥ status
+  pub last : by_run (SeesLast (FindsCore process old.printed.text new.printed.text status) command (unheard old []) (unheard new text)) ⊤ ⊥ status
 
 -- A file is there, and this is what came of it: as many of its first bytes as the largest core has, and one more.
 pub record Came (missing : Type 0) (contents : Option (List ℕ)) (text : List ℕ) : Type 0 where
@@ -93,7 +93,7 @@ pub record IsReadCore (missing : Type 0) (contents : Option (List ℕ)) (core : 
   pub sound : fault_of (core_bytes core) ≡ None
 
 -- which was run on so
-pub record RunsOn (missing : Type 0) (contents : Option (List ℕ)) (most : ℕ) (Writes : List ℕ → Type 0) : Type 0 where
+pub record ResumesCore (missing : Type 0) (contents : Option (List ℕ)) (most : ℕ) (Writes : List ℕ → Type 0) : Type 0 where
   pub core : CoreContents
   pub read : IsReadCore missing contents core
   pub run : Runs most core Writes
@@ -106,7 +106,7 @@ pub record HasFault (missing : Type 0) (contents : Option (List ℕ)) (place : �
 
 -- How a core that is run on ends
 abbrev pub Resumes : Type 0 → Option (List ℕ) → Type 0 → ℕ → List ℕ → List ℕ → SnapStatus → Type 0
-Resumes missing contents unread most first written Done = RunsOn missing contents most (λ text. written ≡ first ++ text)
+Resumes missing contents unread most first written Done = ResumesCore missing contents most (λ text. written ≡ first ++ text)
 Resumes missing contents unread most first written Usage = ⊥
 Resumes missing contents unread most first written MachineFault = ⊥
 Resumes missing contents unread most first written (ScriptFault line) = ⊥
@@ -114,7 +114,7 @@ Resumes missing contents unread most first written (ImageFault drive cause place
 Resumes missing contents unread most first written (TooLong what) = ⊥
 Resumes missing contents unread most first written ReadFault = unread
 Resumes missing contents unread most first written (DiskFault step) = ⊥
-Resumes missing contents unread most first written WriteFault = RunsOn missing contents most (λ text. AppendsPart first text written)
+Resumes missing contents unread most first written WriteFault = ResumesCore missing contents most (λ text. AppendsPart first text written)
 Resumes missing contents unread most first written OutOfMemory = ⊤
 Resumes missing contents unread most first written NoProcess = ⊥
 Resumes missing contents unread most first written (CoreFault place) = HasFault missing contents place
@@ -127,23 +127,23 @@ EndsSnapshot missing (Resume name most) old new status =
 
 -- What failed: a file's name joins the failed ones, a drive fails, and the output fails, only where that ended the program. What files hold
 -- stays
-abbrev pub FailsOutput : ℕ → ℕ → SnapStatus → Type 0
-FailsOutput before now WriteFault = Rose before now
-FailsOutput before now status = now ≡ before
+abbrev pub FailsSink : ℕ → ℕ → SnapStatus → Type 0
+FailsSink before now WriteFault = Rose before now
+FailsSink before now status = now ≡ before
 
 pub record FailsSnapshot (old new : Seen) (status : SnapStatus) : Type 0 where
   pub files : UnlessReadFault (run_of status) (new.failed.files ≡ old.failed.files)
   pub drives : UnlessDiskFault (run_of status) (new.failed.drives ≡ old.failed.drives)
-  pub output : FailsOutput old.printed.faults new.printed.faults status
+  pub output : FailsSink old.printed.faults new.printed.faults status
   pub contents : (other : List ℕ) → new.host.contents other ≡ old.host.contents other
 
 -- the endings at which nothing is written
-abbrev pub WritesNothing : SnapStatus → Type 0
-WritesNothing Done = ⊥
-WritesNothing WriteFault = ⊥
-WritesNothing status = ⊤
+abbrev pub WritesNoOutput : SnapStatus → Type 0
+WritesNoOutput Done = ⊥
+WritesNoOutput WriteFault = ⊥
+WritesNoOutput status = ⊤
 
 -- the output fails only where that ended the program, and is as it was where nothing is written
 pub record LeavesOutput {S : Type 0} (by : sink.Ghosts S) (old new : S) (status : SnapStatus) : Type 0 where
-  pub output : FailsOutput (by.faults old) (by.faults new) status
-  pub nothing : WritesNothing status → new ≡ old
+  pub output : FailsSink (by.faults old) (by.faults new) status
+  pub nothing : WritesNoOutput status → new ≡ old

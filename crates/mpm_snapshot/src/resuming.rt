@@ -1,7 +1,6 @@
-ghost use Rattle.std.specs.Prelude.{◌≡◌, ◌≢◌, ℕ, List, [], ◌∷◌, ◌++◌};
 ghost use Rattle.mpm_core_file.specs.CoreFiles.{IsCore};
-ghost use Rattle.mpm_snapshot.specs.Parts.{ReadsFile, KeepsNames, EndsRun};
-ghost use Rattle.mpm_snapshot.specs.Endings.{Came, IsReadCore, Resumes, LeavesOutput};
+ghost use Rattle.mpm_snapshot.specs.Parts.{FetchesFile, PutsRun, EndsResume};
+ghost use Rattle.mpm_snapshot.specs.Endings.{Came, IsReadCore};
 
 use crate::lines::line;
 use crate::status::SnapStatus;
@@ -13,7 +12,7 @@ use std::alloc::Global;
 /// The first bytes of a file, as many as the largest core has, and one more.
 #[tactic(auto, using(crate::proofs::ResumeLaws::came))]
 fn fetch_core<F: Files>(alloc: Global, name: &str, files: &mut F) -> Result<Vec<u8>, SnapStatus>
-    ensures { ReadsFile F.Files name.now (λ text. Came (F.missing files.old name.now) (F.contents files.old name.now) text.items) files.old files.new result }
+    ensures { FetchesFile F.Files name.now (λ text. Came (F.missing files.old name.now) (F.contents files.old name.now) text.items) files.old files.new result }
 {
     let mut text = Vec::new(alloc);
     match files.fetch(name, LARGEST_SIZE + 1, &mut text) {
@@ -30,7 +29,7 @@ fn read_core<F: Files>(
     files: &mut F,
     core: &mut Core,
 ) -> Result<(), SnapStatus>
-    ensures { ReadsFile F.Files name.now (λ _. IsReadCore (F.missing files.old name.now) (F.contents files.old name.now) core.new) files.old files.new result }
+    ensures { FetchesFile F.Files name.now (λ _. IsReadCore (F.missing files.old name.now) (F.contents files.old name.now) core.new) files.old files.new result }
 {
     let text = match fetch_core(alloc, name, files) {
         Ok(text) => text,
@@ -50,11 +49,7 @@ pub(crate) fn resume<F: Files, S: Sink>(
     files: &mut F,
     sink: &mut S,
 ) -> SnapStatus
-    ensures usage { result ≢ SnapStatus.Usage }
-    ensures resumes { Resumes (F.missing files.old name.now) (F.contents files.old name.now) (F.failed_names files.new ≡ F.failed_names files.old ++ (name.now ∷ [])) most (S.written sink.old) (S.written sink.new) result }
-    ensures names { KeepsNames (F.failed_names files.old) (F.failed_names files.new) result }
-    ensures leaves { LeavesOutput S.Sink sink.old sink.new result }
-    ensures files { (other : List ℕ) → F.contents files.new other ≡ F.contents files.old other }
+    ensures { EndsResume F.Files S.Sink name.now most files.old files.new sink.old sink.new result }
 {
     let mut core = match Core::new(alloc) {
         Ok(core) => core,
@@ -69,8 +64,7 @@ pub(crate) fn resume<F: Files, S: Sink>(
 /// Runs a core on by at most so many instructions, and writes a line about it.
 fn run_on<S: Sink>(core: &mut Core, most: u64, sink: &mut S) -> SnapStatus
     requires { IsCore core.old }
-    ensures ends { EndsRun most core.old (S.written sink.old) (S.written sink.new) result }
-    ensures leaves { LeavesOutput S.Sink sink.old sink.new result }
+    ensures { PutsRun S.Sink most core.old sink.old sink.new result }
 {
     let replayed = core.replay(most);
     match sink.put(line(core.head(), replayed).as_slice()) {

@@ -1,10 +1,9 @@
-ghost use Rattle.std.specs.Prelude.{◌≡◌, ◌≢◌, ◌≤◌, true, IfOk};
+ghost use Rattle.std.specs.Prelude.{◌≡◌, ◌≤◌, true, IfOk};
 ghost use Rattle.mpm_script.specs.declared.line.TheConstants.{GREATEST_STEP};
 ghost use Rattle.mpm_core_file.specs.CoreFiles.{IsCore};
 ghost use Rattle.mpm_top.specs.Beginnings.{command_on};
 ghost use Rattle.mpm_top.specs.Promises.{seen_by};
-ghost use Rattle.mpm_snapshot.specs.Parts.{Took, RunsUnheard, WritesTaken, silent, status_of};
-ghost use Rattle.mpm_snapshot.specs.Endings.{Saves, FailsSnapshot, LeavesOutput, WritesNothing};
+ghost use Rattle.mpm_snapshot.specs.Parts.{Took, RunsUnheard, PutsTaken, EndsSave, silent, status_of};
 
 use crate::status::SnapStatus;
 use crate::words::ToSave;
@@ -54,8 +53,7 @@ impl Taker {
     /// Writes the file of the core that was taken.
     fn write<S: Sink>(&self, sink: &mut S) -> SnapStatus
         requires { self.now.taken ≡ true → IsCore self.now.core }
-        ensures wrote { WritesTaken self.now (S.written sink.old) (S.written sink.new) result }
-        ensures leaves { LeavesOutput S.Sink sink.old sink.new result }
+        ensures { PutsTaken S.Sink self.now sink.old sink.new result }
     {
         if !self.taken {
             return SnapStatus::NoProcess;
@@ -122,11 +120,8 @@ pub(crate) fn save<F: Files, D: Drives, S: Sink>(
     sink: &mut S,
 ) -> SnapStatus
     requires { asked.asked.steps ≤ GREATEST_STEP }
-    ensures usage { result ≢ SnapStatus.Usage }
-    ensures saves { Saves (F.missing files.old) (command_on name.now asked.asked) asked.process (seen_by F.Files D.Drives S.Sink files.old drives.old sink.old) (seen_by F.Files D.Drives S.Sink files.new drives.new sink.new) result }
-    ensures program { asked.asked.form ≡ Form.Program → drives.new ≡ drives.old }
-    ensures fails { FailsSnapshot (seen_by F.Files D.Drives S.Sink files.old drives.old sink.old) (seen_by F.Files D.Drives S.Sink files.new drives.new sink.new) result }
-    ensures nothing { WritesNothing result → sink.new ≡ sink.old }
+    ensures { EndsSave (sink.new ≡ sink.old) (drives.new ≡ drives.old) (F.missing files.old) (command_on name.now asked.asked) asked.process
+        (seen_by F.Files D.Drives S.Sink files.old drives.old sink.old) (seen_by F.Files D.Drives S.Sink files.new drives.new sink.new) result }
 {
     let mut taker = match Taker::new(alloc, asked.process) {
         Ok(taker) => taker,

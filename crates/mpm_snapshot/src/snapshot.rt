@@ -2,7 +2,7 @@ ghost use Rattle.std.specs.Prelude.{◌≡◌, ◌↔◌, Some, None};
 ghost use Rattle.mpm_top.specs.Words.{texts};
 ghost use Rattle.mpm_top.specs.Promises.{seen_by};
 ghost use Rattle.mpm_snapshot.specs.Requests.{Request, request_of, UsesNoDrive};
-ghost use Rattle.mpm_snapshot.specs.Endings.{EndsSnapshot, FailsSnapshot, WritesNothing};
+ghost use Rattle.mpm_snapshot.specs.Endings.{EndsSnapshot, FailsSnapshot, WritesNoOutput};
 
 use crate::resuming::resume;
 use crate::saving::save;
@@ -31,7 +31,7 @@ pub fn snapshot_words<F: Files, D: Drives, S: Sink>(
 
     // What failed, that nothing is written where no core is saved and none run on, and that what the files hold stays.
     ensures fails { FailsSnapshot (seen_by F.Files D.Drives S.Sink files.old drives.old sink.old) (seen_by F.Files D.Drives S.Sink files.new drives.new sink.new) result }
-    ensures nothing { WritesNothing result → sink.new ≡ sink.old }
+    ensures nothing { WritesNoOutput result → sink.new ≡ sink.old }
 {
     match words {
         [word, name, most] => {

@@ -20,7 +20,7 @@ pub record IsIdle (system : System) : Type 0 where
   pub nobody : first_of (list_at system.kernel.dispatcher.lists ready) ≡ None
 
 -- where a test says so, no call is at the disk and none waits for it, and no records are written
-pub record IsAlone (traced : Bool) (system : System) (alone : Bool) : Type 0 where
+pub record TellsAlone (traced : Bool) (system : System) (alone : Bool) : Type 0 where
   pub served : OnTrue alone (system.kernel.disk.served ≡ None)
   pub nobody : OnTrue alone (first_of system.kernel.disk.waiting ≡ None)
   pub untraced : OnTrue alone (traced ≡ false)

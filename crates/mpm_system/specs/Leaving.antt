@@ -2,6 +2,6 @@
 use Rattle.std.specs.Prelude.{◌≡◌}
 use Rattle.mpm_system.specs.declared.system.System.{System}
 
-pub record Leaves {A : Type 0} (left : System) (known : A) (new : System) (result : A) : Type 0 where
+pub record LeavesSystem {A : Type 0} (left : System) (known : A) (new : System) (result : A) : Type 0 where
   pub system : new ≡ left
   pub value : result ≡ known

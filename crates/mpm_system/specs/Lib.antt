@@ -22,3 +22,4 @@ pub mod Leaving
 pub mod Strings
 pub mod Processes
 pub mod Doing
+pub mod Asking

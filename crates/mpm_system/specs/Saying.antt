@@ -30,7 +30,7 @@ pub record MaySpeakByte (p : ℕ) (system : System) : Type 0 where
   pub byte : (call_of system.kernel.dispatcher.procs p).function ≢ PRINT_STRING
 
 -- bytes come to a console as they are: its column moves in any case, and after an error the sink failed as they came out
-pub record Shows {S A : Type 0} (written : S → List ℕ) (faults : S → ℕ) (console : ℕ) (bytes : List ℕ) (old new : Kernel) (kept : KeptLines) (sink : S) (kept' : KeptLines) (sink' : S) (result : Result A Failed) : Type 0 where
+pub record ShowsBytes {S A : Type 0} (written : S → List ℕ) (faults : S → ℕ) (console : ℕ) (bytes : List ℕ) (old new : Kernel) (kept : KeptLines) (sink : S) (kept' : KeptLines) (sink' : S) (result : Result A Failed) : Type 0 where
   pub kernel : new ≡ spoke old console bytes
   pub wrote : WritesAlone written faults kept sink kept' sink' (spoken console bytes) result
 

@@ -1,5 +1,4 @@
-ghost use Rattle.std.specs.Prelude.{◌≡◌, ◌<◌, is_some};
-ghost use Rattle.mpm_script.specs.declared.line.TheConstants.{GREATEST_STEP};
+ghost use Rattle.std.specs.Prelude.{◌≡◌, is_some};
 
 use crate::system::System;
 
@@ -7,6 +6,7 @@ impl System {
     ghost use Rattle.std.specs.Prelude.{◌≡◌};
     ghost use Rattle.mpm_system.specs.Quiet.{TellsOpen};
     ghost use Rattle.mpm_system.specs.Whole.{IsWhole};
+    ghost use Rattle.mpm_system.specs.Asking.{MayCountStep};
     ghost use Rattle.mpm_system.specs.Coming.{lets_in, coming, unhalted, counted};
 
     /// Whether an event may come in this step. Mostly none is due yet, and nothing else is asked.
@@ -52,8 +52,7 @@ impl System {
     /// Whether an event comes in the next step.
     #[tactic(auto, unfolding(crate::specs::Coming::coming))]
     pub fn comes(&self) -> bool
-        requires whole { IsWhole self.now }
-        requires most { self.now.steps < GREATEST_STEP }
+        requires { MayCountStep self.now }
         ensures { result ≡ is_some (coming (counted self.now)) }
     {
         self.lets_in() && self.interrupts.is_due(self.steps + 1)

@@ -1,9 +1,8 @@
-ghost use Rattle.std.specs.Prelude.{◌≡◌, ◌<◌, Some, None, Option};
-ghost use Rattle.mpm_script.specs.declared.line.TheConstants.{GREATEST_STEP};
+ghost use Rattle.std.specs.Prelude.{◌≡◌, Some, None, Option};
 ghost use Rattle.mpm_procs.specs.Table.{call_of, process_in};
 
 use crate::system::System;
-use mpm_base::{Pid, Reply, Seg, functions};
+use mpm_base::{Pid, Reply, functions};
 use mpm_file_functions::Extended;
 
 /// Where the DMA address of a process begins: after the base page's first half.
@@ -11,34 +10,26 @@ const FIRST_DMA: u8 = 0x80;
 
 impl System {
     ghost use Rattle.std.specs.Prelude.{is_none};
-    ghost use Rattle.mpm_gate.specs.Gates.{IsHome};
     ghost use Rattle.mpm_file_functions.specs.declared.refusals.Extended.{Extended};
     ghost use Rattle.mpm_directories.specs.Direct.{Resets};
     ghost use Rattle.mpm_system.specs.Whole.{LivesInSystem, MayRecord};
-    ghost use Rattle.mpm_system.specs.FileCalling.{call_made, made_by, change_of, with_caller, first_dma, file_replied};
+    ghost use Rattle.mpm_system.specs.Asking.{MayMakeFileCall};
+    ghost use Rattle.mpm_system.specs.FileCalling.{call_made, change_of, with_caller, first_dma, file_replied};
 
     /// A step begins in which a process makes its file call, which it keeps.
     #[tactic(auto, unfolding(crate::specs::FileCalling::call_made))]
     pub fn make_file_call(&mut self, p: Pid)
-        requires process { LivesInSystem p self.old }
-        requires most { self.old.steps < GREATEST_STEP }
+        requires { MayMakeFileCall p self.old }
         ensures { self.new ≡ call_made p self.old }
     {
         self.steps += 1;
         match self.kernel.segment(p) {
-            Some(seg) => self.take_file_call(p, seg),
+            Some(seg) => {
+                self.take_call(p, seg);
+                self.pop(p, seg);
+            }
             None => self.ask_next(p),
         }
-    }
-
-    /// A step begins in which a process of a segment makes its file call: its return address is taken from its stack.
-    fn take_file_call(&mut self, p: Pid, seg: Seg)
-        requires process { LivesInSystem p self.old }
-        requires home { IsHome self.old.memory seg }
-        ensures { self.new ≡ made_by (Some seg) p self.old }
-    {
-        self.take_call(p, seg);
-        self.pop(p, seg);
     }
 
     /// The caller of 13 has the first drive and its first DMA address again, and that of 14 the drive that it selects, unless it

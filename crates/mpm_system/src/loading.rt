@@ -1,11 +1,8 @@
-ghost use Rattle.std.specs.Prelude.{◌≡◌, ◌≤◌, ◌<◌, ◌*◌, length, if◌then◌else◌};
-ghost use Rattle.std.specs.Bool.{OnTrue};
+ghost use Rattle.std.specs.Prelude.{◌≡◌};
 ghost use Rattle.mpm_banks.specs.Ranges.{range_of};
-ghost use Rattle.mpm_procs.specs.Table.{Lives, call_of};
-ghost use Rattle.mpm_kernel.specs.Called.{failure_code};
-ghost use Rattle.mpm_gate.specs.Gates.{IsHome};
-ghost use Rattle.mpm_system.specs.Opening.{MayBegin};
-ghost use Rattle.mpm_system.specs.Loading.{moved, may_live as may_be_lived_in};
+ghost use Rattle.mpm_procs.specs.Table.{call_of};
+ghost use Rattle.mpm_system.specs.Asking.{MayMoveRange, TellsMayLive, MayBeginFor};
+ghost use Rattle.mpm_system.specs.Loading.{moved};
 ghost use Rattle.mpm_system.specs.Processes.{BeginsFor};
 
 use crate::system::System;
@@ -19,14 +16,14 @@ use mpm_residents::Act;
 
 impl System {
     ghost use Rattle.mpm_system.specs.Whole.{LivesInSystem};
-    ghost use Rattle.mpm_system.specs.Leaving.{Leaves};
+    ghost use Rattle.mpm_system.specs.Leaving.{LeavesSystem};
     ghost use Rattle.mpm_system.specs.Loading.{placing, moving, giving, beginning, begins, handed_over, handed_value};
 
     /// What the interpreter of a slot hands over is done, with the bytes of the call that its process keeps. Answers 0, or FFh
     /// where no process can begin.
     pub(crate) fn hand_over(&mut self, p: Pid, act: Act) -> u16
         requires { LivesInSystem p self.old }
-        ensures { Leaves (handed_over act (call_of self.old.kernel.dispatcher.procs p).bytes p self.old) (handed_value act self.old) self.new result }
+        ensures { LeavesSystem (handed_over act (call_of self.old.kernel.dispatcher.procs p).bytes p self.old) (handed_value act self.old) self.new result }
     {
         match act {
             Act::Ask => 0,
@@ -43,7 +40,13 @@ impl System {
                 self.move_code(p, seg, address, length, page);
                 0
             }
-            Act::BeginProcess { seg, new } => value_of(self.begin_program(p, seg, new)),
+            Act::BeginProcess { seg, new } => {
+                if self.begin_program(p, seg, new) {
+                    0
+                } else {
+                    FAILURE_CODE
+                }
+            }
             Act::GiveConsole { console } => {
                 self.give_console(p, console);
                 0
@@ -86,7 +89,7 @@ impl System {
     /// whether a process may live there, its console is there and a slot is free.
     fn begin_program(&mut self, p: Pid, seg: Seg, new: NewProcess) -> bool
         requires { LivesInSystem p self.old }
-        ensures { Leaves (beginning seg new p self.old) (begins seg new self.old) self.new result }
+        ensures { LeavesSystem (beginning seg new p self.old) (begins seg new self.old) self.new result }
     {
         if !may_live(&self.memory, seg) || self.kernel.consoles() <= new.console {
             return false;
@@ -108,17 +111,9 @@ impl System {
     }
 }
 
-/// What the interpreter is answered as a process begins, or can't.
-fn value_of(begins: bool) -> u16
-    ensures { result ≡ (if begins then 0 else failure_code) }
-{
-    if begins { 0 } else { FAILURE_CODE }
-}
-
 /// The code of a range of memory is moved to a page.
 fn move_range(banks: &mut Banks, seg: Seg, address: u16, count: u16, marks: &[u8], page: u8)
-    requires some { 0 < count }
-    requires marks { count ≤ 8 * length marks.now }
+    requires { MayMoveRange count marks.now }
     ensures { banks.new ≡ moved (range_of banks.old seg address count) marks.now page banks.old }
 {
     let Some(window) = banks.window(seg, address, count) else {
@@ -129,8 +124,7 @@ fn move_range(banks: &mut Banks, seg: Seg, address: u16, count: u16, marks: &[u8
 
 /// Whether a process may live in a segment.
 fn may_live(banks: &Banks, seg: Seg) -> bool
-    ensures test { result ≡ may_be_lived_in banks.now seg }
-    ensures home { OnTrue result (IsHome banks.now seg) }
+    ensures { TellsMayLive banks.now seg result }
 {
     if banks.segments() <= seg.0 {
         return false;
@@ -141,8 +135,7 @@ fn may_live(banks: &Banks, seg: Seg) -> bool
 
 /// A process begins, if a slot is free, and owns its console where the one that hands it over does. Answers whether it does.
 fn begin_for(kernel: &mut Kernel, p: Pid, new: NewProcess) -> bool
-    requires begins { MayBegin new kernel.old }
-    requires lives { Lives kernel.old.dispatcher.procs p }
+    requires { MayBeginFor p new kernel.old }
     ensures { BeginsFor p new kernel.old kernel.new result }
 {
     let console = new.console;

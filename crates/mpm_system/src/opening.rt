@@ -1,13 +1,10 @@
-ghost use Rattle.std.specs.Prelude.{◌≡◌, ◌+◌, ◌<◌, IfOk, false, None, ◌-◌, ◌≤◌, length, Some, IsSome};
+ghost use Rattle.std.specs.Prelude.{◌≡◌, ◌+◌, ◌<◌, IfOk, false, None, ◌-◌, length, Some};
 ghost use Rattle.mpm_procs.specs.Table.{lowest_free};
-ghost use Rattle.mpm_kernel.specs.Kernel.{IsSoundKernel};
-ghost use Rattle.mpm_gate.specs.Gates.{IsHome};
 ghost use Rattle.mpm_machine_file.specs.MachineFiles.{IsMachine};
-ghost use Rattle.mpm_queues.specs.Queues.{no_queues};
-ghost use Rattle.mpm_system.specs.Opening.{terminal_name as name_of_terminal, resident_process as process_of_resident, moment_of as moment_said, program_file as program_said, laid_out, placed_process as process_placed, MayPlace, MayBegin, StandsBare, AwaitsResidents, AwaitsTerminals, AwaitsTerminal, BeginsTerminals, AwaitsOneMore, BeginsResidents, with_placed, OnlyHas, command_queues, spooling_queues, begun_residents, begun_by_interpreter, with_interpreting, with_terminal, with_spooler, with_scheduler, with_spool_queues, schedule_number as number_of_schedule};
+ghost use Rattle.mpm_system.specs.Opening.{terminal_name as name_of_terminal, resident_process as process_of_resident, moment_of as moment_said, program_file as program_said, laid_out, placed_process as process_placed, MayPlace, MayBegin, StandsBare, AwaitsResidents, AwaitsTerminals, AwaitsTerminal, BeginsTerminals, AwaitsOneMore, BeginsResidents, with_placed, command_queues, spooling_queues, begun_residents, begun_by_interpreter, with_interpreting, with_terminal, with_spooler, with_scheduler, with_spool_queues, schedule_number as number_of_schedule};
 ghost use Rattle.mpm_residents.specs.Interpreters.{IsProgramSegment};
 ghost use Rattle.mpm_system.specs.Processes.{IsProcessAt, BeginsWhereFree, BeginsInSlot, PlacesProgram};
-ghost use Rattle.mpm_system.specs.Whole.{IsWhole, NoCompletions};
+ghost use Rattle.mpm_system.specs.Asking.{MayBeginAll, MayQueueCommands, IsScheduleNumber, MayQueueSpooling, MayLayOut, MayBeginInSlot};
 
 use crate::owed::Owed;
 use crate::records::Records;
@@ -92,8 +89,7 @@ impl System {
     /// terminal message processor for each console. Where they are asked for, it has the spooler and the scheduler, with their queues. The
     /// first of the ready list runs.
     pub fn begin_residents(&mut self, consoles: u8, spool: bool, sched: bool)
-        requires awaits { AwaitsResidents consoles self.old }
-        requires no_completions { NoCompletions self.old }
+        requires { MayBeginAll consoles self.old }
         ensures { BeginsResidents consoles spool sched self.old self.new }
     {
         self.begin_all(consoles, spool, sched);
@@ -122,8 +118,7 @@ impl System {
 
     /// The command queue is made, and the process of the command line interpreter begins.
     fn begin_interpreter(&mut self)
-        requires whole { IsWhole self.old }
-        requires queues { OnlyHas no_queues self.old.kernel }
+        requires { MayQueueCommands self.old }
         ensures { self.new ≡ begun_by_interpreter self.old }
     {
         self.kernel
@@ -191,16 +186,14 @@ impl System {
 
 /// The number of the scheduler's queue: it is made after the command queue and the spooler's two.
 fn schedule_number(spool: bool) -> u8
-    ensures number { result ≡ number_of_schedule spool }
-    ensures below { result < 32 }
+    ensures { IsScheduleNumber spool result }
 {
     if spool { 3 } else { 1 }
 }
 
 /// The spooler's queues are made.
 fn make_spool_queues(kernel: &mut Kernel)
-    requires sound { IsSoundKernel kernel.old }
-    requires queues { OnlyHas command_queues kernel.old }
+    requires { MayQueueSpooling kernel.old }
     ensures { kernel.new ≡ with_spool_queues kernel.old }
 {
     kernel.system_queue(Name8(*b"SPOOL   "), LIST_LENGTH, LISTS);
@@ -286,8 +279,7 @@ pub fn program_file(alloc: Global) -> Result<MachineFile, AllocError>
 /// Lays out a program in its segment: the base page, the program after it, and the word on which the stack begins.
 #[tactic(auto, unfolding(crate::specs::Opening::laid_out))]
 fn lay_out(banks: &mut Banks, seg: Seg, program: &[u8])
-    requires home { IsHome banks.old seg }
-    requires few { length program.now ≤ 65535 }
+    requires { MayLayOut seg program.now banks.old }
     ensures { banks.new ≡ laid_out banks.old seg program.now }
 {
     let spec = banks.spec(seg);
@@ -322,8 +314,7 @@ fn placed_process(spec: SegmentSpec, seg: Seg, name: Name8, priority: u8, consol
 /// A process begins, for which there is a slot: it owns its console where nobody does, and the first of the ready list runs.
 #[tactic(auto, using(mpm_kernel::proofs::SoundLaws::sound_in_slot))]
 fn begin(kernel: &mut Kernel, new: NewProcess) -> Pid
-    requires begins { MayBegin new kernel.old }
-    requires slot { IsSome (lowest_free kernel.old.dispatcher.procs) }
+    requires { MayBeginInSlot new kernel.old }
     ensures { BeginsInSlot new kernel.old kernel.new result }
 {
     let console = new.console;

@@ -2,9 +2,10 @@ ghost use Rattle.std.specs.Prelude.{◌≡◌, ◌<◌};
 ghost use Rattle.mpm_gate.specs.Texts.{text_from};
 ghost use Rattle.mpm_gate.specs.declared.take.TextEnd.TheVariants.{Dollar};
 ghost use Rattle.mpm_banks.specs.Memory.{byte_at};
-ghost use Rattle.mpm_procs.specs.Table.{Lives, call_of};
+ghost use Rattle.mpm_procs.specs.Table.{call_of};
+ghost use Rattle.mpm_system.specs.Asking.{MayWriteKept};
 ghost use Rattle.mpm_kernel.specs.Columns.{tab_text, spoke, column_of};
-ghost use Rattle.mpm_system.specs.Saying.{MayShow, Shows};
+ghost use Rattle.mpm_system.specs.Saying.{MayShow, ShowsBytes};
 ghost use Rattle.mpm_system.specs.Strings.{ShowsString};
 
 use mpm_banks::Banks;
@@ -24,7 +25,7 @@ pub fn write_bytes<S: Sink>(
     sink: &mut S,
 ) -> Result<(), Failed>
     requires { MayShow console kernel.old }
-    ensures { Shows S.written S.faults console bytes.now kernel.old kernel.new render.old sink.old render.new sink.new result }
+    ensures { ShowsBytes S.written S.faults console bytes.now kernel.old kernel.new render.old sink.old render.new sink.new result }
 {
     move_column(kernel, console, bytes);
     put_bytes(console, bytes, render, sink)
@@ -49,7 +50,7 @@ pub(crate) fn write_tabbed<S: Sink>(
     sink: &mut S,
 ) -> Result<(), Failed>
     requires { MayShow console kernel.old }
-    ensures { Shows S.written S.faults console (tab_text (column_of kernel.old console) byte) kernel.old kernel.new render.old sink.old render.new sink.new result }
+    ensures { ShowsBytes S.written S.faults console (tab_text (column_of kernel.old console) byte) kernel.old kernel.new render.old sink.old render.new sink.new result }
 {
     let spaces = kernel.write(Unit::Console { n: console }, byte, true);
     if spaces > 0 {
@@ -91,8 +92,7 @@ pub(crate) fn write_kept<S: Sink>(
     render: &mut Render,
     sink: &mut S,
 ) -> Result<(), Failed>
-    requires lives { Lives kernel.old.dispatcher.procs p }
-    requires console { MayShow console kernel.old }
+    requires { MayWriteKept p console kernel.old }
     ensures { ShowsString S.written S.faults console (call_of kernel.old.dispatcher.procs p).bytes kernel.old kernel.new render.old sink.old render.new sink.new result }
 {
     for place in 0..kernel.kept_call(p).taken().len() {

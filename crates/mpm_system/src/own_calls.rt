@@ -1,6 +1,6 @@
-ghost use Rattle.std.specs.Prelude.{◌≡◌, true, ℕ};
-ghost use Rattle.z80_regs.specs.Words.{word_of};
-ghost use Rattle.mpm_procs.specs.Table.{Lives, process_in};
+ghost use Rattle.std.specs.Prelude.{◌≡◌, ℕ};
+ghost use Rattle.mpm_procs.specs.Table.{Lives};
+ghost use Rattle.mpm_system.specs.Asking.{MayTakeOwn};
 ghost use Rattle.mpm_base.specs.Calls.{answering, Taken};
 ghost use Rattle.mpm_system.specs.OwnCalls.{is_own, KeepsOwnCall};
 
@@ -34,10 +34,7 @@ impl System {
     #[inline(always)]
     #[tactic(auto, using(mpm_procs::proofs::MapLaws::lives_changed), unfolding(crate::specs::Taking::keeping))]
     pub fn take_own(&mut self, p: Pid, function: u8, word: u16)
-        requires lives { Lives self.old.kernel.dispatcher.procs p }
-        requires own { is_own function ≡ true }
-        requires function { function ≡ (process_in self.old.kernel.dispatcher.procs p).regs.c }
-        requires word { word ≡ word_of (process_in self.old.kernel.dispatcher.procs p).regs.e (process_in self.old.kernel.dispatcher.procs p).regs.d }
+        requires { MayTakeOwn p function word self.old }
         ensures { (seg : ℕ) → self.new ≡ keeping p (asked p seg self.old) self.old }
     {
         let process = self.kernel.process_mut(p);

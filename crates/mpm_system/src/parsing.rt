@@ -1,5 +1,6 @@
 ghost use Rattle.std.specs.Prelude.{◌≡◌, ◌≤◌, drop, length};
-ghost use Rattle.mpm_procs.specs.Table.{Lives, call_of};
+ghost use Rattle.mpm_procs.specs.Table.{call_of};
+ghost use Rattle.mpm_system.specs.Asking.{MayParse};
 ghost use Rattle.mpm_names.specs.Spellings.{parsed};
 ghost use Rattle.mpm_system.specs.Parsing.{parse_reply, address_of_next};
 
@@ -16,8 +17,7 @@ impl System {
     #[inline(never)]
     #[tactic(auto, unfolding(crate::specs::Parsing::parsing))]
     pub fn parse(&mut self, p: Pid, reply: &mut Reply) -> Outcome
-        requires lives { Lives self.old.kernel.dispatcher.procs p }
-        requires few { length (call_of self.old.kernel.dispatcher.procs p).bytes ≤ 132 }
+        requires { MayParse p self.old }
         ensures { CallGives (parsing (call_of self.old.kernel.dispatcher.procs p) self.old) self.new result reply.new }
     {
         answer_name(self.kernel.kept_call(p), reply);

@@ -7,8 +7,8 @@ use mpm_script::GREATEST_STEP;
 
 impl System {
     ghost use Rattle.mpm_interrupts.specs.Interrupts.{due};
-    ghost use Rattle.mpm_kernel.specs.Kernel.{IsSoundKernel};
-    ghost use Rattle.mpm_system.specs.Idling.{CanPass, later, IsAlone};
+    ghost use Rattle.mpm_system.specs.Idling.{later, TellsAlone};
+    ghost use Rattle.mpm_system.specs.Asking.{TellsDiskQuiet, MayPassSteps};
     ghost use Rattle.mpm_system.specs.Quiet.{IsQuietUntil, IsQuietFor, RunsFirst, TellsIdle};
 
     /// The running process, where it is the first of the ready list, so that it runs on after each instruction.
@@ -51,8 +51,7 @@ impl System {
 
     /// So many of these steps, at most, in which the disk's only pass.
     fn disk_quiet(&self, most: u64) -> u64
-        ensures few { result ≤ most }
-        ensures passing { CanPass result self.now.kernel.disk }
+        ensures { TellsDiskQuiet most self.now.kernel.disk result }
     {
         match self.kernel.disk().quiet() {
             Some(steps) => most.min(u64::from(steps)),
@@ -64,7 +63,7 @@ impl System {
     #[inline(always)]
     #[tactic(auto, using(crate::proofs::IdlingLaws::nobody_served, crate::proofs::IdlingLaws::nobody_waits))]
     pub fn is_alone(&self, traced: bool) -> bool
-        ensures { IsAlone traced self.now result }
+        ensures { TellsAlone traced self.now result }
     {
         if traced {
             return false;
@@ -78,10 +77,7 @@ impl System {
     /// So many steps are done, in which the disk's pass.
     #[tactic(auto, using(crate::proofs::IdlingLaws::passes_within))]
     pub fn pass(&mut self, steps: u64)
-        requires sound { IsSoundKernel self.old.kernel }
-        requires room { self.old.steps + steps ≤ GREATEST_STEP }
-        requires short { steps ≤ 4294967295 }
-        requires passing { CanPass steps self.old.kernel.disk }
+        requires { MayPassSteps steps self.old }
         ensures { self.new ≡ later self.old steps }
     {
         self.steps += steps;

@@ -1,4 +1,4 @@
-ghost use Rattle.std.specs.Prelude.{◌≡◌, is_some, true};
+ghost use Rattle.std.specs.Prelude.{◌≡◌};
 ghost use Rattle.mpm_procs.specs.Table.{Lives, call_of};
 ghost use Rattle.mpm_kernel.specs.Called.{low_parameter};
 
@@ -10,6 +10,7 @@ impl System {
     ghost use Rattle.mpm_residents.specs.Natives.{native_in};
     ghost use Rattle.mpm_system.specs.Doing.{AsksNext};
     ghost use Rattle.mpm_system.specs.Whole.{LivesInSystem};
+    ghost use Rattle.mpm_system.specs.Asking.{MayAskNext};
     ghost use Rattle.mpm_system.specs.Residents.{asked_by, tells as is_told, handing_step, taking};
 
     /// The resident of a slot, if one acts there, asks the call that it makes next, and its process keeps it.
@@ -25,8 +26,7 @@ impl System {
     /// The resident of a slot fills in the call that it makes next, or the bytes that it hands over, and its process keeps that.
     /// Answers what the resident does.
     pub fn ask_call(&mut self, p: Pid) -> Act
-        requires lives { Lives self.old.kernel.dispatcher.procs p }
-        requires has { is_some (native_in self.old.residents p) ≡ true }
+        requires { MayAskNext p self.old }
         ensures { AsksNext p self.old self.new result }
     {
         self.residents.ask(p, self.kernel.call_mut(p))

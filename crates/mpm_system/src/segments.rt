@@ -8,7 +8,7 @@ use mpm_gate::segment_descriptor;
 impl System {
     ghost use Rattle.mpm_banks.specs.Allocations.{released, is_reserved};
     ghost use Rattle.mpm_system.specs.Calling.{CallGives};
-    ghost use Rattle.mpm_system.specs.Leaving.{Leaves};
+    ghost use Rattle.mpm_system.specs.Leaving.{LeavesSystem};
     ghost use Rattle.mpm_system.specs.Segments.{reserving, base_asked, releasing};
 
     /// Functions 128 and 129: reserves a segment, of the base page that the call gives or of any.
@@ -51,7 +51,7 @@ impl System {
     /// Frees the segment of a number, where the process reserved it; answers whether it did.
     #[tactic(auto, using(mpm_banks::proofs::SegmentLaws::nobody_reserved, mpm_banks::proofs::SegmentLaws::released_by_another))]
     fn give_back(&mut self, p: Pid, bank: u8) -> bool
-        ensures { Leaves (record self.old { memory = released self.old.memory p bank }) (is_reserved self.old.memory p bank) self.new result }
+        ensures { LeavesSystem (record self.old { memory = released self.old.memory p bank }) (is_reserved self.old.memory p bank) self.new result }
     {
         if self.memory.segments() <= bank {
             return false;

@@ -22,7 +22,7 @@ pub struct System {
     pub residents: Residents,
     /// The records of the calls that this step completed.
     pub records: Records,
-    /// Those who ended in this step owe what they had open and marked.
+    /// Those who ended owe what they had open and marked, until it is given back.
     pub owed: Owed,
 }
 

@@ -23,7 +23,7 @@ use Rattle.mpm_system.specs.declared.system.System.{System}
 use Rattle.mpm_top.specs.declared.words.Form.{Form}
 use Rattle.mpm_top.specs.declared.status.Status.{Status}
 use Rattle.mpm_top.specs.Beginnings.{Host, FailedSoFar, BeginsCommand}
-use Rattle.mpm_top.specs.Runs.{Printed, drives_of, drives_left, StopsRunBy, Closes, ClosesAfter, Causes}
+use Rattle.mpm_top.specs.Runs.{Printed, drives_of, drives_left, StopsRunBy, ClosesText, ClosesAfter, Causes}
 use Rattle.mpm_top.specs.Endings.{Ends, ended_by}
 
 -- a machine that begins, and a renderer that shows nothing yet, stand for its beginning
@@ -84,7 +84,7 @@ stops_at_end Stand DriveFailed trace s steps old new left kept before behind sam
 -- a drive failed: the unfinished lines are closed, or the sink fails too
 
 closes_by : {A E : Type 0} (r : Result A E) (trace : Bool) (s : State) (old new : Printed) → HasCause old.faults new.faults r
-    → OnOk r (new.text ≡ old.text ++ closed trace s.outputs) → OnErr r (EndsBetween new.text old.text (rendered trace s.outputs) (closed trace s.outputs)) → Closes trace s old new
+    → OnOk r (new.text ≡ old.text ++ closed trace s.outputs) → OnErr r (EndsBetween new.text old.text (rendered trace s.outputs) (closed trace s.outputs)) → ClosesText trace s old new
 closes_by (Ok x) trace s old new cause ok err = inl ok
 closes_by (Err e) trace s old new cause ok err = inr (cause.failed, err)
 
@@ -101,8 +101,8 @@ pub closed_alike : (fault : StepFault) (trace trace' : Bool) (s : State) (first 
     → ClosesAfter fault trace s (record { text = first; faults = before }) new → ClosesAfter fault trace' s (record { text = first; faults = before' }) new
 closed_alike SinkFailed trace trace' s first before before' new traces counts closes = tt
 closed_alike DriveFailed trace trace' s first before before' new traces counts closes =
-    let P : ℕ → Type 0 = λ n. Closes trace s (record { text = first; faults = n }) new in
-    subst (λ t. Closes t s (record { text = first; faults = before' }) new) traces (subst P (counts refl) closes)
+    let P : ℕ → Type 0 = λ n. ClosesText trace s (record { text = first; faults = n }) new in
+    subst (λ t. ClosesText t s (record { text = first; faults = before' }) new) traces (subst P (counts refl) closes)
 
 pub sink_stays : (fault : StepFault) (old new : FailureCounts) → HasFailed fault old new → fault ≡ DriveFailed → new.sink ≡ old.sink
 sink_stays SinkFailed old new failed is = absurd (cc)

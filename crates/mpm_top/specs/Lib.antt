@@ -7,3 +7,5 @@ pub mod Data
 pub mod Seeds
 pub mod Messages
 pub mod Parts
+pub mod BootParts
+pub mod RunParts

@@ -30,8 +30,8 @@ pub record LeavesFiles {F A : Type 0} (of : FileGhosts F) (old new : F) (result 
   pub names : MatchResult result (λ _. of.failed_names new ≡ of.failed_names old) (λ status. UnlessReadFault status (of.failed_names new ≡ of.failed_names old))
   pub files : (other : List ℕ) → of.contents new other ≡ of.contents old other
 
--- a machine was booted, or not: that ends before the first step, a name joins the failed ones or a drive fails only where the ending says
--- so, and what files hold, what is known of images, and writes that weren't asked for stay
+-- a machine was booted, or not: that ends before the first step, and a name joins the failed ones or a drive fails only where the ending
+-- says so. What files hold and what is known of images stays, and no write is asked for
 pub record LeavesHost {F D A : Type 0} (of : FileGhosts F) (on : Ghosts D) (old_files new_files : F) (old_drives new_drives : D) (result : Result A Status) : Type 0 where
   pub early : IfErr result (λ status. IsEarly status)
   pub names : MatchResult result (λ _. of.failed_names new_files ≡ of.failed_names old_files) (λ status. UnlessReadFault status (of.failed_names new_files ≡ of.failed_names old_files))

@@ -101,15 +101,15 @@ abbrev pub StopsAt : (List (Option Drive) → Type 0) → Bool → State → ℕ
 StopsAt Stand trace s steps old new step = StopsInText Stand trace s steps old new step ⊎ StopsInEnd Stand trace s steps old new step
 
 -- the unfinished lines of the outputs of a state were closed; or the output failed besides, and a first part of that was written
-abbrev pub Closes : Bool → State → Printed → Printed → Type 0
-Closes trace s old new =
+abbrev pub ClosesText : Bool → State → Printed → Printed → Type 0
+ClosesText trace s old new =
     (new.text ≡ old.text ++ closed trace s.outputs)
     ⊎ (Rose old.faults new.faults × EndsBetween new.text old.text (rendered trace s.outputs) (closed trace s.outputs))
 
 -- where a drive failed, that is so after a state
 abbrev pub ClosesAfter : StepFault → Bool → State → Printed → Printed → Type 0
 ClosesAfter SinkFailed trace s old new = ⊤
-ClosesAfter DriveFailed trace s old new = Closes trace s old new
+ClosesAfter DriveFailed trace s old new = ClosesText trace s old new
 
 -- a drive failed in the step after a state, and what that left on the drives stands
 pub record LeftBefore (Stand : List (Option Drive) → Type 0) (s : State) : Type 0 where
@@ -121,7 +121,7 @@ pub record LeftBefore (Stand : List (Option Drive) → Type 0) (s : State) : Typ
 pub record ClosesBefore (Stand : List (Option Drive) → Type 0) (trace : Bool) (s : State) (steps : ℕ) (old new : Printed) (step : ℕ) : Type 0 where
   pub later : s.system.steps < step
   pub within : step ≤ s.system.steps + steps
-  pub text : Closes trace (after (step - 1 - s.system.steps) s) old new
+  pub text : ClosesText trace (after (step - 1 - s.system.steps) s) old new
   pub left : LeftBefore Stand (after (step - 1 - s.system.steps) s)
 
 -- or after all of them, in a turn of the call in service: the unfinished lines of the steps were closed
@@ -132,13 +132,13 @@ pub record LeftInTurn (Stand : List (Option Drive) → Type 0) (s : State) : Typ
 
 pub record ClosesInTurn (Stand : List (Option Drive) → Type 0) (trace : Bool) (s : State) (steps : ℕ) (old new : Printed) (step : ℕ) : Type 0 where
   pub is : step ≡ steps
-  pub text : Closes trace (after steps s) old new
+  pub text : ClosesText trace (after steps s) old new
   pub left : LeftInTurn Stand (after steps s)
 
 -- or as it was synced: those of the end were too
 pub record ClosesInSync (Stand : List (Option Drive) → Type 0) (trace : Bool) (s : State) (steps : ℕ) (old new : Printed) (step : ℕ) : Type 0 where
   pub is : step ≡ steps
-  pub text : Closes trace (carried (after steps s)) old new
+  pub text : ClosesText trace (carried (after steps s)) old new
   pub stand : Stand (drives_left (after steps s))
 
 abbrev pub ClosesAt : (List (Option Drive) → Type 0) → Bool → State → ℕ → Printed → Printed → ℕ → Type 0

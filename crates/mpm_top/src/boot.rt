@@ -1,8 +1,7 @@
-ghost use Rattle.std.specs.Prelude.{◌≡◌, ◌≤◌, ◌↔◌, ℕ, List, Some, IsSome, IfSome, IfOk, IfErr, MatchResult, length};
-ghost use Rattle.mpm_machine.specs.Mounting.{HasNoDrive};
-ghost use Rattle.mpm_top.specs.Beginnings.{input_of as input_said, room_for, script_name, Host, host, failed, Holds, HoldsEvents, IsAtStart, Starts, StartsOf, Scripted};
-ghost use Rattle.mpm_top.specs.Endings.{status_of, Unfetched, Unread, Ends, EndsAfter, EndsAs};
-ghost use Rattle.mpm_top.specs.Parts.{LeavesFiles, LeavesHost, IsReadyToRun};
+ghost use Rattle.std.specs.Prelude.{◌≡◌, ◌≤◌, Some, length};
+ghost use Rattle.mpm_top.specs.Beginnings.{input_of as input_said};
+ghost use Rattle.mpm_top.specs.Endings.{status_of};
+ghost use Rattle.mpm_top.specs.BootParts.{BootsCommand, FetchesInput, BootsBytes, BootsFile, ReadsScript, ReadsNamed};
 
 use crate::status::{Input, Status};
 use crate::words::Form;
@@ -32,16 +31,7 @@ pub(crate) fn boot<F: Files, D: Drives>(
     files: &mut F,
     drives: &mut D,
 ) -> Result<Box<Machine>, Status>
-    ensures starts { IfOk result (λ machine. Starts (host F.contents D.told files.old drives.old) form name.now machine.value.system machine.value.bdos (D.disks drives.new)) }
-    ensures ready { IfOk result (λ machine. IsReadyToRun D.Drives drives.old drives.new machine.value) }
-    ensures leaves { LeavesHost F.Files D.Drives files.old files.new drives.old drives.new result }
-    ensures reason { IfErr result (λ status. Ends (D.disks drives.new) (host F.contents D.told files.old drives.old) form name.now
-        (failed F.failed_names D.faults D.failed_names files.old drives.old) (failed F.failed_names D.faults D.failed_names files.new drives.new) status) }
-    ensures missing { F.missing files.old name.now → MatchResult result (λ _. ⊥) (λ status. EndsAs Status.ReadFault status) }
-    ensures missing_script { (bytes script : List ℕ) → F.contents files.old name.now ≡ Some bytes → length bytes ≤ room_for (input_said form)
-        → script_name form bytes ≡ Some script → F.missing files.old script → MatchResult result (λ _. ⊥) (λ status. EndsAs Status.ReadFault status) }
-    ensures program { form ≡ Form.Program → drives.new ≡ drives.old }
-    ensures no_drive { form ≡ Form.Program → IfOk result (λ machine. HasNoDrive machine.value.bdos.mounted) }
+    ensures { BootsCommand F.Files D.Drives form name.now files.old files.new drives.old drives.new result }
 {
     let bytes = match fetch(alloc, name, form.input(), files) {
         Ok(bytes) => bytes,
@@ -60,11 +50,7 @@ fn fetch<F: Files>(
     input: Input,
     files: &mut F,
 ) -> Result<Vec<u8>, Status>
-    ensures contents_are { IfOk result (λ bytes. Holds (F.contents files.old) input name.now bytes.items) }
-    ensures leaves { LeavesFiles F.Files files.old files.new result }
-    ensures reason { IfErr result (λ status. Unfetched (F.contents files.old) input name.now (F.failed_names files.old) (F.failed_names files.new) status) }
-    ensures missing { F.missing files.old name.now → MatchResult result (λ _. ⊥) (λ status. EndsAs Status.ReadFault status) }
-    ensures stays_missing { (other : List ℕ) → F.missing files.new other ↔ F.missing files.old other }
+    ensures { FetchesInput F.Files input name.now files.old files.new result }
 {
     let mut bytes = Vec::new(alloc);
     match files.fetch(name, input.room(), &mut bytes) {
@@ -79,10 +65,7 @@ fn fetch<F: Files>(
 #[inline(never)]
 fn boot_program<D: Drives>(alloc: Global, bytes: &[u8], drives: &D) -> Result<Box<Machine>, Status>
     requires { length bytes.now ≤ 48512 }
-    ensures starts { (host : Host) → IfOk result (λ machine. StartsOf host Form.Program (λ content. content ≡ bytes.now) machine.value.system machine.value.bdos (D.disks drives.now)) }
-    ensures begins { IfOk result (λ machine. IsAtStart D.disks machine.value drives.now) }
-    ensures no_drive { IfOk result (λ machine. HasNoDrive machine.value.bdos.mounted) }
-    ensures memory { IfErr result (λ status. status ≡ Status.OutOfMemory) }
+    ensures { BootsBytes D.Drives bytes.now drives.now result }
 {
     let _ = drives;
     match Machine::boot_program(alloc, bytes) {
@@ -99,14 +82,7 @@ fn boot_machine<F: Files, D: Drives>(
     files: &mut F,
     drives: &mut D,
 ) -> Result<Box<Machine>, Status>
-    ensures starts { IfOk result (λ machine. StartsOf (host F.contents D.told files.old drives.old) Form.Run (λ content. content ≡ bytes.now)
-        machine.value.system machine.value.bdos (D.disks drives.new)) }
-    ensures ready { IfOk result (λ machine. IsReadyToRun D.Drives drives.old drives.new machine.value) }
-    ensures leaves { LeavesHost F.Files D.Drives files.old files.new drives.old drives.new result }
-    ensures reason { IfErr result (λ status. EndsAfter (D.disks drives.new) (host F.contents D.told files.old drives.old) Form.Run (λ content. content ≡ bytes.now)
-        (failed F.failed_names D.faults D.failed_names files.old drives.old) (failed F.failed_names D.faults D.failed_names files.new drives.new) status) }
-    ensures missing { (script : List ℕ) → script_name Form.Run bytes.now ≡ Some script → F.missing files.old script
-        → MatchResult result (λ _. ⊥) (λ status. EndsAs Status.ReadFault status) }
+    ensures { BootsFile F.Files D.Drives bytes.now files.old files.new drives.old drives.new result }
 {
     let file = match read_machine(alloc, bytes) {
         Ok(file) => file,
@@ -149,12 +125,7 @@ fn read_script_of<F: Files>(
     file: &MachineFile,
     files: &mut F,
 ) -> Result<Script, Status>
-    ensures scripted { IfOk result (λ script. Scripted (F.contents files.old) file.now.script script) }
-    ensures leaves { LeavesFiles F.Files files.old files.new result }
-    ensures reason { IfErr result (λ status. IfSome file.now.script (λ name. Unread (F.contents files.old) name (F.failed_names files.old) (F.failed_names files.new) status)) }
-    ensures named { IfErr result (λ _. IsSome file.now.script) }
-    ensures missing { (script : List ℕ) → file.now.script ≡ Some script → F.missing files.old script
-        → MatchResult result (λ _. ⊥) (λ status. EndsAs Status.ReadFault status) }
+    ensures { ReadsScript F.Files file.now.script files.old files.new result }
 {
     match &file.script {
         Some(name) => read_named(alloc, name.as_str(), files),
@@ -164,10 +135,7 @@ fn read_script_of<F: Files>(
 
 /// The events of the script of that name, or how the command ends without them.
 fn read_named<F: Files>(alloc: Global, name: &str, files: &mut F) -> Result<Script, Status>
-    ensures events { IfOk result (λ script. HoldsEvents (F.contents files.old) name.now script) }
-    ensures leaves { LeavesFiles F.Files files.old files.new result }
-    ensures reason { IfErr result (λ status. Unread (F.contents files.old) name.now (F.failed_names files.old) (F.failed_names files.new) status) }
-    ensures missing { F.missing files.old name.now → MatchResult result (λ _. ⊥) (λ status. EndsAs Status.ReadFault status) }
+    ensures { ReadsNamed F.Files name.now files.old files.new result }
 {
     let text = match fetch(alloc, name, Input::ScriptText, files) {
         Ok(text) => text,

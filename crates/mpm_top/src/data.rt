@@ -1,12 +1,12 @@
-ghost use Rattle.std.specs.Prelude.{◌≡◌, ◌<◌, ◌≤◌, ◌+◌, ℕ, List, Option, Some, IfSome, option_map};
+ghost use Rattle.std.specs.Prelude.{◌≡◌, ◌<◌, ◌+◌, ℕ, List, Option, Some, IfSome, option_map};
 ghost use Rattle.mpm_base.specs.declared.kind.Kind.TheVariants.{Hd4};
 ghost use Rattle.mpm_port.specs.Disks.{size_of, sector_of as sector_said};
 ghost use Rattle.mpm_port.specs.MemoryDisks.{disks_of};
 ghost use Rattle.mpm_mount.specs.Drives.{Drive, visible_of};
 ghost use Rattle.mpm_mount.specs.Directories.{Stands};
 ghost use Rattle.mpm_directories.specs.Places.{directory_at};
-ghost use Rattle.mpm_bdos.specs.Turns.{drive_and_kind};
-ghost use Rattle.mpm_top.specs.Data.{HasDriveA, data_file, first_of, weighed as weighed_said, data_of, data_on, sector_in as sector_within, MayReadData, OnlyRead};
+ghost use Rattle.mpm_top.specs.Data.{HasDriveA, data_file, data_of, data_on, sector_in as sector_within, MayReadData};
+ghost use Rattle.mpm_top.specs.RunParts.{HasHd4A, WeighsRecord, ReadsFirst, ReadsSectorOfA};
 
 use mpm_devices::SteadyDrives;
 use mpm_dirent::{Entry, FileEntry};
@@ -20,8 +20,7 @@ const NAME: [u8; 11] = *b"DATA    DAT";
 /// The sum over the first 32 records of DATA.DAT of user 0 on drive A, an `hd4` disk, counted from 1: that number times the
 /// record's first byte. A record that isn't there counts as 0. The machine has the drive mounted.
 pub(crate) fn data_sum(machine: &Machine, drives: &mut SteadyDrives) -> u64
-    requires size { size_of (disks_of drives.old) 0 ≡ Some 4194304 }
-    requires drive { option_map drive_and_kind (directory_at machine.now.bdos.mounted 0) ≡ Some (0, Hd4) }
+    requires { HasHd4A (disks_of drives.old) machine.now.bdos.mounted }
     ensures { (on : List (Option Drive)) → HasDriveA (disks_of drives.old) (directory_at machine.now.bdos.mounted 0) on → result ≡ data_on on }
 {
     match machine.directory(0) {
@@ -47,10 +46,7 @@ fn sum_of(mounted: &Mounted, drives: &mut SteadyDrives) -> u64
 /// A record's part of the sum.
 fn weighed(mounted: &Mounted, place: u8, drives: &mut SteadyDrives) -> u64
     requires { MayReadData (disks_of drives.old) mounted.now place }
-    ensures part { (image : List ℕ) (files : Drive) → (disks_of drives.old).image 0 ≡ Some image → Stands image mounted.now files
-        → result ≡ weighed_said files place }
-    ensures small { result ≤ 8160 }
-    ensures read { OnlyRead (disks_of drives.old) (disks_of drives.new) }
+    ensures { WeighsRecord (disks_of drives.old) (disks_of drives.new) mounted.now place result }
 {
     (u64::from(place) + 1) * u64::from(first_byte(mounted, place, drives))
 }
@@ -58,9 +54,7 @@ fn weighed(mounted: &Mounted, place: u8, drives: &mut SteadyDrives) -> u64
 /// The first byte of a record, 0 where it isn't there.
 fn first_byte(mounted: &Mounted, place: u8, drives: &mut SteadyDrives) -> u8
     requires { MayReadData (disks_of drives.old) mounted.now place }
-    ensures byte { (image : List ℕ) (files : Drive) → (disks_of drives.old).image 0 ≡ Some image → Stands image mounted.now files
-        → result ≡ first_of (visible_of files data_file place) }
-    ensures read { OnlyRead (disks_of drives.old) (disks_of drives.new) }
+    ensures { ReadsFirst (disks_of drives.old) (disks_of drives.new) mounted.now place result }
 {
     match sector_of(mounted, place) {
         Some(sector) => {
@@ -110,8 +104,7 @@ fn sector_in(file: &FileEntry, place: u8) -> Option<u32>
 fn sector_at(sector: u32, drives: &mut SteadyDrives) -> [u8; 128]
     requires size { size_of (disks_of drives.old) 0 ≡ Some 4194304 }
     requires sector { sector < 32768 }
-    ensures bytes { (image : List ℕ) → (disks_of drives.old).image 0 ≡ Some image → result ≡ sector_said image sector }
-    ensures read { OnlyRead (disks_of drives.old) (disks_of drives.new) }
+    ensures { ReadsSectorOfA (disks_of drives.old) (disks_of drives.new) sector result }
 {
     let mut bytes = [0; 128];
     match drives.read(0, sector, &mut bytes) {

@@ -1,7 +1,7 @@
-ghost use Rattle.std.specs.Prelude.{◌≡◌, ◌≤◌, ◌+◌, ◌++◌, ◌∷◌, [], OnOk, OnErr, length, decimal};
-ghost use Rattle.mpm_port.specs.Causes.{HasCause};
-ghost use Rattle.mpm_port.specs.Texts.{AppendsPart};
+ghost use Rattle.std.specs.Prelude.{◌≡◌, ◌≤◌, ◌+◌, ◌++◌, ◌∷◌, [], length, decimal};
 ghost use Rattle.mpm_top.specs.Seeds.{report as report_said};
+ghost use Rattle.mpm_render.specs.Lines.{AppendsBytes};
+ghost use Rattle.mpm_top.specs.RunParts.{PutsReport};
 
 use crate::seeds::Found;
 use arrayvec::ArrayVec;
@@ -10,9 +10,7 @@ use mpm_port::{Failed, Sink};
 
 /// Writes what is reported of a run, by one put.
 pub(crate) fn put_report<S: Sink>(found: &Found, sink: &mut S) -> Result<(), Failed>
-    ensures ok { OnOk result (S.written sink.new ≡ S.written sink.old ++ report_said found.now) }
-    ensures err { OnErr result (AppendsPart (S.written sink.old) (report_said found.now) (S.written sink.new)) }
-    ensures cause { HasCause (S.faults sink.old) (S.faults sink.new) result }
+    ensures { PutsReport S.Sink found.now sink.old sink.new result }
 {
     let text = report(found);
     sink.put(text.as_slice())
@@ -33,8 +31,7 @@ fn report(found: &Found) -> ArrayVec<u8, 96>
 /// A line of a word and a number after the text.
 fn push_line(word: &[u8], number: u64, text: &mut ArrayVec<u8, 96>)
     requires { length text.old.items + length word.now + 21 ≤ 96 }
-    ensures text { text.new.items ≡ text.old.items ++ (word.now ++ (decimal number ++ (10 ∷ []))) }
-    ensures size { length text.new.items ≤ length text.old.items + length word.now + 21 }
+    ensures { AppendsBytes (word.now ++ (decimal number ++ (10 ∷ []))) (length word.now + 21) text.old.items text.new.items }
 {
     text.try_extend_from_slice(word).unwrap();
     let mut buffer = Buffer::new();

@@ -1,14 +1,14 @@
-ghost use Rattle.std.specs.Prelude.{◌≡◌, ◌≢◌, ◌≤◌, ◌<◌, ◌↔◌, [], ℕ, List, Some, None, OnOk, IfErr, MatchResult, length, slice_index_or};
+ghost use Rattle.std.specs.Prelude.{◌≡◌, ◌≤◌, ◌<◌, ◌↔◌, [], ℕ, List, Some, None, length, slice_index_or};
 ghost use Rattle.mpm_script.specs.declared.line.TheConstants.{GREATEST_STEP};
-ghost use Rattle.mpm_machine.specs.State.{State};
-ghost use Rattle.mpm_machine.specs.After.{after, ShowsBefore};
+ghost use Rattle.mpm_machine.specs.After.{after};
 ghost use Rattle.mpm_top.specs.Words.{Command, texts, command_of};
-ghost use Rattle.mpm_top.specs.Beginnings.{command_on, failed, IsAtStart};
-ghost use Rattle.mpm_top.specs.Runs.{printed, SyncsAttached, ClosesAfter};
+ghost use Rattle.mpm_top.specs.Beginnings.{command_on, failed};
+ghost use Rattle.mpm_top.specs.Runs.{printed, SyncsAttached};
 ghost use Rattle.mpm_top.specs.Endings.{stopped_by, IsRefusal};
 ghost use Rattle.mpm_top.specs.Promises.{Fails, Promises, seen_by};
 ghost use Rattle.mpm_top.specs.Seeds.{seeded_of, EndsSeeded};
 ghost use Rattle.mpm_top.specs.Parts.{DoesCommand, RunsToEnd};
+ghost use Rattle.mpm_top.specs.RunParts.{MayRunToEnd, ClosesUnfinished};
 
 use crate::boot::boot;
 use crate::looking::{Look, Nobody};
@@ -125,9 +125,7 @@ fn stopped(error: RunFault) -> Status
 
 /// Closes the unfinished lines where a drive failed; where the sink did nothing is written any more.
 fn close<S: Sink>(fault: StepFault, render: &mut Render, sink: &mut S)
-    ensures left { fault ≡ StepFault.WriteFault → sink.new ≡ sink.old }
-    ensures closes { (s : State) (first : List ℕ) → ShowsBefore fault render.old (S.written sink.old) s first
-        → ClosesAfter fault render.old.trace s (record { text = first; faults = S.faults sink.old }) (printed S.written S.faults sink.new) }
+    ensures { ClosesUnfinished S.Sink fault render.old sink.old sink.new }
 {
     match fault {
         StepFault::DiskFault => {
@@ -147,11 +145,7 @@ fn run_to_end<D: Drives, S: Sink, V: Look, L: Ledger>(
     look: &mut V,
     blank: Blank,
 ) -> Result<(), RunFault>
-    requires begins { IsAtStart D.disks machine.old drives.old }
-    requires limit { asked.steps ≤ GREATEST_STEP }
-    requires name { blank.name ≡ L.name }
-    requires parts { blank.parts ≡ L.parts }
-    requires some_part { 0 < L.parts }
+    requires { MayRunToEnd D.disks machine.old asked.steps drives.old blank.name L.name blank.parts L.parts }
     ensures { RunsToEnd D.Drives (λ system. V.saw look.old system look.new) asked machine.old drives.old drives.new
         (printed S.written S.faults sink.old) (printed S.written S.faults sink.new) result }
 {

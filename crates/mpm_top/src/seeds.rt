@@ -1,8 +1,7 @@
-ghost use Rattle.std.specs.Prelude.{◌≡◌, ◌<◌, ◌≤◌, None, MatchOption, IfOk, IfSome};
-ghost use Rattle.mpm_script.specs.declared.line.TheConstants.{GREATEST_STEP};
-ghost use Rattle.mpm_generator.specs.Machines.{machine as machine_said, script as script_said, drives_of};
-ghost use Rattle.mpm_top.specs.Words.{texts, steps_of as steps_said};
-ghost use Rattle.mpm_top.specs.Seeds.{seed_of as seed_said, seeded as seeded_said, seeded_of, AskSeeded};
+ghost use Rattle.std.specs.Prelude.{◌≡◌, ◌<◌, None, MatchOption, IfOk};
+ghost use Rattle.mpm_top.specs.Words.{texts};
+ghost use Rattle.mpm_top.specs.Seeds.{seeded_of, AskSeeded};
+ghost use Rattle.mpm_top.specs.RunParts.{SaysSeed, SaysSeeded, AreMadeOf};
 
 use crate::words::steps_of;
 use mpm_generator::{Generated, generate};
@@ -38,26 +37,21 @@ pub(crate) struct Found {
 /// Where no memory is found.
 pub fn generated(alloc: Global, seed: u32) -> Result<Generated, OutOfMemory>
     requires { seed < 2147483648 }
-    ensures machine { IfOk result (λ made. made.machine ≡ machine_said) }
-    ensures script { IfOk result (λ made. made.script ≡ script_said) }
-    ensures drives { IfOk result (λ made. made.drives ≡ drives_of seed) }
+    ensures { IfOk result (λ made. AreMadeOf seed made.machine made.script made.drives) }
 {
     generate(alloc, seed)
 }
 
 /// The seed that a word says.
 fn seed_of(word: &str) -> Option<u32>
-    ensures number { result ≡ seed_said word.now }
-    ensures limit { IfSome result (λ seed. seed ≤ 2147483647) }
+    ensures { SaysSeed word.now result }
 {
     mpm_script::number(word.as_bytes(), GREATEST_SEED)
 }
 
 /// What the second and the third word ask of `gen`.
 fn seeded_by(seed: &str, steps: &str) -> Option<Seeded>
-    ensures is { result ≡ seeded_said (seed_said seed.now) (steps_said steps.now) }
-    ensures seed { IfSome result (λ asked. asked.seed < 2147483648) }
-    ensures steps { IfSome result (λ asked. asked.steps ≤ GREATEST_STEP) }
+    ensures { SaysSeeded seed.now steps.now result }
 {
     let seed = seed_of(seed)?;
     let steps = steps_of(steps)?;

@@ -1,5 +1,6 @@
-ghost use Rattle.std.specs.Prelude.{◌≡◌, ◌≤◌, Option, Some, None, MatchOption, IfSome, true, false};
+ghost use Rattle.std.specs.Prelude.{◌≡◌, Option, Some, None, MatchOption, true, false};
 ghost use Rattle.mpm_top.specs.Words.{texts, steps_of as number_of, form_of as form_said, command_with, command_of, IsAsked, AreAsking};
+ghost use Rattle.mpm_top.specs.RunParts.{SaysSteps};
 
 use mpm_script::GREATEST_STEP;
 
@@ -25,8 +26,7 @@ pub struct Asked {
 /// The number of steps that a word says.
 #[tactic(auto, unfolding(crate::specs::Words::steps_of))]
 pub fn steps_of(word: &str) -> Option<u64>
-    ensures number { result ≡ number_of word.now }
-    ensures limit { IfSome result (λ n. n ≤ GREATEST_STEP) }
+    ensures { SaysSteps word.now result }
 {
     let steps = mpm_script::number(word.as_bytes(), GREATEST_STEP)?;
     Some(u64::from(steps))

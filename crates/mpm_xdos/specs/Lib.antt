@@ -3,3 +3,4 @@ pub mod Creating
 pub mod Aborting
 pub mod Copies
 pub mod Procedures
+pub mod Calling

@@ -1,8 +1,8 @@
-ghost use Rattle.std.specs.Prelude.{◌≡◌, ◌&&◌, IfSome};
+ghost use Rattle.std.specs.Prelude.{◌≡◌, ◌&&◌};
 ghost use Rattle.mpm_procs.specs.Table.{Lives, lives};
-ghost use Rattle.mpm_kernel.specs.Kernel.{IsSoundKernel};
 ghost use Rattle.mpm_xdos.specs.Ending.{LivesInMemory};
-ghost use Rattle.mpm_xdos.specs.Aborting.{copy_address as address_of_copy, has_name as has_name_of, is_described as is_described_by, described as described_by, target as target_of, waits_to_end as waits_to_end_of, abort_done, memory_after_abort};
+ghost use Rattle.mpm_xdos.specs.Aborting.{copy_address as address_of_copy, has_name as has_name_of, is_described as is_described_by, described as described_by, target as target_of, waits_to_end as waits_to_end_of};
+ghost use Rattle.mpm_xdos.specs.Calling.{FindsLiving, EndsOrPutsOff, AbortsProcess};
 
 use crate::ending::end;
 use mpm_banks::Banks;
@@ -16,8 +16,7 @@ use mpm_procs::Process;
 #[tactic(auto, unfolding(crate::specs::Aborting::target))]
 pub fn target(kernel: &Kernel, p: Pid) -> Option<Pid>
     requires { Lives kernel.now.dispatcher.procs p }
-    ensures target { result ≡ target_of kernel.now.dispatcher.procs p }
-    ensures lives { IfSome result (λ q. Lives kernel.now.dispatcher.procs q) }
+    ensures { FindsLiving (target_of kernel.now.dispatcher.procs p) kernel.now.dispatcher.procs result }
 {
     let Some(q) = described(kernel, kernel.kept_call(p)) else {
         return None;
@@ -34,9 +33,7 @@ pub fn target(kernel: &Kernel, p: Pid) -> Option<Pid>
 /// II Programmer's Guide, "Function 157: Abort Specified Process".)
 pub fn abort(kernel: &mut Kernel, banks: &mut Banks, p: Pid)
     requires { LivesInMemory p kernel.old banks.old }
-    ensures kernel { kernel.new ≡ abort_done kernel.old p }
-    ensures memory { banks.new ≡ memory_after_abort banks.old kernel.old p }
-    ensures sound { IsSoundKernel kernel.new }
+    ensures { AbortsProcess p kernel.old kernel.new banks.old banks.new }
 {
     end_or_put_off(kernel, banks, p);
 }
@@ -53,8 +50,7 @@ pub fn waits_to_end(kernel: &Kernel, p: Pid) -> bool
 #[tactic(auto, unfolding(crate::specs::Aborting::abort_done, crate::specs::Aborting::memory_after_abort))]
 fn end_or_put_off(kernel: &mut Kernel, banks: &mut Banks, p: Pid)
     requires { LivesInMemory p kernel.old banks.old }
-    ensures kernel { kernel.new ≡ abort_done kernel.old p }
-    ensures memory { banks.new ≡ memory_after_abort banks.old kernel.old p }
+    ensures { EndsOrPutsOff p kernel.old kernel.new banks.old banks.new }
 {
     if kernel.segment(p).is_none() {
         return;
@@ -69,8 +65,7 @@ fn end_or_put_off(kernel: &mut Kernel, banks: &mut Banks, p: Pid)
 /// The living process that a call describes, the lowest of them.
 #[tactic(auto, using(mpm_queues::proofs::Finding::failed_none, mpm_queues::proofs::Finding::failed_more, mpm_queues::proofs::Finding::found_lowest, mpm_queues::proofs::Finding::found_none))]
 fn described(kernel: &Kernel, call: &Call) -> Option<Pid>
-    ensures described { result ≡ described_by call.now kernel.now.dispatcher.procs }
-    ensures lives { IfSome result (λ q. Lives kernel.now.dispatcher.procs q) }
+    ensures { FindsLiving (described_by call.now kernel.now.dispatcher.procs) kernel.now.dispatcher.procs result }
 {
     for number in 0..32 {
         if lives_described(kernel, call, Pid(number)) {

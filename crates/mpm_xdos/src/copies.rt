@@ -1,6 +1,7 @@
 ghost use Rattle.std.specs.Prelude.{◌≡◌, ◌≤◌, length};
 ghost use Rattle.mpm_procs.specs.Table.{Lives, process_in};
-ghost use Rattle.mpm_xdos.specs.Copies.{segment_descriptors as descriptors_of_segments, segment_number as number_of_segment, with_zeros as zeros_behind, system_page as system_page_of, system_answer, process_descriptor as descriptor_of_process, descriptor_answer};
+ghost use Rattle.mpm_xdos.specs.Copies.{segment_number as number_of_segment, with_zeros as zeros_behind, system_page as system_page_of, system_answer, process_descriptor as descriptor_of_process, descriptor_answer};
+ghost use Rattle.mpm_xdos.specs.Calling.{MayDescribeSegments, DescribesSegments};
 
 use crate::aborting::copy_address;
 use arrayvec::ArrayVec;
@@ -61,10 +62,8 @@ fn with_zeros(bytes: &[u8]) -> [u8; 240]
 /// The descriptors of so many segments.
 #[tactic(auto, using(crate::proofs::Copied::no_descriptor, crate::proofs::Copied::descriptors_more))]
 fn segment_descriptors(banks: &Banks, segments: u8) -> ArrayVec<u8, 64>
-    requires there { segments ≤ length banks.now.segments }
-    requires few { segments ≤ 16 }
-    ensures descriptors { result.items ≡ descriptors_of_segments segments banks.now }
-    ensures size { length result.items ≤ 64 }
+    requires { MayDescribeSegments segments banks.now }
+    ensures { DescribesSegments segments banks.now result.items }
 {
     let mut descriptors = ArrayVec::new();
     for seg in 0..segments {

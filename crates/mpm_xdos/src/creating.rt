@@ -1,11 +1,9 @@
-ghost use Rattle.std.specs.Prelude.{◌≡◌, ℕ, Some, ◌≤◌, ◌<◌, ◌*◌, ◌+◌, ◌/◌, length, true};
+ghost use Rattle.std.specs.Prelude.{◌≡◌, ℕ, Some, ◌≤◌, ◌<◌, ◌*◌, ◌+◌, ◌/◌, length};
 ghost use Rattle.std.specs.List.{list_all};
 ghost use Rattle.mpm_banks.specs.Memory.{HasSegment};
-ghost use Rattle.mpm_base.specs.Calls.{answering};
-ghost use Rattle.mpm_procs.specs.Table.{process_in, call_of};
-ghost use Rattle.mpm_kernel.specs.Kernel.{IsSoundKernel};
-ghost use Rattle.mpm_xdos.specs.Ending.{LivesInMemory};
-ghost use Rattle.mpm_xdos.specs.Creating.{child_of as child_asked_for, child_at as child_asked_at, children_of, home_base, created, create_answer, may_create as may_be_created, all_admitted, has_console};
+ghost use Rattle.mpm_kernel.specs.Kernel.{BecomesSound};
+ghost use Rattle.mpm_xdos.specs.Creating.{child_of as child_asked_for, child_at as child_asked_at, children_of, home_base, all_admitted, has_console};
+ghost use Rattle.mpm_xdos.specs.Calling.{MayCreate, CreatesProcesses, TellsMayCreate, MayAdmitAll};
 
 use arrayvec::ArrayVec;
 use mpm_banks::Banks;
@@ -20,11 +18,8 @@ const DESCRIPTOR: usize = 18;
 /// slot or a console lacks, none.
 #[tactic(auto, unfolding(crate::specs::Creating::created, crate::specs::Creating::create_answer))]
 pub fn create(kernel: &mut Kernel, banks: &Banks, p: Pid, reply: &mut Reply)
-    requires parent { LivesInMemory p kernel.old banks.now }
-    requires few { length (call_of kernel.old.dispatcher.procs p).bytes ≤ 576 }
-    ensures kernel { kernel.new ≡ created kernel.old p (home_base banks.now (process_in kernel.old.dispatcher.procs p).seg) }
-    ensures reply { reply.new ≡ answering (create_answer kernel.old p (home_base banks.now (process_in kernel.old.dispatcher.procs p).seg)) }
-    ensures sound { IsSoundKernel kernel.new }
+    requires { MayCreate p kernel.old banks.now }
+    ensures { CreatesProcesses p kernel.old kernel.new banks.now reply.new }
 {
     let base = base_of(banks, kernel.segment(p));
     let parent = *kernel.living(p);
@@ -63,8 +58,7 @@ fn copied(bytes: &[u8]) -> ArrayVec<u8, 576>
 /// Whether there is a slot for each process that descriptors ask for, and its console.
 #[tactic(auto, using(crate::proofs::Children::may_create_none, crate::proofs::Children::may_create_some))]
 fn may_create(kernel: &Kernel, parent: &Process, base: u8, descriptors: &[u8]) -> bool
-    ensures may { result ≡ may_be_created kernel.now (children_of parent.now base descriptors.now) }
-    ensures consoles { result ≡ true → list_all (has_console (length kernel.now.units.consoles)) (children_of parent.now base descriptors.now) ≡ true }
+    ensures { TellsMayCreate (children_of parent.now base descriptors.now) kernel.now result }
 {
     if kernel.free_slots() < descriptors.len() / DESCRIPTOR {
         return false;
@@ -86,10 +80,8 @@ fn have_consoles(consoles: u8, parent: &Process, base: u8, descriptors: &[u8]) -
 
 /// Adds the processes that descriptors ask for, for which there are slots and consoles, one after the other.
 fn admit_all(kernel: &mut Kernel, parent: &Process, base: u8, descriptors: &[u8])
-    requires sound { IsSoundKernel kernel.old }
-    requires consoles { list_all (has_console (length kernel.old.units.consoles)) (children_of parent.now base descriptors.now) ≡ true }
-    ensures kernel { kernel.new ≡ all_admitted (children_of parent.now base descriptors.now) kernel.old }
-    ensures sound { IsSoundKernel kernel.new }
+    requires { MayAdmitAll (children_of parent.now base descriptors.now) kernel.old }
+    ensures { BecomesSound (all_admitted (children_of parent.now base descriptors.now) kernel.old) kernel.new }
 {
     for number in 0..descriptors.len() / DESCRIPTOR {
         let _admitted = kernel.admit(child_at(parent, base, descriptors, number));

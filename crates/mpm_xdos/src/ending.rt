@@ -1,9 +1,8 @@
 ghost use Rattle.std.specs.Prelude.{◌≡◌, ◌&&◌, Some};
 ghost use Rattle.mpm_banks.specs.Memory.{HasSegment};
 ghost use Rattle.mpm_procs.specs.Table.{lives};
-ghost use Rattle.mpm_kernel.specs.Kernel.{IsSoundKernel, CompletedLive};
-ghost use Rattle.mpm_kernel.specs.Ending.{discharged};
-ghost use Rattle.mpm_xdos.specs.Ending.{LivesInMemory, memory_without, vacated_if_empty, is_home as is_home_in, lives_in as lives_in_segment};
+ghost use Rattle.mpm_xdos.specs.Ending.{LivesInMemory, vacated_if_empty, is_home as is_home_in, lives_in as lives_in_segment};
+ghost use Rattle.mpm_xdos.specs.Calling.{EndsInMemory};
 
 use mpm_banks::Banks;
 use mpm_base::{Pid, Seg};
@@ -14,10 +13,7 @@ use mpm_kernel::Kernel;
 #[tactic(auto, using(mpm_banks::proofs::SegmentLaws::count_all_released, crate::proofs::Homes::vacated_if_empty_none), unfolding(crate::specs::Ending::memory_without))]
 pub fn end(kernel: &mut Kernel, banks: &mut Banks, p: Pid)
     requires { LivesInMemory p kernel.old banks.old }
-    ensures kernel { kernel.new ≡ discharged kernel.old p }
-    ensures memory { banks.new ≡ memory_without banks.old kernel.old p }
-    ensures sound { IsSoundKernel kernel.new }
-    ensures live { CompletedLive kernel.new }
+    ensures { EndsInMemory p kernel.old kernel.new banks.old banks.new }
 {
     let home = kernel.segment(p);
     kernel.discharge(p);

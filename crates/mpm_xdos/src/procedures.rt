@@ -1,9 +1,9 @@
 ghost use Rattle.std.specs.Prelude.{◌≡◌, ℕ, Some};
 ghost use Rattle.mpm_banks.specs.Memory.{HasSegment};
-ghost use Rattle.mpm_procs.specs.Table.{process_in};
-ghost use Rattle.mpm_kernel.specs.Kernel.{IsSoundKernel};
+ghost use Rattle.mpm_kernel.specs.Kernel.{BecomesSound};
 ghost use Rattle.mpm_xdos.specs.Ending.{LivesWithSegment};
-ghost use Rattle.mpm_xdos.specs.Procedures.{IsInside, entered, entry_reply, returned_from_procedure, page_of_home as page_of};
+ghost use Rattle.mpm_xdos.specs.Procedures.{IsInside, returned_from_procedure, page_of_home as page_of};
+ghost use Rattle.mpm_xdos.specs.Calling.{EntersWithReply, EntersProcedure};
 
 use mpm_banks::{Banks, RETURN_GATE, last_page};
 use mpm_base::{Pid, Reply, Seg};
@@ -14,9 +14,7 @@ use mpm_kernel::Kernel;
 /// procedure, which the reply places. (MP/M II Programmer's Guide, "Function 151: Call Resident System Procedure".)
 pub fn enter_procedure(kernel: &mut Kernel, banks: &Banks, p: Pid, reply: &mut Reply)
     requires { LivesWithSegment p kernel.old banks.now }
-    ensures kernel { kernel.new ≡ entered p kernel.old }
-    ensures reply { reply.new ≡ entry_reply banks.now (process_in kernel.old.dispatcher.procs p) }
-    ensures sound { IsSoundKernel kernel.old → IsSoundKernel kernel.new }
+    ensures { EntersProcedure p kernel.old kernel.new banks.now reply.new }
 {
     enter(kernel, banks, p, reply);
 }
@@ -25,8 +23,7 @@ pub fn enter_procedure(kernel: &mut Kernel, banks: &Banks, p: Pid, reply: &mut R
 #[tactic(auto, unfolding(crate::specs::Procedures::entered, crate::specs::Procedures::entering, crate::specs::Procedures::entry_reply))]
 fn enter(kernel: &mut Kernel, banks: &Banks, p: Pid, reply: &mut Reply)
     requires { LivesWithSegment p kernel.old banks.now }
-    ensures kernel { kernel.new ≡ entered p kernel.old }
-    ensures reply { reply.new ≡ entry_reply banks.now (process_in kernel.old.dispatcher.procs p) }
+    ensures { EntersWithReply p kernel.old kernel.new banks.now reply.new }
 {
     let page = page_of_home(banks, kernel.segment(p));
     let call = kernel.kept_call(p);
@@ -57,8 +54,7 @@ fn page_of_home(banks: &Banks, home: Option<Seg>) -> u8
 /// called the procedure, with HL as it is and the same in A and B.
 pub fn leave_procedure(kernel: &mut Kernel, p: Pid)
     requires { IsInside p kernel.old }
-    ensures kernel { kernel.new ≡ returned_from_procedure p kernel.old }
-    ensures sound { IsSoundKernel kernel.new }
+    ensures { BecomesSound (returned_from_procedure p kernel.old) kernel.new }
 {
     leave(kernel, p);
 }

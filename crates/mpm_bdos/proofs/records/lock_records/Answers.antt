@@ -2,6 +2,7 @@ use Rattle.std.proofs.Common.{◌∙◌, ap, arith}
 use Rattle.mpm_opens.specs.Opens.{OpenFiles}
 use Rattle.mpm_bdos.specs.Records.{Locking}
 use Rattle.mpm_bdos.proofs.Locking.{locked_stop, one_locked_more, all_locked}
+use Rattle.mpm_bdos.specs.Leaving.{ended_of}
 use Rattle.mpm_bdos.proofs.records.lock_records.Goals as goal
 
 pub returns-in-Some : goal.returns-in-Some
@@ -12,8 +13,7 @@ returns-in-Some c =
     c.in-Some.is c.in-Some.ensures.kept in
     record {
       opens = λ image drive stands. ap (λ (l : Locking). l.opens) (all image drive stands);
-      moved = λ image drive stands. ap (λ (l : Locking). l.moved) (all image drive stands);
-      end = λ image drive stands. ap (λ (l : Locking). l.end) (all image drive stands);
+      ended = λ image drive stands. ap ended_of (all image drive stands);
       items = ap (λ (o : OpenFiles). o.items) c.in-Some.ensures.kept ∙ c.loop-k.invariant.items;
     }
 
@@ -30,7 +30,6 @@ returns c =
     (omega (arith, c.loop-k-test.false, c.loop-k.auto.k-end)) in
     record {
       opens = λ image drive stands. ap (λ (l : Locking). l.opens) (all image drive stands);
-      moved = λ image drive stands. ap (λ (l : Locking). l.moved) (all image drive stands);
-      end = λ image drive stands. ap (λ (l : Locking). l.end) (all image drive stands);
+      ended = λ image drive stands. ap ended_of (all image drive stands);
       items = c.loop-k.invariant.items;
     }

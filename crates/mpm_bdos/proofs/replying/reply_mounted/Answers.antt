@@ -1,4 +1,4 @@
-use Rattle.std.proofs.Common.{◌≡◌, ◌∙◌, ℕ, suc, List, Option, Some, None, sym, ap, subst}
+use Rattle.std.proofs.Common.{◌≡◌, ◌∙◌, ℕ, suc, List, Option, Some, None, sym, ap, subst, rules, arith}
 use Rattle.std.specs.Prelude.{option_map, slice_index_or, replicate}
 use Rattle.mpm_mount.specs.Drives.{FileName, Drive}
 use Rattle.mpm_mount.specs.Directories.{Stands}
@@ -13,10 +13,14 @@ use Rattle.mpm_refusals.specs.Asking.{called, asked_of, found_as}
 use Rattle.mpm_bdos.specs.Leaving.{IsInFile, IsGranted, left_first, granted_by, opens_left}
 use Rattle.mpm_bdos.proofs.StillLaws.{moved_drive, asked_still, still_found}
 use Rattle.mpm_bdos.proofs.LastLaws.{answered_so, opens_so}
+use Rattle.std.proofs.lemmas.Grind.{common_steps}
 use Rattle.mpm_bdos.proofs.replying.reply_mounted.Goals as goal
 
-pub answer_mounted-requires-clause-caller : goal.answer_mounted-requires-clause-caller
-answer_mounted-requires-clause-caller c = subst IsCaller (sym c.ask-asked.ensures.caller) c.requires
+pub answer_mounted-requires : goal.answer_mounted-requires
+answer_mounted-requires c = record {
+  own = first_of (search rules, grind (arith, common_steps));
+  caller = subst IsCaller (sym c.ask-asked.ensures.caller) c.requires;
+}
 
 pub returns-clause-users : goal.returns-clause-users
 returns-clause-users c = λ users. c.answer_mounted.ensures.users users (c.ask-asked.ensures.owner users c.requires.user)

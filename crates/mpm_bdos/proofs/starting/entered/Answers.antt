@@ -2,14 +2,15 @@ use Rattle.std.proofs.Common.{refl}
 use Rattle.mpm_refusals.specs.Asking.{called}
 use Rattle.mpm_bdos.proofs.starting.entered.Goals as goal
 
-pub returns-clause-all : goal.returns-clause-all
-returns-clause-all c = λ image drives stands drive_is.
-    let refused = c.refusal_of-refusal.ensures image drives c.args.file_call.now.moment stands in
-    let s = called drives c.args.protected.now c.args.opens.now c.args.marks.now c.args.searches.now c.args.file_call.now.caller c.args.file_call.now.function c.args.file_call.now.call.now c.args.file_call.now.moment in
-    record {
-      is = record { caller = refl; function = refl; drive = drive_is; call = c.copied.ensures; moment = refl; refusal = refused; deleted = λ none. c.deleted_of-deleted.ensures image s stands none refl refl drive_is c.block_of_call-block.ensures.block refl };
-      begins = c.begin_unless.ensures image drives c.args.marks.now stands refused;
-    }
-
-pub returns-clause-entered : goal.returns-clause-entered
-returns-clause-entered c = record { caller_is = refl; function_is = refl; call_is = c.copied.ensures }
+pub returns : goal.returns
+returns c = record {
+  entered = record { caller_is = refl; function_is = refl; call_is = c.copied.ensures };
+  drive = refl;
+  all = λ image drives stands drive_is.
+      let refused = c.refusal_of-refusal.ensures image drives c.args.file_call.now.moment stands in
+      let s = called drives c.args.protected.now c.args.opens.now c.args.marks.now c.args.searches.now c.args.file_call.now.caller c.args.file_call.now.function c.args.file_call.now.call.now c.args.file_call.now.moment in
+      record {
+        is = record { caller = refl; function = refl; drive = drive_is; call = c.copied.ensures; moment = refl; refusal = refused; deleted = λ none. c.deleted_of-deleted.ensures image s stands none refl refl drive_is c.block_of_call-block.ensures.block refl };
+        begins = c.begin_unless.ensures image drives c.args.marks.now stands refused;
+      };
+}

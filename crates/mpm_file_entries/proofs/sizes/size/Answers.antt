@@ -14,10 +14,10 @@ loop-found-init c = record {
   small = omega arith;
 }
 
-pub size_after-size-requires-clause-slot : goal.size_after-size-requires-clause-slot
-size_after-size-requires-clause-slot c =
+pub size_after-size-requires : goal.size_after-size-requires
+size_after-size-requires c =
     let least = subst (IsNext c.args.mounted.now.kind (search_of c.args.mounted.now.kind c.args.user c.args.name.now c.loop-found.last) c.args.mounted.now.entries) c.in-Some.is c.next.ensures in
-    omega (arith, least.within, c.kind.ensures.directory.full)
+    record { slot = omega (arith, least.within, c.kind.ensures.directory.full); small = c.loop-found.invariant.small }
 
 pub loop-found-smaller : goal.loop-found-smaller
 loop-found-smaller c =

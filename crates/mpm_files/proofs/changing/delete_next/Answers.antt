@@ -1,17 +1,27 @@
-use Rattle.std.proofs.Common.{None, refl, sym, subst, ◌∙◌}
+use Rattle.std.proofs.Common.{None, refl, sym, subst, ◌∙◌, rules, arith}
 use Rattle.mpm_dirent.specs.declared.kinds.Entry.TheVariants.{Free}
 use Rattle.mpm_mount.specs.Searching.{search_of, IsNext}
 use Rattle.mpm_files.proofs.NextDone.{put_does, never_next, found_within}
 use Rattle.mpm_files.proofs.DeleteTurns.{entry_deleted, xfcb_deleted, due_within, deletion_goes_on}
 use Rattle.mpm_files.proofs.WorkingLaws.{works_not}
+use Rattle.std.proofs.lemmas.Grind.{common_steps}
 use Rattle.mpm_files.proofs.changing.delete_next.Goals as goal
 
-pub put_entry-requires-clause-slot : goal.put_entry-requires-clause-slot
-put_entry-requires-clause-slot g c = due_within c.args.mounted.now c.args.work.now c.in-Some.slot c.tell_directory.ensures.full (sym c.xfcb_due-due.ensures ∙ c.in-Some.is)
+pub put_entry-requires : goal.put_entry-requires
+put_entry-requires g c = record {
+  ready = c.requires.ready;
+  slot = due_within c.args.mounted.now c.args.work.now c.in-Some.slot c.tell_directory.ensures.full (sym c.xfcb_due-due.ensures ∙ c.in-Some.is);
+  proper = first_of (search rules, grind (arith, common_steps));
+  faultless = first_of (search rules, grind (arith, common_steps));
+}
 
-pub put_entry-requires-in-Some-next-clause-slot : goal.put_entry-requires-in-Some-next-clause-slot
-put_entry-requires-in-Some-next-clause-slot g c =
-    found_within c.args.mounted.now c.args.work.now.job.user c.args.work.now.job.name None c.in-Some-next.found c.next.result c.tell_directory.ensures.full c.in-Some-next.is c.next.ensures
+pub put_entry-requires-in-Some-next : goal.put_entry-requires-in-Some-next
+put_entry-requires-in-Some-next g c = record {
+  ready = c.requires.ready;
+  slot = found_within c.args.mounted.now c.args.work.now.job.user c.args.work.now.job.name None c.in-Some-next.found c.next.result c.tell_directory.ensures.full c.in-Some-next.is c.next.ensures;
+  proper = first_of (search rules, grind (arith, common_steps));
+  faultless = first_of (search rules, grind (arith, common_steps));
+}
 
 pub returns-in-Some : goal.returns-in-Some
 returns-in-Some g c = record {

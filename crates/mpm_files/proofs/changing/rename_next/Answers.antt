@@ -10,9 +10,11 @@ use Rattle.mpm_files.proofs.NextDone.{does_next, put_does, found_within}
 use Rattle.mpm_files.proofs.RenameTurns.{may_rename, over_renamed, entry_renamed, xfcb_renamed, new_xfcb}
 use Rattle.mpm_files.proofs.changing.rename_next.Goals as goal
 
-pub rename_entry-requires-clause-slot : goal.rename_entry-requires-clause-slot
-rename_entry-requires-clause-slot g c =
-    found_within c.args.mounted.now c.args.work.now.job.user c.args.work.now.job.name None c.in-Some-next.found c.next.result c.tell_directory.ensures.full c.in-Some-next.is c.next.ensures
+pub rename_entry-requires : goal.rename_entry-requires
+rename_entry-requires g c = record {
+  ready = c.requires.ready;
+  slot = found_within c.args.mounted.now c.args.work.now.job.user c.args.work.now.job.name None c.in-Some-next.found c.next.result c.tell_directory.ensures.full c.in-Some-next.is c.next.ensures;
+}
 
 pub returns-in-Some : goal.returns-in-Some
 returns-in-Some g c = record {

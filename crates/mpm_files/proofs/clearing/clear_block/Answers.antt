@@ -19,11 +19,12 @@ returns-in-None g c = record {
   works = works_not g.D.Drives _ _ _ _ _ _ c.requires.ready.coherent;
 }
 
-pub clear_first-requires-clause-clears : goal.clear_first-requires-clause-clears
-clear_first-requires-clause-clears g c = is_clearing c.args.mounted.now.kind c.kind.result c.clears_blocks.result c.clears_blocks.ensures c.kind.ensures.kind c.if-not-clears_blocks.false
-
-pub clear_first-requires-clause-free : goal.clear_first-requires-clause-free
-clear_first-requires-clause-free g c = sym c.free_block.ensures ∙ c.in-Some.is
+pub clear_first-requires : goal.clear_first-requires
+clear_first-requires g c = record {
+  ready = c.requires.ready;
+  clears = is_clearing c.args.mounted.now.kind c.kind.result c.clears_blocks.result c.clears_blocks.ensures c.kind.ensures.kind c.if-not-clears_blocks.false;
+  free = sym c.free_block.ensures ∙ c.in-Some.is;
+}
 
 pub returns-in-Ok : goal.returns-in-Ok
 returns-in-Ok g c = record {

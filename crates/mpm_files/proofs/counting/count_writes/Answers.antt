@@ -22,8 +22,8 @@ loop-k-preserved c =
       counted = step_written d.kind (spec.lacks_entry d file) (spec.lacks_block d file) (directory.free_entries_in d) (directory.free_records_in d) c.args.job.now.first c.args.job.now.count
           c.loop-k.k c.loop-k.units c.loop-k.room.entries c.loop-k.room.records c.kind-kind.result c.needs_of-needs.result.entry c.needs_of-needs.result.block
           c.units-units.result c.after-room.result.entries c.after-room.result.records c.loop-k.invariant.counted c.kind-kind.ensures.kind
-          c.needs_of-needs.ensures.entry c.needs_of-needs.ensures.block (sym c.error.ensures ∙ c.in-None.is) c.units-units.ensures.units c.after-room.ensures.entries c.after-room.ensures.records;
-      few = omega (arith, c.loop-k.invariant.few, c.units-units.ensures.few);
+          c.needs_of-needs.ensures.entry c.needs_of-needs.ensures.block (sym c.error.ensures ∙ c.in-None.is) c.units-units.ensures.number c.after-room.ensures.entries c.after-room.ensures.records;
+      few = omega (arith, c.loop-k.invariant.few, c.units-units.ensures.limit);
     }
 
 pub returns : goal.returns

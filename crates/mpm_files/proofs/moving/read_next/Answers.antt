@@ -12,26 +12,28 @@ use Rattle.mpm_files.proofs.ReadTurns.{read_now, read_small, few_read, record_th
 use Rattle.mpm_files.proofs.WorkingLaws.{works_not}
 use Rattle.mpm_files.proofs.moving.read_next.Goals as goal
 
-pub returns-then-n-gt-LAST_NAMED-clause-next : goal.returns-then-n-gt-LAST_NAMED-clause-next
-returns-then-n-gt-LAST_NAMED-clause-next g c = record {
+pub returns-then-n-gt-LAST_NAMED : goal.returns-then-n-gt-LAST_NAMED
+returns-then-n-gt-LAST_NAMED g c = record {
   does = λ kind.
       never_next (g.D.Drives.disks c.args.drives.now) (g.D.Drives.disks c.args.drives.now) c.args.mounted.now c.args.mounted.now c.args.work.now _ _ (λ image before job j suits service h.
       omega (arith, read_small before job j c.args.work.now service.serving kind h suits, c.if-n-gt-LAST_NAMED.true, c.saturating_add-n.ensures));
   counts = record { units = refl; ended = refl };
+  reads = record { calls = omega arith; uncalled = λ cached. refl; unsynced = λ other. refl };
   works = works_not g.D.Drives _ _ _ _ _ _ c.requires.ready.coherent;
 }
 
-pub returns-then-work-gt31-clause-next : goal.returns-then-work-gt31-clause-next
-returns-then-work-gt31-clause-next g c = record {
+pub returns-then-work-gt31 : goal.returns-then-work-gt31
+returns-then-work-gt31 g c = record {
   does = λ kind.
       never_next (g.D.Drives.disks c.args.drives.now) (g.D.Drives.disks c.args.drives.now) c.args.mounted.now c.args.mounted.now c.args.work.now _ _ (λ image before job j suits service h.
       omega (arith, few_read before job j c.args.work.now service.serving kind h suits, c.if-work-gt31.true));
   counts = record { units = refl; ended = refl };
+  reads = record { calls = omega arith; uncalled = λ cached. refl; unsynced = λ other. refl };
   works = works_not g.D.Drives _ _ _ _ _ _ c.requires.ready.coherent;
 }
 
-pub returns-in-Ok-clause-next : goal.returns-in-Ok-clause-next
-returns-in-Ok-clause-next g c = record {
+pub returns-in-Ok : goal.returns-in-Ok
+returns-in-Ok g c = record {
   does = λ kind.
       does_next (g.D.Drives.disks c.args.drives.now) (g.D.Drives.disks c.read_record.new.drives) c.args.mounted.now c.args.mounted.now c.args.work.now _ _
       (ap (λ (w : Work). w.cleared) c.keep.ensures.kept)
@@ -50,29 +52,25 @@ returns-in-Ok-clause-next g c = record {
         ),
       ));
   counts = record { units = ap (λ (w : Work). w.units) c.keep.ensures.kept; ended = ap (λ (w : Work). w.ended) c.keep.ensures.kept };
+  reads = record {
+    calls = c.read_record.ensures.works.calls;
+    uncalled = λ cached. c.read_record.ensures.cached
+        (subst (IsRecordCached c.args.cache.now c.args.mounted.now (file_of_job c.args.work.now.job)) (omega (arith, c.if-n-gt-LAST_NAMED.false, c.saturating_add-n.ensures)) cached);
+    unsynced = c.read_record.ensures.unsynced;
+  };
   works = c.in-Ok.ensures.works;
 }
 
-pub returns-in-Err-clause-next : goal.returns-in-Err-clause-next
-returns-in-Err-clause-next g c = record {
+pub returns-in-Err : goal.returns-in-Err
+returns-in-Err g c = record {
   does = λ kind.
       reading_failed (g.D.Drives.disks c.args.drives.now) (g.D.Drives.disks c.read_record.new.drives) c.args.mounted.now c.args.work.now _ c.in-Err.failed c.read_record.ensures.disks;
   counts = record { units = refl; ended = refl };
+  reads = record {
+    calls = c.read_record.ensures.works.calls;
+    uncalled = λ cached. c.read_record.ensures.cached
+        (subst (IsRecordCached c.args.cache.now c.args.mounted.now (file_of_job c.args.work.now.job)) (omega (arith, c.if-n-gt-LAST_NAMED.false, c.saturating_add-n.ensures)) cached);
+    unsynced = c.read_record.ensures.unsynced;
+  };
   works = c.in-Err.ensures.works;
-}
-
-pub returns-in-Ok-clause-reads : goal.returns-in-Ok-clause-reads
-returns-in-Ok-clause-reads g c = record {
-  calls = c.read_record.ensures.works.calls;
-  uncalled = λ cached. c.read_record.ensures.cached
-      (subst (IsRecordCached c.args.cache.now c.args.mounted.now (file_of_job c.args.work.now.job)) (omega (arith, c.if-n-gt-LAST_NAMED.false, c.saturating_add-n.ensures)) cached);
-  unsynced = c.read_record.ensures.unsynced;
-}
-
-pub returns-in-Err-clause-reads : goal.returns-in-Err-clause-reads
-returns-in-Err-clause-reads g c = record {
-  calls = c.read_record.ensures.works.calls;
-  uncalled = λ cached. c.read_record.ensures.cached
-      (subst (IsRecordCached c.args.cache.now c.args.mounted.now (file_of_job c.args.work.now.job)) (omega (arith, c.if-n-gt-LAST_NAMED.false, c.saturating_add-n.ensures)) cached);
-  unsynced = c.read_record.ensures.unsynced;
 }

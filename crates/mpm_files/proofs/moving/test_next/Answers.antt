@@ -9,8 +9,8 @@ use Rattle.mpm_files.specs.Serving.{units_done}
 use Rattle.mpm_files.specs.Standing.{DoesUnit}
 use Rattle.mpm_files.proofs.NextDone.{IsDone, does_next, never_next}
 use Rattle.mpm_files.proofs.TestTurns.{test_now, stamp_now, writes_now, tests_few, still_passed, first_passed, test_passed, record_held, has_there, passes}
-use Rattle.mpm_files.proofs.ReadTurns.{read_now, read_stands, reading_failed}
-use Rattle.mpm_files.proofs.WorkingLaws.{works_not, works_within, works_then, ready_behind}
+use Rattle.mpm_files.proofs.ReadTurns.{read_now, read_stands, reading_passed}
+use Rattle.mpm_files.proofs.WorkingLaws.{works_not, works_within, works_passed, works_then, ready_behind}
 use Rattle.mpm_files.proofs.moving.test_next.Goals as goal
 use Rattle.mpm_files.proofs.moving.test_next.Goals.{then-work-via-then-work, then-work-via-else-work+then-n-gt-LAST_NAMED, then-work-via-else-work+else-n-gt-LAST_NAMED+then-count-gt16, then-work-via-else-work+else-n-gt-LAST_NAMED+else-count-gt16+then-work-count}
 
@@ -41,12 +41,12 @@ returns-then-work g c = record {
   works = works_not g.D.Drives _ _ _ _ _ _ c.requires.ready.coherent;
 }
 
-pub returns-in-Err : goal.returns-in-Err
-returns-in-Err g c = record {
+pub returns-in_err-read_record : goal.returns-in_err-read_record
+returns-in_err-read_record g c = record {
   does = λ kind.
-      reading_failed (g.D.Drives.disks c.args.drives.now) (g.D.Drives.disks c.read_record.new.drives) c.args.mounted.now c.args.work.now _ c.in-Err.failed c.read_record.ensures.disks;
+      reading_passed (g.D.Drives.disks c.args.drives.now) (g.D.Drives.disks c.read_record.new.drives) c.args.mounted.now c.args.work.now _ c.from_residual.result c.from_residual.ensures.0 c.read_record.ensures.disks;
   counts = record { units = refl; ended = refl };
-  works = works_within g.D.Drives 1 6 _ _ _ _ _ _ _ _ _ (omega arith) c.in-Err.ensures.works;
+  works = works_passed g.D.Drives 1 6 _ _ _ _ _ _ _ _ _ c.from_residual.result (omega arith) c.from_residual.ensures.0 c.in_err-read_record.ensures.works;
 }
 
 pub returns-then-ne : goal.returns-then-ne
@@ -57,7 +57,7 @@ returns-then-ne g c = record {
       let n : read_now c.args.work.now ≡ c.saturating_add-n.result = omega (arith, c.if-n-gt-LAST_NAMED.false, c.saturating_add-n.ensures) in
       let there : record_of (units_done before job j) (file_of_job c.args.work.now.job) (read_now c.args.work.now) ≡ Some c.read_record.new.out =
       subst (λ m. lacks_block c.args.mounted.now (file_of_job c.args.work.now.job) m ≡ false → record_of (units_done before job j) (file_of_job c.args.work.now.job) m ≡ Some c.read_record.new.out) (sym n)
-      (c.in-Ok.ensures.record image (units_done before job j) told service.stands)
+      (c.in_ok-read_record.ensures.held image (units_done before job j) told service.stands)
       (record_held image c.args.mounted.now before job j c.args.work.now service.stands service.serving kind h) in
       let has : has_record (units_done before job j) (file_of_job c.args.work.now.job) (read_now c.args.work.now) (test_now c.args.work.now).expected ≡ false =
       has_there (units_done before job j) (file_of_job c.args.work.now.job) (read_now c.args.work.now) c.read_record.new.out (test_now c.args.work.now).expected there
@@ -70,7 +70,7 @@ returns-then-ne g c = record {
         ),
       ));
   counts = record { units = refl; ended = refl };
-  works = works_within g.D.Drives 1 6 _ _ _ _ _ _ _ _ _ (omega arith) c.in-Ok.ensures.works;
+  works = works_within g.D.Drives 1 6 _ _ _ _ _ _ _ _ _ (omega arith) c.in_ok-read_record.ensures.works;
 }
 
 pub put_held-requires : goal.put_held-requires
@@ -88,7 +88,7 @@ returns g c = record {
       let held = record_held image c.args.mounted.now before job j c.args.work.now service.stands service.serving kind h in
       let there : record_of (units_done before job j) (file_of_job c.args.work.now.job) (read_now c.args.work.now) ≡ Some c.read_record.new.out =
       subst (λ m. lacks_block c.args.mounted.now (file_of_job c.args.work.now.job) m ≡ false → record_of (units_done before job j) (file_of_job c.args.work.now.job) m ≡ Some c.read_record.new.out) (sym n)
-      (c.in-Ok.ensures.record image (units_done before job j) told service.stands) held in
+      (c.in_ok-read_record.ensures.held image (units_done before job j) told service.stands) held in
       let has : has_record (units_done before job j) (file_of_job c.args.work.now.job) (read_now c.args.work.now) (test_now c.args.work.now).expected ≡ true =
       has_there (units_done before job j) (file_of_job c.args.work.now.job) (read_now c.args.work.now) c.read_record.new.out (test_now c.args.work.now).expected there
       ∙ ap (bytes_eq c.read_record.new.out) (sym c.bytes_at.ensures) ∙ not_back (bytes_eq c.read_record.new.out c.bytes_at.result) false c.if-ne.ensures in
@@ -111,5 +111,5 @@ returns g c = record {
         ),
       ));
   counts = record { units = refl; ended = refl };
-  works = works_then g.D.Drives 1 5 6 _ _ _ _ _ _ _ _ _ _ _ _ _ _ (omega arith) c.in-Ok.ensures.works c.put_held.ensures.works;
+  works = works_then g.D.Drives 1 5 6 _ _ _ _ _ _ _ _ _ _ _ _ _ _ (omega arith) c.in_ok-read_record.ensures.works c.put_held.ensures.works;
 }

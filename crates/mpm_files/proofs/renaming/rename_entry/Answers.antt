@@ -1,4 +1,4 @@
-use Rattle.std.proofs.Common.{sym, ap, ◌∙◌, arith}
+use Rattle.std.proofs.Common.{sym, ap, ◌∙◌, arith, rules}
 use Rattle.mpm_dirent.specs.Names.{plain}
 use Rattle.mpm_files.specs.Units.{RenamesEntry}
 use Rattle.mpm_files.specs.Plans.{new_file_of_job}
@@ -8,14 +8,23 @@ use Rattle.mpm_mount.specs.Files.{file_in}
 use Rattle.mpm_files.proofs.NextDone.{goes_as}
 use Rattle.mpm_files.proofs.Placing.{renamed_clean, renamed_stage, renamed_free}
 use Rattle.mpm_files.proofs.WorkingLaws.{works_not}
+use Rattle.std.proofs.lemmas.Grind.{common_steps}
 use Rattle.mpm_files.proofs.renaming.rename_entry.Goals as goal
 
-pub returns-in_default-clause-works : goal.returns-in_default-clause-works
-returns-in_default-clause-works g c = works_not g.D.Drives _ _ _ _ _ _ c.requires.ready.coherent
+pub returns-in_default : goal.returns-in_default
+returns-in_default g c = record {
+  does = first_of (search rules, grind (arith, common_steps));
+  works = works_not g.D.Drives _ _ _ _ _ _ c.requires.ready.coherent;
+}
 
-pub put_entry-requires-clause-faultless : goal.put_entry-requires-clause-faultless
-put_entry-requires-clause-faultless g c = renamed_clean c.args.mounted.now c.args.slot c.in-Some.file c.marked.result c.in-Some.ensures.found (omega (arith, c.requires.slot, c.in-Some.ensures.found.sound.full))
-    (ap (extent_slot c.args.mounted.now (record { user = c.in-Some.file.user; name = plain c.marked.result })) (sym c.last_extent.ensures) ∙ sym c.extent.ensures ∙ c.in-None.is)
+pub put_entry-requires : goal.put_entry-requires
+put_entry-requires g c = record {
+  ready = c.requires.ready;
+  slot = c.requires.slot;
+  proper = first_of (search rules, grind (arith, common_steps));
+  faultless = renamed_clean c.args.mounted.now c.args.slot c.in-Some.file c.marked.result c.in-Some.ensures.found (omega (arith, c.requires.slot, c.in-Some.ensures.found.sound.full))
+      (ap (extent_slot c.args.mounted.now (record { user = c.in-Some.file.user; name = plain c.marked.result })) (sym c.last_extent.ensures) ∙ sym c.extent.ensures ∙ c.in-None.is);
+}
 
 pub returns-in-Some-extent : goal.returns-in-Some-extent
 returns-in-Some-extent g c = record {

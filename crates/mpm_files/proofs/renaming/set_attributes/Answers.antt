@@ -1,4 +1,4 @@
-use Rattle.std.proofs.Common.{map, ap, ◌∙◌, arith}
+use Rattle.std.proofs.Common.{map, ap, ◌∙◌, arith, rules}
 use Rattle.std.specs.Prelude.{nat_le}
 use Rattle.mpm_files.specs.Units.{SetsAttributes}
 use Rattle.mpm_mount.specs.Faults.{name_of}
@@ -6,15 +6,23 @@ use Rattle.mpm_mount.specs.Attributes.{attributes_in}
 use Rattle.mpm_mount.specs.Files.{file_in}
 use Rattle.mpm_files.proofs.NextDone.{goes_as}
 use Rattle.mpm_files.proofs.Placing.{set_clean, set_stage}
+use Rattle.std.proofs.lemmas.Grind.{common_steps}
 use Rattle.mpm_files.proofs.renaming.set_attributes.Goals as goal
 
-pub put_entry-requires-clause-faultless : goal.put_entry-requires-clause-faultless
-put_entry-requires-clause-faultless g c =
-    set_clean c.args.mounted.now c.args.slot c.in-Some.file c.marked.result c.in-Some.ensures.found (omega (arith, c.requires.slot, c.in-Some.ensures.found.sound.full)) c.marked.ensures.name
+pub put_entry-requires : goal.put_entry-requires
+put_entry-requires g c = record {
+  ready = c.requires.ready;
+  slot = c.requires.slot;
+  proper = first_of (search rules, grind (arith, common_steps));
+  faultless = set_clean c.args.mounted.now c.args.slot c.in-Some.file c.marked.result c.in-Some.ensures.found (omega (arith, c.requires.slot, c.in-Some.ensures.found.sound.full)) c.marked.ensures.name;
+}
 
-pub returns-clause-does : goal.returns-clause-does
-returns-clause-does g c = λ image files told stands file is.
-    goes_as (g.D.Drives.disks c.put_entry.new.drives) c.args.mounted.now.drive c.put_entry.new.mounted files _
-    (SetsAttributes (file_in file.user file.name) (name_of files.kind file).number (attributes_in c.args.job.now.name)) c.put_entry.result (c.put_entry.ensures.puts image files told stands)
-    (set_stage image c.args.mounted.now files c.args.slot c.in-Some.file file c.marked.result c.args.job.now.name stands c.in-Some.ensures.found
-    (omega (arith, c.requires.slot, c.in-Some.ensures.found.sound.full)) is c.marked.ensures.name (c.marked.ensures.marks ∙ ap (map (nat_le 128)) c.attributes_over.ensures))
+pub returns : goal.returns
+returns g c = record {
+  does = λ image files told stands file is.
+      goes_as (g.D.Drives.disks c.put_entry.new.drives) c.args.mounted.now.drive c.put_entry.new.mounted files _
+      (SetsAttributes (file_in file.user file.name) (name_of files.kind file).number (attributes_in c.args.job.now.name)) c.put_entry.result (c.put_entry.ensures.puts image files told stands)
+      (set_stage image c.args.mounted.now files c.args.slot c.in-Some.file file c.marked.result c.args.job.now.name stands c.in-Some.ensures.found
+      (omega (arith, c.requires.slot, c.in-Some.ensures.found.sound.full)) is c.marked.ensures.name (c.marked.ensures.marks ∙ ap (map (nat_le 128)) c.attributes_over.ensures));
+  works = c.put_entry.ensures.works;
+}

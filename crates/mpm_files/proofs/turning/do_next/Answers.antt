@@ -14,10 +14,10 @@ pub returns-in-Read : goal.returns-in-Read
 returns-in-Read g c =
     let next = c.read_next.ensures in
     record {
-      does = next.next.does c.in-Read.is;
-      counts = next.next.counts;
+      does = next.does c.in-Read.is;
+      counts = next.counts;
       reads = λ is. next.reads;
-      works = works_within g.D.Drives 1 20 _ _ _ _ _ _ _ _ _ (omega arith) next.next.works;
+      works = works_within g.D.Drives 1 20 _ _ _ _ _ _ _ _ _ (omega arith) next.works;
     }
 
 -- the others read nothing

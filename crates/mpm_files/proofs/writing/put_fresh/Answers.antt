@@ -26,18 +26,15 @@ returns-in-None-cleared_of g c = record {
 
 -- the block, and then its entry
 
-pub put_with_block-requires-clause-free : goal.put_with_block-requires-clause-free
-put_with_block-requires-clause-free g c = sym c.free_block.ensures ∙ c.in-Some-free_block.is
-
-pub put_with_block-requires-clause-clear : goal.put_with_block-requires-clause-clear
-put_with_block-requires-clause-clear g c = clear_within c.args.mounted.now.kind c.args.cleared c.in-Some-free_block.block c.in-Some-cleared_of.clear (sym c.cleared_of.ensures ∙ c.in-Some-cleared_of.is)
-
-pub put_with_block-requires-clause-index : goal.put_with_block-requires-clause-index
-put_with_block-requires-clause-index g c = c.index_in-index.ensures.within
-
-pub put_with_block-requires-clause-few : goal.put_with_block-requires-clause-few
-put_with_block-requires-clause-few g c = calls_few c.args.mounted.now.kind c.args.cleared c.in-Some-free_block.block c.in-Some-cleared_of.clear c.index_in-index.result (sym c.cleared_of.ensures ∙ c.in-Some-cleared_of.is)
-    c.index_in-index.ensures.within
+pub put_with_block-requires : goal.put_with_block-requires
+put_with_block-requires g c = record {
+  ready = c.requires.ready;
+  free = sym c.free_block.ensures ∙ c.in-Some-free_block.is;
+  clear = clear_within c.args.mounted.now.kind c.args.cleared c.in-Some-free_block.block c.in-Some-cleared_of.clear (sym c.cleared_of.ensures ∙ c.in-Some-cleared_of.is);
+  index = c.index_in-index.ensures.within;
+  few = calls_few c.args.mounted.now.kind c.args.cleared c.in-Some-free_block.block c.in-Some-cleared_of.clear c.index_in-index.result (sym c.cleared_of.ensures ∙ c.in-Some-cleared_of.is)
+      c.index_in-index.ensures.within;
+}
 
 pub put_taken-requires : goal.put_taken-requires
 put_taken-requires g c = record {

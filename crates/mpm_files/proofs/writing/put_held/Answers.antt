@@ -21,9 +21,11 @@ returns-in-None-held_sector g c = record {
 
 -- the record, and then its entry
 
-pub put_sector-requires-clause-within : goal.put_sector-requires-clause-within
-put_sector-requires-clause-within g c =
-    held_inside c.args.mounted.now (file_of_job c.args.job.now) c.args.written.now.number c.in-Some.found.slot c.in-Some-held_sector.sector c.in-Some.found.file c.in-Some.ensures.found c.in-Some-held_sector.ensures.held
+pub put_sector-requires : goal.put_sector-requires
+put_sector-requires g c = record {
+  ready = c.requires.ready;
+  within = held_inside c.args.mounted.now (file_of_job c.args.job.now) c.args.written.now.number c.in-Some.found.slot c.in-Some-held_sector.sector c.in-Some.found.file c.in-Some.ensures.found c.in-Some-held_sector.ensures.held;
+}
 
 pub put_raised-requires : goal.put_raised-requires
 put_raised-requires g c = record {

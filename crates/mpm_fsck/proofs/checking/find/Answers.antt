@@ -9,5 +9,5 @@ returns-in-Ok-judge g c =
     (drives_seen g.D.Drives c.args.drives.now)
     (drives_seen g.D.Drives c.open.new.drives)
     (drives_seen g.D.Drives c.read.new.drives)
-    c.in-Ok-read.entries.items c.in-Ok-judge.found c.in-Ok.ensures (record { disks = read.same.drives.images; known = read.same.drives.told_are; failed = read.same.drives.failed }) read.count read.entries
+    c.in-Ok-read.entries.items c.in-Ok-judge.found c.in-Ok.ensures (record { disks = read.same.drives.images; known = read.same.drives.told_are; unsynced = read.same.unsynced_are; failed = read.same.drives.failed }) read.count read.entries
     c.in-Ok-judge.ensures

@@ -1,5 +1,5 @@
-use Rattle.mpm_kernel_scenes.specs.Serving.{Serves}
+use Rattle.mpm_kernel_scenes.specs.Serving.{ServesScene}
 use Rattle.mpm_kernel_scenes.proofs.disk.play_on.Given as goal
 
 abbrev pub invariant-loop-number : goal.invariant-loop-number
-invariant-loop-number l = Serves l.kernel
+invariant-loop-number l = ServesScene l.kernel

@@ -4,8 +4,8 @@ use Rattle.mpm_kernel.proofs.DiskStays.{disk_happened}
 use Rattle.mpm_kernel_scenes.proofs.ServingLaws.{serves_same}
 use Rattle.mpm_kernel_scenes.proofs.disk.tick.Goals as goal
 
-pub event-requires-clause-sound : goal.event-requires-clause-sound
-event-requires-clause-sound c = c.requires.sound
+pub event-requires : goal.event-requires
+event-requires c = record { sound = c.requires.sound; comes = tt }
 
 pub returns : goal.returns
 returns c =

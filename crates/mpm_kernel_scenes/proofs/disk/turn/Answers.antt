@@ -5,8 +5,8 @@ use Rattle.mpm_kernel.specs.Kernel.{Kernel}
 use Rattle.mpm_kernel_scenes.proofs.ServingLaws.{serves_same, serves_turned, serves_begun, steps_turned}
 use Rattle.mpm_kernel_scenes.proofs.disk.turn.Goals as goal
 
-pub turn_disk-turn-requires-clause-sound : goal.turn_disk-turn-requires-clause-sound
-turn_disk-turn-requires-clause-sound c = c.requires.serves.sound
+pub turn_disk-turn-requires : goal.turn_disk-turn-requires
+turn_disk-turn-requires c = record { sound = c.requires.serves.sound; begun = c.requires.serves.begun }
 
 pub returns-then-last : goal.returns-then-last
 returns-then-last c =

@@ -6,13 +6,13 @@ use Rattle.mpm_kernel.proofs.SoundLaws.{sound_new, sound_picked}
 use Rattle.mpm_kernel.proofs.SystemQueues.{only_systems_new, may_make_new, sound_system_queue}
 use Rattle.mpm_kernel_scenes.proofs.scene.kernel_with_system_queue.Goals as goal
 
-pub system_queue-requires-clause-boot : goal.system_queue-requires-clause-boot
-system_queue-requires-clause-boot c = subst OnlySystems (sym c.in_ok-kernel.ensures.kernel) (only_systems_new _ _ _)
-
-pub system_queue-requires-clause-room : goal.system_queue-requires-clause-room
-system_queue-requires-clause-room c =
-    subst (λ (kernel : Kernel). make_error kernel.queues (record { 0 = _ }) 130 15 ≡ None) (sym c.in_ok-kernel.ensures.kernel)
-    (may_make_new 1 0 _ (record { 0 = _ }) 130 15 (omega arith) (omega arith))
+pub system_queue-requires : goal.system_queue-requires
+system_queue-requires c = record {
+  sound = c.in_ok-kernel.ensures.sound;
+  boot = subst OnlySystems (sym c.in_ok-kernel.ensures.kernel) (only_systems_new _ _ _);
+  room = subst (λ (kernel : Kernel). make_error kernel.queues (record { 0 = _ }) 130 15 ≡ None) (sym c.in_ok-kernel.ensures.kernel)
+      (may_make_new 1 0 _ (record { 0 = _ }) 130 15 (omega arith) (omega arith));
+}
 
 pub begin-begun-requires : goal.begin-begun-requires
 begin-begun-requires c =

@@ -3,14 +3,12 @@ use Rattle.mpm_machine.proofs.ActingLaws.{acted_inside, instruction_inside}
 use Rattle.mpm_machine.proofs.MakingLaws.{makes_as}
 use Rattle.mpm_machine.proofs.acting.act.Goals as goal
 
-pub returns-in-Some-segment-clause-done : goal.returns-in-Some-segment-clause-done
-returns-in-Some-segment-clause-done g c =
-    makes_as _ _
-    (sym (acted_inside c.in-Some.p c.in-Some-segment.seg c.args.system.now (sym c.running.ensures ∙ c.in-Some.is) (sym c.segment.ensures ∙ c.in-Some-segment.is)))
-    c.act_at.ensures.done
-
-pub returns-in-Some-segment-clause-instruction : goal.returns-in-Some-segment-clause-instruction
-returns-in-Some-segment-clause-instruction g c =
-    subst (λ (b : Bool). IfOk c.act_at.result (λ instruction. instruction ≡ b))
-    (sym (instruction_inside c.in-Some.p c.in-Some-segment.seg c.args.system.now (sym c.running.ensures ∙ c.in-Some.is) (sym c.segment.ensures ∙ c.in-Some-segment.is)))
-    c.act_at.ensures.instruction
+pub returns-in-Some-segment : goal.returns-in-Some-segment
+returns-in-Some-segment g c = record {
+  done = makes_as _ _
+      (sym (acted_inside c.in-Some.p c.in-Some-segment.seg c.args.system.now (sym c.running.ensures ∙ c.in-Some.is) (sym c.segment.ensures ∙ c.in-Some-segment.is)))
+      c.act_at.ensures.done;
+  instruction = subst (λ (b : Bool). IfOk c.act_at.result (λ instruction. instruction ≡ b))
+      (sym (instruction_inside c.in-Some.p c.in-Some-segment.seg c.args.system.now (sym c.running.ensures ∙ c.in-Some.is) (sym c.segment.ensures ∙ c.in-Some-segment.is)))
+      c.act_at.ensures.instruction;
+}

@@ -13,12 +13,16 @@ use Rattle.mpm_machine.proofs.ahead.do_own_call.Goals as goal
 pub regs-regs-requires : goal.regs-regs-requires
 regs-regs-requires c = runner_lives c.args.system.now.kernel c.args.p c.requires.whole.sound c.requires.makes.on.running
 
-pub take_own-requires-clause-lives : goal.take_own-requires-clause-lives
-take_own-requires-clause-lives c = runner_lives c.args.system.now.kernel c.args.p c.requires.whole.sound c.requires.makes.on.running
-
-pub take_own-requires-clause-own : goal.take_own-requires-clause-own
-take_own-requires-clause-own c =
-    subst (λ (function : ℕ). is_own function ≡ true) (sym (ap (λ (regs : Regs). regs.c) c.regs-regs.ensures)) c.requires.makes.function
+pub take_own-requires : goal.take_own-requires
+take_own-requires c =
+    let function = ap (λ (regs : Regs). regs.c) c.regs-regs.ensures in
+    let made : c.from_le_bytes-word.result ≡ word_of c.regs-regs.result.now.e c.regs-regs.result.now.d = omega (arith, c.from_le_bytes-word.ensures) in
+    record {
+      lives = runner_lives c.args.system.now.kernel c.args.p c.requires.whole.sound c.requires.makes.on.running;
+      own = subst (λ (number : ℕ). is_own number ≡ true) (sym function) c.requires.makes.function;
+      function = function;
+      word = made ∙ ap (λ (regs : Regs). word_of regs.e regs.d) c.regs-regs.ensures;
+    }
 
 pub serve_own-value-requires : goal.serve_own-value-requires
 serve_own-value-requires c =
@@ -62,26 +66,25 @@ overflow_add-system c =
       }),
     )
 
-pub returns-clause-system : goal.returns-clause-system
-returns-clause-system c =
-    own_call_made c.serve_own-value.result c.args.p c.args.seg c.args.system.now c.take_own.new.self c.serve_own-value.new.self c.pop.new.self c.place_value.new.self
-    c.requires.whole c.requires.makes (record {
-      kept_is = c.take_own.ensures c.args.seg;
-      done_is = c.serve_own-value.ensures.system;
-      reply_is = c.serve_own-value.ensures.reply;
-      gone_is = c.pop.ensures;
-      told_is = c.place_value.ensures (asked c.args.p c.args.seg c.args.system.now) c.args.seg;
-    })
-
-pub returns-clause-emitted : goal.returns-clause-emitted
-returns-clause-emitted c = (
-  _,
-  sym (own_call_written c.serve_own-value.result c.args.p c.args.seg c.args.system.now c.take_own.new.self c.serve_own-value.new.self c.pop.new.self c.place_value.new.self
+pub returns : goal.returns
+returns c = record {
+  system = own_call_made c.serve_own-value.result c.args.p c.args.seg c.args.system.now c.take_own.new.self c.serve_own-value.new.self c.pop.new.self c.place_value.new.self
       c.requires.whole c.requires.makes (record {
         kept_is = c.take_own.ensures c.args.seg;
         done_is = c.serve_own-value.ensures.system;
         reply_is = c.serve_own-value.ensures.reply;
         gone_is = c.pop.ensures;
         told_is = c.place_value.ensures (asked c.args.p c.args.seg c.args.system.now) c.args.seg;
-      })),
-)
+      });
+  emitted = (
+    _,
+    sym (own_call_written c.serve_own-value.result c.args.p c.args.seg c.args.system.now c.take_own.new.self c.serve_own-value.new.self c.pop.new.self c.place_value.new.self
+        c.requires.whole c.requires.makes (record {
+          kept_is = c.take_own.ensures c.args.seg;
+          done_is = c.serve_own-value.ensures.system;
+          reply_is = c.serve_own-value.ensures.reply;
+          gone_is = c.pop.ensures;
+          told_is = c.place_value.ensures (asked c.args.p c.args.seg c.args.system.now) c.args.seg;
+        })),
+  );
+}

@@ -12,12 +12,10 @@ conclude_file_call-requires g c = record {
   room = omega (arith, c.requires.room);
 }
 
-pub finish_all-requires-clause-whole : goal.finish_all-requires-clause-whole
-finish_all-requires-clause-whole g c =
-    concluded_whole (told_of (call_of c.end_disk_call.new.self.dispatcher.procs c.args.p) c.args.reply.now c.args.error) c.args.p c.args.system.now c.conclude_file_call.new.system
-    c.end_disk_call.new.self c.requires.whole c.requires.over c.end_disk_call.ensures.kernel c.in_ok-conclude_file_call.ensures.system
-
-pub finish_all-requires-clause-room : goal.finish_all-requires-clause-room
-finish_all-requires-clause-room g c =
-    concluded_room (told_of (call_of c.end_disk_call.new.self.dispatcher.procs c.args.p) c.args.reply.now c.args.error) c.args.p c.args.system.now c.conclude_file_call.new.system
-    c.end_disk_call.new.self c.requires.room c.in_ok-conclude_file_call.ensures.system
+pub finish_all-requires : goal.finish_all-requires
+finish_all-requires g c = record {
+  whole = concluded_whole (told_of (call_of c.end_disk_call.new.self.dispatcher.procs c.args.p) c.args.reply.now c.args.error) c.args.p c.args.system.now c.conclude_file_call.new.system
+      c.end_disk_call.new.self c.requires.whole c.requires.over c.end_disk_call.ensures.kernel c.in_ok-conclude_file_call.ensures.system;
+  room = concluded_room (told_of (call_of c.end_disk_call.new.self.dispatcher.procs c.args.p) c.args.reply.now c.args.error) c.args.p c.args.system.now c.conclude_file_call.new.system
+      c.end_disk_call.new.self c.requires.room c.in_ok-conclude_file_call.ensures.system;
+}

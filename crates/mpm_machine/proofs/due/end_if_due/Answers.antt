@@ -5,11 +5,11 @@ use Rattle.mpm_machine.proofs.DueLaws.{room_at_end, no_end_out, end_out}
 use Rattle.mpm_machine.proofs.WholeStepLaws.{whole_due_end}
 use Rattle.mpm_machine.proofs.due.end_if_due.Goals as goal
 
-pub finish_all-requires-clause-whole : goal.finish_all-requires-clause-whole
-finish_all-requires-clause-whole g c = whole_due_end c.args.system.now c.end.new.system c.args.p c.requires.whole (sym c.is_due.ensures ∙ c.if-is_due.true) c.end.ensures
-
-pub finish_all-requires-clause-room : goal.finish_all-requires-clause-room
-finish_all-requires-clause-room g c = room_at_end c.args.p c.args.system.now c.end.new.system c.requires.none c.end.ensures
+pub finish_all-requires : goal.finish_all-requires
+finish_all-requires g c = record {
+  whole = whole_due_end c.args.system.now c.end.new.system c.args.p c.requires.whole (sym c.is_due.ensures ∙ c.if-is_due.true) c.end.ensures;
+  room = room_at_end c.args.p c.args.system.now c.end.new.system c.requires.none c.end.ensures;
+}
 
 pub returns-then-is_due : goal.returns-then-is_due
 returns-then-is_due g c =

@@ -7,13 +7,11 @@ use Rattle.mpm_machine.proofs.filing.call_disk.Goals as goal
 use Rattle.std.specs.Prelude.{is_some}
 use Rattle.std.proofs.lemmas.Bool.{false≢true}
 
-pub looked_at-caller-requires-clause-some : goal.looked_at-caller-requires-clause-some
-looked_at-caller-requires-clause-some g c =
-    subst (λ (one : Process). 1 ≤ one.multi) (sym c.living.ensures) (c.requires.living.whole.sound.fit c.args.p c.requires.living.lives).some
-
-pub looked_at-caller-requires-clause-few : goal.looked_at-caller-requires-clause-few
-looked_at-caller-requires-clause-few g c =
-    subst (λ (one : Process). one.multi ≤ 16) (sym c.living.ensures) (c.requires.living.whole.sound.fit c.args.p c.requires.living.lives).few
+pub looked_at-caller-requires : goal.looked_at-caller-requires
+looked_at-caller-requires g c = record {
+  some = subst (λ (one : Process). 1 ≤ one.multi) (sym c.living.ensures) (c.requires.living.whole.sound.fit c.args.p c.requires.living.lives).some;
+  few = subst (λ (one : Process). one.multi ≤ 16) (sym c.living.ensures) (c.requires.living.whole.sound.fit c.args.p c.requires.living.lives).few;
+}
 
 pub returns : goal.returns
 returns g c = record {

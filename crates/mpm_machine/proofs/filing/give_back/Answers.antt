@@ -1,4 +1,5 @@
-use Rattle.std.proofs.Common.{◌∙◌, ap, refl, arith}
+use Rattle.std.proofs.Common.{◌∙◌, ap, refl, arith, rules}
+use Rattle.std.proofs.lemmas.Grind.{common_steps}
 use Rattle.mpm_bdos.specs.Serving.{Kept, filing_of}
 use Rattle.mpm_machine.proofs.FilingLaws.{leaves_first, leaves_more, leaves_last}
 use Rattle.mpm_machine.proofs.filing.give_back.Goals as goal
@@ -18,7 +19,9 @@ loop-number-preserved c = record {
   rest = c.leave_if.ensures.rest ∙ ap (λ (k : Kept). record k { opens = c.leave_if.new.bdos.opens; marks = c.leave_if.new.bdos.marks; searches = c.leave_if.new.bdos.searches }) c.loop-number.invariant.rest;
 }
 
-pub returns-clause-filing : goal.returns-clause-filing
-returns-clause-filing c drives =
-    leaves_last c.args.owed.now c.loop-number.number (filing_of c.loop-number.bdos drives) _ (omega (arith, c.loop-number-test.false))
-    (c.loop-number.invariant.filing drives)
+pub returns : goal.returns
+returns c = record {
+  filing = λ drives. leaves_last c.args.owed.now c.loop-number.number (filing_of c.loop-number.bdos drives) _ (omega (arith, c.loop-number-test.false))
+      (c.loop-number.invariant.filing drives);
+  rest = first_of (search rules, grind (arith, common_steps));
+}

@@ -21,18 +21,16 @@ finish_all-requires c = record {
   room = rest_have_room c.in-Some.p c.args.system.now c.next_completed.new.system c.finish_first.new.system c.requires.room c.in-Some.ensures.system c.finish_first.ensures;
 }
 
-pub returns-in-Some-clause-system : goal.returns-in-Some-clause-system
-returns-in-Some-clause-system c =
-    answered_system c.in-Some.p c.args.system.now c.next_completed.new.system c.finish_first.new.system _ (sym c.in-Some.ensures.process) c.in-Some.ensures.system
-    c.finish_first.ensures c.finish_all.ensures.system
+pub returns-in-Some : goal.returns-in-Some
+returns-in-Some c = record {
+  system = answered_system c.in-Some.p c.args.system.now c.next_completed.new.system c.finish_first.new.system _ (sym c.in-Some.ensures.process) c.in-Some.ensures.system
+      c.finish_first.ensures c.finish_all.ensures.system;
+  few = answered_few c.in-Some.p c.args.system.now c.next_completed.new.system c.finish_first.new.system c.finish_all.new.system c.in-Some.ensures.system c.finish_first.ensures
+      c.finish_all.ensures.few;
+}
 
-pub returns-in-Some-clause-few : goal.returns-in-Some-clause-few
-returns-in-Some-clause-few c =
-    answered_few c.in-Some.p c.args.system.now c.next_completed.new.system c.finish_first.new.system c.finish_all.new.system c.in-Some.ensures.system c.finish_first.ensures
-    c.finish_all.ensures.few
-
-pub returns-in_default-clause-few : goal.returns-in_default-clause-few
-returns-in_default-clause-few c = omega (arith, ap (λ (s : System). length s.records) c.in_default.ensures.nothing)
-
-pub returns-in_default-clause-system : goal.returns-in_default-clause-system
-returns-in_default-clause-system c = c.in_default.ensures.nothing ∙ sym (answered_nobody c.args.system.now (sym c.in_default.ensures.process))
+pub returns-in_default : goal.returns-in_default
+returns-in_default c = record {
+  system = c.in_default.ensures.nothing ∙ sym (answered_nobody c.args.system.now (sym c.in_default.ensures.process));
+  few = omega (arith, ap (λ (s : System). length s.records) c.in_default.ensures.nothing);
+}

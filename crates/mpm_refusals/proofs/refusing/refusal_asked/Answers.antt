@@ -1,7 +1,6 @@
 use Rattle.std.proofs.Common.{◌∙◌, sym, ap}
 use Rattle.std.specs.Option.{option_or}
 use Rattle.std.specs.Prelude.{find}
-use Rattle.mpm_file_functions.specs.Refusals.{refusals_of}
 use Rattle.mpm_refusals.specs.Asking.{asks, each_asked}
 use Rattle.mpm_refusals.proofs.refusing.refusal_asked.Goals as goal
 

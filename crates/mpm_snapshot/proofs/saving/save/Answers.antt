@@ -1,4 +1,5 @@
-use Rattle.std.proofs.Common.{◌≡◌, ◌∙◌, ℕ, refl, sym, subst}
+use Rattle.std.proofs.Common.{◌≡◌, ◌∙◌, ℕ, refl, sym, subst, rules, arith}
+use Rattle.std.proofs.lemmas.Grind.{common_steps}
 use Rattle.mpm_top.specs.Beginnings.{command_on}
 use Rattle.mpm_top.specs.Promises.{seen_by}
 use Rattle.mpm_top.proofs.SeedLaws.{never_rose}
@@ -13,15 +14,20 @@ use Rattle.mpm_snapshot.proofs.saving.save.Goals as goal
 pub write-requires : goal.write-requires
 write-requires g c = λ taken. of_taken c.run_unheard.new.taker _ taken (c.in-Ran.ensures.saw refl).saw.takes.is
 
-pub returns-in-Ran-clause-saves : goal.returns-in-Ran-clause-saves
-returns-in-Ran-clause-saves g c =
-    let missing = g.F.Files.missing c.args.files.now in
-    let command = command_on c.args.name.now c.args.asked.asked in
-    let old = seen_by g.F.Files g.D.Drives g.S.Sink c.args.files.now c.args.drives.now c.args.sink.now in
-    let new = seen_by g.F.Files g.D.Drives g.S.Sink c.run_unheard.new.files c.run_unheard.new.drives c.write.new.sink in
-    let runs = c.in-Ran.ensures in
-    subst (λ (p : ℕ). Saves missing command p old new c.write.result) c.in-Ok.ensures
-    (saves_taken missing command old new runs.text c.in-Ok.taker c.run_unheard.new.taker c.write.result runs.promises (runs.saw refl) c.write.ensures.wrote)
+pub returns-in-Ran : goal.returns-in-Ran
+returns-in-Ran g c = record {
+  usage = first_of (search rules, grind (arith, common_steps));
+  saves = let missing = g.F.Files.missing c.args.files.now in
+      let command = command_on c.args.name.now c.args.asked.asked in
+      let old = seen_by g.F.Files g.D.Drives g.S.Sink c.args.files.now c.args.drives.now c.args.sink.now in
+      let new = seen_by g.F.Files g.D.Drives g.S.Sink c.run_unheard.new.files c.run_unheard.new.drives c.write.new.sink in
+      let runs = c.in-Ran.ensures in
+      subst (λ (p : ℕ). Saves missing command p old new c.write.result) c.in-Ok.ensures
+      (saves_taken missing command old new runs.text c.in-Ok.taker c.run_unheard.new.taker c.write.result runs.promises (runs.saw refl) c.write.ensures.wrote);
+  program = first_of (search rules, grind (arith, common_steps));
+  fails = first_of (search rules, grind (arith, common_steps));
+  nothing = first_of (search rules, grind (arith, common_steps));
+}
 
 -- it stopped
 

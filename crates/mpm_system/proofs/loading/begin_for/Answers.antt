@@ -2,10 +2,12 @@ use Rattle.mpm_system.proofs.LoadingLaws.{lives_there}
 use Rattle.mpm_system.proofs.OpeningLaws.{admitted_here}
 use Rattle.mpm_system.proofs.loading.begin_for.Goals as goal
 
-pub give-requires-clause-from : goal.give-requires-clause-from
-give-requires-clause-from c =
-    lives_there c.args.kernel.now c.admit.new.self c.args.p c.in-Ok.q c.args.new c.requires.lives c.in-Ok.ensures.slot c.admit.ensures.kernel
-
-pub give-requires-clause-to : goal.give-requires-clause-to
-give-requires-clause-to c =
-    (admitted_here c.args.kernel.now c.admit.new.self c.in-Ok.q c.args.new c.requires.begins.sound c.requires.begins.console c.in-Ok.ensures.slot c.admit.ensures.kernel).lives
+pub give-requires : goal.give-requires
+give-requires c =
+    let here = admitted_here c.args.kernel.now c.admit.new.self c.in-Ok.q c.args.new c.requires.begins.sound c.requires.begins.console c.in-Ok.ensures.slot c.admit.ensures.kernel in
+    record {
+      sound = here.sound;
+      console = here.console;
+      from = lives_there c.args.kernel.now c.admit.new.self c.args.p c.in-Ok.q c.args.new c.requires.lives c.in-Ok.ensures.slot c.admit.ensures.kernel;
+      to = here.lives;
+    }

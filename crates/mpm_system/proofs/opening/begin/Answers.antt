@@ -1,13 +1,10 @@
 use Rattle.mpm_system.proofs.OpeningLaws.{admitted_here, sound_begun}
 use Rattle.mpm_system.proofs.opening.begin.Goals as goal
 
-pub give-requires-clause-console : goal.give-requires-clause-console
-give-requires-clause-console c =
-    (admitted_here c.args.kernel.now c.admit.new.self c.in-Ok.p c.args.new c.requires.begins.sound c.requires.begins.console c.in-Ok.ensures.slot c.admit.ensures.kernel).console
-
-pub give-requires-clause-to : goal.give-requires-clause-to
-give-requires-clause-to c =
-    (admitted_here c.args.kernel.now c.admit.new.self c.in-Ok.p c.args.new c.requires.begins.sound c.requires.begins.console c.in-Ok.ensures.slot c.admit.ensures.kernel).lives
+pub give-requires : goal.give-requires
+give-requires c =
+    let here = admitted_here c.args.kernel.now c.admit.new.self c.in-Ok.p c.args.new c.requires.begins.sound c.requires.begins.console c.in-Ok.ensures.slot c.admit.ensures.kernel in
+    record { sound = here.sound; console = here.console; from = tt; to = here.lives }
 
 pub pick-requires : goal.pick-requires
 pick-requires c =

@@ -6,21 +6,19 @@ use Rattle.mpm_machine.proofs.SettlingLaws.{nobody_yet}
 use Rattle.mpm_top.proofs.BootLaws.{program_starts}
 use Rattle.mpm_top.proofs.boot.boot_program.Goals as goal
 
-pub returns-in-Ok-clause-starts : goal.returns-in-Ok-clause-starts
-returns-in-Ok-clause-starts g c host =
-    program_starts host c.args.bytes.now (g.D.Drives.disks c.args.drives.now) c.in-Ok.machine.value.system c.in-Ok.machine.value.bdos c.in-Ok.ensures.program.opening c.in-Ok.ensures.program.bdos
-    (c.in-Ok.ensures.program.files (g.D.Drives.disks c.args.drives.now)) (nobody_yet c.in-Ok.machine.value.system.kernel.disk 0 c.in-Ok.ensures.program.disk)
-
-pub returns-in-Ok-clause-begins : goal.returns-in-Ok-clause-begins
-returns-in-Ok-clause-begins g c = record {
-  between = record {
-    whole = c.in-Ok.ensures.program.whole;
-    no_completions = c.in-Ok.ensures.program.no_completions;
-    holds = holds_nothing g.D.Drives.disks c.in-Ok.machine.value.system.kernel 0 c.in-Ok.machine.value.bdos c.args.drives.now c.in-Ok.ensures.program.disk c.in-Ok.ensures.program.bdos;
+pub returns-in-Ok : goal.returns-in-Ok
+returns-in-Ok g c = record {
+  starts = λ host. program_starts host c.args.bytes.now (g.D.Drives.disks c.args.drives.now) c.in-Ok.machine.value.system c.in-Ok.machine.value.bdos c.in-Ok.ensures.program.opening c.in-Ok.ensures.program.bdos
+      (c.in-Ok.ensures.program.files (g.D.Drives.disks c.args.drives.now)) (nobody_yet c.in-Ok.machine.value.system.kernel.disk 0 c.in-Ok.ensures.program.disk);
+  begins = record {
+    between = record {
+      whole = c.in-Ok.ensures.program.whole;
+      no_completions = c.in-Ok.ensures.program.no_completions;
+      holds = holds_nothing g.D.Drives.disks c.in-Ok.machine.value.system.kernel 0 c.in-Ok.machine.value.bdos c.args.drives.now c.in-Ok.ensures.program.disk c.in-Ok.ensures.program.bdos;
+    };
+    start = c.in-Ok.ensures.program.start;
+    idle = nobody_yet c.in-Ok.machine.value.system.kernel.disk 0 c.in-Ok.ensures.program.disk;
   };
-  start = c.in-Ok.ensures.program.start;
-  idle = nobody_yet c.in-Ok.machine.value.system.kernel.disk 0 c.in-Ok.ensures.program.disk;
+  no_drive = subst (λ (k : Kept). HasNoDrive k.mounted) (sym c.in-Ok.ensures.program.bdos) none_mounted;
+  memory = tt;
 }
-
-pub returns-in-Ok-clause-no_drive : goal.returns-in-Ok-clause-no_drive
-returns-in-Ok-clause-no_drive g c = subst (λ (k : Kept). HasNoDrive k.mounted) (sym c.in-Ok.ensures.program.bdos) none_mounted

@@ -7,9 +7,8 @@ use Rattle.mpm_top.proofs.data.sector_at.Goals as goal
 pub unreachable-requires : goal.unreachable-requires
 unreachable-requires c = never_rose c.in-Err.ensures.cause.failed
 
-pub returns-clause-bytes : goal.returns-clause-bytes
-returns-clause-bytes c image here =
-    subst (λ (found : Option (List ℕ)). IfSome found (λ i. c.read.new.out ≡ sector_of i c.args.sector)) here c.in-Ok.ensures.bytes
-
-pub returns-clause-read : goal.returns-clause-read
-returns-clause-read c = record { size = ap (λ (disks : Disks). size_of disks 0) c.read.ensures.disks ∙ c.requires.size; same = c.read.ensures.disks }
+pub returns : goal.returns
+returns c = record {
+  bytes = λ image here. subst (λ (found : Option (List ℕ)). IfSome found (λ i. c.read.new.out ≡ sector_of i c.args.sector)) here c.in-Ok.ensures.bytes;
+  read = record { size = ap (λ (disks : Disks). size_of disks 0) c.read.ensures.disks ∙ c.requires.size; same = c.read.ensures.disks };
+}

@@ -1,4 +1,5 @@
-use Rattle.std.proofs.Common.{rules, ◌∙◌, ℕ, refl, sym, ap, subst, inr}
+use Rattle.std.proofs.Common.{rules, ◌∙◌, ℕ, refl, sym, ap, subst, inr, arith}
+use Rattle.std.proofs.lemmas.Grind.{common_steps}
 use Rattle.mpm_machine.specs.Faults.{FailureCounts, counts}
 use Rattle.mpm_drives.specs.Stopping.{Failures}
 use Rattle.mpm_machine.specs.declared.machine.Machine.{Machine}
@@ -14,8 +15,14 @@ use Rattle.mpm_top.proofs.run.run_command.Goals as goal
 
 -- all is done
 
-pub run_to_end-requires-clause-begins : goal.run_to_end-requires-clause-begins
-run_to_end-requires-clause-begins g c = subst (λ (m : Machine). IsAtStart g.D.Drives.disks m c.boot.new.drives) (sym c.deref_mut.ensures.value) c.in-Ok.ensures.ready.begins
+pub run_to_end-requires : goal.run_to_end-requires
+run_to_end-requires g c = record {
+  begins = subst (λ (m : Machine). IsAtStart g.D.Drives.disks m c.boot.new.drives) (sym c.deref_mut.ensures.value) c.in-Ok.ensures.ready.begins;
+  limit = first_of (search rules, grind (arith, common_steps));
+  name = first_of (search rules, grind (arith, common_steps));
+  parts = first_of (search rules, grind (arith, common_steps));
+  some_part = first_of (search rules, grind (arith, common_steps));
+}
 
 pub returns-in-Ok-run_to_end : goal.returns-in-Ok-run_to_end
 returns-in-Ok-run_to_end g c =

@@ -22,29 +22,23 @@ unreachable-requires g c = none_failed c.in-Err.field-0.fault c.in-Err.ensures.e
 pub unreachable-requires-in-Err-settle : goal.unreachable-requires-in-Err-settle
 unreachable-requires-in-Err-settle g c = none_failed c.in-Err-settle.field-0 c.in-Err-settle.ensures.ends.cause.failed
 
-pub returns-clause-text : goal.returns-clause-text
-returns-clause-text g c on stand =
-    let first = c.args.counts.now in
-    let s = begun c.args.machine.now.system on in
-    let stands = stands_first c.args.machine.now s.files c.new-render.result first (disks_of c.args.drives.now) (c.new-render.ensures.fresh first) stand in
-    let there = after c.args.steps s in
-    let traces = c.in-Ok.ensures.ends.trace ∙ c.new-render.ensures.trace in
-    let P : Bool → Type 0 = λ trace. c.settle.new.sink ≡ c.args.counts.now ++ closed trace (carried there).outputs in
-    subst P traces (c.in-Ok-settle.ensures.ok there first (c.in-Ok.ensures.ok s first stands)).text
-
-pub returns-clause-drive : goal.returns-clause-drive
-returns-clause-drive g c = c.in-Ok-settle.ensures.keeps.labels 0 ∙ c.in-Ok.ensures.drives.keeps.labels 0 ∙ c.requires.drive
-
-pub returns-clause-sizes : goal.returns-clause-sizes
-returns-clause-sizes g c number = c.in-Ok-settle.ensures.keeps.beside.sizes number ∙ c.in-Ok.ensures.drives.keeps.beside.sizes number
-
-pub returns-clause-files : goal.returns-clause-files
-returns-clause-files g c on stand =
-    let first = c.args.counts.now in
-    let s = begun c.args.machine.now.system on in
-    let disks = disks_of c.settle.new.drives in
-    let stands = stands_first c.args.machine.now s.files c.new-render.result first (disks_of c.args.drives.now) (c.new-render.ensures.fresh first) stand in
-    let there = after c.args.steps s in
-    has_drive_a disks c.settle.new.self.bdos.mounted (drives_left there)
-    (c.in-Ok-settle.ensures.keeps.labels 0 ∙ c.in-Ok.ensures.drives.keeps.labels 0 ∙ c.requires.drive)
-    (settled_stand there c.settle.new.self.system.kernel.disk c.settle.new.self.bdos disks (c.in-Ok-settle.ensures.ok there first (c.in-Ok.ensures.ok s first stands)).files)
+pub returns : goal.returns
+returns g c = record {
+  text = λ on stand. let first = c.args.counts.now in
+      let s = begun c.args.machine.now.system on in
+      let stands = stands_first c.args.machine.now s.files c.new-render.result first (disks_of c.args.drives.now) (c.new-render.ensures.fresh first) stand in
+      let there = after c.args.steps s in
+      let traces = c.in-Ok.ensures.ends.trace ∙ c.new-render.ensures.trace in
+      let P : Bool → Type 0 = λ trace. c.settle.new.sink ≡ c.args.counts.now ++ closed trace (carried there).outputs in
+      subst P traces (c.in-Ok-settle.ensures.ok there first (c.in-Ok.ensures.ok s first stands)).text;
+  files = λ on stand. let first = c.args.counts.now in
+      let s = begun c.args.machine.now.system on in
+      let disks = disks_of c.settle.new.drives in
+      let stands = stands_first c.args.machine.now s.files c.new-render.result first (disks_of c.args.drives.now) (c.new-render.ensures.fresh first) stand in
+      let there = after c.args.steps s in
+      has_drive_a disks c.settle.new.self.bdos.mounted (drives_left there)
+      (c.in-Ok-settle.ensures.keeps.labels 0 ∙ c.in-Ok.ensures.drives.keeps.labels 0 ∙ c.requires.drive)
+      (settled_stand there c.settle.new.self.system.kernel.disk c.settle.new.self.bdos disks (c.in-Ok-settle.ensures.ok there first (c.in-Ok.ensures.ok s first stands)).files);
+  drive = c.in-Ok-settle.ensures.keeps.labels 0 ∙ c.in-Ok.ensures.drives.keeps.labels 0 ∙ c.requires.drive;
+  sizes = λ number. c.in-Ok-settle.ensures.keeps.beside.sizes number ∙ c.in-Ok.ensures.drives.keeps.beside.sizes number;
+}

@@ -29,11 +29,10 @@ loop-number-preserved c =
       consoles = ap (λ k. length k.units.consoles) is ∙ c.loop-number.invariant.consoles;
     }
 
-pub returns-clause-sound : goal.returns-clause-sound
-returns-clause-sound c = c.loop-number.invariant.sound
-
-pub returns-clause-kernel : goal.returns-clause-kernel
-returns-clause-kernel c =
-    c.loop-number.invariant.kernel
-    ∙ ap (λ all. all_admitted all c.args.kernel.now)
-    (all_children c.args.parent.now c.args.base c.args.descriptors.now c.loop-number.number (omega arith))
+pub returns : goal.returns
+returns c = record {
+  kernel = c.loop-number.invariant.kernel
+      ∙ ap (λ all. all_admitted all c.args.kernel.now)
+      (all_children c.args.parent.now c.args.base c.args.descriptors.now c.loop-number.number (omega arith));
+  sound = c.loop-number.invariant.sound;
+}

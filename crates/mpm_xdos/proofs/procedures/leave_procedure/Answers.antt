@@ -3,5 +3,8 @@ use Rattle.mpm_kernel.specs.Kernel.{IsSoundKernel}
 use Rattle.mpm_xdos.proofs.ProcedureLaws.{sound_left}
 use Rattle.mpm_xdos.proofs.procedures.leave_procedure.Goals as goal
 
-pub returns-clause-sound : goal.returns-clause-sound
-returns-clause-sound c = subst IsSoundKernel (sym c.leave.ensures) (sound_left c.args.p c.args.kernel.now c.requires.sound c.requires.lives)
+pub returns : goal.returns
+returns c = record {
+  kernel = c.leave.ensures;
+  sound = subst IsSoundKernel (sym c.leave.ensures) (sound_left c.args.p c.args.kernel.now c.requires.sound c.requires.lives);
+}

@@ -1,31 +1,33 @@
-use Rattle.std.proofs.Common.{refl, sym, subst}
+use Rattle.std.proofs.Common.{refl, sym, subst, rules, arith}
 use Rattle.mpm_bdos.specs.Serving.{Kept, Serves}
 use Rattle.mpm_bdos.specs.Turns.{images_of}
 use Rattle.mpm_bdos.proofs.NextTurns.{next_served, next_stopped, next_progress}
+use Rattle.std.proofs.lemmas.Grind.{common_steps}
 use Rattle.mpm_bdos.proofs.bdos.Bdos.turn.Goals as goal
 
-pub returns-clause-ok : goal.returns-clause-ok
-returns-clause-ok g c =
-    let inside = c.self.inside in
-    let now = c.turn_service.new in
-    let does = c.turn_service.ensures in
-    let disks = g.D.Drives.disks in
-    let old : Kept = record { mounted = inside.mounted; cached = inside.cache; protected = inside.protected; opens = inside.opens; marks = inside.marks; searches = inside.searches; service = inside.service } in
-    let new : Kept = record old { mounted = now.mounted; cached = now.cache; service = now.service } in
-    λ s j serves turn. next_served disks old new c.args.drives.now now.drives s j c.args.steps.now now.steps c.turn_service.result does.ok does.idle
-    (record { rest = refl; service = does.kept; places = does.left.places; labels = does.left.labels }) does.left.images
-    (subst (λ one. Serves (images_of (disks c.args.drives.now)) one s j) (sym c.self.view_is) serves) turn
-
-pub returns-clause-err : goal.returns-clause-err
-returns-clause-err g c =
-    let disks = g.D.Drives.disks in
-    let does = c.turn_service.ensures in
-    λ s j serves turn. next_stopped (disks c.args.drives.now) (disks c.turn_service.new.drives) _ s j c.turn_service.result does.err does.done
-    (subst (λ one. Serves (images_of (disks c.args.drives.now)) one s j) (sym c.self.view_is) serves) turn
-
-pub returns-clause-progress : goal.returns-clause-progress
-returns-clause-progress g c =
-    let disks = g.D.Drives.disks in
-    let does = c.turn_service.ensures in
-    λ s j serves. next_progress (disks c.args.drives.now) _ s j c.turn_service.result does.progress does.done
-    (subst (λ one. Serves (images_of (disks c.args.drives.now)) one s j) (sym c.self.view_is) serves)
+pub returns : goal.returns
+returns g c = record {
+  ok = let inside = c.self.inside in
+      let now = c.turn_service.new in
+      let does = c.turn_service.ensures in
+      let disks = g.D.Drives.disks in
+      let old : Kept = record { mounted = inside.mounted; cached = inside.cache; protected = inside.protected; opens = inside.opens; marks = inside.marks; searches = inside.searches; service = inside.service } in
+      let new : Kept = record old { mounted = now.mounted; cached = now.cache; service = now.service } in
+      λ s j serves turn. next_served disks old new c.args.drives.now now.drives s j c.args.steps.now now.steps c.turn_service.result does.ok does.idle
+      (record { rest = refl; service = does.kept; places = does.left.places; labels = does.left.labels }) does.left.images
+      (subst (λ one. Serves (images_of (disks c.args.drives.now)) one s j) (sym c.self.view_is) serves) turn;
+  err = let disks = g.D.Drives.disks in
+      let does = c.turn_service.ensures in
+      λ s j serves turn. next_stopped (disks c.args.drives.now) (disks c.turn_service.new.drives) _ s j c.turn_service.result does.err does.done
+      (subst (λ one. Serves (images_of (disks c.args.drives.now)) one s j) (sym c.self.view_is) serves) turn;
+  progress = let disks = g.D.Drives.disks in
+      let does = c.turn_service.ensures in
+      λ s j serves. next_progress (disks c.args.drives.now) _ s j c.turn_service.result does.progress does.done
+      (subst (λ one. Serves (images_of (disks c.args.drives.now)) one s j) (sym c.self.view_is) serves);
+  idle = first_of (search rules, grind (arith, common_steps));
+  done = first_of (search rules, grind (arith, common_steps));
+  still = first_of (search rules, grind (arith, common_steps));
+  left = first_of (search rules, grind (arith, common_steps));
+  takes = first_of (search rules, grind (arith, common_steps));
+  cause = first_of (search rules, grind (arith, common_steps));
+}

@@ -8,15 +8,12 @@ pub fill-requires : goal.fill-requires
 fill-requires c =
     is_read c.args.text.now c.in-Ok.head c.segment_in.result.now c.common_in.result.now c.in-Ok.ensures.is_head c.in-Ok.ensures.size c.segment_in.ensures c.common_in.ensures
 
-pub returns-clause-reads : goal.returns-clause-reads
-returns-clause-reads c = record {
-  file = read_is c.args.text.now c.in-Ok.head c.segment_in.result.now c.common_in.result.now c.fill.new.self c.in-Ok.ensures.bytes c.segment_in.ensures c.common_in.ensures c.fill.ensures;
-  is = subst IsCore (sym c.fill.ensures)
-      (is_read c.args.text.now c.in-Ok.head c.segment_in.result.now c.common_in.result.now c.in-Ok.ensures.is_head c.in-Ok.ensures.size c.segment_in.ensures c.common_in.ensures);
-  none = c.in-Ok.ensures.none;
-}
-
-pub returns-clause-again : goal.returns-clause-again
-returns-clause-again c = λ core is same.
-    let reads = returns-clause-reads c in
-    (refl, only_core c.fill.new.self core reads.is is (sym reads.file ∙ same))
+pub returns : goal.returns
+returns c =
+    let file = read_is c.args.text.now c.in-Ok.head c.segment_in.result.now c.common_in.result.now c.fill.new.self c.in-Ok.ensures.bytes c.segment_in.ensures c.common_in.ensures c.fill.ensures in
+    let is = subst IsCore (sym c.fill.ensures)
+    (is_read c.args.text.now c.in-Ok.head c.segment_in.result.now c.common_in.result.now c.in-Ok.ensures.is_head c.in-Ok.ensures.size c.segment_in.ensures c.common_in.ensures) in
+    record {
+      reads = record { file = file; is = is; none = c.in-Ok.ensures.none };
+      again = λ core holds same. (refl, only_core c.fill.new.self core is holds (sym file ∙ same));
+    }

@@ -17,15 +17,16 @@ fill-requires c =
     c.requires.there c.head_at-head.ensures.head c.segment_at-segment.ensures c.common_at.ensures))
     (taken_holds system c.args.p c.args.home c.requires.whole c.requires.there c.requires.is_home mode fits)
 
-pub returns-clause-core : goal.returns-clause-core
-returns-clause-core c =
-    c.fill.ensures
-    ∙ taken_is c.args.machine.now.system c.args.p c.args.home c.head_at-head.result c.segment_at-segment.result.now c.common_at.result.now
-    c.requires.there c.head_at-head.ensures.head c.segment_at-segment.ensures c.common_at.ensures
-
-pub returns-clause-is : goal.returns-clause-is
-returns-clause-is c =
+pub returns : goal.returns
+returns c =
+    let system = c.args.machine.now.system in
     let mode = subst (λ (h : Head). h.regs.mode < 3) c.head_at-head.ensures.head c.head_at-head.ensures.mode in
     let fits = subst (λ (h : Head). h.step < 2 ^ 64) c.head_at-head.ensures.head c.head_at-head.ensures.fits in
-    subst IsCore (sym (returns-clause-core c))
-    (taken_holds c.args.machine.now.system c.args.p c.args.home c.requires.whole c.requires.there c.requires.is_home mode fits)
+    let core =
+    c.fill.ensures
+    ∙ taken_is system c.args.p c.args.home c.head_at-head.result c.segment_at-segment.result.now c.common_at.result.now
+    c.requires.there c.head_at-head.ensures.head c.segment_at-segment.ensures c.common_at.ensures in
+    record {
+      core = core;
+      is = subst IsCore (sym core) (taken_holds system c.args.p c.args.home c.requires.whole c.requires.there c.requires.is_home mode fits);
+    }

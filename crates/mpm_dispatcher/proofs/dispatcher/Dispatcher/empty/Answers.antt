@@ -15,9 +15,11 @@ loop-p-init c = record {
   rest = ap (λ ps. ps ++ slots_in c.args.self.now.lists c.args.list) c.new-woken.ensures;
 }
 
-pub move_to-requires-clause-lives : goal.move_to-requires-clause-lives
-move_to-requires-clause-lives c =
-    (walks c.args.list c.in-Some.p c.loop-p.self c.loop-p.invariant.table c.loop-p.invariant.live c.requires.other (sym c.first.ensures.first ∙ c.in-Some.is)).lives
+pub move_to-requires : goal.move_to-requires
+move_to-requires c = record {
+  lives = (walks c.args.list c.in-Some.p c.loop-p.self c.loop-p.invariant.table c.loop-p.invariant.live c.requires.other (sym c.first.ensures.first ∙ c.in-Some.is)).lives;
+  list = omega arith;
+}
 
 pub push-requires : goal.push-requires
 push-requires c =
@@ -56,13 +58,11 @@ loop-p-preserved c =
           ∙ c.loop-p.invariant.rest;
     }
 
-pub returns-clause-woken : goal.returns-clause-woken
-returns-clause-woken c =
-    let none = nobody_left c.args.list c.loop-p.self (sym c.first.ensures.first ∙ c.in_default.is) in
-    sym (append-nil c.loop-p.woken) ∙ ap (λ ps. c.loop-p.woken ++ ps) (sym none) ∙ c.loop-p.invariant.rest
-
-pub returns-clause-dispatcher : goal.returns-clause-dispatcher
-returns-clause-dispatcher c =
+pub returns : goal.returns
+returns c =
     let none = nobody_left c.args.list c.loop-p.self (sym c.first.ensures.first ∙ c.in_default.is) in
     let woken = sym (append-nil c.loop-p.woken) ∙ ap (λ ps. c.loop-p.woken ++ ps) (sym none) ∙ c.loop-p.invariant.rest in
-    c.loop-p.invariant.dispatcher ∙ ap (λ ps. all_ready ps c.args.self.now) woken
+    record {
+      dispatcher = c.loop-p.invariant.dispatcher ∙ ap (λ ps. all_ready ps c.args.self.now) woken;
+      woken = woken;
+    }

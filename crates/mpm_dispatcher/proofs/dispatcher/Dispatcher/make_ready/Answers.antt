@@ -1,4 +1,4 @@
-use Rattle.std.proofs.Common.{◌∙◌, ◌++◌, ◌∷◌, [], take, sym, ap}
+use Rattle.std.proofs.Common.{◌∙◌, ◌++◌, ◌∷◌, [], take, sym, ap, arith}
 use Rattle.std.proofs.lemmas.List.{take_more}
 use Rattle.mpm_procs.specs.Table.{lives}
 use Rattle.mpm_dispatcher.specs.Dispatch.{ready, all_ready, moved}
@@ -8,12 +8,15 @@ use Rattle.mpm_dispatcher.proofs.dispatcher.Dispatcher.make_ready.Goals as goal
 pub loop-p-init : goal.loop-p-init
 loop-p-init c = sym (all_ready_none c.args.self.now)
 
-pub move_to-requires-clause-lives : goal.move_to-requires-clause-lives
-move_to-requires-clause-lives c =
+pub move_to-requires : goal.move_to-requires
+move_to-requires c =
     let p = c.p-item.result in
-    ap (λ d. lives d.procs p) c.loop-p.invariant
-    ∙ ap (lives c.args.self.now.procs) c.p-item.is
-    ∙ live_at c.args.self.now.procs c.args.ps.now c.loop-p.p-index p c.requires c.loop-p-test.true
+    record {
+      lives = ap (λ d. lives d.procs p) c.loop-p.invariant
+          ∙ ap (lives c.args.self.now.procs) c.p-item.is
+          ∙ live_at c.args.self.now.procs c.args.ps.now c.loop-p.p-index p c.requires c.loop-p-test.true;
+      list = omega arith;
+    }
 
 pub loop-p-preserved : goal.loop-p-preserved
 loop-p-preserved c =

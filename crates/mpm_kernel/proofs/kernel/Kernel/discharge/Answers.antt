@@ -6,7 +6,7 @@ use Rattle.mpm_kernel.specs.Kernel.{Kernel, IsSoundKernel, LivesInKernel, Comple
 use Rattle.mpm_kernel.specs.Procedures.{given_back}
 use Rattle.mpm_kernel.specs.Ending.{vacated, IsLeaving}
 use Rattle.mpm_kernel.proofs.LeavingLaws.{sound_consoles_left}
-use Rattle.mpm_kernel.proofs.EndingLaws.{sound_dropped, lives_dropped, leaves_given_back, leaves_messages_back, units_by, discharged_by, sound_discharged, live_discharged}
+use Rattle.mpm_kernel.proofs.EndingLaws.{sound_dropped, lives_dropped, leaves_given_back, few_given_back, leaves_messages_back, units_by, discharged_by, sound_discharged, live_discharged}
 use Rattle.mpm_kernel.proofs.HoldingLaws.{nothing_held}
 use Rattle.mpm_kernel.proofs.kernel.Kernel.discharge.Goals as goal
 
@@ -17,10 +17,12 @@ put_back-requires c =
       lives = lives_dropped c.args.p c.args.p c.args.self.now c.requires.lives;
     })
 
-pub return_held-requires-clause-leaves : goal.return_held-requires-clause-leaves
-return_held-requires-clause-leaves c =
-    subst (IsLeaving c.args.p) (sym (c.put_back.ensures.kernel ∙ ap (given_back c.args.p) c.drop_out.ensures))
-    (leaves_given_back c.args.p c.args.self.now c.requires.sound c.requires.lives)
+pub return_held-requires : goal.return_held-requires
+return_held-requires c = record {
+  leaves = subst (IsLeaving c.args.p) (sym (c.put_back.ensures.kernel ∙ ap (given_back c.args.p) c.drop_out.ensures))
+      (leaves_given_back c.args.p c.args.self.now c.requires.sound c.requires.lives);
+  few = omega (arith, ap (λ (k : Kernel). length k.dispatcher.completed) c.put_back.ensures.kernel, few_given_back c.args.p c.drop_out.new.self);
+}
 
 pub leave_consoles-requires : goal.leave_consoles-requires
 leave_consoles-requires c =

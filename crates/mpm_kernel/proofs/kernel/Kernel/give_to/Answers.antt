@@ -1,7 +1,13 @@
-use Rattle.mpm_kernel.proofs.QueueingLaws.{waits_by_write}
+use Rattle.std.proofs.Common.{rules, arith}
+use Rattle.std.proofs.lemmas.Grind.{common_steps}
+use Rattle.mpm_kernel.proofs.QueueingLaws.{lives_by_write, waits_by_write}
 use Rattle.mpm_kernel.proofs.kernel.Kernel.give_to.Goals as goal
 
-pub returns-clause-not_now : goal.returns-clause-not_now
-returns-clause-not_now c =
-    waits_by_write _ _ c.args.p c.args.q c.write.new.self c.write.new.procs c.write.result c.self.view_is c.write.ensures.yields.answered c.write.ensures.yields.queues
-    c.write.ensures.procs
+pub returns : goal.returns
+returns c = record {
+  kernel = first_of (search rules, grind (arith, common_steps));
+  outcome = first_of (search rules, grind (arith, common_steps));
+  other = first_of (search (rules, lives_by_write), grind (arith, common_steps, lives_by_write));
+  not_now = waits_by_write _ _ c.args.p c.args.q c.write.new.self c.write.new.procs c.write.result c.self.view_is c.write.ensures.answered c.write.ensures.queues
+      c.write.ensures.procs;
+}

@@ -3,6 +3,9 @@ use Rattle.mpm_kernel.specs.Kernel.{new_kernel}
 use Rattle.mpm_kernel.proofs.EnsuredLaws.{sound_if_new}
 use Rattle.mpm_kernel.proofs.kernel.Kernel.new.Goals as goal
 
-pub returns-clause-sound : goal.returns-clause-sound
+pub returns : goal.returns
 unfolding new_kernel
-returns-clause-sound c = sound_if_new _ c.args.consoles c.args.printers c.args.now c.requires.some c.requires.few c.requires.printers (search rules)
+returns c = record {
+  kernel = search rules;
+  sound = sound_if_new _ c.args.consoles c.args.printers c.args.now c.requires.some c.requires.few c.requires.printers (search rules);
+}

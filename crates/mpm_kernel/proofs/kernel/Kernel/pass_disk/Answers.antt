@@ -14,8 +14,8 @@ returns c =
     let Sound : DiskService → Type 0 = λ disk. IsSoundKernel (record before { disk = disk }) in
     let made = c.pass.ensures in
     record {
-      kernel = ap (λ (disk : DiskService). record before { disk = disk }) made.becomes.service ∙ ap (with_disk (passed_by steps)) c.self.view_is;
+      kernel = ap (λ (disk : DiskService). record before { disk = disk }) made.service ∙ ap (with_disk (passed_by steps)) c.self.view_is;
       turned = subst (λ (k : Kernel). IfSome k.disk.served (λ _. c.pass.new.self ≡ turned_by steps k.disk)) c.self.view_is made.turned;
-      sound = subst Sound (sym made.becomes.service) (sound_passed_by before steps (subst IsSoundKernel (sym c.self.view_is) c.requires.sound));
-      begun = subst (λ (k : Kernel). HasBegun k.disk → HasBegun c.pass.new.self) c.self.view_is made.becomes.begun;
+      sound = subst Sound (sym made.service) (sound_passed_by before steps (subst IsSoundKernel (sym c.self.view_is) c.requires.sound));
+      begun = subst (λ (k : Kernel). HasBegun k.disk → HasBegun c.pass.new.self) c.self.view_is made.begun;
     }

@@ -11,7 +11,7 @@ returns c =
     let before = the_view c.self.inside in
     let sound = subst IsSoundKernel (sym c.self.view_is) c.requires.sound in
     let Sound : DiskService → Type 0 = λ disk. IsSoundKernel (record before { disk = disk }) in
-    let turns = c.turn.ensures.turns in
+    let turns = c.turn.ensures in
     record {
       kernel = ap (λ (disk : DiskService). record before { disk = disk }) turns.service ∙ ap (with_disk turned) c.self.view_is;
       answer = turns.answer ∙ ap (λ (k : Kernel). turn_answer k.disk) c.self.view_is;
@@ -21,5 +21,5 @@ returns c =
           let Over : DiskService → Type 0 = λ disk. IsOver p (record before { disk = disk }) in
           subst Over (sym turns.service) (over_turned before p sound (sym turns.answer ∙ is))
           );
-      last = c.turn.ensures.last;
+      last = turns.last;
     }

@@ -14,7 +14,7 @@ returns c =
     let before = the_view c.self.inside in
     let p = c.args.p in
     let is = waits_for_disk before p c.rest.new.self c.enter.new.self (c.rest.ensures ∙ ap (at_rest p) c.unlist.ensures)
-    (c.enter.ensures.becomes.service ∙ ap (λ (x : Process). entered before.disk p x.priority) c.get.ensures) in
+    (c.enter.ensures.service ∙ ap (λ (x : Process). entered before.disk p x.priority) c.get.ensures) in
     record {
       kernel = is ∙ ap (waiting_for_disk p) c.self.view_is;
       sound = subst IsSoundKernel (sym is)

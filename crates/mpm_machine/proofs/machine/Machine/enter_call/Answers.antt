@@ -28,15 +28,14 @@ turn_disk-requires c = record { sound = c.requires.whole.sound; begun = c.requir
 
 -- one that waits enters
 
-pub start_call-turns-requires-clause-living : goal.start_call-turns-requires-clause-living
-start_call-turns-requires-clause-living c = record {
-  whole = starts_whole c.args.self.now.system c.turn_disk.new.self c.turn_disk.ensures.kernel c.requires.whole;
-  lives = starts_lives c.args.self.now.system.kernel c.turn_disk.new.self c.in-Starts.p c.turn_disk.ensures.kernel (sym c.turn_disk.ensures.answer ∙ c.in-Starts.is) c.requires.whole.sound;
+pub start_call-turns-requires : goal.start_call-turns-requires
+start_call-turns-requires c = record {
+  living = record {
+    whole = starts_whole c.args.self.now.system c.turn_disk.new.self c.turn_disk.ensures.kernel c.requires.whole;
+    lives = starts_lives c.args.self.now.system.kernel c.turn_disk.new.self c.in-Starts.p c.turn_disk.ensures.kernel (sym c.turn_disk.ensures.answer ∙ c.in-Starts.is) c.requires.whole.sound;
+  };
+  function = starts_filed c.args.self.now.system.kernel c.turn_disk.new.self c.in-Starts.p c.turn_disk.ensures.kernel (sym c.turn_disk.ensures.answer ∙ c.in-Starts.is) c.requires.calls.filed;
 }
-
-pub start_call-turns-requires-clause-function : goal.start_call-turns-requires-clause-function
-start_call-turns-requires-clause-function c =
-    starts_filed c.args.self.now.system.kernel c.turn_disk.new.self c.in-Starts.p c.turn_disk.ensures.kernel (sym c.turn_disk.ensures.answer ∙ c.in-Starts.is) c.requires.calls.filed
 
 pub returns-in-Starts : goal.returns-in-Starts
 returns-in-Starts c =

@@ -1,4 +1,5 @@
-use Rattle.std.proofs.Common.{◌≡◌, ◌∙◌, ◌+◌, true, false, sym, arith}
+use Rattle.std.proofs.Common.{◌≡◌, ◌∙◌, ◌+◌, true, false, sym, arith, rules}
+use Rattle.std.proofs.lemmas.Grind.{common_steps}
 use Rattle.std.specs.Prelude.{⊤}
 use Rattle.std.proofs.lemmas.Option.{MatchOption-at_some}
 use Rattle.mpm_output.specs.Outside.{seen}
@@ -10,10 +11,12 @@ use Rattle.mpm_machine.proofs.QuietlyLaws.{went_nowhere, went_silent, went_alone
 use Rattle.mpm_machine.proofs.machine.Machine.run_on.Goals as goal
 
 -- no process runs so ahead
-pub returns-in_default-clause-went : goal.returns-in_default-clause-went
-returns-in_default-clause-went g c =
-    went_silent g.D.Drives.disks c.args.drives.now (seen g.S.Sink.written g.S.Sink.faults c.args.render.now c.args.sink.now) c.idle.result
-    c.args.self.now c.idle.new.system c.idle.ensures.went c.requires.between.whole c.requires.between.holds
+pub returns-in_default : goal.returns-in_default
+returns-in_default g c = record {
+  count = first_of (search rules, grind (arith, common_steps));
+  went = went_silent g.D.Drives.disks c.args.drives.now (seen g.S.Sink.written g.S.Sink.faults c.args.render.now c.args.sink.now) c.idle.result
+      c.args.self.now c.idle.new.system c.idle.ensures.went c.requires.between.whole c.requires.between.holds;
+}
 
 pub loop-done-init : goal.loop-done-init
 loop-done-init g c = record {
@@ -25,14 +28,16 @@ loop-done-init g c = record {
 
 -- its instructions, after which it makes no call that concerns it alone, or none is to be made any more
 
-pub returns-then-done-most-clause-went : goal.returns-then-done-most-clause-went
-returns-then-done-most-clause-went g c =
-    let o = seen g.S.Sink.written g.S.Sink.faults c.args.render.now c.args.sink.now in
-    let so_far = c.loop-done.invariant.went in
-    let before : Machine = c.loop-done.self in
-    went_both g.D.Drives.disks c.args.drives.now o c.loop-done.done c.run_burst-done.result c.args.self.now before (record before { system = c.run_burst-done.new.system }) so_far
-    (went_silent g.D.Drives.disks c.args.drives.now o c.run_burst-done.result before c.run_burst-done.new.system
-    c.run_burst-done.ensures.went so_far.whole so_far.holds)
+pub returns-then-done-most : goal.returns-then-done-most
+returns-then-done-most g c = record {
+  count = first_of (search rules, grind (arith, common_steps));
+  went = let o = seen g.S.Sink.written g.S.Sink.faults c.args.render.now c.args.sink.now in
+      let so_far = c.loop-done.invariant.went in
+      let before : Machine = c.loop-done.self in
+      went_both g.D.Drives.disks c.args.drives.now o c.loop-done.done c.run_burst-done.result c.args.self.now before (record before { system = c.run_burst-done.new.system }) so_far
+      (went_silent g.D.Drives.disks c.args.drives.now o c.run_burst-done.result before c.run_burst-done.new.system
+      c.run_burst-done.ensures.went so_far.whole so_far.holds);
+}
 
 -- and such a call
 

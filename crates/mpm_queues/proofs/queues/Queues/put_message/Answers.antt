@@ -1,9 +1,10 @@
-use Rattle.std.proofs.Common.{◌≡◌, ap, ◌∙◌, sym, subst, true, ℕ}
+use Rattle.std.proofs.Common.{rules, arith, ◌≡◌, ap, ◌∙◌, sym, subst, true, ℕ}
+use Rattle.std.proofs.lemmas.Grind.{common_steps}
 use Rattle.mpm_base.specs.Calls.{Taken}
 use Rattle.mpm_procs.specs.Table.{Lives}
 use Rattle.mpm_queues.specs.Queue.{is_drained, with_message, message_of}
 use Rattle.mpm_queues.specs.Queues.{Queues, IsMade, waits_at}
-use Rattle.mpm_queues.specs.Handling.{message_written, procs_after_write}
+use Rattle.mpm_queues.specs.Handling.{message_written, write_outcome, procs_after_write}
 use Rattle.mpm_queues.proofs.QueueLaws.{some_written}
 use Rattle.mpm_queues.proofs.SoundLaws.{made_below, IsWritten, reader_waits, sound_write_parts, write_parts}
 use Rattle.mpm_queues.proofs.queues.Queues.put_message.Goals as goal
@@ -35,14 +36,14 @@ invariant_of-self-2 c =
     let is = subst (λ (t : Queues). IsMade t c.args.q) (sym c.self.view_is) c.requires.queue in
     sound_write_parts _ c.args.p c.args.q _ c.args.procs.now _ _ _ _ _ _ c.self.invariant is (parts c)
 
-pub returns-clause-queues : goal.returns-clause-queues
-returns-clause-queues c =
+pub returns : goal.returns
+unfolding write_outcome
+returns c =
     let is = subst (λ (t : Queues). IsMade t c.args.q) (sym c.self.view_is) c.requires.queue in
-    (write_parts _ c.args.p c.args.q _ c.args.procs.now _ _ _ _ _ _ c.self.invariant is (parts c)).0
-    ∙ ap (λ (t : Queues). message_written t c.args.p c.args.q c.args.procs.now) c.self.view_is
-
-pub returns-clause-procs : goal.returns-clause-procs
-returns-clause-procs c =
-    let is = subst (λ (t : Queues). IsMade t c.args.q) (sym c.self.view_is) c.requires.queue in
-    (write_parts _ c.args.p c.args.q _ c.args.procs.now _ _ _ _ _ _ c.self.invariant is (parts c)).1
-    ∙ ap (λ (t : Queues). procs_after_write t c.args.p c.args.q c.args.procs.now) c.self.view_is
+    let written = write_parts _ c.args.p c.args.q _ c.args.procs.now _ _ _ _ _ _ c.self.invariant is (parts c) in
+    record {
+      queues = written.0 ∙ ap (λ (t : Queues). message_written t c.args.p c.args.q c.args.procs.now) c.self.view_is;
+      answered = first_of (search rules, grind (arith, common_steps));
+      procs = written.1 ∙ ap (λ (t : Queues). procs_after_write t c.args.p c.args.q c.args.procs.now) c.self.view_is;
+      sound = first_of (search rules, grind (arith, common_steps));
+    }

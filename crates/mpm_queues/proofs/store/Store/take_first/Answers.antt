@@ -11,11 +11,10 @@ taken c =
 pub invariant_of-self : goal.invariant_of-self
 invariant_of-self c = store_shortened _ _ _ c.self.inside.bytes _ _ (taken c)
 
-pub returns-clause-queue : goal.returns-clause-queue
-returns-clause-queue c =
-    queue_shortened c.self.inside.name _ _ _ c.self.inside.holder _ _ _ (taken c) ∙ ap shortened c.self.view_is
-
-pub returns-clause-message : goal.returns-clause-message
-returns-clause-message c =
+pub returns : goal.returns
+returns c =
     let width : length c.args.into.now ≡ c.self.inside.width = c.requires.width ∙ sym (ap (λ (q : Queue). q.width) c.self.view_is) in
-    taken_first c.self.inside.name _ _ _ c.self.inside.holder _ _ _ c.args.into.now _ (taken c) width c.read_into.ensures.read ∙ ap first_message c.self.view_is
+    record {
+      queue = queue_shortened c.self.inside.name _ _ _ c.self.inside.holder _ _ _ (taken c) ∙ ap shortened c.self.view_is;
+      message = taken_first c.self.inside.name _ _ _ c.self.inside.holder _ _ _ c.args.into.now _ (taken c) width c.read_into.ensures.read ∙ ap first_message c.self.view_is;
+    }

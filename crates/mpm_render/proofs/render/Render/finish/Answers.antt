@@ -1,4 +1,5 @@
 use Rattle.std.proofs.Common.{◌≡◌, ◌<◌, ◌++◌, [], length, refl, sym, ap, ◌∙◌, ℕ, List, take, subst, arith, rules}
+use Rattle.std.proofs.lemmas.Grind.{common_steps}
 use Rattle.std.proofs.lemmas.List.{append-nil, get_or_default, get_or-set_other}
 use Rattle.mpm_render.specs.Shown.{line_of}
 use Rattle.mpm_render.specs.Puts.{PutsEach, texts_closed}
@@ -15,16 +16,6 @@ loop-place-init g c = record {
   below = λ place h. absurd (omega arith);
   above = λ place h. ap (λ kept. line_of kept place) c.self.view_is;
 }
-
-pub returns-in_err-close-clause-err : goal.returns-in_err-close-clause-err
-returns-in_err-close-clause-err g c os first s =
-    let inv = c.loop-place.invariant in
-    let place = c.loop-place.place in
-    let lines = c.loop-place.self-inside.lines in
-    let small : place < 12 = omega arith in
-    let twelve : length lines ≡ 12 = search rules in
-    let inside : place < length lines = omega arith in
-    err_closed c.from_residual.result c.args.self.now _ _ _ first place _ os small (get_or_default lines place c.index-self-place.result [] inside ∙ inv.above place (omega arith)) inv.written c.in_err-close.ensures.text.err c.in_err-close.ensures.text.some s
 
 pub loop-place-preserved : goal.loop-place-preserved
 loop-place-preserved g c =
@@ -43,14 +34,8 @@ loop-place-preserved g c =
       above = λ q h. get_or-set_other lines place q _ [] (omega arith) ∙ inv.above q (omega arith);
     }
 
-pub returns-clause-ok : goal.returns-clause-ok
-returns-clause-ok g c os first s =
-    let inv = c.loop-place.invariant in
-    let all : c.loop-place.place ≡ 12 = omega arith in
-    written_closed c.args.self.now _ _ first os (inv.written ∙ ap (λ n. g.S.Sink.written c.args.sink.now ++ closings (line_of c.args.self.now) n) all) s
-
-pub returns-in_err-close-clause-stops : goal.returns-in_err-close-clause-stops
-returns-in_err-close-clause-stops g c =
+pub returns-in_err-close : goal.returns-in_err-close
+returns-in_err-close g c =
     let inv = c.loop-place.invariant in
     let place = c.loop-place.place in
     let lines = c.loop-place.self-inside.lines in
@@ -58,12 +43,30 @@ returns-in_err-close-clause-stops g c =
     let twelve : length lines ≡ 12 = search rules in
     let inside : place < length lines = omega arith in
     let item = get_or_default lines place c.index-self-place.result [] inside in
+    let same = item ∙ inv.above place (omega arith) in
     let stay = all_stay lines place _ inside (c.in_err-close.ensures.kept ∙ item) in
-    stops_closed c.from_residual.result g.S.Sink.took g.S.Sink.dropped c.args.self.now _ place _ _ _ _ small (item ∙ inv.above place (omega arith)) inv.puts c.in_err-close.ensures.text.some c.in_err-close.ensures.text.drops
-    (λ p h. stay p ∙ inv.below p h) (λ p h. stay p ∙ inv.above p h)
+    record {
+      ok = λ os first s. first_of (search rules, grind (arith, common_steps));
+      err = λ os first s. err_closed c.from_residual.result c.args.self.now _ _ _ first place _ os small same inv.written c.in_err-close.ensures.text.err c.in_err-close.ensures.text.some s;
+      puts = first_of (search rules, grind (arith, common_steps));
+      stops = stops_closed c.from_residual.result g.S.Sink.took g.S.Sink.dropped c.args.self.now _ place _ _ _ _ small same inv.puts c.in_err-close.ensures.text.some c.in_err-close.ensures.text.drops
+          (λ p h. stay p ∙ inv.below p h) (λ p h. stay p ∙ inv.above p h);
+      cause = first_of (search rules, grind (arith, common_steps));
+      empty = first_of (search rules, grind (arith, common_steps));
+      trace = first_of (search rules, grind (arith, common_steps));
+    }
 
-pub returns-clause-puts : goal.returns-clause-puts
-returns-clause-puts g c =
+pub returns : goal.returns
+returns g c =
+    let inv = c.loop-place.invariant in
     let all : c.loop-place.place ≡ 12 = omega arith in
     let P : List (List ℕ) → Type 0 = λ texts. PutsEach g.S.Sink.took texts c.args.sink.now c.loop-place.sink in
-    subst P (ap (λ n. take n (texts_closed c.args.self.now)) all ∙ all_texts c.args.self.now) c.loop-place.invariant.puts
+    record {
+      ok = λ os first s. written_closed c.args.self.now _ _ first os (inv.written ∙ ap (λ n. g.S.Sink.written c.args.sink.now ++ closings (line_of c.args.self.now) n) all) s;
+      err = λ os first s. tt;
+      puts = subst P (ap (λ n. take n (texts_closed c.args.self.now)) all ∙ all_texts c.args.self.now) inv.puts;
+      stops = tt;
+      cause = first_of (search rules, grind (arith, common_steps));
+      empty = λ place h. inv.below place (omega arith);
+      trace = inv.trace;
+    }

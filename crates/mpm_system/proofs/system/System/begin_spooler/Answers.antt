@@ -8,8 +8,8 @@ use Rattle.mpm_system.proofs.system.System.begin_spooler.Goals as goal
 pub returns-then-not-spool : goal.returns-then-not-spool
 returns-then-not-spool c = no_spooler c.args.self.now c.args.spool c.if-not-spool.true
 
-pub make_spool_queues-requires-clause-sound : goal.make_spool_queues-requires-clause-sound
-make_spool_queues-requires-clause-sound c = c.requires.whole.sound
+pub make_spool_queues-requires : goal.make_spool_queues-requires
+make_spool_queues-requires c = record { sound = c.requires.whole.sound; queues = c.requires.queues }
 
 pub begin_process-requires : goal.begin_process-requires
 begin_process-requires c =

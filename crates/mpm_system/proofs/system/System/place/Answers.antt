@@ -1,12 +1,16 @@
-use Rattle.std.proofs.Common.{◌∙◌, None, Some, ap, rules}
+use Rattle.std.proofs.Common.{◌∙◌, None, Some, ap, rules, arith}
+use Rattle.std.proofs.lemmas.Grind.{common_steps}
 use Rattle.mpm_dispatcher.specs.Dispatch.{admitted}
 use Rattle.mpm_kernel.specs.Kernel.{Kernel, dispatched}
 use Rattle.mpm_system.specs.Opening.{placed_process, with_placed}
 use Rattle.mpm_system.proofs.PlacedLaws.{given_disk, slot_is_free, placed_is_bare, laid_out_is_there}
 use Rattle.mpm_system.proofs.system.System.place.Goals as goal
 
-pub begin-requires-clause-slot : goal.begin-requires-clause-slot
-begin-requires-clause-slot c = slot_is_free c.args.self.now _ _ _ c.requires
+pub begin-requires : goal.begin-requires
+begin-requires c = record {
+  begins = first_of (search rules, grind (arith, common_steps));
+  slot = slot_is_free c.args.self.now _ _ _ c.requires;
+}
 
 pub returns : goal.returns
 unfolding with_placed
