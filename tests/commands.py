@@ -13,7 +13,7 @@ import os
 import random
 import sys
 
-from tests import machines, running
+from tests import machines, making, running
 from tests.machines import Disk, with_commands
 from tests.sessions import Document, Session
 from tests.expected import blocks, characteristics, dir_lines, dump_lines, free_kilobytes, joined, names, sdir_lines, space, stat_lines, text_lines
@@ -723,6 +723,9 @@ def main(words):
     wanted = [name for name in SCENES if not words[1:] or any(name.startswith(word) for word in words[1:])]
     with concurrent.futures.ThreadPoolExecutor(2) as pool:
         for name, wrong in zip(wanted, pool.map(lambda name: running.in_time(played, program, name), wanted)):
+            tally.add(name, wrong)
+    if not words[1:]:
+        for name, wrong in running.each_in_time(making.cases):
             tally.add(name, wrong)
     return tally.status()
 

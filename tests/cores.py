@@ -1,12 +1,14 @@
 """python3 -m tests.cores [MPM_SNAPSHOT]: follows examples/README.md, "A fault is found", with a built mpm_snapshot, crates/mpm_snapshot/out/mpm_snapshot
-where none is named, and compares what each command writes with what the page has under it.
+where none is named, and compares what each command writes with what the page has under it. Then it saves programs that wait in a call, and shows
+them by tools.core; and it saves processes that aren't there by a copy of `./snapshot`.
 
-What differs has a line; the last line counts the commands. Status: 0 where nothing differs, 1 where something does, 2 where something ran
+What differs has a line; the last line counts the cases. Status: 0 where nothing differs, 1 where something does, 2 where something ran
 out of time and nothing differs."""
 
 import os
 import re
 import shlex
+import shutil
 import sys
 import tempfile
 
@@ -47,6 +49,47 @@ def wrong(command, lines, program, folder):
     return lost and f"not in its place: {lost}"
 
 
+# Programs that wait: what they do, and where PC, C and DE are then by docs/PROFILE.md, "The kernel's calls".
+WAITING = (
+    # LD C,141; LD DE,1; CALL 0005h. Such a call is held, and its return address is taken from the stack.
+    ("a held call", b"\x0E\x8D\x11\x01\x00\xCD\x05\x00", "0108", "008D", "0001"),
+    # LD C,1; CALL 0005h. A call on the console isn't held: the gate step is taken again, at 06h of the last page.
+    ("a call on the console", b"\x0E\x01\xCD\x05\x00", "BF06", "0001", "0000"),
+)
+
+
+def waiting_differences(program, folder):
+    """What tools.core shows of programs that wait."""
+    for name, code, *words in WAITING:
+        path, core = os.path.join(folder, "waits.bin"), os.path.join(folder, "waits.core")
+        with open(path, "wb") as file:
+            file.write(code)
+        with open(core, "wb") as file:
+            running.run([program, "save", "program", path, "100", "0"], stdout=file)
+        shown = running.run([sys.executable, "-m", "tools.core", core], cwd=ROOT, text=True).stdout
+        found = [found[1] if (found := re.search(rf"^(?:.*  )?{pair} ([0-9A-F]{{4}})", shown, re.M)) else None for pair in ("PC", "BC", "DE")]
+        yield name, None if found == words else f"PC, BC and DE are {found}, and not {words}"
+
+
+def script_in(folder, program):
+    """A copy of `./snapshot` beside a program that needs no proof."""
+    built = os.path.join(folder, os.path.relpath(BUILT, ROOT))
+    os.makedirs(os.path.dirname(built))
+    shutil.copy(program, built)
+    shutil.copytree(os.path.join(ROOT, "tools"), os.path.join(folder, "tools"))
+    return shutil.copy(os.path.join(ROOT, "snapshot"), folder)
+
+
+def missing_differences(program, folder):
+    """What `./snapshot` says where there is no such process: a program has ended, or the number is another one."""
+    script = script_in(folder, program)
+    for steps, process in (("1000", "0"), ("2", "5")):
+        done = running.run([script, "save", "program", os.path.join(ROOT, "examples", "hi.bin"), steps, process], text=True)
+        found = done.returncode, done.stdout, done.stderr
+        wanted = 10, "", f"no process\nsnapshot: no process {process} with a segment after {steps} steps: has it ended?\n"
+        yield f"process {process} after {steps} steps", None if found == wanted else f"{found}, and not {wanted}"
+
+
 def main():
     program = running.program_in(sys.argv[1:], BUILT)
     with open(PAGE, encoding="utf-8") as file:
@@ -55,6 +98,9 @@ def main():
     with tempfile.TemporaryDirectory() as folder:
         for command, lines in commands(section):
             tally.add(command, running.in_time(wrong, command, lines, program, folder))
+        for group in (waiting_differences, missing_differences):
+            for name, said in running.each_in_time(group, program, folder):
+                tally.add(name, said)
     return tally.status()
 
 

@@ -206,22 +206,29 @@ def faults():
     yield [XFCB, entry(), None, XFCB], 8, 3, "XFCB of 0:A.TXT", "the first is in slot 0"
 
 
+def commands(name, quote=""):
+    """The lines that get the files out of an image, and that mend a copy of it."""
+    image, copy, faults, out = (f"{quote}{name}{more}{quote}" for more in ("", ".copy", ".faults", ".files"))
+    yield f"\n    {ROOT}/tools/images.py rescue ibm3740 {image} {out}"
+    yield f"\n    cp -- {image} {copy}\n    {ROOT}/fsck check ibm3740 {copy} > {faults}\n    {ROOT}/fsck apply ibm3740 {copy} {faults}"
+
+
 def drives():
     """Images: of another size, at fault, and such as can't be had."""
     for entries, cause, slot, *words in faults():
         status = f"4, `bad image A: cause {cause} at {slot}`"
-        words = [*words, f"cause {cause}", "`tools/images.py rescue ibm3740 IMAGE FOLDER`", "./fsck apply ibm3740 COPY LIST`"]
+        words = [*words, f"cause {cause}", *commands("disk.img")]
         yield sound() | {"disk.img": disk(*entries)}, status, [(f"disk.img: slot {slot}", *words)]
     # Two slots at fault; on `hd8` two extents of one entry.
     two = disk(entry(count=200), entry(blocks=[3]), entry(name=b"B       DAT", blocks=[0, 1]))
-    places = [("disk.img: slot 0", "cause 2"), ("disk.img: slot 2", "cause 3", "./fsck apply ibm3740 COPY LIST`")]
+    places = [("disk.img: slot 0", "cause 2"), ("disk.img: slot 2", "cause 3", *commands("disk.img"))]
     yield sound() | {"disk.img": two}, "4, `bad image A: cause 2 at 0`", places
     wide = [entry(ex=extent, blocks=[block, 0]) for extent, block in ((2, 9), (3, 10))]
     files = sound() | {"machine.toml": MACHINE.replace("ibm3740", "hd8"), "disk.img": disk(*wide, kind="hd8")}
     yield files, "4, `bad image A: cause 5 at 1`", [("disk.img: slot 1", "slot 0 (file 0:A.TXT")]
     size = "4, `bad image A: cause 1 at 0`"
     yield sound() | {"disk.img": disk(kind="hd4")}, size, [("disk.img", "The kind hd4 fits")]
-    yield sound() | {"disk.img": disk()[:-128]}, size, [("disk.img", "It is 128 bytes too short")]
+    yield sound() | {"disk.img": disk()[:-128]}, size, [("disk.img", "It is 128 bytes too short", next(commands("disk.img")))]
     yield sound() | {"disk.img": disk() + bytes(256)}, size, [("disk.img", "It is 256 bytes too long")]
     yield sound() | {"disk.img": b""}, size, [("disk.img", "It is 256,256 bytes too short")]
     yield sound() | {"disk.img": b"IMD 1.18: 12/03/1984\r\n\x1a" + bytes(90_000)}, size, [("disk.img", "It is an ImageDisk file")]
@@ -285,6 +292,8 @@ def wrong(found, status, places):
         return f"status {ended}: {lines}"
     if not places:
         return None if lines[0].endswith("nothing is wrong") else f"{lines}"
+    lines = "\n".join(lines).replace("\n    ", "\0").split("\n")  # A command goes with what it is said of.
+    lines = [line.replace("\0", "\n    ") for line in lines]
     head = [f"The program ends with status {status}:"] if status else []
     if lines[: len(head)] != head or len(lines) != len(head) + len(places):
         return f"{lines}, and not {head + [*places]}"
@@ -348,6 +357,21 @@ def spaced(program):
         yield f"spaced {' '.join(words)}", None if found == (is_whole, is_whole) else f"{found}: {lines}"
 
 
+def pasted():
+    """The commands that are said of an image whose name has a space; those that need no built program are run."""
+    with tempfile.TemporaryDirectory() as folder, contextlib.chdir(folder):
+        image = disk(entry(count=1), entry(name=b"B       TXT", s2=64, count=1, blocks=[3]))
+        write({"machine.toml": with_line(4, None).replace("disk.img", "my disk.img"), "my disk.img": image})
+        said = explained("machine.toml")[1]
+        lines = [line for line in said if line.startswith("    ")]
+        done = [running.run(["bash", "-c", line]).returncode for line in lines[:2]]
+        files = sorted(os.listdir("my disk.img.files/0")) if os.path.isdir("my disk.img.files") else []
+        copied = os.path.getsize("my disk.img.copy") if os.path.exists("my disk.img.copy") else None
+    is_so = "\n" + "\n".join(lines) == "".join(commands("my disk.img", "'"))
+    is_run = (done, files, copied) == ([4, 0], ["A.TXT", "B.TXT.slot1"], 256_256)
+    yield "commands that are pasted", None if is_so and is_run else f"{done}, {files}, {copied}: {said}"
+
+
 def unreached():
     """A line of a script that comes after the steps of a run is reported where these are said, and only then."""
     with tempfile.TemporaryDirectory() as folder, contextlib.chdir(folder):
@@ -362,7 +386,7 @@ def main(words):
     program, tally = running.program_in(words), running.Tally()
     for name, *case in cases():
         tally.add(name, running.in_time(case_wrong, program, *case))
-    for name, found in [*running.each_in_time(spaced, program), *unreached()]:
+    for name, found in [*running.each_in_time(spaced, program), *unreached(), *running.each_in_time(pasted)]:
         tally.add(name, found)
     return tally.status()
 

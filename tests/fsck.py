@@ -1,12 +1,14 @@
 """python3 -m tests.fsck [PROGRAM [COUNT]]: runs a built mpm_fsck, crates/mpm_fsck/out/mpm_fsck where none is named, on images of each
 kind, COUNT (20) of them with some changes of the directory, and compares what it lists with the rules of docs/IMAGES.md and
 docs/PROFILE.md as they are written here and in tools/images.py. Each list is applied: byte 0 of the slots that it names has to be E5h then, and
-all else as it was. The other endings of the program have a case each.
+all else as it was. The other endings of the program have a case each, and so has what ./fsck says of them.
 
 A case that comes out otherwise, or that runs out of time, has a line; the last line counts the cases. Status: 0 where each came out as it
 should, 1 where one didn't, 2 where one ran out of time and all others came out as they should."""
 
+import fcntl
 import os
+import shutil
 import sys
 import tempfile
 
@@ -143,6 +145,44 @@ def mute(program, folder):
     return None if (found, image_in(folder)) == ((8, "", "output failed"), left) else found
 
 
+def installed(program, folder):
+    """The script ./fsck in a folder where it finds this program built."""
+    for name in ("fsck", "tools/proved.bash", "tools/saying.bash"):
+        os.makedirs(os.path.dirname(os.path.join(folder, name)), exist_ok=True)
+        shutil.copy(os.path.join(running.ROOT, name), os.path.join(folder, name))
+    os.makedirs(os.path.join(folder, "crates", "mpm_fsck", "out"))
+    os.symlink(program, os.path.join(folder, "crates", "mpm_fsck", "out", "mpm_fsck"))
+    return os.path.join(folder, "fsck")
+
+
+# What ./fsck says after the program's own text: the words, the list, the status, and words of its line. `{root}` is its folder.
+MENDING = '{root}/docs/IMAGES.md, "An image at fault", says what to do'
+FORM = "each line of list is `fault SLOT CAUSE SLOT` or `fault SLOT CAUSE -`, with a LF at its end"
+HINTS = [
+    (["check", "ibm3740", "disk.img"], "", 2, MENDING),
+    (["check", "hd4", "disk.img"], "", 3, "disk.img has 256256 bytes, and an image of the kind hd4 has 4194304: " + MENDING),
+    (["check", "hd8", "disk.img"], "", 3, "disk.img has 256256 bytes, and an image of the kind hd8 has 8388608: " + MENDING),
+    (["apply", "ibm3740", "list", "list"], "fault 9 4 3\n", 3, "list has 12 bytes, and an image of the kind ibm3740 has 256256: " + MENDING),
+    (["apply", "ibm3740", "disk.img", "list"], "fault 9 4 3", 4, FORM),
+    (["apply", "ibm3740", "disk.img", "lost"], "", 6, "there is no file lost"),
+    (["check", "ibm3740", "lost.img"], "", 7, "there is no file lost.img"),
+    (["check", "ibm3740", "."], "", 7, ". is in use by a run, or can't be read or written"),
+    (["check", "ibm3740", "held.img"], "", 7, "held.img is in use by a run, or can't be read or written"),
+]
+
+
+def hinted(script, folder, words, text, status, hint):
+    """What is wrong with the last line that ./fsck says on the image of one clash."""
+    write(folder, "disk.img", clashing())
+    write(folder, "list", text)
+    write(folder, "held.img", clashing())
+    with open(os.path.join(folder, "held.img"), "rb") as held:
+        fcntl.flock(held, fcntl.LOCK_EX)
+        found, _, said = ended(script, folder, *words)
+    wanted = "fsck: " + hint.format(root=os.path.dirname(script))
+    return None if (found, said.splitlines()[-1]) == (status, wanted) else f"{found}, {said}"
+
+
 def main(words):
     program = running.program_in(words, BUILT)
     count = int(words[1]) if len(words) > 1 else 20
@@ -151,6 +191,10 @@ def main(words):
         for row in ENDINGS:
             tally.add(" ".join(row[0]), running.in_time(ends, program, folder, *row))
         tally.add("a full output", running.in_time(mute, program, folder))
+        with tempfile.TemporaryDirectory() as root:
+            script = installed(program, os.path.realpath(root))
+            for row in HINTS:
+                tally.add("./fsck " + " ".join(row[0]), running.in_time(hinted, script, folder, *row))
         for name, kind in KINDS.items():
             for title, image in image_maker.made(kind, count):
                 tally.add(f"{name} {title}", running.in_time(checked, program, folder, name, image))

@@ -2,7 +2,8 @@
 """python3 -m tests.lessons [PROGRAM]          runs the lessons with a built mpm, crates/mpm/out/mpm where none is named, and compares: each block of docs/LESSONS.md
                       that begins with a command with what that command writes; each step that the page names with the steps of its runs; what
                       the consoles show with a disk that does each call at once and with one in turns; what is worked out here by the rules;
-                      and each picture with the one that comes of its run.
+                      each picture with the one that comes of its run, and with what the page's commands draw; and, where sdcc and cpmtools
+                      are installed, the lesson that the page makes anew with the one that is here.
 python3 -m tests.lessons --draw [PROGRAM]   draws the pictures anew.
 
 What differs, or runs out of time, has a line; the last line counts what was compared. Status: 0 where nothing differs, 1 where something
@@ -11,9 +12,12 @@ does, 2 where something ran out of time and nothing differs."""
 import gzip
 import os
 import re
+import shlex
 import shutil
+import subprocess
 import sys
 import tempfile
+import textwrap
 
 from tests import running
 from tests.running import ROOT
@@ -23,6 +27,7 @@ PAGE = os.path.join(ROOT, "docs", "LESSONS.md")
 OFFICE = os.path.join(ROOT, "examples", "office")
 COMMAND = "examples/lessons/run "
 LEFT_OUT = ".."
+OWN = "    mkdir mine\n"
 TURN = 20
 # The pictures, each with its run and the disk's turn.
 PICTURES = {"count": 0, "count-locked": TURN, "word": 0, "work": 0, "work-starves": 0, "work-waits": 0, "pipe": 0, "hold": 0, "forks": 0,
@@ -64,10 +69,21 @@ def blocks(text):
 
 
 def quotations(text):
-    """The other blocks of a text, which are parts of the lessons' files."""
+    """The other blocks of a text, which are parts of the lessons' files, but for that which makes a lesson anew."""
     for block in re.findall(r"(?:^    .*\n)+", text, re.M):
-        if COMMAND not in block:
+        if COMMAND not in block and not block.startswith(OWN):
             yield [line.strip() for line in block.splitlines()]
+
+
+def drawings(text):
+    """The commands of a text that draw pictures: the name of each picture, the command whose lines it draws, and the words of `./timeline`."""
+    for command, name, words in re.findall(rf"^    ({re.escape(COMMAND)}.*) >(\w+)\.lines\n    \./timeline \2\.lines (.*) >\2\.svg$", text, re.M):
+        yield name, command, shlex.split(words)
+
+
+def own_lesson(text):
+    """The block that makes a lesson anew, as a script."""
+    return textwrap.dedent(next(block for block in re.findall(r"(?:^    .*\n)+", text, re.M) if block.startswith(OWN)))
 
 
 def is_quoted(lines):
@@ -236,6 +252,38 @@ def picture_differences(runs):
         yield os.path.relpath(path, ROOT), None if is_same else "its run gives another picture: python3 -m tests.lessons --draw draws it anew"
 
 
+def drawing_differences(runs):
+    """What the page's commands draw."""
+    with open(PAGE, encoding="utf-8") as file:
+        for name, command, words in drawings(file.read()):
+            lines = "\n".join(runs.of(command)) + "\n"
+            svg = running.run([os.path.join(ROOT, "timeline"), *words], input=lines, text=True).stdout
+            with open(os.path.join(lessons.FOLDER, f"{name}.svg"), encoding="utf-8") as committed:
+                yield f"timeline {' '.join(words)}", None if committed.read() == svg else f"it isn't {name}.svg"
+
+
+def folder_of_links(folder, program):
+    """Makes a folder like the one above this one, with this program in the place of `./mpm`."""
+    for name in ("commands", "examples", "tools"):
+        os.symlink(os.path.join(ROOT, name), os.path.join(folder, name))
+    os.symlink(program, os.path.join(folder, "mpm"))
+
+
+def own_differences(runs):
+    """The lesson that the page makes anew: its lines are those of the run of that name."""
+    if not (shutil.which("sdcc") and shutil.which("mkfs.cpm")):
+        return
+    with open(PAGE, encoding="utf-8") as file:
+        script = own_lesson(file.read())
+    with tempfile.TemporaryDirectory() as folder:
+        folder_of_links(folder, runs.program)
+        done = running.run(["bash", "-ec", script], cwd=folder, stderr=subprocess.STDOUT, text=True)
+        path = os.path.join(folder, "mine", "count.lines")
+        found = open(path, encoding="ascii").read().splitlines() if os.path.exists(path) else None
+    wanted = [line for line in runs.lines("count") if not line.startswith("d ")]
+    yield "a lesson of one's own", None if done.returncode == 0 and found == wanted else f"its lines are others: {done.stdout}"
+
+
 def main(words):
     is_drawn = words[:1] == ["--draw"]
     words = words[is_drawn:]
@@ -245,7 +293,7 @@ def main(words):
             with open(path, "w", encoding="utf-8") as file:
                 file.write(svg)
         return 0
-    for group in (page_differences, turn_differences, claim_differences, picture_differences):
+    for group in (page_differences, turn_differences, claim_differences, picture_differences, drawing_differences, own_differences):
         for what, said in running.each_in_time(group, runs):
             tally.add(what, said)
     return tally.status()

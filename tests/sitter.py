@@ -85,8 +85,9 @@ class Glass:
             self.top, self.bottom = (values[0] - 1, min(values[1], self.rows) - 1) if numbers else (0, self.rows - 1)
             self.row = self.column = 0
         elif private and values == [1049]:
+            if self.is_other != (letter == b"h"):
+                self.cells = [[" "] * self.columns for _ in range(self.rows)]
             self.is_other = letter == b"h"
-            self.cells = [[" "] * self.columns for _ in range(self.rows)]
         elif not (letter == b"m" or private and values == [25]):
             self.unknown.append(found[0])
 
@@ -110,14 +111,19 @@ class Sitter:
         self.glass, self.came, self.folder = Glass(rows, columns), b"", folder
         self.keyboard, self.line = pty.openpty()
         self.size(rows, columns)
-        self.before = termios.tcgetattr(self.line)
-        words = [os.path.join(ROOT, "terminal"), "--program", program, *words]
-        self.process = subprocess.Popen(
-            words, cwd=folder, stdin=self.line, stdout=self.line, stderr=self.line, env=os.environ | {"TERM": name}, preexec_fn=self.session
-        )  # fmt: skip
+        self.program, self.name = program, name
+        self.begin(*words)
         self.lock = threading.Lock()
         self.reader = threading.Thread(target=self.read, daemon=True)
         self.reader.start()
+
+    def begin(self, *words):
+        """Sits down with these words, also once more in the same terminal."""
+        self.before = termios.tcgetattr(self.line)
+        words = [os.path.join(ROOT, "terminal"), "--program", self.program, *words]
+        self.process = subprocess.Popen(
+            words, cwd=self.folder, stdin=self.line, stdout=self.line, stderr=self.line, env=os.environ | {"TERM": self.name}, preexec_fn=self.session
+        )  # fmt: skip
 
     def session(self):
         os.setsid()

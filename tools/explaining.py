@@ -6,6 +6,7 @@ import difflib
 import fcntl
 import os
 import re
+import shlex
 import stat
 import sys
 from typing import NamedTuple
@@ -21,14 +22,15 @@ MOST_SLOTS = 20
 
 
 class Finding(NamedTuple):
-    """Where something is wrong, by which rule, and what is wrong in words."""
+    """Where something is wrong, by which rule, what is wrong in words, and commands against it, each a line of its own."""
 
     place: str
     cause: str
     said: str
+    commands: tuple = ()
 
     def __str__(self):
-        return f"{self.place}: {self.said}"
+        return "\n    ".join([f"{self.place}: {self.said}", *self.commands])
 
 
 class Ending(NamedTuple):
@@ -108,8 +110,34 @@ CONTAINERS = {
 }  # fmt: skip
 
 
+def command(program, *words):
+    """A command of this repository, as it is typed in any folder."""
+    return shlex.join([os.path.join(ROOT, program), *words])
+
+
+def rescue_command(name, kind_name):
+    """The command that gets the files out of an image, into a folder beside it."""
+    return command("tools/images.py", "rescue", kind_name, name, f"{name}.files")
+
+
+def mending_commands(name, kind_name):
+    """The commands that free the slots at fault in a copy of an image."""
+    copy, faults = f"{name}.copy", f"{name}.faults"
+    check = f"{command('fsck', 'check', kind_name, copy)} > {shlex.quote(faults)}"
+    return shlex.join(["cp", "--", name, copy]), check, command("fsck", "apply", kind_name, copy, faults)
+
+
+def size_finding(name, kind_name, image, size):
+    """What is wrong with an image of another size; its files are got out where it is of no other kind and in no container."""
+    fault = size_fault(kind_name, image, size)
+    if fault.cause != "size":
+        return Finding(name, fault.cause, fault.said)
+    said = f'{fault.said}. docs/IMAGES.md, "An image at fault", has what to do, after this command, which gets its files out:'
+    return Finding(name, fault.cause, said, (rescue_command(name, kind_name),))
+
+
 def size_fault(kind_name, image, size):
-    """What may be done about an image of another size."""
+    """Why an image has another size."""
     kind = images.KINDS[kind_name]
     said = f"it has {size:,} bytes; an image of the kind {kind_name} has {kind.size:,}"
     container = next((words for start, words in CONTAINERS.items() if image.startswith(start)), None)
@@ -120,7 +148,7 @@ def size_fault(kind_name, image, size):
         return Fault(None, "kind", f'{said}. The kind {fitting} fits: kind = "{fitting}"')
     sizes = ", ".join(f"{name} {other.size:,}" for name, other in images.KINDS.items())
     more = "too long" if size > kind.size else "too short"
-    return Fault(None, "size", f"{said}. It is {abs(size - kind.size):,} bytes {more}, and no kind fits it ({sizes}). docs/IMAGES.md, \"An image at fault\", has what to do")
+    return Fault(None, "size", f"{said}. It is {abs(size - kind.size):,} bytes {more}, and no kind fits it ({sizes})")
 
 
 def earlier(kind, image, slot, is_same):
@@ -174,13 +202,12 @@ def slot_findings(name, kind_name, image):
         slots.append(fault.place)
         image[images.slot_place(kind, fault.place)] = images.FREE
     if findings:
-        check, apply = f"./fsck check {kind_name} COPY > LIST", f"./fsck apply {kind_name} COPY LIST"
         more = "There are more, which speaks for a disk of another kind. " if len(slots) == MOST_SLOTS else ""
         last = findings[-1]
         it = "it" if len(slots) == 1 else "them"
-        rescue = f"`tools/images.py rescue {kind_name} IMAGE FOLDER` gets its files out"
-        how = f"{more}{rescue}. Of a copy `{check}` lists {it}, and `{apply}` frees {it} (docs/IMAGES.md, \"An image at fault\")"
-        findings[-1] = last._replace(said=f"{last.said}. {how}")
+        how = f'{more}The first command gets its files out, the others free {it} in a copy (docs/IMAGES.md, "An image at fault"):'
+        commands = rescue_command(name, kind_name), *mending_commands(name, kind_name)
+        findings[-1] = last._replace(said=f"{last.said}. {how}", commands=commands)
     return findings
 
 
@@ -208,8 +235,7 @@ def image_findings(drive, machine):
     with open(name, "rb") as file:
         image = file.read(kind.size)
     if size != kind.size:
-        fault = size_fault(drive.kind, image, size)
-        return found(name, [fault]), Ending(4, f"bad image {drive.letter}: cause 1 at 0")
+        return [size_finding(name, drive.kind, image, size)], Ending(4, f"bad image {drive.letter}: cause 1 at 0")
     findings = slot_findings(name, drive.kind, image)
     return findings, Ending(4, f"bad image {drive.letter}: {images.first_fault(kind, image)}") if findings else SOUND
 

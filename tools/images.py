@@ -3,13 +3,14 @@
 
 images.py read KIND IMAGE           prints the drive that the image stands for, or its first fault as `cause N at N`
 images.py slots KIND IMAGE          prints each slot of the directory that isn't free: where its 32 bytes begin, and what they say
-images.py get KIND IMAGE FOLDER     writes the files of an image without fault into a folder, as USER/NAME.TYP
+images.py get KIND IMAGE FOLDER     writes the files of an image without fault into a new folder, as USER/NAME.TYP
 images.py rescue KIND IMAGE FOLDER  writes what an image has into a new folder, whatever its faults, and prints each file with what is wrong
 
 KIND is ibm3740, hd4 or hd8; docs/IMAGES.md, "The three kinds", says which. Ends with status 0; 4 where the image, or with `rescue` a file, is at fault; 1 where something can't be done.
 """
 
 import os
+import signal
 import sys
 import zlib
 from typing import NamedTuple
@@ -316,8 +317,18 @@ def mended(kind, file):
     return file._replace(blocks=tuple(block if is_right(block) else 0 for block in file.blocks), count=count)
 
 
-def remarks_of(kind, slot, file, others):
-    """What is wrong with an entry, where `others` has the slots of each block, in words."""
+def cut_blocks(kind, length, file):
+    """The blocks of an entry with a record of the file that isn't whole in an image of this length."""
+    last = file.extent % (kind.mask + 1) * 128 + file.count
+    for place, block in enumerate(file.blocks):
+        count = min(kind.block_records, last - place * kind.block_records)
+        places = [sector_place(kind, block * kind.block_records + number) for number in range(count)]
+        if block and any(at + SECTOR > length for at in places):
+            yield block
+
+
+def remarks_of(kind, length, slot, file, others):
+    """What is wrong with an entry, where the image has this length and `others` has the slots of each block, in words."""
     if file.user > 15:
         yield f"slot {slot}: its byte 0 is {file.user:02X}h, which no file has"
     if file.count > 128:
@@ -330,10 +341,13 @@ def remarks_of(kind, slot, file, others):
     for other in sorted({other for block in held(file) for other in others[block]} - {slot}):
         shared = (str(block) for block in held(file) if other in others[block])
         yield f"slot {slot}: slot {other} has block {' '.join(shared)} too"
+    if cut := sorted(set(cut_blocks(kind, length, mended(kind, file)))):
+        yield f"slot {slot}: block {' '.join(map(str, cut))} isn't whole in the image: E5h"
 
 
-def parts_of(kind, image):
-    """The parts of each file, by its folder and name. A part that has no place in its file is a file by itself."""
+def parts_of(kind, image, length):
+    """The parts of each file, by its folder and name, where the image had this length. A part that has no place in its file is a file by
+    itself."""
     entries = ((slot, slot_bytes(kind, image, slot)) for slot in range(kind.drm + 1))
     found = [(slot, file_entry(kind, entry)) for slot, entry in entries if is_file(entry)]
     others, files = {}, {}
@@ -348,7 +362,7 @@ def parts_of(kind, image):
             key, number = (key[0], f"{key[1]}.slot{slot}"), None
             why = f"S2 is {file.s2} and EX {file.ex}" if first is None else f"slot {first} has this part of the file"
             remarks = [f"slot {slot}: {why}: it is a file by itself"]
-        remarks += remarks_of(kind, slot, file, others)
+        remarks += remarks_of(kind, length, slot, file, others)
         files.setdefault(key, []).append(Part(slot, mended(kind, file), number, tuple(remarks)))
     return files
 
@@ -369,10 +383,10 @@ def gaps(numbers):
     return [(before + 1, after) for before, after in zip(ordered, ordered[1:]) if after > before + 1]
 
 
-def rescued(kind, image):
-    """Each file of an image of its kind's size: its folder, its name, its bytes, and what is wrong with it."""
+def rescued(kind, image, length):
+    """Each file of an image that had this length and has its kind's size: its folder, its name, its bytes, and what is wrong with it."""
     size = kind.places * kind.block
-    for (folder, name), parts in sorted(parts_of(kind, image).items()):
+    for (folder, name), parts in sorted(parts_of(kind, image, length).items()):
         remarks = [remark for part in parts for remark in part.remarks]
         if parts[0].number is None:
             yield folder, name, part_contents(kind, image, parts[0].file), remarks
@@ -427,6 +441,7 @@ def get(kind, path, folder):
         print(fault)
         print("images.py: nothing is written, as the image has a fault: `images.py rescue` writes what it has", file=sys.stderr)
         return 4
+    os.mkdir(folder)
     for (user, name), parts in files_of(kind, image).items():
         os.makedirs(os.path.join(folder, str(user)), exist_ok=True)
         with open(os.path.join(folder, str(user), file_text(name)), "wb") as file:
@@ -437,20 +452,22 @@ def get(kind, path, folder):
 def rescue(kind, path, folder):
     with open(path, "rb") as file:
         image = file.read()
-    status = 0
-    if len(image) != kind.size:
-        print(f"{len(image):,} bytes in place of {kind.size:,}: what is missing is taken as E5h, and what is too much isn't read")
-        status = 4
     os.mkdir(folder)
-    for user, name, data, remarks in rescued(kind, whole(kind, image)):
+    status, lines = 0, []  # The lines come after the last file, so that all are written where nobody reads the lines.
+    if len(image) != kind.size:
+        lines.append(f"{len(image):,} bytes in place of {kind.size:,}: what is missing is taken as E5h, and what is too much isn't read")
+        status = 4
+    for user, name, data, remarks in rescued(kind, whole(kind, image), len(image)):
         os.makedirs(os.path.join(folder, user), exist_ok=True)
         with open(os.path.join(folder, user, name), "wb") as file:
             file.write(data)
-        print("\n  ".join([f"{user}/{name} {len(data):,} bytes", *remarks]))
+        lines.append("\n  ".join([f"{user}/{name} {len(data):,} bytes", *remarks]))
         status = 4 if remarks else status
     for sort, slots in unread(kind, whole(kind, image)).items():
-        print(f"no entry in slot {' '.join(map(str, slots))}: byte 0 is {sort:02X}h")
+        lines.append(f"no entry in slot {' '.join(map(str, slots))}: byte 0 is {sort:02X}h")
         status = 4
+    for line in lines:
+        print(line)
     return status
 
 
@@ -472,6 +489,7 @@ def main(words):
 
 
 if __name__ == "__main__":
+    signal.signal(signal.SIGPIPE, signal.SIG_DFL)  # as in `images.py .. | head`
     try:
         sys.exit(main(sys.argv[1:]))
     except OSError as error:

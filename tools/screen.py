@@ -38,12 +38,13 @@ class Screen:
     # The modes of the terminal.
 
     def enter(self):
-        """Makes the terminal raw, also once more, and takes its other screen where it has one."""
+        """Makes the terminal raw, also once more, and takes its other screen where it has one. That is cleared, as a sitting that was
+        killed leaves the terminal there."""
         if self.before is None:
             self.before = termios.tcgetattr(self.input)
         tty.setraw(self.input, termios.TCSADRAIN)
         if not self.is_plain:
-            self.write(b"\x1b[?1049h")
+            self.write(b"\x1b[?1049h\x1b[0m\x1b[2J\x1b[H")
         self.measure()
 
     def leave(self):

@@ -22,18 +22,20 @@ RATE = 600_000
 # Where nothing new comes the machine is shown less often, at least so often.
 REST = 0.5
 PREFIX = 0x1D
+STOP = 0x13
+PROCESSES = 32
 TOLD_SECONDS = 4
 # How often the loop looks at the clocks.
 HEARTBEAT = 0.5
 
-HELP = """\
+HELP = f"""\
 ^] and then
 
   0 to 7      shows that console, whose keys are then typed
   l0 to l3    shows that printer
   q           ends the sitting
   ^]          types ^]
-  s           gives the machine a second, where time stands still (--rate 0)
+  s           gives {RATE:,} steps, where time stands still (--rate 0)
   k           drops the keys that wait to be typed
   ?           shows this
 
@@ -61,6 +63,8 @@ class Sitting:
         self.shown, self.command, self.is_helping = b"", None, False
         self.told, self.told_until = "", 0.0
         self.turn, self.runs, self.ended = None, [], None
+        # The consoles at which ^S was typed, and none of ^Q, ^C and ^D since.
+        self.stopped = set()
         self.next_at, self.rest = 0.0, REFRESH
 
     # The loop.
@@ -151,8 +155,15 @@ class Sitting:
             return f"{name}   {self.told}"
         every = session.machine.tick_every
         clock = f"clock {session.shown // every / 60:,.1f} s" if every else "no clock"
-        hint = f"{session.waiting():,} keys wait" if session.waiting() else "all steps are done: ^]q" if session.is_at_end() else "^]? helps"
-        return f"{name}   step {session.shown:,}   {clock}   run {1000 * session.seconds:,.0f} ms   {hint}"
+        return f"{name}   step {session.shown:,}   {clock}   run {1000 * session.seconds:,.0f} ms   {self.hint()}"
+
+    def hint(self):
+        """The end of the line at the bottom."""
+        if self.session.waiting():
+            return f"{self.session.waiting():,} keys wait"
+        if self.session.is_at_end():
+            return "all steps are done: ^]q"
+        return "^S: ^Q goes on" if self.unit in self.stopped else "^]? helps"
 
     # Keys.
 
@@ -182,6 +193,15 @@ class Sitting:
             self.tell("a printer has no keys: ^] and the number of a console")
         elif keys and not self.session.halted:
             self.session.put(self.console, keys)
+            self.note_stop(keys)
+
+    def note_stop(self, keys):
+        """Notes whether the last of the keys ^S, ^Q, ^C and ^D is ^S."""
+        controls = [key for key in keys if key in scripts.CONTROLS]
+        if controls and controls[-1] == STOP:
+            self.stopped.add(self.unit)
+        elif controls:
+            self.stopped.discard(self.unit)
 
     def take_command(self, key):
         """A key after ^]."""
@@ -201,7 +221,7 @@ class Sitting:
         elif key == bytes([PREFIX]):
             self.type(key)
         elif key == b"s":
-            self.session.give(self.session.rate or RATE)
+            self.session.give(RATE)
         elif key == b"k":
             self.tell(f"{self.session.drop():,} keys are dropped")
         else:
@@ -247,8 +267,8 @@ def parser(usage):
     parsed.add_argument("--rate", type=int, default=RATE, metavar="N", help=f"steps a second ({RATE:,}); with 0 time stands still but for keys")
     parsed.add_argument("--console", type=int, default=0, metavar="N", help="the console that is shown first (0)")
     parsed.add_argument("--no-script", action="store_true", help="leaves out the script of the machine file")
-    parsed.add_argument("--record", metavar="FILE", help="writes what was typed, with the machine file's script, as a script")
-    parsed.add_argument("--trace", type=int, metavar="N", help="writes the records of the calls of process N into the file trace-N.txt")
+    parsed.add_argument("--record", metavar="FILE", help="writes what was typed, with the machine file's script, as a script; overwrites nothing")
+    parsed.add_argument("--trace", type=int, metavar="N", help="at the end writes the records of the calls of process N, 0 to 31, into trace-N.txt")
     parsed.add_argument("--keep", action="store_true", help="the images as the sitting leaves them replace the old ones")
     parsed.add_argument("--program", metavar="FILE", help="runs this built program, and not ./mpm")
     return parsed
@@ -280,14 +300,22 @@ def say(line):
         print(line, file=sys.stderr, flush=True)
 
 
+def text_of(failed):
+    """What a failure says: of a file, its name and what is wrong."""
+    return f"{failed.filename}: {failed.strerror}" if isinstance(failed, OSError) and failed.filename else str(failed)
+
+
 class Record:
     """The file with what was typed, if one is wanted. It is written over after each key that is shown, and never gets shorter, so that a
-    sitting which is killed leaves it. What an earlier one left there stays until the first key."""
+    sitting which is killed leaves it. A file that has something already is refused, as it may be all that is left of a sitting."""
 
     def __init__(self, path, machine):
         self.path, self.machine, self.written, self.mode = path, machine, b"", "wb"
         if path:
-            open(path, "ab").close()
+            with open(path, "ab") as file:
+                is_there = file.tell() > 0
+            if is_there:
+                raise Failed(f"--record {path}: the file is there already, and is not overwritten: name another, or move it away")
 
     def write_new(self, session):
         """Writes what came since, if it can."""
@@ -316,7 +344,7 @@ class Endings:
                 for line in part():
                     say(line)
             except OSError as failed:
-                say(f"terminal: {failed}")
+                say(f"terminal: {text_of(failed)}")
                 self.has_failed = True
         return not self.has_failed
 
@@ -380,6 +408,8 @@ def main(words, usage):
     try:
         if options.rate < 0:
             raise Failed("--rate is 0 or more")
+        if options.trace is not None and not 0 <= options.trace < PROCESSES:
+            raise Failed(f"--trace is 0 to {PROCESSES - 1}")
         if not (sys.stdin.isatty() and sys.stdout.isatty()):
             raise Failed("its input and output must be a terminal; `mpm run` runs a machine without one")
         return sit(options)
@@ -387,5 +417,5 @@ def main(words, usage):
         say(f"terminal: {failed}")
         return failed.status
     except (OSError, rooms.RoomFailed, Refused) as failed:
-        say(f"terminal: {failed}")
+        say(f"terminal: {text_of(failed)}")
         return 1

@@ -23,7 +23,7 @@ void put_word(unsigned int word);
 void put_characters(const char *text, unsigned char count);
 void put_spaces(unsigned char count);
 
-/* A line that is typed, ended by a zero byte. */
+/* A line that is typed, ended by a zero byte; the console goes on in a new line. */
 #define MOST_KEYS 126
 char *read_line(void);
 
