@@ -14,7 +14,7 @@ from pathlib import Path
 
 TICKS = os.sysconf("SC_CLK_TCK")
 KINDS = ("itself", "tests", "edits")
-DEAR = 100  # seconds from which on a crate has a row of its own
+DEAR = 250  # seconds from which on a crate has a row of its own
 
 
 def statuses():
