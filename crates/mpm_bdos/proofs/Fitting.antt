@@ -77,23 +77,16 @@ apart_among among mounted cached disks same apart = record {
 }
 
 -- a directory in its place is of that drive
-its_number : (mounted : List (Option Directory)) (number : ℕ) (d : Directory) → AreInPlace mounted → directory_at mounted number ≡ Some d → d.drive ≡ number
+pub its_number : (mounted : List (Option Directory)) (number : ℕ) (d : Directory) → AreInPlace mounted → directory_at mounted number ≡ Some d → d.drive ≡ number
 its_number mounted number d placed is = subst (λ found. IfSome found (λ one. one.drive ≡ number)) is (placed.each number)
 
-is_there : (mounted : List (Option Directory)) (number : ℕ) (d : Directory) → AreInPlace mounted → directory_at mounted number ≡ Some d → has_directory mounted d.drive ≡ true
+pub is_there : (mounted : List (Option Directory)) (number : ℕ) (d : Directory) → AreInPlace mounted → directory_at mounted number ≡ Some d → has_directory mounted d.drive ≡ true
 is_there mounted number d placed is = ap (has_directory mounted) (its_number mounted number d placed is) ∙ ap is_some is
 
 pub fits_after : {D : Type 0} (disks : D → Disks) (told : D → List ℕ → ToldImage) (failed : D → List (List ℕ)) (unsynced : D → ℕ → Bool) (mounted : List (Option Directory)) (number : ℕ) (d new : Option Directory)
     (cached later : List (SectorPlace × List ℕ)) (old now : D) → AreInPlace mounted → directory_at mounted number ≡ d → option_map drive_and_kind new ≡ option_map drive_and_kind d
     → HasLeftDisk disks told failed unsynced d cached later old now → FitsDrives disks mounted cached old → FitsDrives disks (slice_set mounted number new) later now
-fits_after disks told failed unsynced mounted number None new cached later old now placed is same left fits =
-    let all : option_map drive_and_kind new ≡ option_map drive_and_kind (directory_at mounted number) = same ∙ sym (ap (option_map drive_and_kind) is) in
-    let kept : FitsDrives disks mounted later now = subst (λ c. FitsDrives disks mounted c now) (sym left.cache) (subst (FitsDrives disks mounted cached) (sym left.drives) fits) in
-    record {
-      sizes = sizes_after mounted number new (disks now) (disks now) all (λ other. refl) kept.sizes;
-      coherent = kept.coherent;
-      apart = apart_among (has_directory mounted) (has_directory (slice_set mounted number new)) later (disks now) (λ other. there_stays mounted number other new all) kept.apart;
-    }
+fits_after disks told failed unsynced mounted number None new cached later old now placed is same left fits = absurd left
 fits_after disks told failed unsynced mounted number (Some d) new cached later old now placed is same left fits =
     let all : option_map drive_and_kind new ≡ option_map drive_and_kind (directory_at mounted number) = same ∙ sym (ap (option_map drive_and_kind) is) in
     record {
@@ -107,7 +100,7 @@ fits_after disks told failed unsynced mounted number (Some d) new cached later o
 pub images_after : {D : Type 0} (disks : D → Disks) (told : D → List ℕ → ToldImage) (failed : D → List (List ℕ)) (unsynced : D → ℕ → Bool) (mounted : List (Option Directory)) (number : ℕ) (d : Option Directory)
     (cached later : List (SectorPlace × List ℕ)) (old now : D) → AreInPlace mounted → directory_at mounted number ≡ d → HasLeftDisk disks told failed unsynced d cached later old now → FitsDrives disks mounted cached old
     → KeepsImages (Some number) mounted (disks old) (disks now)
-images_after disks told failed unsynced mounted number None cached later old now placed is left fits = λ other apart there. ap (λ (device : _). (disks device).image other) left.drives
+images_after disks told failed unsynced mounted number None cached later old now placed is left fits = absurd left
 images_after disks told failed unsynced mounted number (Some d) cached later old now placed is left fits = λ other apart there.
     left.others.others other (λ same. fits.apart.own d.drive other (is_there mounted number d placed is) there
     (λ here. apart (ap (λ n. Some n) (sym (its_number mounted number d placed is) ∙ here))) (sym same))
@@ -119,8 +112,7 @@ stays_same mounted disks = record { names = λ number. refl; others = λ number 
 pub stays_after : {D : Type 0} (disks : D → Disks) (told : D → List ℕ → ToldImage) (failed : D → List (List ℕ)) (unsynced : D → ℕ → Bool) (mounted : List (Option Directory)) (number : ℕ) (d : Option Directory)
     (cached later : List (SectorPlace × List ℕ)) (old now : D) → AreInPlace mounted → directory_at mounted number ≡ d → HasLeftDisk disks told failed unsynced d cached later old now
     → StaysBeside mounted (disks old) (disks now)
-stays_after disks told failed unsynced mounted number None cached later old now placed is left =
-    subst (λ (device : _). StaysBeside mounted (disks old) (disks device)) (sym left.drives) (stays_same mounted (disks old))
+stays_after disks told failed unsynced mounted number None cached later old now placed is left = absurd left
 stays_after disks told failed unsynced mounted number (Some d) cached later old now placed is left = record {
   names = left.others.names;
   others = λ other none. left.others.others other (λ same. none d.drive (is_there mounted number d placed is) (sym same));
@@ -134,8 +126,7 @@ told_same mounted disks told = record { others = λ name none. refl; still = λ 
 pub told_after : {D : Type 0} (disks : D → Disks) (told : D → List ℕ → ToldImage) (failed : D → List (List ℕ)) (unsynced : D → ℕ → Bool) (mounted : List (Option Directory)) (number : ℕ) (d : Option Directory)
     (cached later : List (SectorPlace × List ℕ)) (old now : D) → AreInPlace mounted → directory_at mounted number ≡ d → HasLeftDisk disks told failed unsynced d cached later old now
     → KeepsToldOf mounted (disks old) (told old) (told now)
-told_after disks told failed unsynced mounted number None cached later old now placed is left =
-    subst (λ (device : _). KeepsToldOf mounted (disks old) (told old) (told device)) (sym left.drives) (told_same mounted (disks old) (told old))
+told_after disks told failed unsynced mounted number None cached later old now placed is left = absurd left
 told_after disks told failed unsynced mounted number (Some d) cached later old now placed is left = record {
   others = λ name none. left.told_are.others name (none d.drive (is_there mounted number d placed is));
   still = left.told_are.still;
@@ -148,9 +139,7 @@ unsynced_same drive now = record { beside = λ other apart. refl; owed = λ numb
 pub unsynced_after : {D : Type 0} (disks : D → Disks) (told : D → List ℕ → ToldImage) (failed : D → List (List ℕ)) (unsynced : D → ℕ → Bool) (mounted : List (Option Directory)) (number : ℕ) (d : Option Directory)
     (cached later : List (SectorPlace × List ℕ)) (old now : D) → AreInPlace mounted → directory_at mounted number ≡ d → HasLeftDisk disks told failed unsynced d cached later old now
     → KeepsUnsynced (Some number) (unsynced old) (unsynced now)
-unsynced_after disks told failed unsynced mounted number None cached later old now placed is left =
-    let same : (other : ℕ) → unsynced now other ≡ unsynced old other = λ other. ap (λ (device : _). unsynced device other) left.drives in
-    record { beside = λ other apart. same other; owed = λ other was. same other ∙ was }
+unsynced_after disks told failed unsynced mounted number None cached later old now placed is left = absurd left
 unsynced_after disks told failed unsynced mounted number (Some d) cached later old now placed is left = record {
   beside = λ other apart. left.beside other (λ same. apart (ap (λ n. Some n) (sym (its_number mounted number d placed is) ∙ sym same)));
   owed = λ other was. elim (cases_eq other d.drive) [

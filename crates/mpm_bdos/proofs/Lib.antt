@@ -9,6 +9,7 @@ pub mod ServingLaws
 pub mod Fitting
 pub mod TurnedAt
 pub mod NextTurns
+pub mod AskingLaws
 pub mod DirectLaws
 pub mod ServedLaws
 pub mod ReadBytes

@@ -84,7 +84,7 @@ pub idle_drives : (s : Situation) (j : ℕ) → job_of s ≡ None → drives_aft
 unfolding drives_after turned
 idle_drives s j is = ap (λ found. drives_by s (turned_by (drive_at s) j found).drive found) is
 
-job_turns : (s : Situation) (job : Job) → job_of s ≡ Some job → call_turns s ≡ turns_of (drive_at s) job
+pub job_turns : (s : Situation) (job : Job) → job_of s ≡ Some job → call_turns s ≡ turns_of (drive_at s) job
 unfolding call_turns
 job_turns s job is = ap (turns_by (drive_at s)) is
 
@@ -144,13 +144,13 @@ its_work disks kept s j job is serves =
     (its_number number (images_of disks number) (directory_at kept.mounted number) (slice_index_or (drives_after s j) number None) (serves.stand.each number))
     (subst (λ found. WorksOn (images_of disks number) (directory_at kept.mounted number) (drive_at s) found j serves.service.work) is serves.works)
 
-serving_told : (disks : Disks) (kept : Kept) (s : Situation) (j : ℕ) (job : Job) → job_of s ≡ Some job → Serves (images_of disks) kept s j
+pub serving_told : (disks : Disks) (kept : Kept) (s : Situation) (j : ℕ) (job : Job) → job_of s ≡ Some job → Serves (images_of disks) kept s j
     → IsServing disks kept.mounted (drive_at s) job j kept.service
 serving_told disks kept s j job is serves =
     subst (IsServing disks kept.mounted (drive_at s) job j) (sym serves.there)
     (subst (λ drive. IsWorkingOn disks (directory_at kept.mounted drive) (drive_at s) job j serves.service.work) (sym serves.is.drive) (its_work disks kept s j job is serves))
 
-its_suits : (images : ℕ → List ℕ) (kept : Kept) (s : Situation) (j : ℕ) (job : Job) → job_of s ≡ Some job → Serves images kept s j → Suits (drive_at s) job
+pub its_suits : (images : ℕ → List ℕ) (kept : Kept) (s : Situation) (j : ℕ) (job : Job) → job_of s ≡ Some job → Serves images kept s j → Suits (drive_at s) job
 its_suits images kept s j job is serves = subst (λ found. IfSome found (Suits (drive_at s))) is serves.suits
 
 -- the call in service is the same, but for its work

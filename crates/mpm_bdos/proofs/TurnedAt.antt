@@ -1,5 +1,5 @@
--- What a turn of some work on the drive of a place tells and leaves, by what stands in the place.
-use Rattle.std.proofs.Common.{◌≡◌, ℕ, suc, ◌+◌, Bool, List, Option, Some, None, Result, IfSome, refl, sym, ap, subst, ◌∙◌, arith}
+-- What a turn of some work on the drive of a place tells and leaves.
+use Rattle.std.proofs.Common.{◌≡◌, ℕ, suc, ◌+◌, Bool, List, Option, Some, None, Result, ap, subst, ◌∙◌, arith}
 use Rattle.std.specs.Prelude.{IfOk}
 use Rattle.mpm_port.specs.Disks.{Disks, ToldImage}
 use Rattle.mpm_cache.specs.declared.cache.SectorPlace.{SectorPlace}
@@ -25,19 +25,9 @@ told_by_job before job j work result serving told =
 pub labels_as : (old new : Directory) → new.drive ≡ old.drive → new.kind ≡ old.kind → drive_and_kind new ≡ drive_and_kind old
 labels_as old new drive kind = ap (λ n. (n, new.kind)) drive ∙ ap (λ k. (old.drive, k)) kind
 
--- nothing is done where none is mounted
-
-pub nothing_there : {X : Type 0} (P : X → Type 0) (place : Option X) → place ≡ None → IfSome place P
-nothing_there P place none = subst (λ p. IfSome p P) (sym none) tt
-
-pub left_alone : {D : Type 0} (disks : D → Disks) (told : D → List ℕ → ToldImage) (failed : D → List (List ℕ)) (unsynced : D → ℕ → Bool) (place : Option Directory) (cached : List (SectorPlace × List ℕ)) (d : D)
-    → place ≡ None → HasLeftDisk disks told failed unsynced place cached cached d d
-left_alone disks told failed unsynced place cached d none =
-    subst (λ p. HasLeftDisk disks told failed unsynced p cached cached d d) (sym none) (record { cache = refl; drives = refl })
-
 -- the names on which drives failed are as they were
 
 pub left_names : {D : Type 0} (disks : D → Disks) (told : D → List ℕ → ToldImage) (failed : D → List (List ℕ)) (unsynced : D → ℕ → Bool) (place : Option Directory) (cached later : List (SectorPlace × List ℕ))
     (old now : D) → HasLeftDisk disks told failed unsynced place cached later old now → failed now ≡ failed old
-left_names disks told failed unsynced None cached later old now left = ap failed left.drives
+left_names disks told failed unsynced None cached later old now left = absurd left
 left_names disks told failed unsynced (Some d) cached later old now left = left.names

@@ -8,6 +8,7 @@ pub mod Direct
 pub mod Serving
 pub mod Standing
 pub mod Turns
+pub mod Asking
 pub mod ServiceTurns
 pub mod WholeCalls
 pub mod ReplyParts

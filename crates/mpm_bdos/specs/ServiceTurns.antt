@@ -1,8 +1,5 @@
 -- A turn of the work of a call, of the call in service, and of all that is kept.
-use Rattle.std.specs.Prelude.{◌≡◌, ℕ, ◌<◌, suc, false, List, Option, Some, Result, Ok, IfOk, IfSome, OnOk, OnErr, is_some, option_map}
-use Rattle.mpm_port.specs.Disks.{Disks, size_of}
-use Rattle.mpm_blocks.specs.Geometries.{geometry_of}
-use Rattle.mpm_cache.specs.Coherent.{IsCoherent, HasNoAlias}
+use Rattle.std.specs.Prelude.{◌≡◌, ℕ, ◌<◌, suc, false, List, Option, Some, Result, Ok, IfOk, OnOk, OnErr, is_some, option_map}
 use Rattle.mpm_port.specs.Causes.{HasCause}
 use Rattle.mpm_port.specs.declared.drives.Drives.{Ghosts}
 use Rattle.mpm_cache.specs.declared.cache.SectorPlace.{SectorPlace}
@@ -54,10 +51,3 @@ pub record TurnsServedCall {D E : Type 0} (of : Ghosts D) (old new : Kept) (old_
   pub left : TurnsLeave of.disks of.told of.failed_names of.unsynced old new old_drives new_drives
   pub takes : CountsTurnCalls (ServesReading old.service) (ServesCached old.cached old.mounted old.service) old_calls new_calls (of.unsynced old_drives) (of.unsynced new_drives)
   pub cause : HasCause (of.faults old_drives) (of.faults new_drives) result
-
--- the place of a drive fits the drives: where it is mounted it is attached to an image of its kind's size, and what is cached is what the
--- images have
-pub record FitsPlace (disks : Disks) (place : Option Directory) (cached : List (SectorPlace × List ℕ)) : Type 0 where
-  pub size : IfSome place (λ d. size_of disks d.drive ≡ Some (geometry_of d.kind).bytes)
-  pub coherent : IsCoherent cached disks
-  pub apart : IfSome place (λ d. HasNoAlias cached disks d.drive)

@@ -72,13 +72,9 @@ IsServiceContained disks mounted before job j (Some service) = IsContainedAt dis
 abbrev pub drive_and_kind : Directory → ℕ × Kind
 drive_and_kind directory = (directory.drive, directory.kind)
 
--- what a turn leaves of the drives and the cache: on a drive that isn't mounted nothing is done
-pub record AreUntouched {D : Type 0} (old_cached new_cached : List (SectorPlace × List ℕ)) (old new : D) : Type 0 where
-  pub cache : new_cached ≡ old_cached
-  pub drives : new ≡ old
-
+-- what a turn leaves of the drives and the cache, on a drive that is mounted
 abbrev pub HasLeftDisk : {D : Type 0} → (D → Disks) → (D → List ℕ → ToldImage) → (D → List (List ℕ)) → (D → ℕ → Bool) → Option Directory → List (SectorPlace × List ℕ) → List (SectorPlace × List ℕ) → D → D → Type 0
-HasLeftDisk disks told failed unsynced None old_cached new_cached old new = AreUntouched old_cached new_cached old new
+HasLeftDisk disks told failed unsynced None old_cached new_cached old new = ⊥
 HasLeftDisk disks told failed unsynced (Some directory) old_cached new_cached old new = LeavesDisks disks told failed unsynced directory.drive old_cached new_cached old new
 
 -- a turn syncs no drive, and each other drive than that of its call is synced or not as before
@@ -177,7 +173,7 @@ pub record StopsWithin (disks : Disks) (s : Situation) (turns : ℕ) : Type 0 wh
   pub its : job_of s ≡ Some job
   pub contained : Contained disks (drive_number s) (drive_at s) job turns
 
--- a turn on the place of a drive, which may be mounted
+-- a turn on the place of a drive
 pub record TurnsPlace {D E : Type 0} (of : Ghosts D) (old_place new_place : Option Directory) (old_work new_work : Work) (old_cached new_cached : List (SectorPlace × List ℕ)) (old new : D) (old_calls new_calls : ℕ) (result : Result Progress E) : Type 0 where
   pub ok : WhileWorking (λ before job j. IsWorking (of.disks old) old_place before job j old_work) (λ before job j. OnOk result (IsWorking (of.disks new) new_place before job (suc j) new_work))
   pub err : WhileWorking (λ before job j. IsWorking (of.disks old) old_place before job j old_work) (λ before job j. OnErr result (IsContainedAt (of.disks new) old_place before job j))
@@ -188,7 +184,7 @@ pub record TurnsPlace {D E : Type 0} (of : Ghosts D) (old_place new_place : Opti
   pub leaves : HasLeftDisk of.disks of.told of.failed_names of.unsynced old_place old_cached new_cached old new
   pub cause : HasCause (of.faults old) (of.faults new) result
 
--- a turn on the drive of a number, which may be mounted
+-- a turn on the drive of a number
 pub record TurnsDrive {D E : Type 0} (of : Ghosts D) (number : ℕ) (old_mounted new_mounted : List (Option Directory)) (old_work new_work : Work) (old_cached new_cached : List (SectorPlace × List ℕ)) (old new : D) (old_calls new_calls : ℕ) (result : Result Progress E) : Type 0 where
   pub ok : WhileWorking (λ before job j. IsWorking (of.disks old) (directory_at old_mounted number) before job j old_work) (λ before job j. OnOk result (IsWorking (of.disks new) (directory_at new_mounted number) before job (suc j) new_work))
   pub err : WhileWorking (λ before job j. IsWorking (of.disks old) (directory_at old_mounted number) before job j old_work) (λ before job j. OnErr result (IsContainedAt (of.disks new) (directory_at old_mounted number) before job j))

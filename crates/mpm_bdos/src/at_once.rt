@@ -21,12 +21,13 @@ impl Bdos {
     ghost use Rattle.mpm_clock.specs.Times.{IsTime};
     ghost use Rattle.mpm_file_functions.specs.Functions.{function_of};
     ghost use Rattle.mpm_bdos.specs.Serving.{IsCaller};
-    ghost use Rattle.mpm_bdos.specs.Turns.{FitsDrives};
+    ghost use Rattle.mpm_bdos.specs.Turns.{FitsDrives, images_of};
+    ghost use Rattle.mpm_bdos.specs.Asking.{MayDoTurns, StandForSome};
     ghost use Rattle.mpm_bdos.specs.Starting.{caller_of};
     ghost use Rattle.mpm_bdos.specs.AtOnce.{DoesTurns, ServesAtOnce};
 
-    /// Does so many turns of the call in service, one after another, up to the first in which its drive fails. Each takes 20 calls of
-    /// the drives at most.
+    /// Does so many turns of the call in service, one after another, up to the first in which its drive fails: where it has work, so
+    /// many of them are left. Each takes 20 calls of the drives at most.
     ///
     /// # Errors
     /// Where the drive of the call failed: each other drive is as it was.
@@ -36,7 +37,7 @@ impl Bdos {
         drives: &mut D,
         steps: &mut Steps<L>,
     ) -> Result<(), Failed>
-        requires fits { FitsDrives D.disks self.old.mounted self.old.cached drives.old }
+        requires { MayDoTurns D.disks turns self.old drives.old }
         ensures { DoesTurns D.Drives turns self.old self.new drives.old drives.new steps.old steps.new result }
     {
         for _turn in 0..turns {
@@ -74,6 +75,7 @@ impl Bdos {
         requires caller { IsCaller (caller_of p process.now) }
         requires time { IsTime now }
         requires fits { FitsDrives D.disks self.old.mounted self.old.cached drives.old }
+        requires stand { StandForSome (images_of (D.disks drives.old)) self.old.mounted }
         ensures { ServesAtOnce D.Drives self.old self.new p process.now call.now now reply.old reply.new drives.old drives.new steps.old steps.new result }
     {
         if !is_file_call(call) {

@@ -1,7 +1,7 @@
 ghost use Rattle.std.specs.Prelude.{◌≡◌, List, Option};
 ghost use Rattle.mpm_mount.specs.Drives.{Drive};
 ghost use Rattle.mpm_bdos.specs.Outcomes.{left_by, without_search};
-ghost use Rattle.mpm_bdos.specs.Turns.{FitsDrives};
+ghost use Rattle.mpm_bdos.specs.Asking.{MayDoTurns};
 ghost use Rattle.mpm_bdos.specs.ServiceTurns.{TurnsServedCall};
 ghost use Rattle.mpm_bdos.specs.WholeCalls.{KeepsNothingYet, AnswersDirectly};
 
@@ -128,8 +128,8 @@ impl Bdos {
         self.searches.forget(p);
     }
 
-    /// Does the next turn of the call in service, and tells whether another is left: nothing where no call is in service, or its
-    /// call does nothing on its drive. It takes 20 calls of the drives at most; one that reads a record, one, or none where that
+    /// Does the next turn of the call in service, which has one left where it has work on its drive, and tells whether another is left.
+    /// Where no call is in service, or its call has no work, nothing is done. It takes 20 calls of the drives at most; one that reads a record, one, or none where that
     /// record's sector is cached.
     ///
     /// # Errors
@@ -139,7 +139,7 @@ impl Bdos {
         drives: &mut D,
         steps: &mut Steps<L>,
     ) -> Result<Progress, Failed>
-        requires { FitsDrives D.disks self.old.mounted self.old.cached drives.old }
+        requires { MayDoTurns D.disks 1 self.old drives.old }
         ensures { TurnsServedCall D.Drives self.old self.new drives.old drives.new steps.old steps.new result }
     {
         turn_service(

@@ -1,5 +1,6 @@
-ghost use Rattle.mpm_bdos.specs.Turns.{FitsDrives, TurnsPlace, TurnsDrive};
-ghost use Rattle.mpm_bdos.specs.ServiceTurns.{TurnsWork, TurnsHeldCall, FitsPlace};
+ghost use Rattle.mpm_bdos.specs.Turns.{TurnsPlace, TurnsDrive};
+ghost use Rattle.mpm_bdos.specs.ServiceTurns.{TurnsWork, TurnsHeldCall};
+ghost use Rattle.mpm_bdos.specs.Asking.{MayTurnPlace, MayTurnDrive, MayTurnWork, MayTurnHeldCall};
 
 use crate::directories::Directories;
 use crate::service::{Held, Service};
@@ -10,8 +11,7 @@ use mpm_mount::Mounted;
 use mpm_port::{Drives, Failed};
 use std::sync::ledger::Ledger;
 
-/// Does the next unit of a job on a drive that is mounted; nothing where none is.
-#[tactic(auto, using(mpm_sectors::proofs::LeavesLaws::ready_of))]
+/// Does the next turn of a job on a drive, which is mounted.
 pub(crate) fn turn_at<D: Drives, L: Ledger>(
     place: &mut Option<Mounted>,
     cache: &mut Cache,
@@ -19,7 +19,7 @@ pub(crate) fn turn_at<D: Drives, L: Ledger>(
     drives: &mut D,
     steps: &mut Steps<L>,
 ) -> Result<Progress, Failed>
-    requires { FitsPlace (D.disks drives.old) place.old cache.old }
+    requires { MayTurnPlace (D.disks drives.old) place.old cache.old work.old }
     ensures { TurnsPlace D.Drives place.old place.new work.old work.new cache.old cache.new drives.old drives.new steps.old steps.new result }
 {
     match place {
@@ -29,13 +29,13 @@ pub(crate) fn turn_at<D: Drives, L: Ledger>(
             let _ = mounted.kind();
             result
         }
-        None => Ok(Progress::Done),
+        None => unreachable!(),
     }
 }
 
 impl Directories {
-    /// Does the next unit of a job on the drive of a number, where it is mounted.
-    #[tactic(auto, using(crate::proofs::Fitting::labels_stay, crate::proofs::Fitting::in_place_after, crate::proofs::Fitting::images_after, crate::proofs::Fitting::stays_after, crate::proofs::Fitting::stays_same, crate::proofs::Fitting::told_after, crate::proofs::Fitting::told_same, crate::proofs::Fitting::unsynced_after, crate::proofs::Fitting::unsynced_same))]
+    /// Does the next turn of a job on the drive of a number, which is mounted.
+    #[tactic(auto, using(crate::proofs::Fitting::labels_stay, crate::proofs::Fitting::in_place_after, crate::proofs::Fitting::images_after, crate::proofs::Fitting::stays_after, crate::proofs::Fitting::told_after, crate::proofs::Fitting::unsynced_after))]
     pub(crate) fn turn<D: Drives, L: Ledger>(
         &mut self,
         number: u8,
@@ -44,20 +44,16 @@ impl Directories {
         drives: &mut D,
         steps: &mut Steps<L>,
     ) -> Result<Progress, Failed>
-        requires { FitsDrives D.disks self.old cache.old drives.old }
+        requires { MayTurnDrive D.disks number self.old cache.old work.old drives.old }
         ensures { TurnsDrive D.Drives number self.old self.new work.old work.new cache.old cache.new drives.old drives.new steps.old steps.new result }
     {
         let place = usize::from(number);
-        if place < self.places.len() {
-            turn_at(&mut self.places[place], cache, work, drives, steps)
-        } else {
-            Ok(Progress::Done)
-        }
+        turn_at(&mut self.places[place], cache, work, drives, steps)
     }
 }
 
 impl Service {
-    /// Does the next unit of the job, where the call has one.
+    /// Does the next turn of the job, where the call has one.
     #[tactic(auto, using(crate::proofs::Fitting::stays_same, crate::proofs::Fitting::told_same, crate::proofs::Fitting::unsynced_same))]
     pub(crate) fn turn<D: Drives, L: Ledger>(
         &mut self,
@@ -66,7 +62,7 @@ impl Service {
         drives: &mut D,
         steps: &mut Steps<L>,
     ) -> Result<Progress, Failed>
-        requires { FitsDrives D.disks mounted.old cache.old drives.old }
+        requires { MayTurnWork D.disks self.old mounted.old cache.old drives.old }
         ensures { TurnsWork D.Drives self.old self.new mounted.old mounted.new cache.old cache.new drives.old drives.new steps.old steps.new result }
     {
         let number = self.drive;
@@ -77,7 +73,7 @@ impl Service {
     }
 }
 
-/// Does the next unit of the job of the call in service, where one is and has one.
+/// Does the next turn of the job of the call in service, where one is and has one.
 #[tactic(auto, using(crate::proofs::Fitting::stays_same, crate::proofs::Fitting::told_same, crate::proofs::Fitting::unsynced_same))]
 pub(crate) fn turn_service<D: Drives, L: Ledger>(
     service: &mut Held,
@@ -86,7 +82,7 @@ pub(crate) fn turn_service<D: Drives, L: Ledger>(
     drives: &mut D,
     steps: &mut Steps<L>,
 ) -> Result<Progress, Failed>
-    requires { FitsDrives D.disks mounted.old cache.old drives.old }
+    requires { MayTurnHeldCall D.disks service.old mounted.old cache.old drives.old }
     ensures { TurnsHeldCall D.Drives service.old service.new mounted.old mounted.new cache.old cache.new drives.old drives.new steps.old steps.new result }
 {
     match &mut *service.place {

@@ -1,5 +1,8 @@
-ghost use Rattle.std.specs.Prelude.{◌≡◌};
-ghost use Rattle.mpm_port.specs.MemoryDisks.{disks_of, told_of, is_unsynced, memory_agrees};
+ghost use Rattle.std.specs.Prelude.{◌≡◌, not, is_some};
+ghost use Rattle.mpm_port.specs.Causes.{FailsWhere};
+ghost use Rattle.mpm_port.specs.DriveCalls.{AnswersAttach};
+ghost use Rattle.mpm_port.specs.Named.{contents_of};
+ghost use Rattle.mpm_port.specs.MemoryDisks.{disks_of, told_of, is_unsynced, after_attach, memory_agrees};
 ghost use Rattle.mpm_devices.specs.Steady.{IsSteady};
 
 use mpm_port::{Drives, Failed, FetchError, MemoryDrives};
@@ -45,8 +48,12 @@ impl Drives for SteadyDrives {
 
     ghost agrees = { memory_agrees };
 
-    #[tactic(auto, unfolding(mpm_port::specs::MemoryDisks::after_attach))]
-    fn attach(&mut self, drive: u8, name: &str) -> Result<(), FetchError> {
+    #[tactic(auto, unfolding(mpm_port::specs::MemoryDisks::after_attach, mpm_port::specs::MemoryDisks::attach_fails))]
+    fn attach(&mut self, drive: u8, name: &str) -> Result<(), FetchError>
+        ensures after { self.new ≡ after_attach self.old drive name.now result }
+        ensures cause { FailsWhere (not (is_some (contents_of self.old.images name.now))) result }
+        ensures answers { AnswersAttach disks_of told_of is_unsynced (λ _. 0) (λ d. d.failed) drive name.now self.old self.new result }
+    {
         self.drives.attach(drive, name)
     }
 

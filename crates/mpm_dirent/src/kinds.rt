@@ -20,13 +20,13 @@ pub struct FileEntry {
     pub user: u8,
     /// The name, eight bytes, and the type, three; bit 7 of each is an attribute.
     pub name: [u8; 11],
-    /// The extent's number, its low five bits.
+    /// The number of its last extent, the low five bits.
     pub ex: u8,
-    /// Kept by the system.
+    /// Of no meaning here: 0 in a new entry, and in one that a record raises.
     pub s1: u8,
-    /// The extent's number, its high bits.
+    /// The number of its last extent, the high bits.
     pub s2: u8,
-    /// The records of the extent.
+    /// The records of its last extent.
     pub rc: u8,
     /// The blocks' numbers: all sixteen at most 255 in a narrow map, the first eight alone in a wide one, where the
     /// others are 0.

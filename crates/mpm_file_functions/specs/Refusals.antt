@@ -62,7 +62,7 @@ answered ListFull = AsExtended 11
 answered DirectoryFull = AsNotFound
 answered Busy = AsNotFound
 
--- a refused call changes nothing else
+-- what a refused call answers in HL: 255 in L, with the code of its extended error in H; or a record call's own code in L
 abbrev pub refused_value : Answered → ℕ
 refused_value (AsExtended code) = 256 * code + 255
 refused_value (AsRecord code) = code

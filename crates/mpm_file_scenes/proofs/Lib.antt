@@ -1,1 +1,2 @@
 pub mod FloppyLaws
+pub mod CallLaws

@@ -1,1 +1,2 @@
 pub mod Floppies
+pub mod Standing

@@ -46,7 +46,7 @@ pub enum Line<'a> {
     Turns(u8, u32, u16),
     /// A call that is refused by an extended error on a drive, from 0.
     Refused(u8, u8, u8),
-    /// A call in which its drive fails; it isn't answered.
+    /// A call in which its drive fails; it isn't answered. Both drives are mounted again then, and nothing is open any more.
     Fails(u8),
     /// The caller opens the files of these slots of drive B in unlocked mode, from the first to before the last.
     Opens(u8, u8),

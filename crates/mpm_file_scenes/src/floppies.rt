@@ -130,24 +130,20 @@ impl Drives for Floppies {
     }
 }
 
-/// Attaches drives A and B to images with these entries.
-fn attach_both(
+/// Adds the images of drives A and B, with these entries.
+fn add_both(
     alloc: Global,
     drives: &mut MemoryDrives,
     a: &[EntryBytes],
     b: &[EntryBytes],
 ) -> Result<(), Fail>
     requires { (name : List ℕ) → IsFree drives.old name }
-    ensures { OnOk result (AreTwo (disks_of drives.new)) }
 {
     let a = image(alloc, Kind::Ibm3740, a)?;
     let b = image(alloc, Kind::Ibm3740, b)?;
     drives.add("a", a.as_slice())?;
     drives.add("b", b.as_slice())?;
-    match (drives.attach(0, "a"), drives.attach(1, "b")) {
-        (Ok(()), Ok(())) => Ok(()),
-        _ => Err(Fail::from("a drive isn't attached")),
-    }
+    Ok(())
 }
 
 /// Two disks with these entries, and the drive that fails, if one does.
@@ -156,11 +152,9 @@ pub(crate) fn two_disks(
     a: &[EntryBytes],
     b: &[EntryBytes],
     failing: Option<u8>,
-) -> Result<Floppies, Fail>
-    ensures { IfOk result (λ d. AreTwo (disks_of d.drives)) }
-{
+) -> Result<Floppies, Fail> {
     let mut drives = MemoryDrives::new(alloc);
-    attach_both(alloc, &mut drives, a, b)?;
+    add_both(alloc, &mut drives, a, b)?;
     Ok(Floppies {
         drives,
         failing,
@@ -169,12 +163,21 @@ pub(crate) fn two_disks(
     })
 }
 
+/// Attaches drives A and B to them.
+fn attach_both(drives: &mut Floppies) -> Result<(), Fail>
+    ensures { OnOk result (AreTwo (disks_of drives.new.drives)) }
+{
+    match (drives.attach(0, "a"), drives.attach(1, "b")) {
+        (Ok(()), Ok(())) => Ok(()),
+        _ => Err(Fail::from("a drive isn't attached")),
+    }
+}
+
 /// The directory of one of them.
 fn mounted_drive(alloc: Global, drives: &mut Floppies, number: u8) -> Result<Mounted, Fail>
     requires some { IsSome (size_of (disks_of drives.old.drives) number) }
     requires low { number < 2 }
     ensures floppy { IfOk result (λ mounted. IsFloppy (disks_of drives.old.drives) number mounted) }
-    ensures drive { IfOk result (λ mounted. mounted.drive ≡ number) }
     ensures same { disks_of drives.new.drives ≡ disks_of drives.old.drives }
 {
     match mount(alloc, drives, number, Kind::Ibm3740) {
@@ -184,10 +187,7 @@ fn mounted_drive(alloc: Global, drives: &mut Floppies, number: u8) -> Result<Mou
 }
 
 /// Both, mounted.
-pub(crate) fn mounted_places(
-    alloc: Global,
-    drives: &mut Floppies,
-) -> Result<Vec<Option<Mounted>>, Fail>
+fn mounted_places(alloc: Global, drives: &mut Floppies) -> Result<Vec<Option<Mounted>>, Fail>
     requires { AreTwo (disks_of drives.old.drives) }
     ensures floppies { IfOk result (λ places. AreFloppies (disks_of drives.new.drives) places.items) }
     ensures same { disks_of drives.new.drives ≡ disks_of drives.old.drives }
@@ -199,4 +199,17 @@ pub(crate) fn mounted_places(
     mounted.push(b)?;
     mounted.push(a)?;
     Ok(in_places(alloc, mounted)?)
+}
+
+/// Both, attached and mounted, with whatever is on them.
+pub(crate) fn attached_places(
+    alloc: Global,
+    drives: &mut Floppies,
+) -> Result<Vec<Option<Mounted>>, Fail>
+    ensures two { OnOk result (AreTwo (disks_of drives.new.drives)) }
+    ensures floppies { IfOk result (λ places. AreFloppies (disks_of drives.new.drives) places.items) }
+    ensures placed { IfOk result (λ places. AreInPlace places.items) }
+{
+    attach_both(drives)?;
+    mounted_places(alloc, drives)
 }

@@ -1,16 +1,16 @@
 //! Scenes of file calls on two floppy disks. Each is played twice: with its calls done at once, and turn by turn.
-ghost use Rattle.std.specs.Prelude.{◌≡◌, ◌<◌, ℕ, true};
+ghost use Rattle.std.specs.Prelude.{◌≡◌, ◌<◌, ℕ, true, OnOk, is_some};
+ghost use Rattle.std.specs.Bool.{OnTrue};
 ghost use Rattle.mpm_clock.specs.Times.{IsTime};
 ghost use Rattle.mpm_bdos.specs.Serving.{IsCaller};
 ghost use Rattle.mpm_bdos.specs.Starting.{caller_of};
-ghost use Rattle.mpm_bdos.specs.Turns.{FitsDrives};
-ghost use Rattle.mpm_port.specs.MemoryDisks.{disks_of};
-ghost use Rattle.mpm_file_scenes.specs.Floppies.{AreTwo};
+ghost use Rattle.mpm_file_functions.specs.Functions.{function_of};
+ghost use Rattle.mpm_file_scenes.specs.Standing.{IsBetweenCalls, IsWithinCall};
 
 use crate::desk::{Desk, Line};
-use crate::floppies::{Floppies, mounted_places, two_disks};
+use crate::floppies::{Floppies, attached_places, two_disks};
 use mpm_base::{Call, Pid, Reply, Steps, functions};
-use mpm_bdos::{Bdos, DirectFunction, Extended};
+use mpm_bdos::{Bdos, DirectFunction, Extended, FileFunction};
 use mpm_clock::{Clock, Moment};
 use mpm_files::Progress;
 use mpm_images::EntryBytes;
@@ -35,6 +35,13 @@ fn may_call(process: &Process) -> bool
     process.user < 16 && process.multi >= 1 && process.multi <= 16
 }
 
+/// Whether a call is one on files and drives.
+fn is_file_call(call: &Call) -> bool
+    ensures { result ≡ is_some (function_of call.now.function) }
+{
+    FileFunction::of(call.function).is_some()
+}
+
 /// The moment of all calls.
 fn moment() -> Moment
     ensures { IsTime result }
@@ -51,9 +58,10 @@ fn serves_at_once<D: Drives, L: Ledger>(
     call: &Call,
     process: &Process,
 ) -> Result<Option<Extended>, Failed>
-    requires fits { FitsDrives D.disks bdos.old.mounted bdos.old.cached drives.old }
+    requires between { IsBetweenCalls D.disks bdos.old drives.old }
     requires caller { (p : ℕ) → IsCaller (caller_of p process.now) }
-    ensures { FitsDrives D.disks bdos.new.mounted bdos.new.cached drives.new }
+    requires file { is_some (function_of call.now.function) ≡ true }
+    ensures { OnOk result (IsBetweenCalls D.disks bdos.new drives.new) }
 {
     let pid = Pid(desk.pid % 32);
     bdos.call_at_once(pid, call, process, moment(), drives, steps, &mut desk.reply)
@@ -77,9 +85,10 @@ fn serves_in_turns<D: Drives, L: Ledger>(
     call: &Call,
     process: &Process,
 ) -> Result<Option<Extended>, Failed>
-    requires fits { FitsDrives D.disks bdos.old.mounted bdos.old.cached drives.old }
+    requires between { IsBetweenCalls D.disks bdos.old drives.old }
     requires caller { (p : ℕ) → IsCaller (caller_of p process.now) }
-    ensures { FitsDrives D.disks bdos.new.mounted bdos.new.cached drives.new }
+    requires file { is_some (function_of call.now.function) ≡ true }
+    ensures { OnOk result (IsBetweenCalls D.disks bdos.new drives.new) }
 {
     let mounted = login_vector(bdos, process);
     let turns = bdos.start(Pid(desk.pid % 32), call, process, moment());
@@ -92,7 +101,8 @@ fn serves_in_turns<D: Drives, L: Ledger>(
     Ok(bdos.reply(&mut desk.reply))
 }
 
-/// What a call of the desk is answered, where no drive fails and its caller is one that may call.
+/// What a call of the desk is answered. It isn't where a drive fails, the caller is none that may call, or the function none of files and
+/// drives.
 fn asks<D: Drives, L: Ledger>(
     bdos: &mut Bdos,
     drives: &mut D,
@@ -100,8 +110,8 @@ fn asks<D: Drives, L: Ledger>(
     desk: &mut Desk,
     function: u8,
 ) -> Option<Answer>
-    requires { FitsDrives D.disks bdos.old.mounted bdos.old.cached drives.old }
-    ensures { FitsDrives D.disks bdos.new.mounted bdos.new.cached drives.new }
+    requires { IsBetweenCalls D.disks bdos.old drives.old }
+    ensures { OnTrue (is_some result) (IsBetweenCalls D.disks bdos.new drives.new) }
 {
     let process = desk.process;
     if !may_call(&process) {
@@ -113,6 +123,9 @@ fn asks<D: Drives, L: Ledger>(
         desk.take_block();
         let hl = desk.reply.hl;
         return Some(Answer { hl, extended });
+    }
+    if !is_file_call(&call) {
+        return None;
     }
     let answered = if desk.in_turns {
         serves_in_turns(bdos, drives, steps, desk, &call, &process)
@@ -136,8 +149,8 @@ fn takes_turns<D: Drives, L: Ledger>(
     steps: &mut Steps<L>,
     turns: u32,
 ) -> bool
-    requires { FitsDrives D.disks bdos.old.mounted bdos.old.cached drives.old }
-    ensures { FitsDrives D.disks bdos.new.mounted bdos.new.cached drives.new }
+    requires { IsWithinCall D.disks bdos.old drives.old 0 turns }
+    ensures { OnTrue result (IsWithinCall D.disks bdos.new drives.new turns turns) }
 {
     for turn in 0..turns {
         let expected = if turn + 1 < turns {
@@ -167,14 +180,17 @@ fn serves<D: Drives, L: Ledger>(
     turns: u32,
     hl: u16,
 ) -> bool
-    requires { FitsDrives D.disks bdos.old.mounted bdos.old.cached drives.old }
-    ensures { FitsDrives D.disks bdos.new.mounted bdos.new.cached drives.new }
+    requires { IsBetweenCalls D.disks bdos.old drives.old }
+    ensures { OnTrue result (IsBetweenCalls D.disks bdos.new drives.new) }
 {
     let process = desk.process;
     if !may_call(&process) {
         return false;
     }
     let call = desk.call(function);
+    if !is_file_call(&call) {
+        return false;
+    }
     if bdos.start(Pid(desk.pid % 32), &call, &process, moment()) != turns {
         return false;
     }
@@ -195,11 +211,14 @@ fn answers<D: Drives, L: Ledger>(
     function: u8,
     hl: u16,
 ) -> bool
-    requires { FitsDrives D.disks bdos.old.mounted bdos.old.cached drives.old }
-    ensures { FitsDrives D.disks bdos.new.mounted bdos.new.cached drives.new }
+    requires { IsBetweenCalls D.disks bdos.old drives.old }
+    ensures { OnTrue result (IsBetweenCalls D.disks bdos.new drives.new) }
 {
     let expected = Answer { hl, extended: None };
-    asks(bdos, drives, steps, desk, function) == Some(expected)
+    match asks(bdos, drives, steps, desk, function) {
+        Some(answer) => answer == expected,
+        None => false,
+    }
 }
 
 /// Whether so many calls answer 0.
@@ -211,8 +230,8 @@ fn repeats<D: Drives, L: Ledger>(
     count: u8,
     function: u8,
 ) -> bool
-    requires { FitsDrives D.disks bdos.old.mounted bdos.old.cached drives.old }
-    ensures { FitsDrives D.disks bdos.new.mounted bdos.new.cached drives.new }
+    requires { IsBetweenCalls D.disks bdos.old drives.old }
+    ensures { OnTrue result (IsBetweenCalls D.disks bdos.new drives.new) }
 {
     for _call in 0..count {
         if !answers(bdos, drives, steps, desk, function, 0) {
@@ -231,8 +250,8 @@ fn opens<D: Drives, L: Ledger>(
     from: u8,
     to: u8,
 ) -> bool
-    requires { FitsDrives D.disks bdos.old.mounted bdos.old.cached drives.old }
-    ensures { FitsDrives D.disks bdos.new.mounted bdos.new.cached drives.new }
+    requires { IsBetweenCalls D.disks bdos.old drives.old }
+    ensures { OnTrue result (IsBetweenCalls D.disks bdos.new drives.new) }
 {
     for slot in from..to {
         desk.names_slot(slot);
@@ -253,17 +272,20 @@ fn refuses<D: Drives, L: Ledger>(
     code: u8,
     drive: u8,
 ) -> bool
-    requires { FitsDrives D.disks bdos.old.mounted bdos.old.cached drives.old }
-    ensures { FitsDrives D.disks bdos.new.mounted bdos.new.cached drives.new }
+    requires { IsBetweenCalls D.disks bdos.old drives.old }
+    ensures { OnTrue result (IsBetweenCalls D.disks bdos.new drives.new) }
 {
     let expected = Answer {
         hl: u16::from(code) * 256 + 255,
         extended: Some(Extended { code, drive }),
     };
-    asks(bdos, drives, steps, desk, function) == Some(expected)
+    match asks(bdos, drives, steps, desk, function) {
+        Some(answer) => answer == expected,
+        None => false,
+    }
 }
 
-/// Plays a line, and says whether what is seen is so.
+/// Plays a line after which the scene goes on, and says whether what is seen is so.
 fn plays<D: Drives, L: Ledger>(
     bdos: &mut Bdos,
     drives: &mut D,
@@ -271,8 +293,8 @@ fn plays<D: Drives, L: Ledger>(
     desk: &mut Desk,
     line: &Line<'_>,
 ) -> bool
-    requires { FitsDrives D.disks bdos.old.mounted bdos.old.cached drives.old }
-    ensures { FitsDrives D.disks bdos.new.mounted bdos.new.cached drives.new }
+    requires { IsBetweenCalls D.disks bdos.old drives.old }
+    ensures { OnTrue result (IsBetweenCalls D.disks bdos.new drives.new) }
 {
     match line {
         Line::Asks(function, hl) => answers(bdos, drives, steps, desk, *function, *hl),
@@ -283,10 +305,7 @@ fn plays<D: Drives, L: Ledger>(
         Line::Turns(function, turns, hl) => {
             serves(bdos, drives, steps, desk, *function, *turns, *hl)
         }
-        Line::Fails(function) => {
-            let hl = desk.reply.hl;
-            asks(bdos, drives, steps, desk, *function).is_none() && desk.reply.hl == hl
-        }
+        Line::Fails(_) => false,
         Line::Opens(from, to) => opens(bdos, drives, steps, desk, *from, *to),
         Line::Ends(pid) => {
             bdos.give_back(Pid(*pid % 32));
@@ -296,23 +315,72 @@ fn plays<D: Drives, L: Ledger>(
     }
 }
 
-/// The first line that isn't so.
-fn first_wrong<D: Drives, L: Ledger>(
+/// Whether a call on files and drives isn't answered.
+fn fails<D: Drives, L: Ledger>(
+    bdos: &mut Bdos,
+    drives: &mut D,
+    steps: &mut Steps<L>,
+    desk: &mut Desk,
+    function: u8,
+) -> bool
+    requires { IsBetweenCalls D.disks bdos.old drives.old }
+{
+    let hl = desk.reply.hl;
+    FileFunction::of(function).is_some()
+        && asks(bdos, drives, steps, desk, function).is_none()
+        && desk.reply.hl == hl
+}
+
+/// Where a scene stops.
+#[derive(Clone, Copy)]
+enum Stop {
+    /// Behind its last line.
+    End,
+    /// At a line that isn't so.
+    Wrong(usize),
+    /// At a call in which its drive fails, as it is to.
+    Failed(usize),
+}
+
+/// Where a scene stops that goes on from a line.
+fn first_stop<D: Drives, L: Ledger>(
     bdos: &mut Bdos,
     drives: &mut D,
     steps: &mut Steps<L>,
     desk: &mut Desk,
     lines: &[Line<'_>],
-) -> Option<usize>
-    requires { FitsDrives D.disks bdos.old.mounted bdos.old.cached drives.old }
-    ensures { FitsDrives D.disks bdos.new.mounted bdos.new.cached drives.new }
+    from: usize,
+) -> Stop
+    requires { IsBetweenCalls D.disks bdos.old drives.old }
 {
-    for (place, line) in lines.iter().enumerate() {
+    for place in from..lines.len() {
+        let line = &lines[place];
+        if let Line::Fails(function) = line {
+            return if fails(bdos, drives, steps, desk, *function) {
+                Stop::Failed(place)
+            } else {
+                Stop::Wrong(place)
+            };
+        }
         if !plays(bdos, drives, steps, desk, line) {
-            return Some(place);
+            return Stop::Wrong(place);
         }
     }
-    None
+    Stop::End
+}
+
+/// Mounts the disks as they are, and goes on from a line.
+fn goes_on<L: Ledger>(
+    alloc: Global,
+    drives: &mut Floppies,
+    steps: &mut Steps<L>,
+    desk: &mut Desk,
+    lines: &[Line<'_>],
+    from: usize,
+) -> Result<Stop, Fail> {
+    let places = attached_places(alloc, drives)?;
+    let mut bdos = Bdos::new(alloc, places)?;
+    Ok(first_stop(&mut bdos, drives, steps, desk, lines, from))
 }
 
 /// The first line that isn't so on these disks.
@@ -327,13 +395,18 @@ fn wrong_on<L: Ledger>(
     requires name { blank.name ≡ L.name }
     requires parts { blank.parts ≡ L.parts }
     requires some { 0 < L.parts }
-    requires two { AreTwo (disks_of drives.old.drives) }
 {
     let mut steps = Steps::<L>::new(blank);
-    let places = mounted_places(alloc, drives)?;
-    let mut bdos = Bdos::new(alloc, places)?;
     let mut desk = Desk::new(process, in_turns);
-    Ok(first_wrong(&mut bdos, drives, &mut steps, &mut desk, lines))
+    let mut from = 0;
+    for _mounting in 0..lines.len() {
+        match goes_on(alloc, drives, &mut steps, &mut desk, lines, from)? {
+            Stop::End => return Ok(None),
+            Stop::Wrong(place) => return Ok(Some(place)),
+            Stop::Failed(place) => from = place.saturating_add(1),
+        }
+    }
+    Ok(None)
 }
 
 /// The first line that isn't so on these disks, whose calls are counted.
@@ -343,9 +416,7 @@ fn wrong_by(
     process: &Process,
     in_turns: bool,
     lines: &[Line<'_>],
-) -> Result<Option<usize>, Fail>
-    requires { AreTwo (disks_of drives.old.drives) }
-{
+) -> Result<Option<usize>, Fail> {
     wrong_on::<Brand>(alloc, Blank::new(1), drives, process, in_turns, lines)
 }
 

@@ -109,7 +109,7 @@ fn a_call_without_a_change_of_its_drive_takes_one_turn(rt: HostRuntime) -> Resul
     Ok(())
 }
 
-/// Drive A fails where it is written: what only reads goes on, and so does drive B.
+/// Drive A fails where it is written: mounted again, it is read as before, and drive B goes on.
 #[test]
 fn a_call_whose_drive_fails_is_not_answered(rt: HostRuntime) -> Result<(), Fail> {
     let lines = [

@@ -1,27 +1,30 @@
 -- What is known of the entry of a record, and of a file's XFCB, that were found in a directory.
 use Rattle.std.proofs.Common.{◌≡◌, ℕ, ◌+◌, ◌/◌, ◌<◌, ◌≤◌, Bool, true, false, ◌==◌, ◌&&◌, List, Some, None, length, get_or, refl, sym, ap, subst, ◌∙◌, arith}
-use Rattle.std.specs.Prelude.{bytes_eq, IsSomeAnd, Option}
-use Rattle.std.proofs.lemmas.Bool.{false≢true, eqb-true}
+use Rattle.std.specs.Prelude.{bytes_eq, is_some, IsSome, IsSomeAnd, Option}
+use Rattle.std.proofs.lemmas.Bool.{false≢true, true≢false, eqb-true}
 use Rattle.std.proofs.lemmas.List.Quantifiers.{position-Some}
 use Rattle.mpm_base.specs.declared.kind.Kind.{Kind}
 use Rattle.mpm_base.specs.declared.kind.Kind.TheVariants.{Ibm3740, Hd4, Hd8}
 use Rattle.mpm_blocks.specs.Geometries.{geometry_of}
 use Rattle.mpm_dirent.specs.declared.kinds.Entry.{Entry}
-use Rattle.mpm_dirent.specs.declared.kinds.Entry.TheVariants.{Free, File, Xfcb}
+use Rattle.mpm_dirent.specs.declared.kinds.Entry.TheVariants.{Free, File, Xfcb, Label, Kept}
 use Rattle.mpm_dirent.specs.declared.kinds.FileEntry.{FileEntry}
 use Rattle.mpm_dirent.specs.declared.kinds.XfcbEntry.{XfcbEntry}
 use Rattle.mpm_dirent.specs.Proper.{IsProper}
 use Rattle.mpm_dirent.specs.Names.{plain}
 use Rattle.mpm_dirent.specs.declared.limits.TheConstants.{LAST_RECORD}
+use Rattle.mpm_mount.specs.declared.slots.EntryName.{EntryName}
 use Rattle.mpm_mount.specs.Drives.{FileName, entry_number, entry_name}
 use Rattle.mpm_mount.specs.Faults.{extent_of, name_of, is_named, is_xfcb, cause_of, first_fault}
 use Rattle.mpm_mount.specs.Changes.{HasRanges}
+use Rattle.mpm_mount.specs.Files.{is_file}
 use Rattle.mpm_mount.specs.Directories.{Directory, entry_in, extent_slot, xfcb_slot, others}
 use Rattle.mpm_mount.proofs.Distinct.{named_by}
 use Rattle.mpm_mount.proofs.Puts.{ranges_at, still_xfcb_changed}
 use Rattle.mpm_mount.proofs.Still.{file_injective}
 use Rattle.mpm_files.specs.declared.stamps.Stamp.{Stamp}
 use Rattle.mpm_files.specs.declared.stamps.Stamp.TheVariants.{First, Second}
+use Rattle.mpm_files.specs.Finding.{HasFileAt}
 use Rattle.mpm_files.specs.Lookups.{HasEntry, HasXfcb, HasXfcbBeside, stamped_entry}
 
 -- no XFCB of a file is in the sector of a slot: it has none, or one in another sector
@@ -71,10 +74,17 @@ entry_found d file n slot f full faultless found is proper =
     }
 
 -- what is found is of its sort
-pub entry_is_file : (d : Directory) (file : FileName) (n slot : ℕ) (entry : Entry) → extent_slot d file (n / 128) ≡ Some slot → entry_in d slot ≡ entry
-    → is_named d.kind (entry_name d.kind file (n / 128)) entry ≡ true
-entry_is_file d file n slot entry found is =
-    ap (is_named d.kind (entry_name d.kind file (n / 128))) (sym is) ∙ (position-Some (is_named d.kind (entry_name d.kind file (n / 128))) d.entries slot Free found).1
+named_file : (kind : Kind) (name : EntryName) (e : Entry) → is_named kind name e ≡ true → is_file e ≡ true
+named_file kind name (File f) is = refl
+named_file kind name Free is = is
+named_file kind name (Xfcb x) is = is
+named_file kind name (Label l) is = is
+named_file kind name (Kept bytes) is = is
+
+pub file_found : (d : Directory) (file : FileName) (n slot : ℕ) → length d.entries ≡ (geometry_of d.kind).drm + 1 → extent_slot d file (n / 128) ≡ Some slot → HasFileAt d slot
+file_found d file n slot full found =
+    let at = position-Some (is_named d.kind (entry_name d.kind file (n / 128))) d.entries slot Free found in
+    record { within = omega (arith, at.0, full); was = named_file d.kind (entry_name d.kind file (n / 128)) (entry_in d slot) at.1 }
 
 pub entry_is_xfcb : (d : Directory) (file : FileName) (slot : ℕ) (entry : Entry) → xfcb_slot d file ≡ Some slot → entry_in d slot ≡ entry
     → is_xfcb file.user file.name entry ≡ true
@@ -105,3 +115,22 @@ still_by d file slot x Second moment has =
 pub still_stamped : (d : Directory) (file : FileName) (slot : ℕ) (x y : XfcbEntry) (stamp : Stamp) (moment : List ℕ) → HasXfcb d file slot x → y ≡ stamped_entry stamp moment x
     → cause_of d.kind (others d.entries slot) (Xfcb y) ≡ None
 still_stamped d file slot x y stamp moment has is = ap (λ (z : XfcbEntry). cause_of d.kind (others d.entries slot) (Xfcb z)) is ∙ still_by d file slot x stamp moment has
+
+-- what was looked up isn't missing
+pub not_missing : {A : Type 0} (o result : Option A) → IsSome o → result ≡ o → result ≡ None → ⊥
+not_missing o result some is none = true≢false (sym some ∙ ap is_some (sym is ∙ none))
+
+-- nor is an entry another than a file's that is one
+pub is_other : (e : Entry) → is_file e ≡ true → ((f : FileEntry) → e ≡ File f → ⊥) → ⊥
+is_other (File f) is other = other f refl
+is_other Free is other = true≢false (sym is)
+is_other (Xfcb x) is other = true≢false (sym is)
+is_other (Label l) is other = true≢false (sym is)
+is_other (Kept bytes) is other = true≢false (sym is)
+
+pub is_no_xfcb : (user : ℕ) (name : List ℕ) (e : Entry) → is_xfcb user name e ≡ true → ((x : XfcbEntry) → e ≡ Xfcb x → ⊥) → ⊥
+is_no_xfcb user name (Xfcb x) is other = other x refl
+is_no_xfcb user name Free is other = true≢false (sym is)
+is_no_xfcb user name (File f) is other = true≢false (sym is)
+is_no_xfcb user name (Label l) is other = true≢false (sym is)
+is_no_xfcb user name (Kept bytes) is other = true≢false (sym is)

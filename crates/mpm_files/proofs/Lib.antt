@@ -58,3 +58,4 @@ pub mod Marks
 pub mod MakeTurns
 pub mod TurnDone
 pub mod ReadTurns
+pub mod UnitsLeft

@@ -40,11 +40,6 @@ goes_as disks drive now files later unit result goes is = record {
   err = on_err result (subst (StandsAmong disks drive files) (sym is)) goes.err;
 }
 
--- of the same unit, in other words
-pub does_as : {A E : Type 0} (now : Disks) (drive : ℕ) (e : Directory) (files : Drive) (unit same : FileUnit) (result : Result A E) → unit ≡ same → DoesUnit now drive e files unit result
-    → DoesUnit now drive e files same result
-does_as now drive e files unit same result is does = subst (λ u. DoesUnit now drive e files u result) is does
-
 in_service : (now : Disks) (e : Directory) (before : Drive) (job : Job) (j : ℕ) (new : Work) (unit : FileUnit) → IsDone before job j new unit → new.cleared ≡ None
     → StandsOn now e (applied (units_done before job j) unit) → JobInService now e before job (suc j) (one_ended new)
 in_service now e before job j new unit done none on = record {
@@ -145,12 +140,3 @@ found_within d user pattern last found o full is next =
 pub place_within : {X : Type 0} (p : X → Bool) (xs : List X) (slot last : ℕ) → length xs ≡ last + 1 → position p xs ≡ Some slot → slot ≤ last
 place_within p [] slot last full found = absurd (omega arith)
 place_within p (x ∷ xs) slot last full found = let at = position-Some p (x ∷ xs) slot x found in omega (arith, at.0, full)
-
--- nothing was to be done, where the cursor can't stand so
-pub never_next : {A E : Type 0} (disks now : Disks) (d e : Directory) (old new : Work) (result : Result A E)
-    → ((image : List ℕ) (before : Drive) (job : Job) (j : ℕ) → Suits before job → IsInService image d before job j old → j < length (plan_of before job).units → ⊥)
-    → DoesNext disks now d e old new result
-never_next disks now d e old new result never = record {
-  ok = λ before job j suits service h. absurd (never service.image before job j suits service.service h);
-  err = λ before job j suits service h. absurd (never service.image before job j suits service.service h);
-}

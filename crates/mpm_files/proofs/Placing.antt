@@ -1,12 +1,11 @@
 -- XFCBs, the label and directory entries that are put into a slot: no fault beside all others, and what they make of the drive.
-use Rattle.std.proofs.Common.{◌≡◌, ℕ, zero, suc, ◌+◌, ◌*◌, ◌/◌, ◌%◌, ◌≤◌, ◌<◌, Bool, true, false, not, ◌==◌, List, [], ◌∷◌, ◌++◌, Option, Some, None, Ok, map, take, drop, length, refl, sym, ap, subst, ◌∙◌, arith}
+use Rattle.std.proofs.Common.{◌≡◌, ℕ, zero, suc, ◌+◌, ◌*◌, ◌/◌, ◌%◌, ◌≤◌, ◌<◌, Bool, false, not, ◌==◌, List, [], ◌∷◌, ◌++◌, Option, Some, None, map, take, drop, length, refl, sym, ap, subst, ◌∙◌, arith}
 use Rattle.std.specs.Prelude.{is_some, unwrap_or, bytes_eq, nat_le, replicate, slice_index}
 use Rattle.std.specs.List.{list_any}
 use Rattle.std.specs.FinMap.{get}
 use Rattle.std.proofs.lemmas.Bool.{true≢false, and_parts, eqb-true}
 use Rattle.std.proofs.lemmas.List.{map-append, take-map, drop-map}
 use Rattle.std.proofs.lemmas.List.Quantifiers.{position-Some}
-use Rattle.mpm_port.specs.Disks.{Disks}
 use Rattle.mpm_base.specs.declared.kind.Kind.{Kind}
 use Rattle.mpm_base.specs.Counts.{one_if}
 use Rattle.mpm_blocks.specs.Sectors.{Sectors, sectors_of}
@@ -30,9 +29,8 @@ use Rattle.mpm_mount.proofs.LookedUp.{nowhere, extent_found, xfcb_found, xfcb_mi
 use Rattle.mpm_mount.proofs.FreeEntries.{no_free_slot}
 use Rattle.mpm_mount.proofs.Distinct.{xfcb_by, label_by}
 use Rattle.mpm_jobs.specs.declared.jobs.Job.{Job}
-use Rattle.mpm_files.specs.Units.{FileUnit, AddsEntry, SetsAttributes, RenamesEntry, PutsXfcb, RenamesXfcb, PutsLabel, new_entry, with_attributes, stages, last_of, applied}
+use Rattle.mpm_files.specs.Units.{AddsEntry, SetsAttributes, RenamesEntry, PutsXfcb, RenamesXfcb, PutsLabel, new_entry, with_attributes, stages}
 use Rattle.mpm_files.specs.Plans.{file_of_job, new_file_of_job, protection_in}
-use Rattle.mpm_files.specs.Standing.{StandsOn, DoesUnit}
 use Rattle.mpm_files.specs.Turning.{IsFileAt, xfcb_of_job, label_of_job, marks_set}
 use Rattle.mpm_files.proofs.NoFile.{there_at}
 
@@ -162,19 +160,6 @@ entry_not_there image d files job extent slot stands found none =
     let at = extent_found image d files (file_of_job job) extent slot stands found in
     true≢false (sym (ap is_some at.extent) ∙ ap (λ k. is_some (get files.extents (entry_name k (file_of_job job) extent))) (sym (kind_of image d files stands)) ∙ ap is_some none)
 
-some_taken : (o : Option ℕ) → is_some o ≡ true → (slot : ℕ) × (o ≡ Some slot)
-some_taken (Some slot) is = (slot, refl)
-some_taken None is = absurd (true≢false (sym is))
-
-pub entry_taken : (image : List ℕ) (d : Directory) (files : Drive) (job : Job) (extent : ℕ) (o : Option ℕ) → Stands image d files → o ≡ extent_slot d (file_of_job job) extent → is_some o ≡ true
-    → get files.extents (entry_name files.kind (file_of_job job) extent) ≡ None → ⊥
-entry_taken image d files job extent o stands same is none =
-    let at = some_taken o is in entry_not_there image d files job extent at.0 stands (sym same ∙ at.1) none
-
-pub none_taken : (o p : Option ℕ) → p ≡ o → is_some p ≡ false → o ≡ None
-none_taken o None same is = sym same
-none_taken o (Some slot) same is = absurd (true≢false is)
-
 -- an entry changes in its place, or goes to another name
 file_same : (f g : FileEntry) (e : Entry) → e ≡ File f → e ≡ File g → f ≡ g
 file_same f g e is other = cc
@@ -266,6 +251,16 @@ renamed_free image d files job slot other f file name stands at is user same fou
     ∙ (λ i. is_some (get files.extents (record { user = owner i; name = same i; number = entry_number (kind i) (extent_of f) })))
     ∙ ap (λ (q : FileEntry). is_some (get files.extents (record { user = job.user; name = plain job.new_name; number = (name_of files.kind q).number }))) (sym one) ∙ ap is_some none)
 
+pub same_user : (d : Directory) (slot : ℕ) (f file : FileEntry) (user : ℕ) → entry_in d slot ≡ File f → entry_in d slot ≡ File file → file.user ≡ user → f.user ≡ user
+same_user d slot f file user at is user_is = ap (λ (q : FileEntry). q.user) (file_same f file (entry_in d slot) at is) ∙ user_is
+
+pub still_free : (d : Directory) (job : Job) (slot : ℕ) (f file : FileEntry) (name : List ℕ) → entry_in d slot ≡ File f → entry_in d slot ≡ File file → file.user ≡ job.user
+    → plain name ≡ plain job.new_name → extent_slot d (new_file_of_job job) (extent_of file) ≡ None → extent_slot d (record { user = f.user; name = plain name }) (extent_of f) ≡ None
+still_free d job slot f file name at is user same free =
+    let one : file ≡ f = file_same file f (entry_in d slot) is at in
+    let owner : f.user ≡ job.user = same_user d slot f file job.user at is user in
+    (λ i. extent_slot d (record { user = owner i; name = same i }) (extent_of f)) ∙ ap (λ (q : FileEntry). extent_slot d (new_file_of_job job) (extent_of q)) (sym one) ∙ free
+
 -- an XFCB
 pub xfcb_owner : (d : Directory) (job : Job) (slot : ℕ) (x : XfcbEntry) → xfcb_slot d (file_of_job job) ≡ Some slot → entry_in d slot ≡ Xfcb x → x.user ≡ job.user
 xfcb_owner d job slot x found is =
@@ -297,16 +292,6 @@ moved_stage image d files job slot x stands found is user =
     xfcb_same : (a b : XfcbEntry) (e : Entry) → e ≡ Xfcb a → e ≡ Xfcb b → a ≡ b
     xfcb_same a b e one other = cc
 
-pub no_xfcb_stage : (image : List ℕ) (d : Directory) (files : Drive) (job : Job) → Stands image d files → xfcb_slot d (file_of_job job) ≡ None
-    → stages (RenamesXfcb (file_of_job job) (new_file_of_job job)) files ≡ []
-unfolding stages
-no_xfcb_stage image d files job stands none =
-    ap (λ o. where_there o (λ xfcb. with_xfcb (without_xfcb files (file_of_job job)) (new_file_of_job job) xfcb ∷ [])) (xfcb_missing image d files (file_of_job job) stands none)
-
-pub xfcb_free : (image : List ℕ) (d : Directory) (files : Drive) (file : FileName) (slot : ℕ) → Stands image d files → xfcb_slot d file ≡ Some slot → get files.xfcbs file ≡ None → ⊥
-xfcb_free image d files file slot stands found none =
-    true≢false (sym (ap is_some ((xfcb_found image d files file slot stands found).protection)) ∙ ap is_some none)
-
 -- the attributes of a file are those of its lowest entry
 pub lowest_attributes : {K : Type 0} (d : Directory) (extents : List (K × PhysicalExtent)) (slot : ℕ) (f : FileEntry) → first_attributes extents ≡ attributes_at (entry_in d slot) → entry_in d slot ≡ File f
     → map (nat_le 128) f.name ≡ attributes_of extents
@@ -314,12 +299,3 @@ lowest_attributes d extents slot f first is = sym (ap (λ o. unwrap_or o (replic
 
 pub no_attributes : {K : Type 0} (extents : List (K × PhysicalExtent)) → first_attributes extents ≡ None → replicate 11 false ≡ attributes_of extents
 no_attributes extents none = sym (ap (λ o. unwrap_or o (replicate 11 false)) none)
-
--- a unit without stages is done by nothing
-pub does_nothing : {E : Type 0} (disks : Disks) (d : Directory) (files : Drive) (image : List ℕ) (unit : FileUnit) → disks.image d.drive ≡ Some image → Stands image d files → stages unit files ≡ []
-    → DoesUnit {A = Unit {0}} {E = E} disks d.drive d files unit (Ok tt)
-unfolding applied last_of
-does_nothing disks d files image unit told stands none = record {
-  ok = subst (λ l. StandsOn disks d (last_of files l)) (sym none) (record { image = image; told = told; stands = stands });
-  err = tt;
-}

@@ -58,8 +58,12 @@ may_take true sectors d (Some c) block fresh free none =
 
 -- a record that lacks no block has an entry, and a number in that
 
-pub block_lacking : (d : Directory) (file : FileName) (n : ℕ) → extent_slot d file (n / 128) ≡ None → lacks_block d file n ≡ false → ⊥
-block_lacking d file n none held = true≢false (sym (ap (lacks_block_at d n) none) ∙ held)
+pub block_entered : (d : Directory) (file : FileName) (n : ℕ) → lacks_block d file n ≡ false → lacks_entry d file n ≡ false
+block_entered d file n held = by_slot (extent_slot d file (n / 128)) held
+  where
+    by_slot : (o : Option ℕ) → lacks_block_at d n o ≡ false → not (is_some o) ≡ false
+    by_slot None held = absurd (true≢false held)
+    by_slot (Some slot) held = refl
 
 pub number_lacking : (d : Directory) (file : FileName) (n slot : ℕ) (f : FileEntry) → HasEntry d file n slot f → block_at f (block_place d.kind n) ≡ 0 → lacks_block d file n ≡ false → ⊥
 number_lacking d file n slot f has none held = true≢false (sym (lacks_is d file n slot f has ∙ eq-eqb (block_at f (block_place d.kind n)) 0 none) ∙ held)
@@ -226,17 +230,6 @@ block_calls_few d disk clear index old new is few most =
     omega (arith, calls, few)
 
 -- ---- the sectors that are cleared
-
-pub is_clearing : (kind same : Kind) (b : Bool) {v : Bool} → b ≡ clears_blocks same → same ≡ kind → b ≡ v → clears_blocks kind ≡ v
-is_clearing kind same b is here clears = sym (ap clears_blocks here) ∙ sym is ∙ clears
-
--- which block was cleared
-
-pub cleared_if : (kind : Kind) (free block : Option ℕ) → clears_blocks kind ≡ true → free ≡ block → block ≡ (if clears_blocks kind then free else None)
-cleared_if kind free block clears is = sym is ∙ ap (λ (b : Bool). if b then free else None) (sym clears)
-
-pub clears_if : (kind : Kind) (free : Option ℕ) → clears_blocks kind ≡ false → None ≡ (if clears_blocks kind then free else None)
-clears_if kind free clears = ap (λ (b : Bool). if b then free else None) (sym clears)
 
 pub clear_inside : (d : Directory) (disk : Disk) (block a b count : ℕ) → disk ≡ record { drive = d.drive; kind = d.kind } → a ≡ block → b ≡ block_records d.kind → count ≡ 18
     → clears_blocks d.kind ≡ true → free_block d ≡ Some block → a * b + count ≤ logical_sectors disk.kind

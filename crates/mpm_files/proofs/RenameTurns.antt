@@ -194,10 +194,6 @@ renames_done before job j work unit serving is h here moves reads left = record 
 pub may_rename : (before : Drive) (job : Job) (j : ℕ) (work : Work) → IsServingJob before job j work → work.job.kind ≡ Rename → Suits before job → MayRename before job
 may_rename before job j work serving is suits = subst (SuitsKind before job) (kind_is before job j work serving is) suits.kind
 
-pub new_xfcb : (image : List ℕ) (d : Directory) (files : Drive) (work : Work) → Stands image d files → xfcb_slot d (new_file_of_job work.job) ≡ None
-    → get files.xfcbs (new_file_of_job work.job) ≡ None
-new_xfcb image d files work stands none = xfcb_missing image d files (new_now work) stands none
-
 -- the XFCB of the new name goes
 pub over_renamed : (image : List ℕ) (d : Directory) (before : Drive) (job : Job) (j : ℕ) (work : Work) (slot : ℕ) → Stands image d (units_done before job j)
     → IsServingJob before job j work → work.job.kind ≡ Rename → MayRename before job → j < length (plan_of before job).units → xfcb_slot d (new_file_of_job work.job) ≡ Some slot
@@ -261,28 +257,33 @@ entry_renamed image d before job j work found stands serving is may h none least
     }
 
 -- last its XFCB
+no_numbers : (image : List ℕ) (d : Directory) (before : Drive) (job : Job) (j : ℕ) (work : Work) → Stands image d (units_done before job j) → IsServingJob before job j work
+    → MayRename before job → IsNext d.kind (search_of d.kind work.job.user work.job.name None) d.entries None
+    → each (extents_of (units_done before job j) (file_now work)) (λ e. e.0.number) ≡ []
+no_numbers image d before job j work stands serving may missing =
+    ap (λ es. each es (λ e. e.0.number))
+    (lowest_missing image d (units_done before job j) work.job.user work.job.name stands (subst (λ (q : Job). IsUnambiguous q.name) (sym serving.job_is) may.name) missing)
+
+pub no_xfcb_left : (image : List ℕ) (d : Directory) (before : Drive) (job : Job) (j : ℕ) (work : Work) → Stands image d (units_done before job j)
+    → IsServingJob before job j work → work.job.kind ≡ Rename → MayRename before job → j < length (plan_of before job).units → xfcb_slot d (new_file_of_job work.job) ≡ None
+    → IsNext d.kind (search_of d.kind work.job.user work.job.name None) d.entries None → get (units_done before job j).xfcbs (file_of_job work.job) ≡ None → ⊥
+no_xfcb_left image d before job j work stands serving is may h none missing gone =
+    never_empty (plan_of before job).units j (renaming (units_done before job j) (file_now work) (new_now work)) (left_named before job j work serving is)
+    (renaming_as (units_done before job j) (file_now work) (new_now work) [] None (xfcb_missing image d (units_done before job j) (new_now work) stands none) gone
+    (no_numbers image d before job j work stands serving may missing)) h
+
 pub xfcb_renamed : (image : List ℕ) (d : Directory) (before : Drive) (job : Job) (j : ℕ) (work : Work) → Stands image d (units_done before job j)
     → IsServingJob before job j work → work.job.kind ≡ Rename → MayRename before job → j < length (plan_of before job).units → xfcb_slot d (new_file_of_job work.job) ≡ None
     → IsNext d.kind (search_of d.kind work.job.user work.job.name None) d.entries None
     → IsDone before job j (record work { cleared = None }) (RenamesXfcb (file_of_job work.job) (new_file_of_job work.job))
 xfcb_renamed image d before job j work stands serving is may h none missing = by_xfcb (get (units_done before job j).xfcbs (file_now work)) refl
   where
-    one : IsUnambiguous work.job.name
-    one = subst (λ (q : Job). IsUnambiguous q.name) (sym serving.job_is) may.name
-
-    no_numbers : each (extents_of (units_done before job j) (file_now work)) (λ e. e.0.number) ≡ []
-    no_numbers = ap (λ es. each es (λ e. e.0.number)) (lowest_missing image d (units_done before job j) work.job.user work.job.name stands one missing)
-
-    no_other : get (units_done before job j).xfcbs (new_now work) ≡ None
-    no_other = xfcb_missing image d (units_done before job j) (new_now work) stands none
-
     by_xfcb : (o : Option Protection) → get (units_done before job j).xfcbs (file_now work) ≡ o
         → IsDone before job j (record work { cleared = None }) (RenamesXfcb (file_of_job work.job) (new_file_of_job work.job))
-    by_xfcb None gone =
-        absurd (never_empty (plan_of before job).units j (renaming (units_done before job j) (file_now work) (new_now work)) (left_named before job j work serving is)
-        (renaming_as (units_done before job j) (file_now work) (new_now work) [] None no_other gone no_numbers) h)
+    by_xfcb None gone = absurd (no_xfcb_left image d before job j work stands serving is may h none missing gone)
     by_xfcb (Some xfcb) there =
         let next = renamed_xfcb_next (plan_of before job).units j (units_done before job j) (file_now work) (new_now work) xfcb (Idles (file_of_job job) None)
-        (left_named before job j work serving is) no_other there no_numbers h in
+        (left_named before job j work serving is) (xfcb_missing image d (units_done before job j) (new_now work) stands none) there
+        (no_numbers image d before job j work stands serving may missing) h in
         renames_done before job j work (RenamesXfcb (file_now work) (new_now work)) serving is h next.0 refl refl
         (nothing_left (plan_of before job).units (suc j) _ next.1)

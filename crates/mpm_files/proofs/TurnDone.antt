@@ -12,7 +12,7 @@ use Rattle.mpm_files.specs.Plans.{file_of_job, plan_of, turns_of, unit_at, needs
 use Rattle.mpm_files.specs.Serving.{units_done, turns_in, IsServingJob}
 use Rattle.mpm_files.specs.Standing.{StandsOn}
 use Rattle.mpm_files.specs.Containment.{IsContained}
-use Rattle.mpm_files.specs.Turning.{JobInService, Contained, one_ended}
+use Rattle.mpm_files.specs.Turning.{JobInService, HasUnitLeft, HasTurnLeft, Contained, one_ended}
 use Rattle.mpm_mount.proofs.Mounts.{mounts}
 use Rattle.mpm_mount.proofs.LookedUp.{kind_of}
 use Rattle.mpm_files.proofs.Contained.{turn_contained}
@@ -43,6 +43,17 @@ next_there before job j work serving h = omega (arith, h, serving.ended, serving
 
 pub none_there : (before : Drive) (job : Job) (j : ℕ) (work : Work) → IsServingJob before job j work → work.units ≤ work.ended → length (plan_of before job).units ≤ j
 none_there before job j work serving h = omega (arith, h, serving.ended, serving.units)
+
+-- where a turn is left, and units are, one of these is
+pub unit_left : (disks : Disks) (d : Directory) (work : Work) → HasTurnLeft disks d work → work.ended < work.units → HasUnitLeft disks d work
+unit_left disks d work turn more = record {
+  before = turn.before;
+  job = turn.job;
+  ended = turn.ended;
+  suits = turn.suits;
+  service = turn.service;
+  left = next_there turn.before turn.job turn.ended work turn.service.service.serving more;
+}
 
 -- a job without units has one turn, in which nothing is done
 pub idle_turn : (disks : Disks) (d : Directory) (before : Drive) (job : Job) (j : ℕ) (work : Work) → JobInService disks d before job j work → j < turns_of before job → work.units ≤ work.ended

@@ -4,7 +4,7 @@ use Rattle.std.specs.Prelude.{is_some, IfSome, if◌then◌else◌}
 use Rattle.std.proofs.lemmas.Bool.{true≢false, false_from_ne_true, cases_lt}
 use Rattle.std.proofs.lemmas.List.{append-nil, drop_all}
 use Rattle.std.proofs.lemmas.List.FromFn.{length-map-range_with_len}
-use Rattle.mpm_mount.specs.Drives.{FileName, PhysicalExtent, Drive, entry_name, free_records, free_entries}
+use Rattle.mpm_mount.specs.Drives.{FileName, Drive, free_records, free_entries}
 use Rattle.mpm_mount.specs.Directories.{Directory, Stands, free_block}
 use Rattle.mpm_mount.proofs.FreeRecords.{no_free_block}
 use Rattle.mpm_jobs.specs.declared.jobs.JobKind.TheVariants.{Write}
@@ -14,7 +14,6 @@ use Rattle.mpm_files.specs.declared.moving.Step.TheVariants.{Entry, Block, Recor
 use Rattle.mpm_files.specs.declared.work.Work.{Work}
 use Rattle.mpm_files.specs.Stepping.{step_by, step_of, record_next}
 use Rattle.mpm_files.proofs.Tied.{entry_needed, block_needed}
-use Rattle.std.specs.FinMap.{get}
 use Rattle.mpm_dirent.specs.declared.limits.TheConstants.{LAST_EXTENT, LAST_NAMED, LAST_RECORD}
 use Rattle.mpm_blocks.specs.Sectors.{Sectors, sectors_of}
 use Rattle.mpm_mount.proofs.LookedUp.{kind_of}
@@ -208,13 +207,6 @@ pub entry_room : (before : Drive) (job : Job) (j : ℕ) (work : Work) (extent : 
     → unit_at before job j ≡ AddsEntry (file_of_job work.job) extent → free_entries (units_done before job j) ≢ 0
 entry_room before job j work extent serving is h unit = unit_fits before job j (AddsEntry (file_of_job work.job) extent) (kind_is before job j work serving is) h unit
 
-pub entry_gone : (drive : Drive) (file : FileName) (n : ℕ) → needs_entry drive file n ≡ true → get drive.extents (entry_name drive.kind file (n / 128)) ≡ None
-entry_gone drive file n needs = by_entry (get drive.extents (entry_name drive.kind file (n / 128))) needs
-  where
-    by_entry : (o : Option PhysicalExtent) → not (is_some o) ≡ true → o ≡ None
-    by_entry None is = refl
-    by_entry (Some entry) is = absurd (true≢false (sym is))
-
 is_block : Step → Bool
 is_block Entry = false
 is_block Block = true
@@ -238,27 +230,26 @@ is_to_clear true true false is = (refl, refl)
 is_to_clear true false c is = absurd (true≢false (sym is))
 is_to_clear false b c is = absurd (true≢false (sym is))
 
-of_some : (P : Option ℕ → Type 0) (o : Option ℕ) → is_some o ≡ true → ((n : ℕ) → P (Some n)) → P o
-of_some P (Some n) some each = each n
-of_some P None some each = absurd (true≢false (sym some))
-
-pub block_ready : (image : List ℕ) (d : Directory) (before : Drive) (job : Job) (j : ℕ) (work : Work) (block : Option ℕ) → IsInService image d before job j work → work.job.kind ≡ Write
-    → j < length (plan_of before job).units → step_of d work (record_next work) ≡ Block → block ≡ (if clears_blocks d.kind then free_block d else None)
-    → IsDone before job j (record work { cleared = block }) (ClearsBlock (file_of_job work.job) (record_next work))
-block_ready image d before job j work block service kind h is free =
+pub block_ready : (image : List ℕ) (d : Directory) (before : Drive) (job : Job) (j : ℕ) (work : Work) (block : ℕ) → IsInService image d before job j work → work.job.kind ≡ Write
+    → j < length (plan_of before job).units → step_of d work (record_next work) ≡ Block
+    → IsDone before job j (record work { cleared = Some block }) (ClearsBlock (file_of_job work.job) (record_next work))
+block_ready image d before job j work block service kind h is =
     let files : Drive = units_done before job j in
     let file : FileName = file_of_job work.job in
-    let unit : FileUnit = ClearsBlock file (record_next work) in
     let tests = (step_block _ _ is).1 in
     let clears = is_to_clear (clears_blocks d.kind) (lacks_block d file (record_next work)) (is_some work.cleared) tests in
-    let next : (n : ℕ) → IsDone before job j (record work { cleared = Some n }) unit = λ n.
-    block_cleared before job j work n service.serving kind h clears.1 (entry_entered image d before job j work service.stands is)
+    block_cleared before job j work block service.serving kind h clears.1 (entry_entered image d before job j work service.stands is)
     (ap (λ k. clears_blocks k && (needs_block files file (record_next work) && not false)) (kind_of image d files service.stands)
     ∙ ap (λ b. clears_blocks d.kind && (b && not false)) (block_needed image d files file (record_next work) service.stands)
-    ∙ ap (λ c. clears_blocks d.kind && (lacks_block d file (record_next work) && not c)) (sym clears.1) ∙ tests) in
-    of_some (λ o. IsDone before job j (record work { cleared = o }) unit) block
-    (ap is_some (free ∙ ap (λ c. if c then free_block d else None) clears.0)
-    ∙ block_free image d before job j service.stands (unit_fits before job j unit (kind_is before job j work service.serving kind) h (next 0).unit_is)) next
+    ∙ ap (λ c. clears_blocks d.kind && (lacks_block d file (record_next work) && not c)) (sym clears.1) ∙ tests)
+
+pub block_to_clear : (image : List ℕ) (d : Directory) (before : Drive) (job : Job) (j : ℕ) (work : Work) → IsInService image d before job j work → work.job.kind ≡ Write
+    → j < length (plan_of before job).units → step_of d work (record_next work) ≡ Block → (clears_blocks d.kind ≡ true) × (is_some (free_block d) ≡ true)
+block_to_clear image d before job j work service kind h is = (
+  (is_to_clear (clears_blocks d.kind) (lacks_block d (file_of_job work.job) (record_next work)) (is_some work.cleared) (step_block _ _ is).1).0,
+  block_free image d before job j service.stands
+      (unit_fits before job j (ClearsBlock (file_of_job work.job) (record_next work)) (kind_is before job j work service.serving kind) h (block_ready image d before job j work 0 service kind h is).unit_is),
+)
 
 is_record : Step → Bool
 is_record Entry = false

@@ -1,29 +1,31 @@
 -- What each part of a unit asks of a mounted drive and its disk, and what it leaves of them.
-use Rattle.std.specs.Prelude.{◌≡◌, ℕ, ◌+◌, ◌/◌, ◌<◌, ◌≤◌, true, false, List, [], ◌∷◌, Option, Some, None, length, IfOk, OnOk, IsSome, Result, if◌then◌else◌}
+use Rattle.std.specs.Prelude.{◌≡◌, ℕ, ◌+◌, ◌/◌, ◌<◌, ◌≤◌, true, false, List, [], ◌∷◌, Option, Some, None, length, IfOk, OnOk, IsSome, Result}
 use Rattle.mpm_port.specs.Disks.{Disks}
 use Rattle.mpm_port.specs.declared.drives.Drives.{Ghosts}
 use Rattle.mpm_blocks.specs.Geometries.{geometry_of, block_records, logical_sectors}
+use Rattle.mpm_blocks.specs.Sectors.{sectors_of}
 use Rattle.mpm_cache.specs.declared.cache.SectorPlace.{SectorPlace}
 use Rattle.mpm_dirent.specs.declared.kinds.Entry.{Entry}
 use Rattle.mpm_dirent.specs.declared.kinds.Entry.TheVariants.{File}
 use Rattle.mpm_dirent.specs.declared.kinds.FileEntry.{FileEntry}
-use Rattle.mpm_dirent.specs.declared.limits.TheConstants.{LAST_NAMED}
+use Rattle.mpm_dirent.specs.declared.limits.TheConstants.{LAST_EXTENT, LAST_NAMED}
 use Rattle.mpm_dirent.specs.Proper.{IsProper}
 use Rattle.mpm_sectors.specs.declared.disk.FreshBlock.{FreshBlock}
 use Rattle.mpm_sectors.specs.declared.disk.SlotEntry.{SlotEntry}
 use Rattle.mpm_sectors.specs.Disks.{IsReadyDisk}
 use Rattle.mpm_sectors.specs.Writes.{Write, Puts, block_calls}
 use Rattle.mpm_mount.specs.Drives.{FileName, Drive, record_of, visible_of}
-use Rattle.mpm_mount.specs.Directories.{Directory, entry_in, with_entry, others, free_block}
-use Rattle.mpm_mount.specs.Faults.{cause_of}
+use Rattle.mpm_mount.specs.Directories.{Directory, entry_in, with_entry, others, extent_slot, xfcb_slot, label_slot, free_slot, free_block}
+use Rattle.mpm_mount.specs.Faults.{cause_of, extent_of}
 use Rattle.mpm_mount.specs.Files.{is_file}
 use Rattle.mpm_mount.specs.Records.{record_error}
+use Rattle.mpm_jobs.specs.declared.jobs.Job.{Job}
 use Rattle.mpm_files.specs.declared.lookups.FoundEntry.{FoundEntry}
 use Rattle.mpm_files.specs.Units.{FileUnit, ReadsRecord, ClearsBlock, with_stamp}
-use Rattle.mpm_files.specs.Plans.{clears_blocks}
-use Rattle.mpm_files.specs.Counting.{lacks_block}
+use Rattle.mpm_files.specs.Plans.{clears_blocks, file_of_job, new_file_of_job}
+use Rattle.mpm_files.specs.Counting.{lacks_entry, lacks_block}
 use Rattle.mpm_files.specs.Lookups.{HasEntry, HasXfcbBeside, IsRecordCached}
-use Rattle.mpm_files.specs.Standing.{OnItsImage, exchanged_in, GoesThrough, DoesUnit, StandsCleared}
+use Rattle.mpm_files.specs.Standing.{OnItsImage, exchanged_in, GoesThrough, DoesUnit, HasFreshBlock, StandsCleared}
 use Rattle.mpm_files.specs.Working.{UsesDisk}
 
 -- the disk is ready, and a directory entry may come into a slot: it is proper, and has no fault beside the others
@@ -51,15 +53,66 @@ pub record MayPutStamped (disks : Disks) (d : Directory) (cached : List (SectorP
   pub proper : IsProper (geometry_of d.kind).wide (File placed.file)
   pub faultless : cause_of d.kind (others d.entries placed.slot) (File placed.file) ≡ None
 
--- the disk is ready, and a slot is one of its directory
-pub record MayChangeSlot (disks : Disks) (d : Directory) (cached : List (SectorPlace × List ℕ)) (into : ℕ) : Type 0 where
+-- the disk is ready, and an entry of a job's file may be added for an extent: there is none for it, and a slot is free
+pub record MayAddEntry (disks : Disks) (d : Directory) (cached : List (SectorPlace × List ℕ)) (job : Job) (extent : ℕ) : Type 0 where
   pub ready : IsReadyDisk disks d.drive d.kind cached
-  pub slot : into ≤ (geometry_of d.kind).drm
+  pub user : job.user < 16
+  pub small : extent ≤ LAST_EXTENT
+  pub none : extent_slot d (file_of_job job) extent ≡ None
+  pub room : IsSome (free_slot d)
 
--- the disk is ready, and a record is one that may be named
-pub record MayMoveRecord (disks : Disks) (d : Directory) (cached : List (SectorPlace × List ℕ)) (n : ℕ) : Type 0 where
+-- the disk is ready, and an XFCB or the label may be put: there is one, or a slot is free
+pub record MayPutXfcb (disks : Disks) (d : Directory) (cached : List (SectorPlace × List ℕ)) (job : Job) : Type 0 where
+  pub ready : IsReadyDisk disks d.drive d.kind cached
+  pub user : job.user < 16
+  pub room : xfcb_slot d (file_of_job job) ≡ None → IsSome (free_slot d)
+
+pub record MayPutLabel (disks : Disks) (d : Directory) (cached : List (SectorPlace × List ℕ)) : Type 0 where
+  pub ready : IsReadyDisk disks d.drive d.kind cached
+  pub room : label_slot d ≡ None → IsSome (free_slot d)
+
+-- the disk is ready, and a slot has a file's entry
+pub record MayChangeFile (disks : Disks) (d : Directory) (cached : List (SectorPlace × List ℕ)) (into : ℕ) : Type 0 where
+  pub ready : IsReadyDisk disks d.drive d.kind cached
+  pub within : into ≤ (geometry_of d.kind).drm
+  pub was : is_file (entry_in d into) ≡ true
+
+-- the same of an entry of a job's user, where the new name of the job has no such entry
+pub record MayRenameEntry (disks : Disks) (d : Directory) (cached : List (SectorPlace × List ℕ)) (job : Job) (into : ℕ) : Type 0 where
+  pub ready : IsReadyDisk disks d.drive d.kind cached
+  pub within : into ≤ (geometry_of d.kind).drm
+  pub file : FileEntry
+  pub entry : entry_in d into ≡ File file
+  pub user : file.user ≡ job.user
+  pub free : extent_slot d (new_file_of_job job) (extent_of file) ≡ None
+
+-- the disk is ready, and the file of a job has an XFCB, but its new name has none
+pub record MayRenameXfcb (disks : Disks) (d : Directory) (cached : List (SectorPlace × List ℕ)) (job : Job) : Type 0 where
+  pub ready : IsReadyDisk disks d.drive d.kind cached
+  pub there : IsSome (xfcb_slot d (file_of_job job))
+  pub free : xfcb_slot d (new_file_of_job job) ≡ None
+
+-- the disk is ready, and the block of a record is held
+pub record MayMoveRecord (disks : Disks) (d : Directory) (cached : List (SectorPlace × List ℕ)) (file : FileName) (n : ℕ) : Type 0 where
   pub ready : IsReadyDisk disks d.drive d.kind cached
   pub number : n ≤ LAST_NAMED
+  pub held : lacks_block d file n ≡ false
+
+-- the disk is ready, a record has a directory entry in which it lacks a block, and a fresh block is there for it
+pub record MayFillBlock (disks : Disks) (d : Directory) (cached : List (SectorPlace × List ℕ)) (file : FileName) (n : ℕ) (cleared : Option ℕ) : Type 0 where
+  pub ready : IsReadyDisk disks d.drive d.kind cached
+  pub number : n ≤ LAST_NAMED
+  pub entry : lacks_entry d file n ≡ false
+  pub lacks : lacks_block d file n ≡ true
+  pub image : List ℕ
+  pub told : disks.image d.drive ≡ Some image
+  pub fresh : HasFreshBlock (clears_blocks d.kind) (sectors_of image d.kind) d cleared
+
+-- the disk is ready, its blocks are cleared in turns of their own, and one is free
+pub record MayClearNext (disks : Disks) (d : Directory) (cached : List (SectorPlace × List ℕ)) : Type 0 where
+  pub ready : IsReadyDisk disks d.drive d.kind cached
+  pub clears : clears_blocks d.kind ≡ true
+  pub free : IsSome (free_block d)
 
 -- the disk is ready, and a record has a directory entry
 pub record MayRaiseEntry (disks : Disks) (d : Directory) (cached : List (SectorPlace × List ℕ)) (file : FileName) (n into : ℕ) (f : FileEntry) : Type 0 where
@@ -119,9 +172,9 @@ pub record PutsRecordByDisk {D A E : Type 0} (of : Ghosts D) (most : ℕ) (d : D
   pub long : length bytes ≡ 128
   pub works : UsesDisk of most d d old_cached new_cached old new old_calls new_calls result
 
--- a record is read, visible or not, where its block is held. No call is made where its sector is cached, and no image changes
+-- a record is read, visible or not. No call is made where its sector is cached, and no image changes
 pub record ReadsByDisk {D A E : Type 0} (of : Ghosts D) (d : Directory) (old_cached new_cached : List (SectorPlace × List ℕ)) (old new : D) (old_calls new_calls : ℕ) (file : FileName) (n : ℕ) (out : List ℕ) (result : Result A E) : Type 0 where
-  pub held : OnItsImage (of.disks old) d (λ image files. lacks_block d file n ≡ false → OnOk result (record_of files file n ≡ Some out))
+  pub held : OnItsImage (of.disks old) d (λ image files. OnOk result (record_of files file n ≡ Some out))
   pub visible : OnItsImage (of.disks old) d (λ image files. record_error d file n ≡ None → OnOk result (visible_of files file n ≡ Some out))
   pub does : OnItsImage (of.disks old) d (λ image files. DoesUnit (of.disks new) d.drive d files (ReadsRecord file n) result)
   pub cached : IsRecordCached old_cached d file n → new_calls ≡ old_calls
@@ -129,9 +182,9 @@ pub record ReadsByDisk {D A E : Type 0} (of : Ghosts D) (d : Directory) (old_cac
   pub unsynced : (other : ℕ) → of.unsynced new other ≡ of.unsynced old other
   pub works : UsesDisk of 1 d d old_cached new_cached old new old_calls new_calls result
 
--- the lowest free block is cleared, where blocks are cleared in turns of their own, and the result says which one it is
-pub record ClearsByDisk {D E : Type 0} (of : Ghosts D) (d : Directory) (old_cached new_cached : List (SectorPlace × List ℕ)) (old new : D) (old_calls new_calls : ℕ) (result : Result (Option ℕ) E) : Type 0 where
-  pub block : IfOk result (λ block. block ≡ (if clears_blocks d.kind then free_block d else None))
+-- the lowest free block is cleared, and the result says which one it is
+pub record ClearsByDisk {D E : Type 0} (of : Ghosts D) (d : Directory) (old_cached new_cached : List (SectorPlace × List ℕ)) (old new : D) (old_calls new_calls : ℕ) (result : Result ℕ E) : Type 0 where
+  pub block : IfOk result (λ block. free_block d ≡ Some block)
   pub does : OnItsImage (of.disks old) d (λ image files. (file : FileName) (n : ℕ) → DoesUnit (of.disks new) d.drive d files (ClearsBlock file n) result)
-  pub cleared : OnItsImage (of.disks old) d (λ image files. IfOk result (λ block. StandsCleared (of.disks new) d files block))
+  pub cleared : OnItsImage (of.disks old) d (λ image files. IfOk result (λ block. StandsCleared (of.disks new) d files (Some block)))
   pub works : UsesDisk of 18 d d old_cached new_cached old new old_calls new_calls result

@@ -1,27 +1,23 @@
 -- What lookups in a directory and the counts of a job's units ask and answer.
-use Rattle.std.specs.Prelude.{◌≡◌, ℕ, ◌/◌, ◌≤◌, Bool, List, Option, None, IfSome, IfNone, IsSome}
-use Rattle.mpm_base.specs.declared.kind.Kind.{Kind}
-use Rattle.mpm_dirent.specs.declared.kinds.Entry.TheVariants.{File}
-use Rattle.mpm_dirent.specs.declared.kinds.FileEntry.{FileEntry}
-use Rattle.mpm_dirent.specs.declared.limits.TheConstants.{LAST_POSITION}
-use Rattle.mpm_mount.specs.Drives.{FileName, Drive, block_place}
-use Rattle.mpm_mount.specs.Directories.{Directory, Stands, entry_in, extent_slot, xfcb_slot}
-use Rattle.mpm_mount.specs.Faults.{block_at}
+use Rattle.std.specs.Prelude.{◌≡◌, ℕ, ◌/◌, ◌≤◌, Bool, true, false, List, Option, None, IfSome, IfNone}
+use Rattle.mpm_blocks.specs.Geometries.{geometry_of}
+use Rattle.mpm_dirent.specs.declared.limits.TheConstants.{LAST_NAMED, LAST_POSITION}
+use Rattle.mpm_mount.specs.Drives.{FileName, Drive}
+use Rattle.mpm_mount.specs.Directories.{Directory, Stands, entry_in, xfcb_slot}
+use Rattle.mpm_mount.specs.Files.{is_file}
 use Rattle.mpm_jobs.specs.declared.jobs.Job.{Job}
 use Rattle.mpm_files.specs.declared.counting.Needs.{Needs}
 use Rattle.mpm_files.specs.declared.counting.Room.{Room}
-use Rattle.mpm_files.specs.declared.lookups.FoundEntry.{FoundEntry}
 use Rattle.mpm_files.specs.declared.lookups.FoundXfcb.{FoundXfcb}
 use Rattle.mpm_files.specs.declared.work.Work.{Work}
-use Rattle.mpm_files.specs.Counting.{unit_count}
-use Rattle.mpm_files.specs.Lookups.{HasEntry, HasXfcb, HasXfcbBeside, IsHeldAt}
+use Rattle.mpm_files.specs.Counting.{lacks_entry, unit_count}
+use Rattle.mpm_files.specs.Lookups.{HasXfcb, HasXfcbBeside}
 use Rattle.mpm_files.specs.Serving.{IsInService, begun}
-use Rattle.mpm_files.specs.Turning.{IsFileAt}
 
--- the directory entry of a record is found, or none covers its extent
-pub record FindsEntry (d : Directory) (file : FileName) (n : ℕ) (answer : Option FoundEntry) : Type 0 where
-  pub found : IfSome answer (λ found. HasEntry d file n found.slot found.file)
-  pub missing : IfNone answer (extent_slot d file (n / 128) ≡ None)
+-- a record may be named, and has a directory entry
+pub record IsEntered (d : Directory) (file : FileName) (n : ℕ) : Type 0 where
+  pub number : n ≤ LAST_NAMED
+  pub entry : lacks_entry d file n ≡ false
 
 -- a file's XFCB is found, or it has none
 pub record FindsXfcb (d : Directory) (file : FileName) (answer : Option FoundXfcb) : Type 0 where
@@ -34,15 +30,10 @@ pub record FindsXfcbBeside (d : Directory) (file : FileName) (slot : ℕ) (answe
   pub beside : IfSome answer (λ found. found.slot / 4 ≡ slot / 4)
   pub missing : IfNone answer (HasXfcbBeside d file slot → ⊥)
 
--- the sector of a record is found where its directory entry holds its block
-pub record FindsSector (kind : Kind) (f : FileEntry) (n : ℕ) (answer : Option ℕ) : Type 0 where
-  pub held : IfSome answer (λ sector. IsHeldAt kind f n sector)
-  pub none : IfNone answer (block_at f (block_place kind n) ≡ 0)
-
--- a file's entry is found in a slot, where it has one
-pub record FindsFile (d : Directory) (slot : ℕ) (answer : Option FileEntry) : Type 0 where
-  pub found : IfSome answer (λ file. IsFileAt d slot file)
-  pub missing : (f : FileEntry) → entry_in d slot ≡ File f → IsSome answer
+-- a slot is one of a directory, and has a file's entry
+pub record HasFileAt (d : Directory) (slot : ℕ) : Type 0 where
+  pub within : slot ≤ (geometry_of d.kind).drm
+  pub was : is_file (entry_in d slot) ≡ true
 
 -- the first record of a job is at a position that a block can have, and it has 16 records at most
 pub record HasFewRecords (job : Job) : Type 0 where

@@ -23,7 +23,7 @@ use Rattle.mpm_jobs.specs.declared.jobs.JobKind.{JobKind}
 use Rattle.mpm_jobs.specs.declared.jobs.JobKind.TheVariants.{Read, Write, TestWrite, Make, Delete, Rename, Attributes, Label, Xfcb, Nothing}
 use Rattle.mpm_jobs.specs.declared.jobs.Job.{Job}
 use Rattle.mpm_files.specs.declared.work.Work.{Work}
-use Rattle.mpm_files.specs.Plans.{plan_of, file_of_job, new_file_of_job, protection_in, unit_at}
+use Rattle.mpm_files.specs.Plans.{plan_of, turns_of, file_of_job, new_file_of_job, protection_in, unit_at}
 use Rattle.mpm_files.specs.Serving.{units_done, IsInService}
 use Rattle.mpm_files.specs.Lookups.{IsSoundDirectory, IsRecordCached}
 use Rattle.mpm_files.specs.Standing.{StandsWithinUnit}
@@ -132,6 +132,24 @@ pub record JobInService (disks : Disks) (d : Directory) (before : Drive) (job : 
   pub image : List ℕ
   pub told : disks.image d.drive ≡ Some image
   pub service : IsInService image d before job j work
+
+-- a job is in service that suited its drive, and a unit of it is left
+pub record HasUnitLeft (disks : Disks) (d : Directory) (work : Work) : Type 0 where
+  pub before : Drive
+  pub job : Job
+  pub ended : ℕ
+  pub suits : Suits before job
+  pub service : JobInService disks d before job ended work
+  pub left : ended < length (plan_of before job).units
+
+-- the same of a turn, of which a job without units has one too
+pub record HasTurnLeft (disks : Disks) (d : Directory) (work : Work) : Type 0 where
+  pub before : Drive
+  pub job : Job
+  pub ended : ℕ
+  pub suits : Suits before job
+  pub service : JobInService disks d before job ended work
+  pub left : ended < turns_of before job
 
 -- a device failed in the turn after j that have ended: the image stands within its unit
 pub record Contained (disks : Disks) (drive : ℕ) (before : Drive) (job : Job) (j : ℕ) : Type 0 where

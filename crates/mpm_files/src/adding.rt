@@ -1,21 +1,19 @@
-ghost use Rattle.std.specs.Prelude.{◌≡◌, ◌≢◌, ◌/◌, ◌%◌, ◌<◌, ◌≤◌, ℕ, List, Some, None, map, nat_le};
-ghost use Rattle.std.specs.FinMap.{get};
+ghost use Rattle.std.specs.Prelude.{◌≡◌, ◌/◌, ◌%◌, ◌≤◌, ℕ, List, map, nat_le};
 ghost use Rattle.mpm_dirent.specs.declared.limits.TheConstants.{LAST_EXTENT};
-ghost use Rattle.mpm_mount.specs.Drives.{Drive, entry_name, extents_of, free_entries};
+ghost use Rattle.mpm_mount.specs.Drives.{Drive, extents_of};
 ghost use Rattle.mpm_mount.specs.Directories.{Stands};
 ghost use Rattle.mpm_mount.specs.Attributes.{attributes_of};
-ghost use Rattle.mpm_sectors.specs.Disks.{IsReadyDisk};
 ghost use Rattle.mpm_files.specs.Turning.{IsNewEntry};
 ghost use Rattle.mpm_files.specs.Units.{AddsEntry};
 ghost use Rattle.mpm_files.specs.Plans.{file_of_job};
-ghost use Rattle.mpm_files.specs.DiskParts.{DoesByDisk};
+ghost use Rattle.mpm_files.specs.DiskParts.{MayAddEntry, DoesByDisk};
 
 use crate::entries::put_entry;
+use crate::lookups::file_at;
 use crate::marking::marked;
-use crate::renaming::file_at;
 use mpm_base::Steps;
 use mpm_cache::Cache;
-use mpm_dirent::{Entry, FileEntry, LAST_EXTENT};
+use mpm_dirent::{Entry, FileEntry};
 use mpm_jobs::Job;
 use mpm_mount::{Mounted, lowest_entry};
 use mpm_port::{Drives, Failed};
@@ -27,10 +25,7 @@ fn attributes(mounted: &Mounted, job: &Job) -> [u8; 11]
 {
     mounted.tell_directory();
     match lowest_entry(mounted, job.user, &job.name) {
-        Some(found) => match file_at(mounted, found.slot) {
-            Some(file) => file.name,
-            None => [0; 11],
-        },
+        Some(found) => file_at(mounted, found.slot).name,
         None => [0; 11],
     }
 }
@@ -52,7 +47,6 @@ fn new_entry(mounted: &Mounted, job: &Job, extent: u16) -> FileEntry
 }
 
 /// Adds a directory entry for an extent of a job's file, with the attributes of the file.
-#[tactic(auto, using(crate::proofs::WorkingLaws::works_not))]
 pub(crate) fn add_entry<D: Drives, L: Ledger>(
     mounted: &mut Mounted,
     cache: &mut Cache,
@@ -61,22 +55,15 @@ pub(crate) fn add_entry<D: Drives, L: Ledger>(
     extent: u16,
     steps: &mut Steps<L>,
 ) -> Result<(), Failed>
-    requires ready { IsReadyDisk (D.disks drives.old) mounted.old.drive mounted.old.kind cache.old }
-    ensures { DoesByDisk D.Drives 2 mounted.old mounted.new cache.old cache.new drives.old drives.new steps.old steps.new (λ image files does. job.now.user < 16 → extent ≤ LAST_EXTENT → get files.extents (entry_name files.kind (file_of_job job.now) extent) ≡ None
-        → free_entries files ≢ 0 → does (AddsEntry (file_of_job job.now) extent)) result }
+    requires { MayAddEntry (D.disks drives.old) mounted.old cache.old job.now extent }
+    ensures { DoesByDisk D.Drives 2 mounted.old mounted.new cache.old cache.new drives.old drives.new steps.old steps.new (λ image files does. does (AddsEntry (file_of_job job.now) extent)) result }
 {
     mounted.tell_directory();
-    if job.user > 15 || extent > LAST_EXTENT {
-        return Ok(());
-    }
-    if mounted.extent(job.user, &job.name, extent).is_some() {
-        return Ok(());
-    }
     match mounted.free_slot() {
         Some(slot) => {
             let file = new_entry(mounted, job, extent);
             put_entry(mounted, cache, drives, slot, &Entry::File { file }, steps)
         }
-        None => Ok(()),
+        None => unreachable!(),
     }
 }

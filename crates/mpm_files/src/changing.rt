@@ -1,9 +1,7 @@
 ghost use Rattle.std.specs.Prelude.{◌≡◌, Some, None};
-ghost use Rattle.mpm_sectors.specs.Disks.{IsReadyDisk};
 ghost use Rattle.mpm_jobs.specs.declared.jobs.JobKind.TheVariants as kinds;
 ghost use Rattle.mpm_files.specs.Turning as turning;
-ghost use Rattle.mpm_files.specs.Working.{DoesNextOf};
-ghost use Rattle.mpm_files.specs.UnitParts.{PutsNext};
+ghost use Rattle.mpm_files.specs.Working.{MayDoUnitOf, DoesNextWithin};
 
 use crate::adding::add_entry;
 use crate::entries::put_entry;
@@ -15,7 +13,6 @@ use crate::work::Work;
 use mpm_base::Steps;
 use mpm_cache::Cache;
 use mpm_dirent::Entry;
-use mpm_jobs::JobKind;
 use mpm_mount::Mounted;
 use mpm_port::{Drives, Failed};
 use std::sync::ledger::Ledger;
@@ -37,7 +34,6 @@ fn xfcb_due(mounted: &Mounted, work: &Work) -> Option<u16>
 }
 
 /// Removes the next entry of a deletion: the XFCB of the file whose last entry went, or the first entry that fits.
-#[tactic(auto, using(crate::proofs::WorkingLaws::works_not))]
 pub(crate) fn delete_next<D: Drives, L: Ledger>(
     mounted: &mut Mounted,
     cache: &mut Cache,
@@ -45,8 +41,8 @@ pub(crate) fn delete_next<D: Drives, L: Ledger>(
     work: &mut Work,
     steps: &mut Steps<L>,
 ) -> Result<(), Failed>
-    requires ready { IsReadyDisk (D.disks drives.old) mounted.old.drive mounted.old.kind cache.old }
-    ensures { DoesNextOf kinds.Delete D.Drives 2 mounted.old mounted.new work.old work.new cache.old cache.new drives.old drives.new steps.old steps.new result }
+    requires { MayDoUnitOf kinds.Delete (D.disks drives.old) mounted.old cache.old work.old }
+    ensures { DoesNextWithin D.Drives 2 mounted.old mounted.new work.old work.new cache.old cache.new drives.old drives.new steps.old steps.new result }
 {
     mounted.tell_directory();
     let due = xfcb_due(mounted, work);
@@ -58,7 +54,7 @@ pub(crate) fn delete_next<D: Drives, L: Ledger>(
                 work.last = Some(found);
                 put_entry(mounted, cache, drives, found.slot, &Entry::Free, steps)
             }
-            None => Ok(()),
+            None => unreachable!(),
         },
     }
 }
@@ -71,8 +67,8 @@ pub(crate) fn rename_next<D: Drives, L: Ledger>(
     work: &mut Work,
     steps: &mut Steps<L>,
 ) -> Result<(), Failed>
-    requires ready { IsReadyDisk (D.disks drives.old) mounted.old.drive mounted.old.kind cache.old }
-    ensures { DoesNextOf kinds.Rename D.Drives 2 mounted.old mounted.new work.old work.new cache.old cache.new drives.old drives.new steps.old steps.new result }
+    requires { MayDoUnitOf kinds.Rename (D.disks drives.old) mounted.old cache.old work.old }
+    ensures { DoesNextWithin D.Drives 2 mounted.old mounted.new work.old work.new cache.old cache.new drives.old drives.new steps.old steps.new result }
 {
     mounted.tell_directory();
     work.cleared = None;
@@ -93,8 +89,8 @@ pub(crate) fn make_next<D: Drives, L: Ledger>(
     work: &mut Work,
     steps: &mut Steps<L>,
 ) -> Result<(), Failed>
-    requires ready { IsReadyDisk (D.disks drives.old) mounted.old.drive mounted.old.kind cache.old }
-    ensures { DoesNextOf kinds.Make D.Drives 2 mounted.old mounted.new work.old work.new cache.old cache.new drives.old drives.new steps.old steps.new result }
+    requires { MayDoUnitOf kinds.Make (D.disks drives.old) mounted.old cache.old work.old }
+    ensures { DoesNextWithin D.Drives 2 mounted.old mounted.new work.old work.new cache.old cache.new drives.old drives.new steps.old steps.new result }
 {
     work.cleared = None;
     if work.ended == 0 {
@@ -104,21 +100,47 @@ pub(crate) fn make_next<D: Drives, L: Ledger>(
     }
 }
 
-/// Does the unit of a job that puts an XFCB, or the directory label, or perhaps a stamp.
-pub(crate) fn put_next<D: Drives, L: Ledger>(
+/// Does the unit of a job that puts the directory label.
+pub(crate) fn label_next<D: Drives, L: Ledger>(
     mounted: &mut Mounted,
     cache: &mut Cache,
     drives: &mut D,
     work: &mut Work,
     steps: &mut Steps<L>,
 ) -> Result<(), Failed>
-    requires ready { IsReadyDisk (D.disks drives.old) mounted.old.drive mounted.old.kind cache.old }
-    ensures { PutsNext D.Drives mounted.old mounted.new work.old work.new cache.old cache.new drives.old drives.new steps.old steps.new result }
+    requires { MayDoUnitOf kinds.Label (D.disks drives.old) mounted.old cache.old work.old }
+    ensures { DoesNextWithin D.Drives 2 mounted.old mounted.new work.old work.new cache.old cache.new drives.old drives.new steps.old steps.new result }
 {
     work.cleared = None;
-    match work.job.kind {
-        JobKind::Label => put_label(mounted, cache, drives, &work.job, steps),
-        JobKind::Xfcb => put_xfcb(mounted, cache, drives, &work.job, steps),
-        _ => idle(mounted, cache, drives, &work.job, work.job.stamp, steps),
-    }
+    put_label(mounted, cache, drives, &work.job, steps)
+}
+
+/// Does the unit of a job that puts an XFCB.
+pub(crate) fn xfcb_next<D: Drives, L: Ledger>(
+    mounted: &mut Mounted,
+    cache: &mut Cache,
+    drives: &mut D,
+    work: &mut Work,
+    steps: &mut Steps<L>,
+) -> Result<(), Failed>
+    requires { MayDoUnitOf kinds.Xfcb (D.disks drives.old) mounted.old cache.old work.old }
+    ensures { DoesNextWithin D.Drives 2 mounted.old mounted.new work.old work.new cache.old cache.new drives.old drives.new steps.old steps.new result }
+{
+    work.cleared = None;
+    put_xfcb(mounted, cache, drives, &work.job, steps)
+}
+
+/// Does the unit of a job that puts a stamp at most.
+pub(crate) fn idle_next<D: Drives, L: Ledger>(
+    mounted: &mut Mounted,
+    cache: &mut Cache,
+    drives: &mut D,
+    work: &mut Work,
+    steps: &mut Steps<L>,
+) -> Result<(), Failed>
+    requires { MayDoUnitOf kinds.Nothing (D.disks drives.old) mounted.old cache.old work.old }
+    ensures { DoesNextWithin D.Drives 2 mounted.old mounted.new work.old work.new cache.old cache.new drives.old drives.new steps.old steps.new result }
+{
+    work.cleared = None;
+    idle(mounted, cache, drives, &work.job, work.job.stamp, steps)
 }

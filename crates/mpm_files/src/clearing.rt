@@ -1,8 +1,7 @@
 ghost use Rattle.std.specs.Prelude.{◌≡◌};
-ghost use Rattle.mpm_sectors.specs.Disks.{IsReadyDisk};
 ghost use Rattle.mpm_sectors.specs.Writes.{zeros_from, block_sector};
 ghost use Rattle.mpm_files.specs.Plans as plans;
-ghost use Rattle.mpm_files.specs.DiskParts.{MayClearBlock, ClearsByDisk, PutsByDisk};
+ghost use Rattle.mpm_files.specs.DiskParts.{MayClearNext, MayClearBlock, ClearsByDisk, PutsByDisk};
 
 use crate::entries::disk_of;
 use mpm_base::{Kind, Steps};
@@ -23,25 +22,22 @@ pub(crate) fn clears_blocks(kind: Kind) -> bool
     geometry(kind).mask != 0
 }
 
-/// Clears the first sectors of the lowest free block, where a block is cleared in a turn of its own. Says which one it is.
+/// Clears the first sectors of the lowest free block, as a block is cleared in a turn of its own. Says which one it is.
 pub(crate) fn clear_block<D: Drives, L: Ledger>(
     mounted: &Mounted,
     cache: &mut Cache,
     drives: &mut D,
     steps: &mut Steps<L>,
-) -> Result<Option<u16>, Failed>
-    requires ready { IsReadyDisk (D.disks drives.old) mounted.now.drive mounted.now.kind cache.old }
+) -> Result<u16, Failed>
+    requires { MayClearNext (D.disks drives.old) mounted.now cache.old }
     ensures { ClearsByDisk D.Drives mounted.now cache.old cache.new drives.old drives.new steps.old steps.new result }
 {
-    if !clears_blocks(mounted.kind()) {
-        return Ok(None);
-    }
     let block = match mounted.free_block() {
         Some(block) => block,
-        None => return Ok(None),
+        None => unreachable!(),
     };
     match clear_first(mounted, cache, drives, block, steps) {
-        Ok(()) => Ok(Some(block)),
+        Ok(()) => Ok(block),
         Err(failed) => Err(failed),
     }
 }

@@ -1,8 +1,11 @@
-ghost use Rattle.std.specs.Prelude.{◌≡◌, ◌%◌, ◌<◌, ◌≤◌};
-ghost use Rattle.mpm_dirent.specs.declared.limits.TheConstants.{LAST_NAMED};
+ghost use Rattle.std.specs.Prelude.{◌≡◌, ◌≢◌, ◌%◌, ◌<◌};
 ghost use Rattle.mpm_blocks.specs.Geometries as geometries;
+ghost use Rattle.mpm_mount.specs.Drives as drives;
+ghost use Rattle.mpm_mount.specs.Faults.{block_at};
 ghost use Rattle.mpm_files.specs.Plans.{file_of_job};
-ghost use Rattle.mpm_files.specs.Finding.{FindsEntry, FindsXfcb, FindsXfcbBeside, FindsSector};
+ghost use Rattle.mpm_files.specs.Lookups.{HasEntry, IsHeldAt};
+ghost use Rattle.mpm_files.specs.Turning.{IsFileAt};
+ghost use Rattle.mpm_files.specs.Finding.{HasFileAt, IsEntered, FindsXfcb, FindsXfcbBeside};
 
 use crate::records::slot_of;
 use mpm_dirent::{Entry, FileEntry, XfcbEntry};
@@ -23,22 +26,30 @@ pub(crate) struct FoundXfcb {
     pub(crate) xfcb: XfcbEntry,
 }
 
-/// Finds the directory entry of a record of a job's file.
-pub(crate) fn find_entry(mounted: &Mounted, job: &Job, n: u32) -> Option<FoundEntry>
-    requires { n ≤ LAST_NAMED }
-    ensures { FindsEntry mounted.now (file_of_job job.now) n result }
+/// The file's entry in a slot.
+pub(crate) fn file_at(mounted: &Mounted, slot: u16) -> FileEntry
+    requires { HasFileAt mounted.now slot }
+    ensures { IsFileAt mounted.now slot result }
 {
     mounted.tell_directory();
-    let slot = match slot_of(mounted, job, n) {
-        Some(slot) => slot,
-        None => return None,
-    };
     match mounted.entry(slot) {
-        Entry::File { file } => Some(FoundEntry { slot, file: *file }),
-        Entry::Free => None,
-        Entry::Xfcb { .. } => None,
-        Entry::Label { .. } => None,
-        Entry::Kept { .. } => None,
+        Entry::File { file } => *file,
+        _ => unreachable!(),
+    }
+}
+
+/// The directory entry of a record of a job's file, which has one.
+pub(crate) fn find_entry(mounted: &Mounted, job: &Job, n: u32) -> FoundEntry
+    requires { IsEntered mounted.now (file_of_job job.now) n }
+    ensures { HasEntry mounted.now (file_of_job job.now) n result.slot result.file }
+{
+    mounted.tell_directory();
+    match slot_of(mounted, job, n) {
+        Some(slot) => FoundEntry {
+            slot,
+            file: file_at(mounted, slot),
+        },
+        None => unreachable!(),
     }
 }
 
@@ -53,23 +64,18 @@ pub(crate) fn find_xfcb(mounted: &Mounted, job: &Job) -> Option<FoundXfcb>
     };
     match mounted.entry(slot) {
         Entry::Xfcb { xfcb } => Some(FoundXfcb { slot, xfcb: *xfcb }),
-        Entry::Free => None,
-        Entry::File { .. } => None,
-        Entry::Label { .. } => None,
-        Entry::Kept { .. } => None,
+        _ => unreachable!(),
     }
 }
 
-/// The sector of a record, where its directory entry holds its block.
-pub(crate) fn held_sector(mounted: &Mounted, file: &FileEntry, n: u32) -> Option<u32>
-    ensures { FindsSector mounted.now.kind file.now n result }
+/// The sector of a record, whose directory entry holds its block.
+pub(crate) fn held_sector(mounted: &Mounted, file: &FileEntry, n: u32) -> u32
+    requires { block_at file.now (drives.block_place mounted.now.kind n) ≢ 0 }
+    ensures { IsHeldAt mounted.now.kind file.now n result }
 {
     let kind = mounted.kind();
     let block = file.blocks[block_place(kind, n)];
-    if block == 0 {
-        return None;
-    }
-    Some(u32::from(block) * block_records(kind) + n % block_records(kind))
+    u32::from(block) * block_records(kind) + n % block_records(kind)
 }
 
 /// The place of a record in its block.

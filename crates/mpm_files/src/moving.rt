@@ -1,13 +1,12 @@
 ghost use Rattle.mpm_files.specs.Stepping as stepping;
 ghost use Rattle.std.specs.Prelude.{length, ◌≡◌, ◌+◌, ◌*◌, ◌<◌, ◌≤◌, None};
 ghost use Rattle.mpm_dirent.specs.declared.limits.TheConstants.{LAST_NAMED};
-ghost use Rattle.mpm_sectors.specs.Disks.{IsReadyDisk};
 ghost use Rattle.mpm_jobs.specs.declared.jobs.JobKind.TheVariants as kinds;
 ghost use Rattle.mpm_files.specs.Plans.{record_at};
 ghost use Rattle.mpm_files.specs.Serving.{stamp_left};
 ghost use Rattle.mpm_files.specs.Turning as turning;
-ghost use Rattle.mpm_files.specs.Working.{DoesNextOf};
-ghost use Rattle.mpm_files.specs.UnitParts.{ReadsNext, WritesNext};
+ghost use Rattle.mpm_files.specs.Working.{MayDoUnitOf, DoesNextWithin};
+ghost use Rattle.mpm_files.specs.UnitParts.{MayWriteNext, ReadsNext};
 
 use crate::adding::add_entry;
 use crate::clearing::{clear_block, clears_blocks};
@@ -17,7 +16,6 @@ use crate::work::Work;
 use crate::writing::{Record, put_fresh, put_held};
 use mpm_base::Steps;
 use mpm_cache::Cache;
-use mpm_dirent::LAST_NAMED;
 use mpm_jobs::Job;
 use mpm_mount::Mounted;
 use mpm_port::{Drives, Failed};
@@ -53,7 +51,6 @@ fn keep(work: &mut Work, bytes: &[u8; 128])
 }
 
 /// Reads the next record of a job.
-#[tactic(auto, using(crate::proofs::WorkingLaws::works_not))]
 pub(crate) fn read_next<D: Drives, L: Ledger>(
     mounted: &mut Mounted,
     cache: &mut Cache,
@@ -61,17 +58,11 @@ pub(crate) fn read_next<D: Drives, L: Ledger>(
     work: &mut Work,
     steps: &mut Steps<L>,
 ) -> Result<(), Failed>
-    requires ready { IsReadyDisk (D.disks drives.old) mounted.old.drive mounted.old.kind cache.old }
+    requires { MayDoUnitOf kinds.Read (D.disks drives.old) mounted.old cache.old work.old }
     ensures { ReadsNext D.Drives mounted.old mounted.new work.old work.new cache.old cache.new drives.old drives.new steps.old steps.new result }
 {
     work.cleared = None;
-    let n = work.job.first.saturating_add(work.ended);
-    if n > LAST_NAMED {
-        return Ok(());
-    }
-    if work.moved > 31 {
-        return Ok(());
-    }
+    let n = work.job.first + work.ended;
     let mut record = [0; 128];
     match read_record(mounted, cache, drives, &work.job, n, &mut record, steps) {
         Ok(()) => {
@@ -118,16 +109,10 @@ fn write_record<D: Drives, L: Ledger>(
     work: &mut Work,
     steps: &mut Steps<L>,
 ) -> Result<(), Failed>
-    requires ready { IsReadyDisk (D.disks drives.old) mounted.old.drive mounted.old.kind cache.old }
-    ensures { WritesNext D.Drives mounted.old mounted.new work.old work.new cache.old cache.new drives.old drives.new steps.old steps.new result }
+    requires { MayWriteNext (D.disks drives.old) mounted.old cache.old work.old }
+    ensures { DoesNextWithin D.Drives 20 mounted.old mounted.new work.old work.new cache.old cache.new drives.old drives.new steps.old steps.new result }
 {
-    let n = work.job.first.saturating_add(u32::from(work.moved));
-    if n > LAST_NAMED {
-        return Ok(());
-    }
-    if work.moved > 31 {
-        return Ok(());
-    }
+    let n = work.job.first + u32::from(work.moved);
     let record = Record {
         number: n,
         bytes: bytes_at(&work.job, u32::from(work.moved)),
@@ -144,7 +129,6 @@ fn write_record<D: Drives, L: Ledger>(
 }
 
 /// Does the next unit of a job that writes: the directory entry of a record, the clearing of its block, or the record.
-#[tactic(auto, using(crate::proofs::WorkingLaws::works_not))]
 pub(crate) fn write_next<D: Drives, L: Ledger>(
     mounted: &mut Mounted,
     cache: &mut Cache,
@@ -152,13 +136,10 @@ pub(crate) fn write_next<D: Drives, L: Ledger>(
     work: &mut Work,
     steps: &mut Steps<L>,
 ) -> Result<(), Failed>
-    requires ready { IsReadyDisk (D.disks drives.old) mounted.old.drive mounted.old.kind cache.old }
-    ensures { DoesNextOf kinds.Write D.Drives 20 mounted.old mounted.new work.old work.new cache.old cache.new drives.old drives.new steps.old steps.new result }
+    requires { MayDoUnitOf kinds.Write (D.disks drives.old) mounted.old cache.old work.old }
+    ensures { DoesNextWithin D.Drives 20 mounted.old mounted.new work.old work.new cache.old cache.new drives.old drives.new steps.old steps.new result }
 {
-    let n = work.job.first.saturating_add(u32::from(work.moved));
-    if n > LAST_NAMED {
-        return Ok(());
-    }
+    let n = work.job.first + u32::from(work.moved);
     match next_step(mounted, work, n) {
         Step::Entry => {
             work.cleared = None;
@@ -166,7 +147,7 @@ pub(crate) fn write_next<D: Drives, L: Ledger>(
         }
         Step::Block => match clear_block(mounted, cache, drives, steps) {
             Ok(block) => {
-                work.cleared = block;
+                work.cleared = Some(block);
                 Ok(())
             }
             Err(failed) => Err(failed),
@@ -183,15 +164,14 @@ pub(crate) fn test_next<D: Drives, L: Ledger>(
     work: &mut Work,
     steps: &mut Steps<L>,
 ) -> Result<(), Failed>
-    requires ready { IsReadyDisk (D.disks drives.old) mounted.old.drive mounted.old.kind cache.old }
-    ensures { DoesNextOf kinds.TestWrite D.Drives 6 mounted.old mounted.new work.old work.new cache.old cache.new drives.old drives.new steps.old steps.new result }
+    requires { MayDoUnitOf kinds.TestWrite (D.disks drives.old) mounted.old cache.old work.old }
+    ensures { DoesNextWithin D.Drives 6 mounted.old mounted.new work.old work.new cache.old cache.new drives.old drives.new steps.old steps.new result }
 {
     work.cleared = None;
-    let n = work.job.first.saturating_add(work.ended);
-    let count = u32::from(work.job.count);
-    if work.has_missed || n > LAST_NAMED || count > 16 || work.ended >= count {
+    if work.has_missed {
         return Ok(());
     }
+    let n = work.job.first + work.ended;
     let mut there = [0; 128];
     read_record(mounted, cache, drives, &work.job, n, &mut there, steps)?;
     if there != bytes_at(&work.job, work.ended) {
@@ -200,9 +180,9 @@ pub(crate) fn test_next<D: Drives, L: Ledger>(
     }
     let record = Record {
         number: n,
-        bytes: bytes_at(&work.job, count + work.ended),
+        bytes: bytes_at(&work.job, u32::from(work.job.count) + work.ended),
         moment: stamp(&work.job, work.ended),
     };
-    work.moved = work.moved.saturating_add(1);
+    work.moved += 1;
     put_held(mounted, cache, drives, &work.job, &record, steps)
 }

@@ -1,12 +1,8 @@
-ghost use Rattle.std.specs.Prelude.{◌≡◌, ◌+◌, ◌<◌, ◌≤◌, Some, None, not, is_some, slice_range};
-ghost use Rattle.std.specs.FinMap.{get};
-ghost use Rattle.mpm_base.specs.Counts.{one_if};
-ghost use Rattle.mpm_mount.specs.Drives.{free_entries};
-ghost use Rattle.mpm_sectors.specs.Disks.{IsReadyDisk};
+ghost use Rattle.std.specs.Prelude.{◌≡◌, ◌+◌, ◌≤◌, slice_range};
 ghost use Rattle.mpm_files.specs.Units.{PutsXfcb, PutsLabel};
 ghost use Rattle.mpm_files.specs.Plans.{file_of_job, protection_in};
 ghost use Rattle.mpm_files.specs.Turning.{xfcb_of_job, label_of_job};
-ghost use Rattle.mpm_files.specs.DiskParts.{DoesByDisk};
+ghost use Rattle.mpm_files.specs.DiskParts.{MayPutXfcb, MayPutLabel, DoesByDisk};
 
 use crate::entries::put_entry;
 use mpm_base::Steps;
@@ -57,7 +53,6 @@ fn label_of(job: &Job) -> LabelEntry
 }
 
 /// Puts the XFCB of a job: in the place of the one that its file has, or into a free slot.
-#[tactic(auto, using(crate::proofs::WorkingLaws::works_not))]
 pub(crate) fn put_xfcb<D: Drives, L: Ledger>(
     mounted: &mut Mounted,
     cache: &mut Cache,
@@ -65,26 +60,21 @@ pub(crate) fn put_xfcb<D: Drives, L: Ledger>(
     job: &Job,
     steps: &mut Steps<L>,
 ) -> Result<(), Failed>
-    requires ready { IsReadyDisk (D.disks drives.old) mounted.old.drive mounted.old.kind cache.old }
-    ensures { DoesByDisk D.Drives 2 mounted.old mounted.new cache.old cache.new drives.old drives.new steps.old steps.new (λ image files does. job.now.user < 16 → one_if (not (is_some (get files.xfcbs (file_of_job job.now)))) ≤ free_entries files
-        → does (PutsXfcb (file_of_job job.now) (protection_in job.now))) result }
+    requires { MayPutXfcb (D.disks drives.old) mounted.old cache.old job.now }
+    ensures { DoesByDisk D.Drives 2 mounted.old mounted.new cache.old cache.new drives.old drives.new steps.old steps.new (λ image files does. does (PutsXfcb (file_of_job job.now) (protection_in job.now))) result }
 {
     mounted.tell_directory();
-    if job.user > 15 {
-        return Ok(());
-    }
     let entry = Entry::Xfcb { xfcb: xfcb_of(job) };
     match mounted.xfcb(job.user, &job.name) {
         Some(slot) => put_entry(mounted, cache, drives, slot, &entry, steps),
         None => match mounted.free_slot() {
             Some(slot) => put_entry(mounted, cache, drives, slot, &entry, steps),
-            None => Ok(()),
+            None => unreachable!(),
         },
     }
 }
 
 /// Puts the directory label of a job: in the place of the one that there is, or into a free slot.
-#[tactic(auto, using(crate::proofs::WorkingLaws::works_not))]
 pub(crate) fn put_label<D: Drives, L: Ledger>(
     mounted: &mut Mounted,
     cache: &mut Cache,
@@ -92,9 +82,8 @@ pub(crate) fn put_label<D: Drives, L: Ledger>(
     job: &Job,
     steps: &mut Steps<L>,
 ) -> Result<(), Failed>
-    requires ready { IsReadyDisk (D.disks drives.old) mounted.old.drive mounted.old.kind cache.old }
-    ensures { DoesByDisk D.Drives 2 mounted.old mounted.new cache.old cache.new drives.old drives.new steps.old steps.new (λ image files does. one_if (not (is_some files.label)) ≤ free_entries files
-        → does (PutsLabel (record { name = job.now.new_name; protection = protection_in job.now }))) result }
+    requires { MayPutLabel (D.disks drives.old) mounted.old cache.old }
+    ensures { DoesByDisk D.Drives 2 mounted.old mounted.new cache.old cache.new drives.old drives.new steps.old steps.new (λ image files does. does (PutsLabel (record { name = job.now.new_name; protection = protection_in job.now }))) result }
 {
     mounted.tell_directory();
     let entry = Entry::Label {
@@ -104,7 +93,7 @@ pub(crate) fn put_label<D: Drives, L: Ledger>(
         Some(slot) => put_entry(mounted, cache, drives, slot, &entry, steps),
         None => match mounted.free_slot() {
             Some(slot) => put_entry(mounted, cache, drives, slot, &entry, steps),
-            None => Ok(()),
+            None => unreachable!(),
         },
     }
 }

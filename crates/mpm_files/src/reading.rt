@@ -10,9 +10,8 @@ use mpm_mount::Mounted;
 use mpm_port::{Drives, Failed};
 use std::sync::ledger::Ledger;
 
-/// Reads a record of a job's file, visible or not, where its block is held: by one call of the drives, or by none where its
-/// sector is cached.
-#[tactic(auto, using(crate::proofs::WorkingLaws::works_not))]
+/// Reads a record of a job's file, visible or not, whose block is held: by one call of the drives, or by none where its sector is
+/// cached.
 pub(crate) fn read_record<D: Drives, L: Ledger>(
     mounted: &Mounted,
     cache: &mut Cache,
@@ -22,16 +21,10 @@ pub(crate) fn read_record<D: Drives, L: Ledger>(
     out: &mut [u8; 128],
     steps: &mut Steps<L>,
 ) -> Result<(), Failed>
-    requires { MayMoveRecord (D.disks drives.old) mounted.now cache.old n }
+    requires { MayMoveRecord (D.disks drives.old) mounted.now cache.old (file_of_job job.now) n }
     ensures { ReadsByDisk D.Drives mounted.now cache.old cache.new drives.old drives.new steps.old steps.new (file_of_job job.now) n out.new result }
 {
-    let found = match find_entry(mounted, job, n) {
-        Some(found) => found,
-        None => return Ok(()),
-    };
-    let sector = match held_sector(mounted, &found.file, n) {
-        Some(sector) => sector,
-        None => return Ok(()),
-    };
+    let found = find_entry(mounted, job, n);
+    let sector = held_sector(mounted, &found.file, n);
     disk_of(mounted).read(cache, drives, sector, out, steps)
 }

@@ -1,8 +1,7 @@
 ghost use Rattle.std.specs.Prelude.{◌≡◌, Some, None};
-ghost use Rattle.mpm_sectors.specs.Disks.{IsReadyDisk};
 ghost use Rattle.mpm_jobs.specs.declared.jobs.JobKind.TheVariants as kinds;
 ghost use Rattle.mpm_files.specs.Turning as turning;
-ghost use Rattle.mpm_files.specs.Working.{DoesNextOf};
+ghost use Rattle.mpm_files.specs.Working.{MayDoUnitOf, DoesNextWithin};
 
 use crate::renaming::set_attributes;
 use crate::work::Work;
@@ -26,7 +25,6 @@ fn last_of_job(work: &Work) -> Option<Found>
 }
 
 /// Sets the attributes of the first entry of a job's file above the last that has them.
-#[tactic(auto, using(crate::proofs::WorkingLaws::works_not))]
 pub(crate) fn set_next<D: Drives, L: Ledger>(
     mounted: &mut Mounted,
     cache: &mut Cache,
@@ -34,8 +32,8 @@ pub(crate) fn set_next<D: Drives, L: Ledger>(
     work: &mut Work,
     steps: &mut Steps<L>,
 ) -> Result<(), Failed>
-    requires ready { IsReadyDisk (D.disks drives.old) mounted.old.drive mounted.old.kind cache.old }
-    ensures { DoesNextOf kinds.Attributes D.Drives 2 mounted.old mounted.new work.old work.new cache.old cache.new drives.old drives.new steps.old steps.new result }
+    requires { MayDoUnitOf kinds.Attributes (D.disks drives.old) mounted.old cache.old work.old }
+    ensures { DoesNextWithin D.Drives 2 mounted.old mounted.new work.old work.new cache.old cache.new drives.old drives.new steps.old steps.new result }
 {
     mounted.tell_directory();
     let last = last_of_job(work);
@@ -45,6 +43,6 @@ pub(crate) fn set_next<D: Drives, L: Ledger>(
             work.last = Some(found);
             set_attributes(mounted, cache, drives, found.slot, &work.job, steps)
         }
-        None => Ok(()),
+        None => unreachable!(),
     }
 }

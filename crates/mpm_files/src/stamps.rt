@@ -8,7 +8,7 @@ ghost use Rattle.mpm_files.specs.Standing.{exchanged_in};
 ghost use Rattle.mpm_files.specs.DiskParts.{MayPutEntry, MayPutStamped, GoesByDisk, DoesByDisk, PutsStamped};
 
 use crate::entries::{put_entries, put_entry};
-use crate::lookups::{FoundEntry, FoundXfcb, find_xfcb, find_xfcb_beside};
+use crate::lookups::{FoundEntry, find_xfcb, find_xfcb_beside};
 use mpm_base::Steps;
 use mpm_cache::Cache;
 use mpm_dirent::{Entry, XfcbEntry};

@@ -1,8 +1,9 @@
-ghost use Rattle.mpm_sectors.specs.Disks.{IsReadyDisk};
-ghost use Rattle.mpm_files.specs.Working.{TakesTurn};
+ghost use Rattle.std.specs.Prelude.{◌<◌};
+ghost use Rattle.mpm_files.specs.Serving.{turns_in};
+ghost use Rattle.mpm_files.specs.Working.{MayDoUnit, MayTurn, TakesTurn};
 ghost use Rattle.mpm_files.specs.UnitParts.{DoesNextUnit, DoesTurnUnit, EndsTurn};
 
-use crate::changing::{delete_next, make_next, put_next, rename_next};
+use crate::changing::{delete_next, idle_next, label_next, make_next, rename_next, xfcb_next};
 use crate::moving::{read_next, test_next, write_next};
 use crate::setting::set_next;
 use crate::work::Work;
@@ -30,7 +31,7 @@ fn do_next<D: Drives, L: Ledger>(
     work: &mut Work,
     steps: &mut Steps<L>,
 ) -> Result<(), Failed>
-    requires ready { IsReadyDisk (D.disks drives.old) mounted.old.drive mounted.old.kind cache.old }
+    requires { MayDoUnit (D.disks drives.old) mounted.old cache.old work.old }
     ensures { DoesNextUnit D.Drives mounted.old mounted.new work.old work.new cache.old cache.new drives.old drives.new steps.old steps.new result }
 {
     match work.job.kind {
@@ -41,9 +42,9 @@ fn do_next<D: Drives, L: Ledger>(
         JobKind::Delete => delete_next(mounted, cache, drives, work, steps),
         JobKind::Rename => rename_next(mounted, cache, drives, work, steps),
         JobKind::Attributes => set_next(mounted, cache, drives, work, steps),
-        JobKind::Label | JobKind::Xfcb | JobKind::Nothing => {
-            put_next(mounted, cache, drives, work, steps)
-        }
+        JobKind::Label => label_next(mounted, cache, drives, work, steps),
+        JobKind::Xfcb => xfcb_next(mounted, cache, drives, work, steps),
+        JobKind::Nothing => idle_next(mounted, cache, drives, work, steps),
     }
 }
 
@@ -56,7 +57,7 @@ fn do_unit<D: Drives, L: Ledger>(
     work: &mut Work,
     steps: &mut Steps<L>,
 ) -> Result<(), Failed>
-    requires ready { IsReadyDisk (D.disks drives.old) mounted.old.drive mounted.old.kind cache.old }
+    requires { MayTurn (D.disks drives.old) mounted.old cache.old work.old }
     ensures { DoesTurnUnit D.Drives mounted.old mounted.new work.old work.new cache.old cache.new drives.old drives.new steps.old steps.new result }
 {
     if work.ended < work.units {
@@ -75,7 +76,7 @@ pub fn turn<D: Drives, L: Ledger>(
     drives: &mut D,
     steps: &mut Steps<L>,
 ) -> Result<Progress, Failed>
-    requires ready { IsReadyDisk (D.disks drives.old) mounted.old.drive mounted.old.kind cache.old }
+    requires { MayTurn (D.disks drives.old) mounted.old cache.old work.old }
     ensures { TakesTurn D.Drives mounted.old mounted.new work.old work.new cache.old cache.new drives.old drives.new steps.old steps.new result }
 {
     match do_unit(mounted, cache, drives, work, steps) {
@@ -86,9 +87,10 @@ pub fn turn<D: Drives, L: Ledger>(
 
 /// Counts a turn that has ended.
 fn end_turn(work: &mut Work) -> Progress
+    requires { work.old.ended < turns_in work.old }
     ensures { EndsTurn work.old work.new result }
 {
-    work.ended = work.ended.saturating_add(1);
+    work.ended += 1;
     if work.ended < work.turns() {
         Progress::Again
     } else {

@@ -1,4 +1,4 @@
-ghost use Rattle.std.specs.Prelude.{◌≡◌, ◌+◌, ◌≤◌, [], ◌∷◌, length, slice_set, ◌/◌, ◌%◌, None, true, false};
+ghost use Rattle.std.specs.Prelude.{◌≡◌, ◌+◌, ◌≤◌, [], ◌∷◌, length, slice_set, ◌/◌, ◌%◌, None};
 ghost use Rattle.mpm_dirent.specs.declared.limits.TheConstants.{LAST_RECORD};
 ghost use Rattle.mpm_blocks.specs.Sectors.{sectors_of};
 ghost use Rattle.mpm_mount.specs.Drives.{with_extent};
@@ -8,11 +8,9 @@ ghost use Rattle.mpm_sectors.specs.Writes.{block_writes};
 ghost use Rattle.mpm_files.specs.Units.{WritesRecord, with_stamp};
 ghost use Rattle.mpm_files.specs.Plans as plans;
 ghost use Rattle.mpm_files.specs.Plans.{file_of_job};
-ghost use Rattle.mpm_files.specs.Counting.{lacks_entry, lacks_block};
 ghost use Rattle.mpm_files.specs.Lookups as entries;
 ghost use Rattle.mpm_files.specs.Standing as spec;
-ghost use Rattle.mpm_files.specs.Standing.{HasFreshBlock};
-ghost use Rattle.mpm_files.specs.DiskParts.{MayMoveRecord, MayPutSector, MayRaiseEntry, MayPutBlock, MayTakeBlock, GoesByDisk, DoesByDisk, PutsRecordByDisk};
+ghost use Rattle.mpm_files.specs.DiskParts.{MayMoveRecord, MayFillBlock, MayPutSector, MayRaiseEntry, MayPutBlock, MayTakeBlock, GoesByDisk, DoesByDisk, PutsRecordByDisk};
 
 use crate::clearing::{CLEARED, clears_blocks};
 use crate::entries::disk_of;
@@ -96,8 +94,8 @@ fn cleared_of(mounted: &Mounted, cleared: Option<u16>, block: u16) -> Option<u8>
     }
 }
 
-/// Writes a record of a job's file into its block, where that is held: then last extent and record count of its directory
-/// entry, where they rise, and the second stamp.
+/// Writes a record of a job's file into its block, which is held: then last extent and record count of its directory entry,
+/// where they rise, and the second stamp.
 pub(crate) fn put_held<D: Drives, L: Ledger>(
     mounted: &mut Mounted,
     cache: &mut Cache,
@@ -106,27 +104,20 @@ pub(crate) fn put_held<D: Drives, L: Ledger>(
     written: &Record,
     steps: &mut Steps<L>,
 ) -> Result<(), Failed>
-    requires { MayMoveRecord (D.disks drives.old) mounted.old cache.old written.now.number }
-    ensures { DoesByDisk D.Drives 5 mounted.old mounted.new cache.old cache.new drives.old drives.new steps.old steps.new (λ image files does. lacks_block mounted.old (file_of_job job.now) written.now.number ≡ false
-        → does (WritesRecord (file_of_job job.now) written.now.number written.now.bytes written.now.moment)) result }
+    requires { MayMoveRecord (D.disks drives.old) mounted.old cache.old (file_of_job job.now) written.now.number }
+    ensures { DoesByDisk D.Drives 5 mounted.old mounted.new cache.old cache.new drives.old drives.new steps.old steps.new (λ image files does. does (WritesRecord (file_of_job job.now) written.now.number written.now.bytes written.now.moment)) result }
 {
-    let found = match find_entry(mounted, job, written.number) {
-        Some(found) => found,
-        None => return Ok(()),
-    };
-    let sector = match held_sector(mounted, &found.file, written.number) {
-        Some(sector) => sector,
-        None => return Ok(()),
-    };
+    let found = find_entry(mounted, job, written.number);
+    let sector = held_sector(mounted, &found.file, written.number);
     match put_sector(mounted, cache, drives, sector, &written.bytes, steps) {
         Ok(()) => put_raised(mounted, cache, drives, job, written, &found, steps),
         Err(failed) => Err(failed),
     }
 }
 
-/// Writes a record of a job's file with a fresh block, where the file has an entry for the record: zeros into the block's
-/// other sectors, the record, its directory entry with the block, and the second stamp. The block is the lowest free one;
-/// where a block is cleared in a turn of its own, it is to be the one that was cleared.
+/// Writes a record of a job's file, which has an entry for it, with a fresh block: zeros into the block's other sectors, the
+/// record, its directory entry with the block, and the second stamp. The block is the lowest free one; where a block is cleared
+/// in a turn of its own, it is the one that was cleared.
 pub(crate) fn put_fresh<D: Drives, L: Ledger>(
     mounted: &mut Mounted,
     cache: &mut Cache,
@@ -136,22 +127,17 @@ pub(crate) fn put_fresh<D: Drives, L: Ledger>(
     cleared: Option<u16>,
     steps: &mut Steps<L>,
 ) -> Result<(), Failed>
-    requires { MayMoveRecord (D.disks drives.old) mounted.old cache.old written.now.number }
-    ensures { DoesByDisk D.Drives 20 mounted.old mounted.new cache.old cache.new drives.old drives.new steps.old steps.new (λ image files does. lacks_entry mounted.old (file_of_job job.now) written.now.number ≡ false → lacks_block mounted.old (file_of_job job.now) written.now.number ≡ true
-        → HasFreshBlock (plans.clears_blocks mounted.old.kind) (sectors_of image mounted.old.kind) mounted.old cleared
-        → does (WritesRecord (file_of_job job.now) written.now.number written.now.bytes written.now.moment)) result }
+    requires { MayFillBlock (D.disks drives.old) mounted.old cache.old (file_of_job job.now) written.now.number cleared }
+    ensures { DoesByDisk D.Drives 20 mounted.old mounted.new cache.old cache.new drives.old drives.new steps.old steps.new (λ image files does. does (WritesRecord (file_of_job job.now) written.now.number written.now.bytes written.now.moment)) result }
 {
-    let found = match find_entry(mounted, job, written.number) {
-        Some(found) => found,
-        None => return Ok(()),
-    };
+    let found = find_entry(mounted, job, written.number);
     let block = match mounted.free_block() {
         Some(block) => block,
-        None => return Ok(()),
+        None => unreachable!(),
     };
     let clear = match cleared_of(mounted, cleared, block) {
         Some(clear) => clear,
-        None => return Ok(()),
+        None => unreachable!(),
     };
     let index = index_in(mounted, written.number);
     let fresh = FreshBlock {

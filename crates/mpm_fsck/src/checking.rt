@@ -40,7 +40,7 @@ pub(crate) fn check<D: Drives, S: Sink>(
     }
 }
 
-/// FindsFaults what is wrong with the image of a name.
+/// Finds what is wrong with the image of a name.
 fn find<D: Drives>(
     alloc: Global,
     kind: Kind,

@@ -1,6 +1,6 @@
 ghost use Rattle.std.specs.Prelude.{◌≡◌, ◌↔◌, ℕ, List, Some, None};
 ghost use Rattle.mpm_fsck.specs.Requests.{Request, texts, request_of};
-ghost use Rattle.mpm_fsck.specs.Outside.{drives_seen, seen};
+ghost use Rattle.mpm_fsck.specs.Outside.{seen};
 ghost use Rattle.mpm_fsck.specs.Endings.{EndsRequest, TakesOwnList, FailsByEnding, WritesNoText};
 
 use crate::checking::check;

@@ -1,4 +1,4 @@
-ghost use Rattle.std.specs.Prelude.{◌≡◌, ◌+◌, ◌*◌, ◌≤◌, ◌<◌, ℕ, Some, None, true, IsSome, IsOk, OnErr, IsTrue, ◌↔◌, length};
+ghost use Rattle.std.specs.Prelude.{◌≡◌, ◌+◌, ◌*◌, ◌<◌, Some, None, true, IsSome, IsOk, OnErr, IsTrue, ◌↔◌, length};
 ghost use Rattle.mpm_port.specs.Causes.{HasCause};
 ghost use Rattle.mpm_port.specs.Disks.{IsInsideDrive, size_of};
 ghost use Rattle.mpm_port.specs.DriveCalls.{AnswersWrite};

@@ -1,4 +1,3 @@
-ghost use Rattle.std.specs.Prelude.{ℕ, List};
 ghost use Rattle.std.specs.Io.{ReadsAtMost};
 ghost use Rattle.std.specs.Io.KnownBytes.{ReadConsumes};
 ghost use Rattle.mpm_port.specs.Fetches.{Fetches};

@@ -210,7 +210,7 @@ awaits_happened k q event kernel s a =
 
 -- another process ends
 
-fewer_still : (q p : ℕ) (completed : List ℕ) (procs : Table) → completions q (still_completed (first_completed completed) p procs) ≤ completions q completed
+pub fewer_still : (q p : ℕ) (completed : List ℕ) (procs : Table) → completions q (still_completed (first_completed completed) p procs) ≤ completions q completed
 fewer_still q p [] procs = omega arith
 fewer_still q p (r ∷ rs) procs =
     let P : List ℕ → Type 0 = λ ps. completions q ps ≤ completions q (r ∷ rs) in

@@ -18,10 +18,10 @@ use Rattle.mpm_kernel.proofs.Soundness.{listed_once}
 
 -- completions
 
-apart_from : (p q : ℕ) → p ≢ q → one_if (p == q) ≡ 0
+pub apart_from : (p q : ℕ) → p ≢ q → one_if (p == q) ≡ 0
 apart_from p q other = one_if_false (p == q) (ne_eqb p q other)
 
-one_more : (q p : ℕ) (ps : List ℕ) → completions q (ps ++ p ∷ []) ≡ completions q ps + one_if (p == q)
+pub one_more : (q p : ℕ) (ps : List ℕ) → completions q (ps ++ p ∷ []) ≡ completions q ps + one_if (p == q)
 one_more q p [] = omega (arith, count_cons (λ x. x == q) p [])
 one_more q p (r ∷ ps) = omega (arith, one_more q p ps, count_cons (λ x. x == q) r ps, count_cons (λ x. x == q) r (ps ++ p ∷ []))
 

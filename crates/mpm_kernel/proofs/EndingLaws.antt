@@ -212,7 +212,7 @@ unfolding relieved
 nothing_relieved p kernel s h = owns_none p _ (leaves_messages p kernel s h).sound
 
 -- how many calls are completed by that
-few_other : (other : Option ℕ) (kernel : Kernel) → length (dispatched (with_other other) kernel).dispatcher.completed ≤ length kernel.dispatcher.completed + 1
+pub few_other : (other : Option ℕ) (kernel : Kernel) → length (dispatched (with_other other) kernel).dispatcher.completed ≤ length kernel.dispatcher.completed + 1
 unfolding lists_ready also_completed
 few_other None kernel = omega arith
 few_other (Some p) kernel = omega (arith, length-append kernel.dispatcher.completed (p ∷ []))

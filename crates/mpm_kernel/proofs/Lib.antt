@@ -34,6 +34,9 @@ pub mod EndingLaws
 pub mod AwaitingCalls
 pub mod AwaitingEnds
 pub mod HoldingLaws
+pub mod CallLeavings
+pub mod CompletingLaws
+pub mod WriterLaws
 pub mod OutcomeLaws
 pub mod EnsuredLaws
 pub mod DiskStays

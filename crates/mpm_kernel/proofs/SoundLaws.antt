@@ -125,13 +125,13 @@ stays_polled call p kernel c =
     }))
 
 -- a flag's state and the number of those for whom it waits
-waiter_own : (p q : ℕ) → q ≡ p → one_if (is_waiter q (Waits p)) ≡ 1
+pub waiter_own : (p q : ℕ) → q ≡ p → one_if (is_waiter q (Waits p)) ≡ 1
 waiter_own p q e = one_if_true (p == q) (grind (arith, nat_tests, e))
 
 waiter_other : (p q : ℕ) → q ≢ p → one_if (is_waiter q (Waits p)) ≡ 0
 waiter_other p q other = one_if_false (p == q) (grind (arith, nat_tests, other))
 
-flags_from : (kernel : Kernel) (flag : ℕ) (old new : Flag) (q : ℕ) → IsSoundKernel kernel → flag < 32 → flag_at kernel.flags flag ≡ old
+pub flags_from : (kernel : Kernel) (flag : ℕ) (old new : Flag) (q : ℕ) → IsSoundKernel kernel → flag < 32 → flag_at kernel.flags flag ≡ old
     → flags_of (with_flag kernel.flags flag new) q + one_if (is_waiter q old) ≡ flags_of kernel.flags q + one_if (is_waiter q new)
 flags_from kernel flag old new q s below is =
     let P : Flag → Type 0 = λ f. flags_of (with_flag kernel.flags flag new) q + one_if (is_waiter q f) ≡ flags_of kernel.flags q + one_if (is_waiter q new) in

@@ -15,6 +15,7 @@ use Rattle.mpm_residents.specs.declared.native.Native.TheVariants.{Spool}
 use Rattle.mpm_service.specs.Places.{at_disk}
 use Rattle.mpm_spool.specs.SpoolLists.{list_of}
 use Rattle.mpm_spool.specs.Spoolers.{Spooler, call_at, next_call, begun_next, begun_with, with_list, with_block, record_in, row_at, with_record, took, took_at, after}
+use Rattle.mpm_spool.proofs.PrintedLaws.{deletes_alone}
 use Rattle.mpm_spool.specs.declared.list.SpoolItem.{SpoolItem}
 use Rattle.mpm_spool.specs.declared.table.Row.{Row}
 use Rattle.mpm_spool.specs.declared.table.Row.TheVariants.{ReadList, Open, Attach, AskStop, Read, Print, Detach, Close, Delete}
@@ -34,6 +35,7 @@ use Rattle.mpm_machine.specs.After.{next}
 use Rattle.mpm_machine.specs.DiskStep.{told_at_gate}
 use Rattle.mpm_machine.specs.FileCalls.{called_next, calls_files, file_caller, is_file_number, is_of_files}
 use Rattle.mpm_machine.specs.Files.{FilesInService}
+use Rattle.mpm_spool.specs.Printed.{has_file}
 use Rattle.mpm_machine.specs.Printing.{NamesFile, key_of_spool_item, has_closing, IsPrinting, ClosedPrinted, DeletesPrinted}
 use Rattle.mpm_machine.specs.Spooling.{IsAtHome}
 use Rattle.mpm_machine.specs.State.{State}
@@ -230,6 +232,7 @@ module _ (q : ℕ) (s : State) (p : IsPrinting q s) where
         closes = c.closes;
         printed = c.printed;
         whole = p.prints.whole (ap has_closing c.closes) c.printed;
+        came = p.spooling.came (ap has_file c.closes);
         names = subst (λ (t : Spooler). NamesFile (next_call t).fcb (key_of_spool_item before.item)) (sym c.same) (deleting_call before (named_in_full p.spooling.answers));
         same = c.same;
       }
@@ -238,7 +241,7 @@ module _ (q : ℕ) (s : State) (p : IsPrinting q s) where
   asks_by answers new acts so asks is deletes =
       let same : after answers ≡ asks = same_spooler (after answers) asks (sym acts ∙ is) in
       let Q : Spooler → Type 0 = λ t. (native_in s.system.residents q ≡ Some (Spool t)) ⊎ ClosedPrinted q s p t in
-      subst Q same (by_answers (so (ap (λ (t : Spooler). t.row) same ∙ deletes)))
+      subst Q same (by_answers (so (ap (λ (t : Spooler). t.row) same ∙ deletes_alone asks deletes)))
     where
       by_answers : (answers ≡ p.spooling.answers) ⊎ ClosesWhole (after p.spooling.answers).row (after p.spooling.answers) (after answers)
           → (native_in s.system.residents q ≡ Some (Spool (after answers))) ⊎ ClosedPrinted q s p (after answers)

@@ -1,6 +1,6 @@
--- A file that a process has open in read-only mode stays as it is in each step in which the process makes no file call but one that
--- reads, and gives nothing back; and nothing is opened for the process.
-use Rattle.std.proofs.Common.{◌≡◌, ◌∙◌, inl, inr, ℕ, Bool, true, false, cond, List, [], ◌∷◌, Option, Some, None, ap}
+-- A file that a process has open in read-only mode stays as it is in each step in which no file call of the process is done but one that
+-- reads, and it gives nothing back; and nothing is opened for the process.
+use Rattle.std.proofs.Common.{◌≡◌, ◌∙◌, inl, inr, ℕ, Bool, true, false, cond, List, [], ◌∷◌, Option, Some, None, refl, ap}
 use Rattle.std.specs.Prelude.{⊤}
 use Rattle.std.specs.List.{range_with_len}
 use Rattle.std.proofs.lemmas.Bool.{true≢false, cases_eq}
@@ -100,42 +100,65 @@ at_once_stays : (q : ℕ) (key : FileKey) (number p : ℕ) (system : System) (fi
 at_once_stays q key number p system (Between filing) reads = made_stays q key number filing p system reads
 at_once_stays q key number p system (Within s) reads = stays_same q key number s.filing
 
-pub called_stays : (q : ℕ) (key : FileKey) (number p : ℕ) (system : System) (files : FilesInService) → ReadsMade q p system → StaysIn q key number files (files_called p system files)
+-- one that waits for the disk leaves them
+once_called_stays : (q : ℕ) (key : FileKey) (number p : ℕ) (system : System) (files : FilesInService) → (is_done_at_once p system ≡ true → ReadsMade q p system)
+    → StaysIn q key number files (files_called p system files)
 unfolding files_called
-called_stays q key number p system files reads =
-    either (StaysIn q key number files) (is_done_at_once p system) (done_at_once p system files) files (λ _. at_once_stays q key number p system files reads)
+once_called_stays q key number p system files reads =
+    either (StaysIn q key number files) (is_done_at_once p system) (done_at_once p system files) files (λ once. at_once_stays q key number p system files (reads once))
     (λ _. stays_same q key number (filing_in files))
 
+pub called_stays : (q : ℕ) (key : FileKey) (number p : ℕ) (system : System) (files : FilesInService) → ReadsMade q p system → StaysIn q key number files (files_called p system files)
+called_stays q key number p system files reads = once_called_stays q key number p system files (λ _. reads)
+
+-- where the process's own call is done at once, it reads
 abbrev pub ReadsAtGate : ℕ → Option ℕ → System → Type 0
 ReadsAtGate q None system = ⊤
-ReadsAtGate q (Some p) system = ReadsMade q p (call_made p system)
+ReadsAtGate q (Some p) system =
+    p ≡ q → is_done_at_once p (call_made p system) ≡ true → function_of (call_of (call_made p system).kernel.dispatcher.procs p).function ≡ Some ReadSequential
+
+pub same_function : (a b : FileFunction) → Some a ≡ Some b → a ≡ b
+same_function a b e = cc
+
+reads_as : (q p : ℕ) (function : Option FileFunction) → (p ≡ q → function ≡ Some ReadSequential) → ReadsAs q p function
+reads_as q p None reads = tt
+reads_as q p (Some function) reads = λ same. same_function function ReadSequential (reads same)
 
 begun_stays_by : (q : ℕ) (key : FileKey) (number : ℕ) (caller : Option ℕ) (system : System) (files : FilesInService) → ReadsAtGate q caller system
     → StaysIn q key number files (files_begun_by caller system files)
 begun_stays_by q key number None system files reads = stays_same q key number (filing_in files)
-begun_stays_by q key number (Some p) system files reads = called_stays q key number p (call_made p system) files reads
+begun_stays_by q key number (Some p) system files reads =
+    let made = call_made p system in
+    once_called_stays q key number p made files (λ once. reads_as q p (function_of (call_of made.kernel.dispatcher.procs p).function) (λ same. reads same once))
 
 pub begun_stays : (q : ℕ) (key : FileKey) (number : ℕ) (system : System) (files : FilesInService) → ReadsAtGate q (file_caller system) system → StaysIn q key number files (files_begun system files)
 unfolding files_begun
 begun_stays q key number system files reads = begun_stays_by q key number (file_caller system) system files reads
 
 -- the call that is over
-over_stays : (q : ℕ) (key : FileKey) (number : ℕ) (turn : Turn) (files : FilesInService) → ReadsIn q files → StaysIn q key number files (files_over turn files)
+abbrev pub ReadsOver : ℕ → Turn → FilesInService → Type 0
+ReadsOver q turn files = (p : ℕ) → turn ≡ Work p true → ReadsIn q files
+
+over_stays : (q : ℕ) (key : FileKey) (number : ℕ) (turn : Turn) (files : FilesInService) → ReadsOver q turn files → StaysIn q key number files (files_over turn files)
 over_stays q key number Idle files reads = stays_same q key number (filing_in files)
 over_stays q key number Passing files reads = stays_same q key number (filing_in files)
 over_stays q key number (Starts p) files reads = stays_same q key number (filing_in files)
 over_stays q key number (Work p last) (Between filing) reads = stays_same q key number filing
-over_stays q key number (Work p true) (Within s) reads = call_stays q key number s reads
+over_stays q key number (Work p true) (Within s) reads = call_stays q key number s (reads p refl)
 over_stays q key number (Work p false) (Within s) reads = stays_same q key number s.filing
 
-served_stays_by : (q : ℕ) (key : FileKey) (number : ℕ) (served : Option ℕ) (system : System) (files : FilesInService) → ReadsIn q files
+served_stays_by : (q : ℕ) (key : FileKey) (number : ℕ) (served : Option ℕ) (system : System) (files : FilesInService) → ReadsOver q (turn_answer system.kernel.disk) files
     → StaysIn q key number files (files_served_by served system files)
 served_stays_by q key number None system files reads = stays_same q key number (filing_in files)
 served_stays_by q key number (Some p) system files reads = over_stays q key number (turn_answer system.kernel.disk) files reads
 
-pub served_stays : (q : ℕ) (key : FileKey) (number : ℕ) (system : System) (files : FilesInService) → ReadsIn q files → StaysIn q key number files (files_served system files)
+over_served_stays : (q : ℕ) (key : FileKey) (number : ℕ) (system : System) (files : FilesInService) → ReadsOver q (turn_answer system.kernel.disk) files
+    → StaysIn q key number files (files_served system files)
 unfolding files_served
-served_stays q key number system files reads = served_stays_by q key number (served_process system.kernel.disk) system files reads
+over_served_stays q key number system files reads = served_stays_by q key number (served_process system.kernel.disk) system files reads
+
+pub served_stays : (q : ℕ) (key : FileKey) (number : ℕ) (system : System) (files : FilesInService) → ReadsIn q files → StaysIn q key number files (files_served system files)
+served_stays q key number system files reads = over_served_stays q key number system files (λ _ _. reads)
 
 -- what those leave who end in it
 gone_stays : (q : ℕ) (key : FileKey) (number : ℕ) (gone : Bool) (p : ℕ) (filing : Filing) → (p ≡ q → gone ≡ false)
@@ -185,9 +208,9 @@ pub entered_stays : (q : ℕ) (key : FileKey) (number : ℕ) (system : System) (
 unfolding files_entered
 entered_stays q key number system files = entered_stays_unless q key number (served_process system.kernel.disk) system files
 
--- in the rest of a step, and in a step, the process reads at most, and owes nothing that it had open
+-- in the rest of a step, and in a step, no call of the process is done but one that reads, and it owes nothing that it had open
 pub record ReadsThen (q : ℕ) (system : System) (files : FilesInService) : Type 0 where
-  pub within : ReadsIn q files
+  pub over : ReadsOver q (turn_answer system.kernel.disk) files
   pub paid : owes (disk_served (told_within files system) system).system.owed q ≡ false
   pub ended : owes (ended_after (telling_then nothing_told system files) system).owed q ≡ false
 
@@ -204,7 +227,7 @@ rest_stays q key number system files reads =
     let served : FilesInService = files_served system files in
     let paid : FilesInService = given_back owed served in
     let entered : FilesInService = files_entered (paid_after told system) paid in
-    stays_after q key number (filing_in files) (filing_in served) (filing_in (given_back last entered)) (served_stays q key number system files reads.within)
+    stays_after q key number (filing_in files) (filing_in served) (filing_in (given_back last entered)) (over_served_stays q key number system files reads.over)
     (stays_after q key number (filing_in served) (filing_in paid) (filing_in (given_back last entered)) (given_stays q key number owed served reads.paid)
     (stays_after q key number (filing_in paid) (filing_in entered) (filing_in (given_back last entered)) (entered_stays q key number (paid_after told system) paid)
     (given_stays q key number last entered reads.ended)))

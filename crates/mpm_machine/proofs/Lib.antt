@@ -82,7 +82,6 @@ pub mod BehindLaws
 pub mod ServedFiles
 pub mod SettlingLaws
 pub mod CarryingLaws
-pub mod PrintedLaws
 pub mod PrinterCalls
 pub mod PrinterEnds
 pub mod SparedParts
@@ -105,4 +104,6 @@ pub mod PrintingLaws
 pub mod PrintingSteps
 pub mod DeletingLaws
 pub mod PrintedItems
+pub mod TurnedText
+pub mod TextStays
 pub mod StartLaws

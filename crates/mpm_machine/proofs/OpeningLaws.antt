@@ -26,7 +26,7 @@ use Rattle.mpm_spool.specs.Spoolers.{Spooler, file_block, read_only_block, took_
 use Rattle.mpm_spool.specs.declared.list.SpoolItem.{SpoolItem}
 use Rattle.mpm_spool.specs.declared.table.Row.TheVariants.{Open, Attach}
 use Rattle.mpm_machine.proofs.ReadingLaws.{reads_again}
-use Rattle.mpm_machine.specs.Printed.{has_file}
+use Rattle.mpm_spool.specs.Printed.{has_file}
 use Rattle.mpm_machine.specs.Printing.{first_bytes, NamesFile, key_of_spool_item, seen_in, ReadsFile}
 
 -- the block with which it opens a file

@@ -10,7 +10,7 @@ use Rattle.mpm_spool.specs.Spoolers.{Spooler, opening, took, took_at, after, beg
 use Rattle.mpm_spool.specs.declared.list.SpoolItem.{SpoolItem}
 use Rattle.mpm_spool.specs.declared.table.Row.{Row}
 use Rattle.mpm_spool.specs.declared.table.Row.TheVariants.{ReadList, Open, Attach, AskStop, Read, Print, Detach, Close, Delete}
-use Rattle.mpm_machine.specs.Printed.{item_by, item_in}
+use Rattle.mpm_spool.specs.Printed.{item_by, item_in}
 
 abbrev pub has_item : Row → Bool
 has_item ReadList = false

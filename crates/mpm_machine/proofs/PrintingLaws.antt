@@ -26,12 +26,12 @@ use Rattle.mpm_machine.proofs.ReadingLaws.{reads_kept, reads_again, read_answere
 use Rattle.mpm_machine.proofs.SpoolingLaws.{Stays}
 use Rattle.mpm_machine.specs.FileCalls.{is_of_files}
 use Rattle.mpm_machine.specs.Files.{FilesInService, Between, Within, filing_in}
-use Rattle.mpm_machine.specs.Printed.{read_by, read_in, ended_by, ended_in, has_file}
+use Rattle.mpm_spool.specs.Printed.{read_by, read_in, ended_by, ended_in, has_file}
 use Rattle.mpm_machine.specs.Printing.{key_of_spool_item, ReadsFile, IsItsCall, IfItsCall, ReadsOpenFile}
 
 -- an answer to a call that isn't on files
 
-listed_has_no_file : (list : Option (List SpoolItem)) (s : Spooler) → s.row ≡ ReadList → has_file (with_list list s).row ≡ true → ⊥
+pub listed_has_no_file : (list : Option (List SpoolItem)) (s : Spooler) → s.row ≡ ReadList → has_file (with_list list s).row ≡ true → ⊥
 listed_has_no_file None s is has = false≢true (sym (ap has_file is) ∙ has)
 listed_has_no_file (Some items) s is has = begun_has_no_file (record s { left = items }) has
 
@@ -51,7 +51,7 @@ stays_at Close q s reply read ended filing is other r has = absurd (false≢true
 stays_at Delete q s reply read ended filing is other r has = absurd (false≢true (sym other))
 
 -- the rows after one in which it has its file
-has_at : (bytes : List ℕ) (place : ℕ) → has_file (row_at bytes place) ≡ true
+pub has_at : (bytes : List ℕ) (place : ℕ) → has_file (row_at bytes place) ≡ true
 has_at bytes place = by_tests (nat_lt place 128) (slice_index bytes place == 26)
   where
     by_tests : (below ends : Bool) → has_file (if below then (if ends then Detach else Print) else AskStop) ≡ true
@@ -59,7 +59,7 @@ has_at bytes place = by_tests (nat_lt place 128) (slice_index bytes place == 26)
     by_tests true false = refl
     by_tests false ends = refl
 
-has_after_read : (reply : Answer) (s : Spooler) → has_file (with_record reply s).row ≡ true
+pub has_after_read : (reply : Answer) (s : Spooler) → has_file (with_record reply s).row ≡ true
 has_after_read reply s = by_tests (reply.hl == 0) (reply.hl == 1)
   where
     by_tests : (came over : Bool)

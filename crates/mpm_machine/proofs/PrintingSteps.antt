@@ -403,6 +403,7 @@ as_spooling q system outputs i = record {
   awaits = i.awaits;
   owns = i.owns;
   printed = i.printed;
+  came = i.came;
 }
 
 begins_so : (q : ℕ) (system : System) (files : FilesInService) → ServedBy system.kernel.disk.served files → HasTurns system.kernel.disk
@@ -429,6 +430,7 @@ printing_next q s w p =
         awaits = goes.awaits;
         owns = goes.owns;
         printed = goes.printed;
+        came = goes.came;
       };
       filed = filed_next s w p.filed;
       turns = turns_next s w p.filed p.turns;

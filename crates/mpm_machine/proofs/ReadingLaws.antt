@@ -39,12 +39,12 @@ use Rattle.mpm_spool.specs.Spoolers.{Spooler, took_at, block_after, with_block, 
 use Rattle.mpm_spool.specs.declared.list.SpoolItem.{SpoolItem}
 use Rattle.mpm_spool.specs.declared.table.Row.TheVariants.{Read, Detach}
 use Rattle.mpm_machine.proofs.RecordRead.{ReadsOne, reads_one}
-use Rattle.mpm_machine.specs.Printed.{read_by, ended_by}
+use Rattle.mpm_spool.specs.Printed.{read_by, ended_by}
 use Rattle.mpm_machine.specs.Printing.{first_bytes, key_of_spool_item, seen_in, ReadsFile}
 
 -- as others leave the file
 
-same_bytes : (seen other : ℕ → Option (List ℕ)) → ((n : ℕ) → seen n ≡ other n) → (k : ℕ) → first_bytes seen k ≡ first_bytes other k
+pub same_bytes : (seen other : ℕ → Option (List ℕ)) → ((n : ℕ) → seen n ≡ other n) → (k : ℕ) → first_bytes seen k ≡ first_bytes other k
 unfolding first_bytes
 same_bytes seen other same zero = refl
 same_bytes seen other same (suc k) =

@@ -1,7 +1,8 @@
--- The spooler as a machine begins, and after n steps; and what then stands last on its printer.
-use Rattle.std.proofs.Common.{◌≡◌, ◌∙◌, ℕ, zero, suc, ◌<◌, ◌^◌, ◌+◌, Bool, true, List, [], Option, None, length, take, reverse, refl, sym, ap, subst, arith}
+-- The spooler as a machine begins, and after n steps; that what it prints comes after it opened the file; and what then stands last on its
+-- printer.
+use Rattle.std.proofs.Common.{◌≡◌, ◌∙◌, ℕ, zero, suc, ◌<◌, ◌^◌, ◌+◌, Bool, true, false, List, [], ◌++◌, Option, None, length, take, reverse, refl, sym, ap, subst, arith}
 use Rattle.std.proofs.lemmas.Bool.{false≢true}
-use Rattle.std.proofs.lemmas.List.{take_at, length-reverse}
+use Rattle.std.proofs.lemmas.List.{append_assoc, take_at, length-reverse}
 use Rattle.mpm_kernel.specs.Awaiting.{completions}
 use Rattle.mpm_port.specs.Texts.{Begins}
 use Rattle.mpm_render.specs.Outputs.{Output}
@@ -18,17 +19,20 @@ use Rattle.mpm_system.specs.Whole.{IsWhole, NoCompletions}
 use Rattle.mpm_system.specs.declared.system.System.{System}
 use Rattle.mpm_machine.proofs.NextLaws.{whole_after}
 use Rattle.mpm_machine.proofs.PrintingSteps.{spooling_next, printing_next}
-use Rattle.mpm_machine.proofs.PrintedLaws.{prints_text}
-use Rattle.mpm_machine.specs.After.{after}
+use Rattle.mpm_spool.proofs.PrintedLaws.{prints_text}
+use Rattle.mpm_machine.proofs.DeletingLaws.{deleting_next}
+use Rattle.mpm_machine.specs.After.{next, after}
 use Rattle.mpm_machine.proofs.PlainLaws.{nowhere}
 use Rattle.mpm_machine.proofs.TextLaws.{prints_file}
 use Rattle.mpm_machine.specs.Files.{Between, filing_in, owes}
 use Rattle.mpm_machine.specs.Interpreting.{sets_or_chains}
-use Rattle.mpm_machine.specs.Printed.{text_of, to_printer, read_in, printed_in, has_file, has_printer, bytes_to}
-use Rattle.mpm_machine.specs.Printing.{HasText, key_of_spool_item, seen_in, ServedBy, at_beginning, IsPrinting}
+use Rattle.mpm_spool.specs.Printed.{text_of, to_printer, read_in, printed_in, has_file, has_printer}
+use Rattle.mpm_machine.specs.Printed.{bytes_to}
+use Rattle.mpm_machine.specs.Printing.{HasText, key_of_spool_item, seen_in, ServedBy, at_beginning, IsPrinting, DeletesPrinted}
 use Rattle.mpm_machine.specs.Slots.{HasResidents}
 use Rattle.mpm_machine.specs.Spooling.{IsSpooling}
 use Rattle.mpm_machine.specs.State.{State}
+use Rattle.mpm_machine.specs.Stepping.{stepped}
 
 -- as a machine begins that has a spooler
 unfoldable pub spools_at_first : (consoles : ℕ) (spool sched : Bool) (system : System) (turn_steps : ℕ) → HasResidents consoles spool sched system → IsWhole system → NoCompletions system
@@ -48,6 +52,7 @@ spools_at_first consoles spool sched system turn_steps has w none disk asked =
       awaits = record { table = w.sound.table; few = omega (arith, nobody); at_once = λ all. absurd (omega (arith, all, nobody)) };
       owns = λ e. absurd (false≢true e);
       printed = λ e. absurd (false≢true e);
+      came = λ e. absurd (false≢true e);
     }
 
 -- and its file, whatever others have open
@@ -77,7 +82,7 @@ unfolding after
 printing_after q zero s w p = p
 printing_after q (suc n) s w p = printing_next q (after n s) (whole_after n s w) (printing_after q n s w p)
 
--- the last bytes on the printer are the first of the text of what was read, as many as it counts
+-- where it has no file open, nothing is asked of what came before
 
 printer_has_file : (row : Row) → has_printer row ≡ true → has_file row ≡ true
 printer_has_file ReadList has = absurd (false≢true has)
@@ -89,6 +94,48 @@ printer_has_file Print has = refl
 printer_has_file Detach has = refl
 printer_has_file Close has = refl
 printer_has_file Delete has = absurd (false≢true has)
+
+pub spooling_anew : (q : ℕ) (system : System) (outputs other : List Output) (i : IsSpooling q system outputs) → has_file (after_answers i.answers).row ≡ false → IsSpooling q system other
+spooling_anew q system outputs other i none = record {
+  answers = i.answers;
+  acts = i.acts;
+  home = i.home;
+  asks = i.asks;
+  filed = i.filed;
+  awaits = i.awaits;
+  owns = i.owns;
+  printed = λ has. absurd (false≢true (sym none ∙ printer_has_file (after_answers i.answers).row has));
+  came = λ has. absurd (false≢true (sym none ∙ has));
+}
+
+-- a state, of whose outputs those are left out that came before
+abbrev pub anew : State → State
+anew s = record s { outputs = [] }
+
+pub printing_anew : (q : ℕ) (s : State) (p : IsPrinting q s) → has_file (after_answers p.spooling.answers).row ≡ false → IsPrinting q (anew s)
+unfolding spooling_anew
+printing_anew q s p none =
+    record { spooling = spooling_anew q s.system s.outputs [] p.spooling none; filed = p.filed; turns = p.turns; served = p.served; reads = p.reads; prints = p.prints }
+
+-- those of n steps are then what comes in front
+
+next_over : (s : State) (outputs : List Output) → next (record s { outputs = s.outputs ++ outputs }) ≡ record (next s) { outputs = (next s).outputs ++ outputs }
+unfolding next
+next_over s outputs = ap (λ (all : List Output). record (next s) { outputs = all }) (sym (append_assoc (stepped s.system s.files).change.emitted s.outputs outputs))
+
+pub after_anew : (n : ℕ) (s : State) → after n s ≡ record (after n (anew s)) { outputs = (after n (anew s)).outputs ++ s.outputs }
+unfolding after
+after_anew zero s = refl
+after_anew (suc n) s = ap next (after_anew n s) ∙ next_over (after n (anew s)) s.outputs
+
+-- so the text of a file for whose deletion it asks came to the printer in the steps since it had none open
+pub deletes_since : (q n : ℕ) (s : State) → IsWhole s.system → (p : IsPrinting q s) → has_file (after_answers p.spooling.answers).row ≡ false
+    → (r : IsPrinting q (after n (anew s))) × DeletesPrinted q (after n (anew s)) r (next (after n (anew s))).system.residents
+deletes_since q n s w p none =
+    let r = printing_after q n (anew s) w (printing_anew q s p none) in
+    (r, deleting_next q (after n (anew s)) (whole_after n (anew s) w) r)
+
+-- the last bytes on the printer are the first of the text of what was read, as many as it counts
 
 first_part : (part whole : List ℕ) (n : ℕ) → Begins part whole → n ≡ length part → take n whole ≡ part
 first_part part whole n b is = ap (take n) b.whole_is ∙ take_at part b.rest n (sym is)

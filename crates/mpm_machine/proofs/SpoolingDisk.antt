@@ -97,6 +97,7 @@ own_over {Such} q system outputs w last i =
       none = record { table = (sound_ready_again kernel q passed over).table; few = omega (arith, none); at_once = λ _. ready_ready_again kernel q passed over };
       gone = omega (arith, gone, one);
       has = λ has. (i.owns has, i.printed has);
+      came = i.came;
     }
 
 -- a call is over

@@ -1,6 +1,6 @@
 -- The spooler goes on through file calls: another's, and its own, which is done at once, or waits for the disk, is served, and is over in a
 -- later step.
-use Rattle.std.proofs.Common.{ℕ, [], ◌≡◌, ◌≢◌, ◌∙◌, ◌==◌, ◌&&◌, not, Bool, true, false, List, ◌∷◌, if◌then◌else◌, Option, Some, None, option_map, inl, inr, refl, sym, ap, subst, arith}
+use Rattle.std.proofs.Common.{ℕ, [], ◌≡◌, ◌≢◌, ◌∙◌, ◌==◌, ◌&&◌, not, Bool, true, false, List, ◌∷◌, reverse, if◌then◌else◌, Option, Some, None, option_map, inl, inr, refl, sym, ap, subst, arith}
 use Rattle.std.proofs.lemmas.Bool.{false≢true, cases_eq}
 use Rattle.mpm_base.proofs.Choices.{either}
 use Rattle.mpm_base.specs.Calls.{Taken, Answer}
@@ -42,14 +42,15 @@ use Rattle.mpm_machine.proofs.SparedActs.{spares_popped, spares_answering, spare
 use Rattle.mpm_machine.proofs.SparedParts.{Spares, spares_then, spares_on, spares_same, spares_itself, spares_kernel, spares_spoke, spares_ended, spares_asking}
 use Rattle.mpm_machine.proofs.SparedResidents.{spares_taking}
 use Rattle.mpm_machine.proofs.SpoolingLaws.{Stays, Spools, spooling_by, so_then, spooling_took}
-use Rattle.mpm_machine.proofs.SpoolingRows.{Goes, Leads, HasPrinter, Asks, takes_at, leads_begun, leads_attach, leads_at, leads_detach, closed_leads, home_asked, mild_row}
+use Rattle.mpm_machine.proofs.SpoolingRows.{Goes, Leads, HasPrinter, Asks, came_still, takes_at, leads_begun, leads_attach, leads_at, leads_detach, closed_leads, home_asked, mild_row}
 use Rattle.mpm_machine.proofs.SpoolingSteps.{goes_spared}
 use Rattle.mpm_machine.proofs.WholeStepLaws.{whole_counted}
 use Rattle.mpm_machine.specs.DiskStep.{file_called, is_done_at_once}
 use Rattle.mpm_machine.specs.Ending.{ended}
 use Rattle.mpm_machine.specs.FileCalls.{answered_by, concluded, error_met, told_then, is_of_files, called_next, is_file_number, calls_files}
-use Rattle.mpm_machine.specs.Printed.{has_printer, printed_by, printed_in}
-use Rattle.mpm_machine.specs.Spooling.{IsAtHome, KeepsFileCall, may_wait, spooler_awaits, opens_or_attaches}
+use Rattle.mpm_spool.specs.Printed.{has_file, has_printer, printed_by, printed_in}
+use Rattle.mpm_machine.specs.Printed.{bytes_to}
+use Rattle.mpm_machine.specs.Spooling.{IsAtHome, KeepsFileCall, Includes, may_wait, spooler_awaits, opens_or_attaches}
 
 -- another's call
 
@@ -169,6 +170,7 @@ pub record MakesFiled (q : ℕ) (answers : List Answer) (system : System) (outpu
   pub none : AwaitsIn 0 q system.kernel
   pub gone : at_disk system.kernel.disk q ≡ 0
   pub has : has_printer (after answers).row ≡ true → HasPrinter q (printed_in answers) system.kernel outputs
+  pub came : has_file (after answers).row ≡ true → Includes (reverse (printed_in answers)) (bytes_to 0 outputs)
 
 read_leads : (A H : Type 0) (came ended : Bool) (bytes : List ℕ) (s : Spooler) → H
     → Leads A H (if came then record s { row = row_at bytes 0; bytes = bytes; place = 0 } else (if ended then record s { row = Detach } else record s { row = Detach; is_unprinted = true })).row
@@ -198,6 +200,10 @@ filed_leads AskStop q s reply printed kernel outputs files kept has = absurd (cc
 filed_leads Print q s reply printed kernel outputs files kept has = absurd (cc)
 filed_leads Detach q s reply printed kernel outputs files kept has = absurd (cc)
 
+files_print_none : (row : Row) (s : Spooler) → is_of_files (call_at row s).function ≡ true → row ≡ Print → ⊥
+unfolding is_of_files Rattle.mpm_file_functions.specs.Functions.function_of Rattle.mpm_file_functions.specs.Functions.direct_of
+files_print_none row s files is = false≢true (sym (ap (λ (r : Row). is_of_files (call_at r s).function) is) ∙ files)
+
 own_replied : {Such : List Answer → Type 0} (q : ℕ) (answers : List Answer) (reply : Answer) (system : System) (outputs : List Output) → MakesFiled q answers system outputs
     → Such (reply ∷ answers) → Stays Such → Spools Such q (file_replied reply q system) outputs
 unfolding file_replied next_call
@@ -205,7 +211,9 @@ own_replied {Such} q answers reply system outputs f so stays =
     let s = after answers in
     subst (λ (seg : Option ℕ). Spools Such q (reply_by seg reply q system) outputs) (sym f.home.resides)
     (spooling_took q answers reply system outputs
-    (takes_at q answers reply s.row system outputs refl f.acts f.home f.none f.gone so stays (filed_leads s.row q s reply (printed_in answers) system.kernel outputs f.filed.files f.filed.kept f.has)))
+    (takes_at q answers reply s.row system outputs refl f.acts f.home f.none f.gone so stays
+    (came_still s.row s reply (printed_in answers) (bytes_to 0 outputs) refl (files_print_none s.row s f.filed.files) f.came)
+    (filed_leads s.row q s reply (printed_in answers) system.kernel outputs f.filed.files f.filed.kept f.has)))
 
 own_answered_by : {Such : List Answer → Type 0} (error : Option Extended) (q : ℕ) (answers : List Answer) (reply : Answer) (system : System) (outputs : List Output) → MakesFiled q answers system outputs
     → Such (reply ∷ answers) → Stays Such → Goes Such q (answered_by error reply q system) outputs
@@ -264,6 +272,7 @@ own_waits {Such} q answers system outputs f so stays =
       };
       owns = λ has. (f.has has).0;
       printed = λ has. (f.has has).1;
+      came = f.came;
       so = so;
       stays = stays;
     }
@@ -306,6 +315,7 @@ own_asked {Such} q system outputs w ready i files =
       none = none_waits q system outputs i files gone;
       gone = gone;
       has = λ has. (i.owns has, i.printed has);
+      came = i.came;
     }
 
 own_made : {Such : List Answer → Type 0} (q : ℕ) (system : System) (outputs : List Output) → IsWhole system → IsReady system.kernel.dispatcher q → (i : Spools Such q system outputs) → calls_files q system ≡ true

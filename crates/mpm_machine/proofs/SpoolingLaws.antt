@@ -2,6 +2,7 @@
 use Rattle.std.proofs.Common.{ℕ, ◌<◌, [], ◌≡◌, ◌∙◌, true, false, List, ◌∷◌, ◌++◌, zero, suc, reverse, Option, Some, None, refl, sym, ap, subst, arith}
 use Rattle.std.specs.Prelude.{slice_get, slice_set}
 use Rattle.std.proofs.lemmas.Bool.{false≢true}
+use Rattle.std.proofs.lemmas.List.{append_assoc}
 use Rattle.mpm_base.specs.Calls.{Answer}
 use Rattle.mpm_consoles.specs.Consoles.{owner_of}
 use Rattle.mpm_base.specs.declared.unit.Unit.TheVariants.{Printer}
@@ -22,8 +23,9 @@ use Rattle.mpm_system.specs.declared.system.System.{System}
 use Rattle.mpm_machine.proofs.SparedParts.{Spares, bytes_both}
 use Rattle.mpm_machine.specs.FileCalls.{is_of_files}
 use Rattle.mpm_machine.specs.Interpreting.{sets_or_chains}
-use Rattle.mpm_machine.specs.Printed.{printed_in, has_printer, bytes_to}
-use Rattle.mpm_machine.specs.Spooling.{IsAtHome, KeepsFileCall, IsSpooling, spooler_awaits, opens_or_attaches}
+use Rattle.mpm_spool.specs.Printed.{printed_in, has_file, has_printer}
+use Rattle.mpm_machine.specs.Printed.{bytes_to}
+use Rattle.mpm_machine.specs.Spooling.{IsAtHome, KeepsFileCall, Includes, IsSpooling, spooler_awaits, opens_or_attaches}
 
 -- what else is so of the answers that it took, which stays so as it takes an answer to a call that isn't on files
 
@@ -39,6 +41,7 @@ pub record Spools (Such : List Answer → Type 0) (q : ℕ) (system : System) (o
   pub awaits : AwaitsIn (spooler_awaits (at_disk system.kernel.disk q) (after answers).row) q system.kernel
   pub owns : has_printer (after answers).row ≡ true → owner_of system.kernel.units (Printer 0) ≡ Some q
   pub printed : has_printer (after answers).row ≡ true → Begins (reverse (printed_in answers)) (bytes_to 0 outputs)
+  pub came : has_file (after answers).row ≡ true → Includes (reverse (printed_in answers)) (bytes_to 0 outputs)
   pub so : Such answers
   pub stays : Stays Such
 
@@ -52,6 +55,7 @@ spools_as q system outputs i stays so = record {
   awaits = i.awaits;
   owns = i.owns;
   printed = i.printed;
+  came = i.came;
   so = so;
   stays = stays;
 }
@@ -66,6 +70,7 @@ so_then q system outputs i stays so = record {
   awaits = i.awaits;
   owns = i.owns;
   printed = i.printed;
+  came = i.came;
   so = so;
   stays = stays;
 }
@@ -89,6 +94,17 @@ begins_still part emitted outputs none b = record {
   whole_is = bytes_both 0 emitted outputs ∙ ap (λ (xs : List ℕ). xs ++ bytes_to 0 outputs) none ∙ b.whole_is;
 }
 
+-- what came stays, whatever comes later
+pub includes_first : (part whole : List ℕ) → Begins part whole → Includes part whole
+includes_first part whole b = record { later = []; earlier = b.rest; whole_is = b.whole_is }
+
+pub includes_still : (part : List ℕ) (emitted outputs : List Output) → Includes part (bytes_to 0 outputs) → Includes part (bytes_to 0 (emitted ++ outputs))
+includes_still part emitted outputs i = record {
+  later = bytes_to 0 emitted ++ i.later;
+  earlier = i.earlier;
+  whole_is = bytes_both 0 emitted outputs ∙ ap (λ (xs : List ℕ). bytes_to 0 emitted ++ xs) i.whole_is ∙ sym (append_assoc (bytes_to 0 emitted) i.later (part ++ i.earlier));
+}
+
 unfoldable pub spooling_by : {Such : List Answer → Type 0} (q : ℕ) (old : System) (change : SystemChange) (outputs : List Output) → Spares q old change → Spools Such q old outputs → Spools Such q change.system (change.emitted ++ outputs)
 spooling_by {Such} q old change outputs s i = record {
   answers = i.answers;
@@ -99,6 +115,7 @@ spooling_by {Such} q old change outputs s i = record {
   awaits = subst (λ (places : ℕ). AwaitsIn (spooler_awaits places (after i.answers).row) q change.system.kernel) (sym s.place) (s.awaits (spooler_awaits (at_disk old.kernel.disk q) (after i.answers).row) i.awaits);
   owns = λ has. s.printer.owner 0 (i.owns has);
   printed = λ has. begins_still (reverse (printed_in i.answers)) change.emitted outputs (s.nothing 0 (i.owns has)) (i.printed has);
+  came = λ has. includes_still (reverse (printed_in i.answers)) change.emitted outputs (i.came has);
   so = i.so;
   stays = i.stays;
 } where
@@ -129,7 +146,8 @@ acts_took q system answers reply is = took_itself (native_in system.residents q)
 pub awaits_more : (k q : ℕ) (kernel : Kernel) → AwaitsIn 0 q kernel → AwaitsIn k q kernel
 awaits_more k q kernel a = record { table = a.table; few = omega (arith, a.few); at_once = λ _. a.at_once (omega arith) }
 
--- nothing is at the disk, nothing is awaited, and where a printer is its own then, that has what was printed
+-- nothing is at the disk, nothing is awaited, and what was printed of the file that it then has came to the printer, as the last where that is
+-- its own then
 pub record Takes (Such : List Answer → Type 0) (q : ℕ) (answers : List Answer) (reply : Answer) (system : System) (outputs : List Output) : Type 0 where
   pub acts : native_in system.residents q ≡ Some (Spool (after answers))
   pub home : IsAtHome q system
@@ -138,6 +156,7 @@ pub record Takes (Such : List Answer → Type 0) (q : ℕ) (answers : List Answe
   pub asks : (after (reply ∷ answers)).row ≡ Attach → opens_or_attaches (call_of system.kernel.dispatcher.procs q).function ≡ true
   pub owns : has_printer (after (reply ∷ answers)).row ≡ true → owner_of system.kernel.units (Printer 0) ≡ Some q
   pub printed : has_printer (after (reply ∷ answers)).row ≡ true → Begins (reverse (printed_in (reply ∷ answers))) (bytes_to 0 outputs)
+  pub came : has_file (after (reply ∷ answers)).row ≡ true → Includes (reverse (printed_in (reply ∷ answers))) (bytes_to 0 outputs)
   pub so : Such (reply ∷ answers)
   pub stays : Stays Such
 
@@ -152,6 +171,7 @@ spooling_took {Such} q answers reply system outputs t = record {
   awaits = awaits_more (spooler_awaits (at_disk system.kernel.disk q) (after (reply ∷ answers)).row) q system.kernel t.none;
   owns = t.owns;
   printed = t.printed;
+  came = t.came;
   so = t.so;
   stays = t.stays;
 }

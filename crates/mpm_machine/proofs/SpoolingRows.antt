@@ -57,17 +57,20 @@ use Rattle.mpm_system.specs.Saying.{said_by, call_text, echo_of}
 use Rattle.mpm_kernel.specs.Columns.{column_of}
 use Rattle.mpm_system.specs.Whole.{SystemChange, IsWhole, speaking}
 use Rattle.mpm_system.specs.declared.system.System.{System}
-use Rattle.mpm_machine.proofs.PrintedLaws.{nothing_at_attach}
+use Rattle.mpm_machine.proofs.OpeningLaws.{begun_has_no_file}
+use Rattle.mpm_spool.proofs.PrintedLaws.{nothing_at_attach}
+use Rattle.mpm_machine.proofs.PrintingLaws.{listed_has_no_file}
 use Rattle.mpm_machine.proofs.PrinterCalls.{prints_read_at}
 use Rattle.mpm_machine.proofs.SparedParts.{Spares, spares_spoke, bytes_both, nothing_spoken}
-use Rattle.mpm_machine.proofs.SpoolingLaws.{Stays, Spools, home_by, Takes, spooling_took}
+use Rattle.mpm_machine.proofs.SpoolingLaws.{Stays, Spools, home_by, includes_first, includes_still, Takes, spooling_took}
 use Rattle.mpm_machine.specs.FileCalls.{is_of_files}
 use Rattle.mpm_machine.specs.Interpreting.{sets_or_chains}
-use Rattle.mpm_machine.specs.Printed.{printed_by, printed_in, has_printer, bytes_to}
+use Rattle.mpm_spool.specs.Printed.{printed_by, printed_in, has_file, has_printer}
+use Rattle.mpm_machine.specs.Printed.{bytes_to}
 use Rattle.mpm_machine.specs.Residing.{calling_step, native_outcome, native_step, resided}
 use Rattle.mpm_machine.specs.Serving.{served_to_all, after_echo}
 use Rattle.mpm_machine.specs.Slots.{Settings, settings_of}
-use Rattle.mpm_machine.specs.Spooling.{IsAtHome, may_wait, opens_or_attaches}
+use Rattle.mpm_machine.specs.Spooling.{IsAtHome, Includes, may_wait, opens_or_attaches}
 
 -- the row that comes next
 
@@ -129,6 +132,19 @@ after_is : (answers : List Answer) (reply : Answer) (row : Row) → (after answe
 unfolding after took
 after_is answers reply row is = ap (λ (r : Row). took_at r (after answers) reply) is
 
+-- in a row that prints nothing, what was printed of the file that it has still stands, and of one that it has opened nothing is printed yet
+pub came_still : (row : Row) (s : Spooler) (reply : Answer) (printed whole : List ℕ) → s.row ≡ row → (row ≡ Print → ⊥) → (has_file row ≡ true → Includes (reverse printed) whole)
+    → has_file (took_at row s reply).row ≡ true → Includes (reverse (printed_by row (call_at row s).word printed)) whole
+came_still ReadList s reply printed whole is other came has = absurd (listed_has_no_file (list_of (in_width 128 reply.bytes)) s is has)
+came_still Open s reply printed whole is other came has = includes_first [] whole (record { rest = whole; whole_is = refl })
+came_still Print s reply printed whole is other came has = absurd (other refl)
+came_still Attach s reply printed whole is other came has = came refl
+came_still AskStop s reply printed whole is other came has = came refl
+came_still Read s reply printed whole is other came has = came refl
+came_still Detach s reply printed whole is other came has = came refl
+came_still Close s reply printed whole is other came has = came refl
+came_still Delete s reply printed whole is other came has = absurd (begun_has_no_file s has)
+
 abbrev pub HasPrinter : ℕ → List ℕ → Kernel → List Output → Type 0
 HasPrinter q bytes kernel outputs = (owner_of kernel.units (Printer 0) ≡ Some q) × Begins (reverse bytes) (bytes_to 0 outputs)
 
@@ -138,15 +154,27 @@ Asks q kernel = opens_or_attaches (call_of kernel.dispatcher.procs q).function �
 pub takes_at : {Such : List Answer → Type 0} (q : ℕ) (answers : List Answer) (reply : Answer) (row : Row) (system : System) (outputs : List Output) → (after answers).row ≡ row
     → native_in system.residents q ≡ Some (Spool (after answers)) → IsAtHome q system → AwaitsIn 0 q system.kernel → at_disk system.kernel.disk q ≡ 0
     → Such (reply ∷ answers) → Stays Such
+    → (has_file (took_at row (after answers) reply).row ≡ true → Includes (reverse (printed_by row (call_at row (after answers)).word (printed_in answers))) (bytes_to 0 outputs))
     → Leads (Asks q system.kernel) (HasPrinter q (printed_by row (call_at row (after answers)).word (printed_in answers)) system.kernel outputs) (took_at row (after answers) reply).row
     → Takes Such q answers reply system outputs
-takes_at {Such} q answers reply row system outputs is acts home none gone such stays leads =
+takes_at {Such} q answers reply row system outputs is acts home none gone such stays came leads =
     let next = after_is answers reply row is in
     let bytes = word_is answers reply row is in
     let P : List ℕ → Type 0 = λ printed. Leads (Asks q system.kernel) (HasPrinter q printed system.kernel outputs) (after (reply ∷ answers)).row in
     let so : P (printed_in (reply ∷ answers)) =
     subst P (sym bytes) (subst (λ (s : Spooler). Leads (Asks q system.kernel) (HasPrinter q (printed_by row (call_at row (after answers)).word (printed_in answers)) system.kernel outputs) s.row) (sym next) leads) in
-    record { acts = acts; home = home; none = none; gone = gone; asks = so.0; owns = λ has. (so.1 has).0; printed = λ has. (so.1 has).1; so = such; stays = stays }
+    record {
+      acts = acts;
+      home = home;
+      none = none;
+      gone = gone;
+      asks = so.0;
+      owns = λ has. (so.1 has).0;
+      printed = λ has. (so.1 has).1;
+      came = λ has. subst (λ (printed : List ℕ). Includes (reverse printed) (bytes_to 0 outputs)) (sym bytes) (came (ap (λ (s : Spooler). has_file s.row) (sym next) ∙ has));
+      so = such;
+      stays = stays;
+    }
 
 -- what is said to consoles leaves all that
 
@@ -162,6 +190,7 @@ takes_by {Such} q answers reply old change outputs s nothing t = record {
   owns = λ has. s.printer.owner 0 (t.owns has);
   so = t.so;
   stays = t.stays;
+  came = λ has. includes_still (reverse (printed_in (reply ∷ answers))) change.emitted outputs (t.came has);
   printed = λ has. (let b = t.printed has in record {
     rest = b.rest;
     whole_is = bytes_both 0 change.emitted outputs ∙ ap (λ (xs : List ℕ). xs ++ bytes_to 0 outputs) (nothing has) ∙ b.whole_is;
@@ -213,6 +242,7 @@ outputs_same {Such} q system one other same i = record {
   awaits = i.awaits;
   owns = i.owns;
   printed = λ has. (let b = i.printed has in record { rest = b.rest; whole_is = same ∙ b.whole_is });
+  came = λ has. (let b = i.came has in record { later = b.later; earlier = b.earlier; whole_is = same ∙ b.whole_is });
   so = i.so;
   stays = i.stays;
 }
@@ -277,6 +307,7 @@ record Asked (Such : List Answer → Type 0) (q : ℕ) (answers : List Answer) (
   kept : call_of system.kernel.dispatcher.procs q ≡ call_at row (after answers)
   owns : has_printer row ≡ true → owner_of system.kernel.units (Printer 0) ≡ Some q
   printed : has_printer row ≡ true → Begins (reverse (printed_in answers)) (bytes_to 0 outputs)
+  came : has_file row ≡ true → Includes (reverse (printed_in answers)) (bytes_to 0 outputs)
   other : is_of_files (call_at row (after answers)).function ≡ false
   so : Such answers
   stays : Stays Such
@@ -331,6 +362,7 @@ own_stays {Such} q answers row system outputs a s asks =
       awaits = subst (λ (waits : Bool). AwaitsIn (if waits then 1 else at_disk (called q system.kernel).kernel.disk q) q (called q system.kernel).kernel) (sym (ap may_wait a.is ∙ s.may)) s.one;
       owns = λ has. absurd (never has);
       printed = λ has. absurd (never has);
+      came = λ has. a.came (ap has_file (sym a.is) ∙ has);
       so = a.so;
       stays = a.stays;
     }
@@ -342,7 +374,10 @@ own_by : {Such : List Answer → Type 0} (outcome : Ended_how) (q : ℕ) (answer
 own_by {Such} Done q answers row system outputs a c other asks =
     own_done q answers (calling q system).reply (call_at row (after answers)) (calling q system).system outputs other
     (takes_at q answers (calling q system).reply row (calling q system).system outputs a.is a.acts (home_called q system a.whole c.set a.home) c.none (asked_gone q answers row system outputs a)
-    (asked_so q answers (calling q system).reply row system outputs a) a.stays c.leads)
+    (asked_so q answers (calling q system).reply row system outputs a) a.stays
+    (came_still row (after answers) (calling q system).reply (printed_in answers) (bytes_to 0 outputs) a.is
+    (λ is. false≢true (sym other ∙ ap (λ (r : Row). (call_at r (after answers)).function == LIST_OUTPUT) is)) a.came)
+    c.leads)
 own_by {Such} Held q answers row system outputs a c other asks = own_stays q answers row system outputs a c asks
 own_by {Such} Retry q answers row system outputs a c other asks = own_stays q answers row system outputs a c asks
 own_by {Such} Ended q answers row system outputs a c other asks = absurd c
@@ -594,7 +629,7 @@ own_byte {Such} q answers system outputs a =
     spooling_took q answers (answering 0) spoke.system (spoke.emitted ++ outputs)
     (takes_at q answers (answering 0) Print spoke.system (spoke.emitted ++ outputs) a.is (sp.resident ∙ a.acts) (home_by q now quiet sp (home_begun q system a.home))
     (sp.awaits 0 (none_begun false q system.kernel a.whole.sound a.ready)) (sp.place ∙ ready_not_at_disk system.kernel q a.whole.sound a.ready)
-    (asked_so q answers (answering 0) Print system outputs a) a.stays
+    (asked_so q answers (answering 0) Print system outputs a) a.stays (λ _. includes_first (reverse bytes) (bytes_to 0 (spoke.emitted ++ outputs)) printed_now)
     (leads_at (Asks q spoke.system.kernel) (HasPrinter q bytes spoke.system.kernel (spoke.emitted ++ outputs)) s.bytes (s.place + 1) (sp.printer.owner 0 (a.owns refl), printed_now)))
 
 own_print : {Such : List Answer → Type 0} (q : ℕ) (answers : List Answer) (system : System) (outputs : List Output) → Asked Such q answers Print system outputs
@@ -689,6 +724,7 @@ own_native {Such} row q system outputs i is w ready other =
       kept = kept.call;
       owns = λ has. i.owns (ap has_printer is ∙ has);
       printed = λ has. i.printed (ap has_printer is ∙ has);
+      came = λ has. i.came (ap has_file is ∙ has);
       other = other;
       so = i.so;
       stays = i.stays;

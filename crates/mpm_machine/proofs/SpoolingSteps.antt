@@ -43,7 +43,7 @@ use Rattle.mpm_machine.proofs.SparedActs.{spares_at_gate, spares_fulfilling, spa
 use Rattle.mpm_machine.proofs.SparedParts.{Spares, spares_then, spares_same, spares_itself, spares_kernel, spares_regs, spares_ended, spares_aborted, spares_passed, disk_place, nothing_spoken, nothing_said}
 use Rattle.mpm_machine.proofs.SparedResidents.{spares_taking, spares_resided}
 use Rattle.mpm_machine.proofs.SpoolingLaws.{Spools, spooling_by, spooling_took}
-use Rattle.mpm_machine.proofs.SpoolingRows.{Goes, Leads, HasPrinter, Asks, takes_at, own_resided, leads_listed, leads_close, waiting_row}
+use Rattle.mpm_machine.proofs.SpoolingRows.{Goes, Leads, HasPrinter, Asks, came_still, takes_at, own_resided, leads_listed, leads_close, waiting_row}
 use Rattle.mpm_machine.proofs.WholeLaws.{whole_ended}
 use Rattle.mpm_machine.proofs.WholeStepLaws.{whole_unhalted, aborted_lives, due_lives, lives_in_time, whole_abort_taken, whole_dequeued, whole_due, whole_first, whole_first_answered, whole_happened, whole_if_due}
 use Rattle.mpm_machine.specs.Due.{due_terminated, ended_if_due, is_due, with_ends}
@@ -51,7 +51,8 @@ use Rattle.mpm_machine.specs.Ending.{ended}
 use Rattle.mpm_machine.specs.FileCalls.{is_of_files}
 use Rattle.mpm_machine.specs.Finishing.{all_answered, all_finished, answered_from, command_let_in, completion_dequeued, finished, finished_or_ended, finishing}
 use Rattle.mpm_machine.specs.Interpreting.{sets_or_chains}
-use Rattle.mpm_machine.specs.Printed.{bytes_to, printed_by, printed_in}
+use Rattle.mpm_spool.specs.Printed.{printed_by, printed_in}
+use Rattle.mpm_machine.specs.Printed.{bytes_to}
 use Rattle.mpm_machine.specs.Spooling.{IsAtHome, may_wait, spooler_awaits, opens_or_attaches}
 use Rattle.mpm_machine.specs.Step.{acted, acted_by, begun_by, event_come, event_text, gate_before, happened_to, interrupted, key_aborted, running_segment}
 
@@ -178,6 +179,7 @@ own_finished {Such} q system outputs i out =
     spooling_took q i.answers reply system outputs
     (takes_at q i.answers reply s.row system outputs refl i.acts i.home out.none out.gone
     (i.stays i.answers reply (waiting_row s.row s out.waited) i.so) i.stays
+    (came_still s.row s reply (printed_in i.answers) (bytes_to 0 outputs) refl (λ is. false≢true (sym (ap may_wait is) ∙ out.waited)) i.came)
     (finished_leads s.row (Asks q system.kernel) (HasPrinter q bytes system.kernel outputs) s reply refl out.waited (λ is. refused (call_of system.kernel.dispatcher.procs q) (i.asks is))))
 
 goes_finished : {Such : List Answer → Type 0} (seg : Option ℕ) (q p : ℕ) (system : System) (outputs : List Output) (i : Spools Such q system outputs) → (q ≡ p → IsOut Such q system outputs i)

@@ -1,11 +1,12 @@
 -- Where the spooler has read a file's records from the first on, what it has printed is a first part of the file's text, and all of it where it
 -- has come to the end.
-use Rattle.std.proofs.Common.{◌≡◌, ◌∙◌, ℕ, zero, suc, ◌+◌, ◌<◌, ◌≤◌, ◌==◌, ◌-◌, ◌%◌, Bool, true, false, if◌then◌else◌, List, [], ◌∷◌, ◌++◌, length, Option, Some, None, inl, inr, refl, sym, ap, subst, arith}
+use Rattle.std.proofs.Common.{◌≡◌, ◌∙◌, ℕ, zero, suc, ◌+◌, ◌*◌, ◌^◌, ◌<◌, ◌≤◌, ◌==◌, ◌-◌, ◌%◌, Bool, true, false, if◌then◌else◌, List, [], ◌∷◌, ◌++◌, length, Option, Some, None, inl, inr, refl, sym, ap, subst, arith}
 use Rattle.std.specs.Prelude.{◌⊎◌, is_some, unwrap_or, option_and_then, nat_le}
 use Rattle.std.specs.FinMap.{get}
 use Rattle.std.proofs.lemmas.Bool.Decides.{nat_tests}
 use Rattle.std.proofs.lemmas.Bool.{false≢true, cases_lt}
 use Rattle.std.proofs.lemmas.List.{append_assoc, append-nil, map-append, length-append, length-map}
+use Rattle.mpm_base.proofs.Widths.{length_in_width}
 use Rattle.mpm_base.specs.Calls.{Taken, Answer}
 use Rattle.mpm_base.specs.Lists.{in_width}
 use Rattle.mpm_bdos.specs.Ending.{IsSoundDrive}
@@ -16,11 +17,12 @@ use Rattle.mpm_spool.specs.Spoolers.{file_block, call_at, next_call, after}
 use Rattle.mpm_spool.specs.declared.list.SpoolItem.{SpoolItem}
 use Rattle.mpm_spool.specs.declared.table.Row.{Row}
 use Rattle.mpm_spool.specs.declared.table.Row.TheVariants.{ReadList, Open, Attach, AskStop, Read, Print, Detach, Close, Delete}
-use Rattle.mpm_machine.proofs.PrintedLaws.{text_end, text_more, prints_text, EndsText, ends_text}
+use Rattle.mpm_spool.proofs.PrintedLaws.{text_end, text_more, prints_text, EndsText, ends_text, deletes_alone}
 use Rattle.mpm_machine.proofs.NamedLaws.{named_in_full}
 use Rattle.mpm_machine.proofs.OpeningLaws.{deleting_names}
 use Rattle.mpm_machine.proofs.PrintedItems.{has_item, its_item}
-use Rattle.mpm_machine.specs.Printed.{text_of, to_printer, read_in, ended_in, printed_in, item_in, has_file, has_ended}
+use Rattle.mpm_machine.proofs.ReadingLaws.{same_bytes}
+use Rattle.mpm_spool.specs.Printed.{text_of, to_printer, read_in, ended_in, printed_in, item_in, has_file, has_ended}
 use Rattle.mpm_machine.specs.Printing.{first_bytes, HasText, NamesFile, key_of_spool_item, seen_in, ReadsFile, has_closing, PrintsFile}
 
 -- first parts
@@ -142,6 +144,12 @@ printer_length : (text : List ℕ) → length (to_printer text) ≡ length text
 unfolding to_printer
 printer_length text = length-map text (λ byte. byte % 256)
 
+-- what was printed of a text isn't longer
+pub printed_size : (answers : List Answer) (text : List ℕ) → Begins (printed_in answers) (to_printer text) → length (printed_in answers) ≤ length text
+printed_size answers text b =
+    let both : length (to_printer text) ≡ length (printed_in answers) + length b.rest = ap length b.whole_is ∙ length-append (printed_in answers) b.rest in
+    omega (arith, both, printer_length text)
+
 deleting_call : (answers : List Answer) → (after answers).row ≡ Delete → next_call (after answers) ≡ call_at Delete (after answers)
 unfolding next_call
 deleting_call answers is = ap (λ (row : Row). call_at row (after answers)) is
@@ -153,10 +161,9 @@ prints_file q answers filing reads =
       read = p;
       item = λ has. its_item answers (file_has_item (after answers).row has);
       count = λ has text t few.
-          let b = begins_in has text t in
-          let less : length (printed_in answers) ≤ length (to_printer text) = subst (λ (n : ℕ). length (printed_in answers) ≤ n) (sym (ap length b.whole_is ∙ length-append (printed_in answers) b.rest)) (omega arith) in
-          p.count has (omega (arith, less, few, printer_length text));
-      deletes = λ is.
+          p.count has (omega (arith, printed_size answers text (begins_in has text t), few));
+      deletes = λ asks.
+          let is = deletes_alone (after answers) asks in
           subst (λ (s : Taken). NamesFile s.fcb (key_of_spool_item (item_in answers))) (sym (deleting_call answers is))
           (subst (λ (item : SpoolItem). NamesFile (file_block (after answers).item) (key_of_spool_item item)) (its_item answers (ap has_item is)) (deleting_names (after answers).item (named_in_full answers)));
       begins = begins_in;
@@ -172,30 +179,55 @@ prints_file q answers filing reads =
           (printed_so (text_of (read_in answers)) text
           (subst (λ (read : List ℕ). Begins (text_of read) text) (sym r.read_is) (first_text (seen_in filing (key_of_spool_item (after answers).item)) _ r.visible text t)))
 
+-- so long as its records are, a text is
+
+text_size_by : (ends : Bool) (byte : ℕ) (bytes : List ℕ) → (byte == 26) ≡ ends → length (text_of bytes) ≤ length bytes → length (text_of (byte ∷ bytes)) ≤ suc (length bytes)
+text_size_by true byte bytes is few = subst (λ (xs : List ℕ). length xs ≤ suc (length bytes)) (sym (text_end byte bytes is)) (omega arith)
+text_size_by false byte bytes is few = subst (λ (xs : List ℕ). length xs ≤ suc (length bytes)) (sym (text_more byte bytes is)) (omega (arith, few))
+
+text_size : (bytes : List ℕ) → length (text_of bytes) ≤ length bytes
+unfolding text_of
+text_size [] = omega arith
+text_size (byte ∷ bytes) = text_size_by (byte == 26) byte bytes refl (text_size bytes)
+
+records_size : (seen : ℕ → Option (List ℕ)) (n : ℕ) → length (first_bytes seen n) ≡ 128 * n
+unfolding first_bytes
+records_size seen zero = refl
+records_size seen (suc n) =
+    let last = in_width 128 (unwrap_or (seen n) []) in
+    let size : length last ≡ 128 = length_in_width 128 (unwrap_or (seen n) []) in
+    omega (arith, size, records_size seen n, length-append (first_bytes seen n) last)
+
 -- each file of a drive has a text, as no directory entry goes beyond a file's last extent
 
-record IsGap (seen : ℕ → Option (List ℕ)) : Type 0 where
+record IsGap (seen : ℕ → Option (List ℕ)) (m : ℕ) : Type 0 where
   place : ℕ
+  below : place < m
   before : (n : ℕ) → n < place → is_some (seen n) ≡ true
   none : seen place ≡ None
 
-gap_below : (seen : ℕ → Option (List ℕ)) (m : ℕ) → ((n : ℕ) → n < m → is_some (seen n) ≡ true) ⊎ IsGap seen
+gap_below : (seen : ℕ → Option (List ℕ)) (m : ℕ) → ((n : ℕ) → n < m → is_some (seen n) ≡ true) ⊎ IsGap seen m
 gap_below seen zero = inl (λ n less. absurd (omega (arith, less)))
 gap_below seen (suc m) = elim (gap_below seen m) [
   | inl all ↦ by_next (seen m) refl all
-  | inr gap ↦ inr gap
+  | inr gap ↦ inr (record { place = gap.place; below = omega (arith, gap.below); before = gap.before; none = gap.none })
 ] where
-  by_next : (o : Option (List ℕ)) → seen m ≡ o → ((n : ℕ) → n < m → is_some (seen n) ≡ true) → ((n : ℕ) → n < suc m → is_some (seen n) ≡ true) ⊎ IsGap seen
-  by_next None is all = inr (record { place = m; before = all; none = is })
+  by_next : (o : Option (List ℕ)) → seen m ≡ o → ((n : ℕ) → n < m → is_some (seen n) ≡ true) → ((n : ℕ) → n < suc m → is_some (seen n) ≡ true) ⊎ IsGap seen (suc m)
+  by_next None is all = inr (record { place = m; below = omega arith; before = all; none = is })
   by_next (Some bytes) is all = inl (λ n less. elim (cases_lt n m) [
     | inl below ↦ all n below
     | inr past ↦ (let same : n ≡ m = omega (arith, less, past) in ap (λ k. is_some (seen k)) same ∙ ap is_some is)
   ])
 
-text_before : (seen : ℕ → Option (List ℕ)) (m : ℕ) → seen m ≡ None → (text : List ℕ) × HasText seen text
+text_before : (seen : ℕ → Option (List ℕ)) (m : ℕ) → seen m ≡ None → (text : List ℕ) × HasText seen text × (length text ≤ 128 * m)
 text_before seen m none = elim (gap_below seen (suc m)) [
   | inl all ↦ (let below : m < suc m = omega arith in absurd (some_none (seen m) (all m below) none))
-  | inr gap ↦ (text_of (first_bytes seen gap.place), record { count = gap.place; visible = gap.before; last = gap.none; text_is = refl })
+  | inr gap ↦
+      let bytes = first_bytes seen gap.place in (
+        text_of bytes,
+        record { count = gap.place; visible = gap.before; last = gap.none; text_is = refl },
+        omega (arith, text_size bytes, records_size seen gap.place, gap.below),
+      )
 ]
 
 past_by : (drive : Drive) (file : FileName) (o : Option PhysicalExtent) → get drive.extents (entry_name drive.kind file 2048) ≡ o → IsSoundDrive drive
@@ -206,8 +238,18 @@ past_by drive file (Some entry) is sound =
     let past : nat_le 2048 entry.last ≡ false = grind (arith, nat_tests, last) in
     ap (λ (b : Bool). if b then Some entry else None) past
 
-pub file_has_text : (drive : Drive) (file : FileName) → IsSoundDrive drive → (text : List ℕ) × HasText (visible_of drive file) text
+-- which has at most 262,144 records
+pub file_has_text : (drive : Drive) (file : FileName) → IsSoundDrive drive → (text : List ℕ) × HasText (visible_of drive file) text × (length text ≤ 2 ^ 25)
 unfolding visible_of extent_at
 file_has_text drive file sound =
     text_before (visible_of drive file) 262144
     (ap (option_and_then (visible_in drive.kind 262144)) (past_by drive file (get drive.extents (entry_name drive.kind file 2048)) refl sound))
+
+-- where its records are the same, so is its text
+pub same_text : (seen other : ℕ → Option (List ℕ)) (text : List ℕ) → ((n : ℕ) → other n ≡ seen n) → HasText seen text → HasText other text
+same_text seen other text same has = record {
+  count = has.count;
+  visible = λ n less. ap is_some (same n) ∙ has.visible n less;
+  last = same has.count ∙ has.last;
+  text_is = has.text_is ∙ ap text_of (same_bytes seen other (λ n. sym (same n)) has.count);
+}

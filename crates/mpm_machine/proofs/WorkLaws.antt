@@ -21,10 +21,11 @@ use Rattle.mpm_base.proofs.Options.{none_there}
 use Rattle.mpm_procs.specs.Table.{Table, call_of}
 use Rattle.mpm_kernel.specs.Kernel.{Kernel}
 use Rattle.mpm_bdos.specs.Turns.{FitsDrives, KeepsImages, StopsWithin, TurnKeeps, drive_served, has_work, drive_and_kind, images_of, without_work}
+use Rattle.mpm_bdos.specs.Asking.{HasTurnsLeft, StandForSome}
 use Rattle.mpm_bdos.proofs.ServedLaws.{none_before}
 use Rattle.mpm_system.specs.declared.system.System.{System}
 use Rattle.mpm_system.specs.Owing.{nobody_owes}
-use Rattle.mpm_machine.specs.Files.{FilesInService, Between, Within, turns_ended, StandsServed, StandsForFiles}
+use Rattle.mpm_machine.specs.Files.{FilesInService, Between, Within, turns_ended, StandsServed, StandsForFiles, StandsWorkedBy, StandsWorked}
 use Rattle.mpm_machine.specs.Holding.{IsOwnCall, HoldsKept}
 use Rattle.mpm_machine.specs.DiskStep.{owed_then, all_paid}
 use Rattle.mpm_machine.specs.Failing.{Working, is_work, working_turn, working_turn_of, works_in_turn, HaveImagesOf, FailsWithin}
@@ -183,3 +184,31 @@ holds_worked disks kernel old new before behind holds keeps still fits = record 
   fits = fits;
   workless = λ none. still ∙ holds.workless (λ number. none_before (directory_at old.mounted number) (directory_at new.mounted number) (keeps.labels number) (none number));
 }
+
+-- where the call in service has work, the files for which all stands have a turn of it left
+turn_served : (served : Option Served) (kept : Kept) (disks : Disks) (files : FilesInService) → StandsServed served kept disks files → has_work kept.service ≡ true
+    → HasTurnsLeft (images_of disks) kept 1
+turn_served None kept disks (Between filing) stands works = absurd (false≢true (sym (ap has_work stands.idle) ∙ works))
+turn_served None kept disks (Within s) stands works = absurd stands
+turn_served (Some call) kept disks (Between filing) stands works = absurd stands
+turn_served (Some call) kept disks (Within s) stands works = record { situation = s; ended = stands.turns; serves = stands.serves; left = omega (arith, stands.left, stands.some) }
+
+pub turn_to_do : (disk : DiskService) (kept : Kept) (disks : Disks) (files : FilesInService) → StandsForFiles disk kept disks files → has_work kept.service ≡ true
+    → HasTurnsLeft (images_of disks) kept 1
+turn_to_do disk kept disks files stands works = turn_served disk.served kept disks files stands.stands works
+
+-- where no call is in service, the images stand for the drives that the files have
+stand_unserved : (turn_steps : ℕ) (served : Option Served) (kept : Kept) (disks : Disks) (files : FilesInService) → served ≡ None → StandsWorkedBy turn_steps served kept disks files
+    → StandForSome (images_of disks) kept.mounted
+stand_unserved turn_steps None kept disks (Between filing) none stands = record { drives = filing.drives; stand = stands.stand }
+stand_unserved turn_steps None kept disks (Within s) none stands = absurd stands
+stand_unserved turn_steps (Some call) kept disks files none stands = absurd (none-some call (sym none))
+
+none_while : (served : Option Served) (function : Option FileFunction) → (is_some served ≡ true → function ≡ None) → is_some function ≡ true → served ≡ None
+none_while None function apart file = refl
+none_while (Some call) function apart file = absurd (false≢true (sym (ap is_some (apart refl)) ∙ file))
+
+pub stand_at_once : (disk : DiskService) (function : Option FileFunction) (kept : Kept) (disks : Disks) (files : FilesInService) → (is_some disk.served ≡ true → function ≡ None)
+    → StandsWorked disk kept disks files → is_some function ≡ true → StandForSome (images_of disks) kept.mounted
+stand_at_once disk function kept disks files apart stands file =
+    stand_unserved disk.turn_steps disk.served kept disks files (none_while disk.served function apart file) stands.stands

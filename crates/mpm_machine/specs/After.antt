@@ -72,9 +72,10 @@ EntersByValue system =
 -- what is so of the step of a state, by what its files show. Each byte that it changes is one that it writes or answers (`contained`). What
 -- a resident hands over comes into a segment that it has reserved and in which nobody lives (`hands`). An instruction leaves all but what is
 -- its own (`instruction`). A call is served by what it took, and so are a resident's, a file call that is done at once, one that the disk
--- served, and one that enters service (`calls`, `resides`, `filed`, `over`, `enters`). A spooler goes on, what it prints stands last on its
--- printer (`spools`), and that is a first part of its file's text (`prints`). It asks for the file's deletion only after it closed it, wholly
--- printed (`deletes`). A scheduler keeps what it accepted and hasn't sent (`schedules`)
+-- served, and one that enters service (`calls`, `resides`, `filed`, `over`, `enters`). A spooler goes on, what it prints comes to its printer
+-- and stands last there while that is its own (`spools`), and it is a first part of its file's text (`prints`). It asks for the file's deletion
+-- only after it closed it, and all of its text had come to the printer (`deletes`). A scheduler sends what it accepted, in order, and keeps
+-- the rest (`schedules`)
 pub record IsStepOf (s : State) : Type 0 where
   pub contained : IsContainedBy (telling_of s.system s.files) s.system (next s).system
   pub hands : Interprets s.system → (seg at : ℕ) → IsHanded s.system seg at → IsOwnOfNobody s.system seg at

@@ -42,8 +42,10 @@ abbrev pub finished_or_ended : ℕ → System → System
 finished_or_ended p system =
     if chains p system.kernel then ended p system else finished (process_in system.kernel.dispatcher.procs p).seg p system
 
--- all that were completed by what a step begins with: the first, which lets a command in where it sent one, and the others. A step
--- lets one command in at most, and completes no other held call then
+-- all that were completed by what a step begins with: the first, which lets a command in where it sent one, and the others. A command
+-- that is held waits to write to its queue (law `held_writer` of mpm_kernel). No event completes it there, and no other process that ends
+-- or leaves its procedure (laws `event_leaves_writer`, `end_leaves_writer`, `return_leaves_writer`). A call does, and completes no other
+-- (law `completes_one`)
 unfoldable pub answered_from : Option ℕ → System → System
 answered_from None system = system
 answered_from (Some p) system = all_finished (finished_or_ended p (command_let_in p (completion_dequeued system)))

@@ -1,5 +1,6 @@
 pub mod Files
 pub mod Printing
+pub mod PrintedText
 pub mod State
 pub mod Faults
 pub mod Mounting

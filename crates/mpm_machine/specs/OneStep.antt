@@ -17,7 +17,7 @@ use Rattle.mpm_machine.specs.Failing.{Left, StopsWithImages, turns_done, working
 use Rattle.mpm_machine.specs.After.{next, after, ShowsBefore, EndsInStep}
 
 -- so many were done: they are counted, the machine is whole, nobody is left to be answered, nobody's end is due, and no two locks are of
--- one record. An interpreter that acts goes on with the segment that it has, and the disk's turns have as many steps as before
+-- one record. An interpreter that could act can do so still, and the disk's turns have as many steps as before
 pub record StepsLeave (steps : ℕ) (old new : Machine) : Type 0 where
   pub count : new.system.steps ≡ old.system.steps + steps
   pub whole : IsWhole new.system

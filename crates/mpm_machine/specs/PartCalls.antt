@@ -21,7 +21,8 @@ use Rattle.mpm_file_functions.specs.Functions.{function_of}
 use Rattle.mpm_refusals.specs.Filing.{Filing}
 use Rattle.mpm_bdos.specs.Serving.{Kept, IsCaller, filing_of}
 use Rattle.mpm_bdos.specs.Starting.{caller_of}
-use Rattle.mpm_bdos.specs.Turns.{FitsDrives, has_work}
+use Rattle.mpm_bdos.specs.Turns.{FitsDrives, has_work, images_of}
+use Rattle.mpm_bdos.specs.Asking.{StandForSome}
 use Rattle.mpm_xdos.specs.Procedures.{entered, entry_reply}
 use Rattle.mpm_residents.specs.Natives.{native_in}
 use Rattle.mpm_system.specs.declared.system.System.{System}
@@ -132,7 +133,7 @@ pub record MayServe (p : ℕ) (system : System) : Type 0 where
   pub acts : IsReadyWithin p system
   pub taken : IsTaken (call_of system.kernel.dispatcher.procs p)
 
--- it may create processes: it has no more than 16 descriptors
+-- it may create processes: it has no more than 32 descriptors
 pub record MayCreateChain (p : ℕ) (system : System) : Type 0 where
   pub living : LivesInSystem p system
   pub few : length (call_of system.kernel.dispatcher.procs p).bytes ≤ 576
@@ -191,15 +192,17 @@ pub record LooksAt (from result : Process) : Type 0 where
   pub process : result ≡ looked_at from
   pub caller : (p : ℕ) → IsCaller (caller_of p result)
 
--- what is kept of a call that may be done at once fits the drives
+-- what is kept of a call that may be done at once fits the drives, whose images stand for some drives if it is one that the disk serves
 pub record MayCallAtOnce {D : Type 0} (disks : D → Disks) (p : ℕ) (system : System) (kept : Kept) (drives : D) : Type 0 where
   pub living : LivesInSystem p system
   pub fits : FitsDrives disks kept.mounted kept.cached drives
+  pub stand : IsSome (function_of (call_of system.kernel.dispatcher.procs p).function) → StandForSome (images_of (disks drives)) kept.mounted
 
 -- so it is of one that the disk serves
 pub record MayCallDisk {D : Type 0} (disks : D → Disks) (p : ℕ) (system : System) (kept : Kept) (drives : D) : Type 0 where
   pub living : LivesInSystem p system
   pub fits : FitsDrives disks kept.mounted kept.cached drives
+  pub stand : StandForSome (images_of (disks drives)) kept.mounted
   pub function : IsSome (function_of (call_of system.kernel.dispatcher.procs p).function)
 
 -- one that the disk serves may enter service

@@ -48,14 +48,17 @@ pub record IsBetweenSteps {D : Type 0} (disks : D → Disks) (machine : Machine)
   pub no_completions : NoCompletions machine.system
   pub holds : HoldsDrives disks machine.system.kernel machine.bdos drives
 
--- a step's work on drives is done and its other parts may begin: the call in service may have done one turn more than between steps
+-- a step's work on drives is done and its other parts may begin: what is kept of file calls and the images stand for some files still, but
+-- the call in service may have done one turn more than between steps
 pub record MayBeginStep {D : Type 0} (disks : D → Disks) (machine : Machine) (drives : D) : Type 0 where
   pub most : machine.system.steps < GREATEST_STEP
   pub whole : IsWhole machine.system
   pub no_completions : NoCompletions machine.system
   pub holds : HoldsKept disks machine.system.kernel machine.bdos drives
+  pub files : FilesInService
+  pub stands : StandsWorked machine.system.kernel.disk machine.bdos (disks drives) files
 
--- a process that is ready has made a file call
+-- then a process that is ready has made a file call
 pub record MayCallFiles {D : Type 0} (disks : D → Disks) (p : ℕ) (machine : Machine) (drives : D) : Type 0 where
   pub whole : IsWhole machine.system
   pub completed : machine.system.kernel.dispatcher.completed ≡ []
@@ -63,6 +66,8 @@ pub record MayCallFiles {D : Type 0} (disks : D → Disks) (p : ℕ) (machine : 
   pub lives : Lives machine.system.kernel.dispatcher.procs p
   pub ready : IsReady machine.system.kernel.dispatcher p
   pub holds : HoldsKept disks machine.system.kernel machine.bdos drives
+  pub files : FilesInService
+  pub stands : StandsWorked machine.system.kernel.disk machine.bdos (disks drives) files
 
 -- who waits for the disk, or is served, keeps a call that the disk serves, and the one in service has turns left
 pub record HoldsCalls (kernel : Kernel) (service : Option InService) : Type 0 where
@@ -144,7 +149,7 @@ pub record StaysBare {D A E : Type 0} (fault : E → StepFault) (mounted : List 
   pub drives : new ≡ old
   pub bare : HasNoDrive mounted
 
--- each drive is that of the same name, of the same kind and size, as after a step; and where none is mounted none is called
+-- each drive is that of the same name, of the same kind and size, as after a step; and where none is mounted the drives are as before
 pub record UsesDrives {D A E : Type 0} (of : Ghosts D) (fault : E → StepFault) (old_mounted new_mounted : List (Option Directory)) (old new : D) (result : Result A E) : Type 0 where
   pub drives : LeavesDrives of old_mounted new_mounted old new
   pub none : HasNoDrive old_mounted → StaysBare fault new_mounted old new result

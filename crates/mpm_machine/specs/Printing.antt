@@ -1,8 +1,9 @@
 -- The file that the spooler prints: the records that it has read are those of the file that it has open, from the first on, so that its printer
 -- has a first part of the file's text. (MP/M II User's Guide, "SPOOL"; Programmer's Guide, "Function 15: Open File", "Function 20: Read
 -- Sequential".)
-use Rattle.std.specs.Prelude.{◌≡◌, ℕ, zero, suc, ◌-◌, ◌<◌, ◌^◌, ◌==◌, ◌⊎◌, if◌then◌else◌, Bool, true, false, List, [], ◌++◌, Option, Some, None, is_some, unwrap_or, length, ⊤}
+use Rattle.std.specs.Prelude.{◌≡◌, ℕ, zero, suc, ◌-◌, ◌<◌, ◌^◌, ◌==◌, ◌⊎◌, if◌then◌else◌, Bool, true, false, List, [], ◌++◌, reverse, Option, Some, None, is_some, unwrap_or, length, ⊤}
 use Rattle.mpm_base.specs.Calls.{Answer}
+use Rattle.mpm_base.specs.declared.functions.TheConstants.{DELETE_FILE}
 use Rattle.mpm_base.specs.Lists.{in_width}
 use Rattle.mpm_bdos.specs.OpenToRead.{drive_or_blank, HasFile}
 use Rattle.mpm_dirent.specs.Names.{plain}
@@ -30,8 +31,9 @@ use Rattle.mpm_spool.specs.declared.table.Row.TheVariants.{Detach, Close, Delete
 use Rattle.mpm_system.specs.declared.system.System.{System}
 use Rattle.mpm_machine.specs.Files.{FilesInService, Between, Within, filing_in}
 use Rattle.mpm_machine.specs.Holding.{AreFiled}
-use Rattle.mpm_machine.specs.Printed.{text_of, to_printer, read_in, ended_in, printed_in, item_in, has_file, PrintsText}
-use Rattle.mpm_machine.specs.Spooling.{IsSpooling}
+use Rattle.mpm_spool.specs.Printed.{text_of, to_printer, read_in, ended_in, printed_in, item_in, has_file, PrintsText}
+use Rattle.mpm_machine.specs.Printed.{bytes_to}
+use Rattle.mpm_machine.specs.Spooling.{Includes, IsSpooling}
 use Rattle.mpm_machine.specs.State.{State}
 
 -- the bytes of the first records of a file, of 128 bytes each
@@ -119,7 +121,7 @@ pub record PrintsFile (answers : List Answer) (filing : Filing) : Type 0 where
       → (after answers).printed ≡ length (printed_in answers)
   pub whole : has_closing (after answers).row ≡ true → (after answers).is_unprinted ≡ false
       → (text : List ℕ) → HasText (seen_in filing (key_of_spool_item (after answers).item)) text → printed_in answers ≡ to_printer text
-  pub deletes : (after answers).row ≡ Delete → NamesFile (next_call (after answers)).fcb (key_of_spool_item (item_in answers))
+  pub deletes : (next_call (after answers)).function ≡ DELETE_FILE → NamesFile (next_call (after answers)).fcb (key_of_spool_item (item_in answers))
 
 -- a spooler acts in a slot of a state, and prints its file
 pub record IsPrinting (q : ℕ) (s : State) : Type 0 where
@@ -131,20 +133,22 @@ pub record IsPrinting (q : ℕ) (s : State) : Type 0 where
   pub prints : PrintsFile spooling.answers (filing_in s.files)
 
 -- a spooler asks for a deletion, which it hadn't asked for before this step. In the step it closed its file, the one that the deletion names.
--- What it had printed of that file is all of the text that the file has on the state's drive. Nothing else of the spooler has changed
+-- What it had printed of that file is all of the text that the file has on the state's drive, and that came to printer 0 in one piece. Nothing
+-- else of the spooler has changed
 pub record ClosedPrinted (q : ℕ) (s : State) (p : IsPrinting q s) (asks : Spooler) : Type 0 where
   pub before : Spooler
   pub acts : native_in s.system.residents q ≡ Some (Spool before)
   pub closes : before.row ≡ Close
   pub printed : before.is_unprinted ≡ false
   pub whole : (text : List ℕ) → HasText (seen_in (filing_in s.files) (key_of_spool_item before.item)) text → printed_in p.spooling.answers ≡ to_printer text
+  pub came : Includes (reverse (printed_in p.spooling.answers)) (bytes_to 0 s.outputs)
   pub names : NamesFile (next_call asks).fcb (key_of_spool_item before.item)
   pub same : asks ≡ record before { row = Delete }
 
 -- a spooler that asks for a deletion after a step asked for it before the step, or closed its file in the step, wholly printed
 abbrev pub DeletesPrinted : (q : ℕ) (s : State) → IsPrinting q s → List Native → Type 0
 DeletesPrinted q s p new =
-    (asks : Spooler) → native_in new q ≡ Some (Spool asks) → asks.row ≡ Delete → (native_in s.system.residents q ≡ Some (Spool asks)) ⊎ ClosedPrinted q s p asks
+    (asks : Spooler) → native_in new q ≡ Some (Spool asks) → (next_call asks).function ≡ DELETE_FILE → (native_in s.system.residents q ≡ Some (Spool asks)) ⊎ ClosedPrinted q s p asks
 
 -- a state in which nothing has come out yet, between two calls
 abbrev pub at_beginning : Filing → System → State

@@ -1,6 +1,6 @@
--- The spooler of a machine in every step: in the rows in which a printer is its own, the last bytes that came to that printer are those that
--- it printed of its file. (MP/M II User's Guide, "SPOOL"; Programmer's Guide, "Function 158: Attach List", "Function 5: List Output".)
-use Rattle.std.specs.Prelude.{◌≡◌, ℕ, ◌<◌, ◌==◌, ◌||◌, if◌then◌else◌, Bool, true, false, List, reverse, Some, None}
+-- The spooler of a machine in every step: what it printed of its file came to its printer, and in the rows in which that is its own it stands
+-- there last. (MP/M II User's Guide, "SPOOL"; Programmer's Guide, "Function 158: Attach List", "Function 5: List Output".)
+use Rattle.std.specs.Prelude.{◌≡◌, ℕ, ◌<◌, ◌==◌, ◌||◌, if◌then◌else◌, Bool, true, false, List, ◌++◌, reverse, Some, None}
 use Rattle.mpm_base.specs.Calls.{Answer}
 use Rattle.mpm_base.specs.declared.functions.TheConstants.{OPEN_FILE, ATTACH_LIST}
 use Rattle.mpm_consoles.specs.Consoles.{owner_of}
@@ -20,7 +20,8 @@ use Rattle.mpm_machine.specs.FileCalls.{is_of_files}
 use Rattle.mpm_machine.specs.Interpreting.{sets_or_chains}
 use Rattle.mpm_machine.specs.Files.{owes}
 use Rattle.mpm_machine.specs.Slots.{settings_of, first_settings}
-use Rattle.mpm_machine.specs.Printed.{printed_in, has_printer, bytes_to}
+use Rattle.mpm_spool.specs.Printed.{printed_in, has_file, has_printer}
+use Rattle.mpm_machine.specs.Printed.{bytes_to}
 
 -- a resident of a slot lives there in no segment, takes extended errors as answers, no end of it is put off, it owes nothing, and its last
 -- call neither set the error mode nor chained. It prints on printer 0, and its file calls are of drive A, of user 0 and of one record
@@ -53,7 +54,15 @@ pub record KeepsFileCall (q : ℕ) (answers : List Answer) (system : System) : T
   pub kept : (call_of system.kernel.dispatcher.procs q).function ≡ (next_call (after answers)).function
   pub block : (call_of system.kernel.dispatcher.procs q).fcb ≡ (next_call (after answers)).fcb
 
--- the spooler acts in a slot, as it is after some answers
+-- among the bytes that came, newest first, a part stands in one piece: some came later than it, and some earlier
+pub record Includes (part whole : List ℕ) : Type 0 where
+  pub later : List ℕ
+  pub earlier : List ℕ
+  pub whole_is : whole ≡ later ++ (part ++ earlier)
+
+-- the spooler acts in a slot, as it is after some answers. While the printer is its own, the last bytes that came there are those that it
+-- printed of its file. While it has the file open, these stand there in one piece. Where it has none open nothing is asked of what came, so
+-- that outputs may be counted from there on
 pub record IsSpooling (q : ℕ) (system : System) (outputs : List Output) : Type 0 where
   pub answers : List Answer
   pub acts : native_in system.residents q ≡ Some (Spool (after answers))
@@ -63,3 +72,4 @@ pub record IsSpooling (q : ℕ) (system : System) (outputs : List Output) : Type
   pub awaits : AwaitsIn (spooler_awaits (at_disk system.kernel.disk q) (after answers).row) q system.kernel
   pub owns : has_printer (after answers).row ≡ true → owner_of system.kernel.units (Printer 0) ≡ Some q
   pub printed : has_printer (after answers).row ≡ true → Begins (reverse (printed_in answers)) (bytes_to 0 outputs)
+  pub came : has_file (after answers).row ≡ true → Includes (reverse (printed_in answers)) (bytes_to 0 outputs)

@@ -5,7 +5,7 @@ ghost use Rattle.mpm_file_functions.specs.Functions.{function_of};
 ghost use Rattle.mpm_bdos.specs.Serving.{nothing_kept};
 ghost use Rattle.mpm_directories.specs.Places.{in_places as in_their_places};
 ghost use Rattle.mpm_machine.specs.Files.{all_left};
-ghost use Rattle.mpm_machine.specs.Holding.{HoldsKept};
+ghost use Rattle.mpm_machine.specs.Holding.{HoldsDrives};
 ghost use Rattle.mpm_machine.specs.Filed.{left_if};
 ghost use Rattle.mpm_machine.specs.Parts.{DoesCall, WorksOnDrives, CallsDirectly};
 ghost use Rattle.mpm_machine.specs.PartCalls.{CountsRecords, LooksAt, MayCallAtOnce, MayCallDisk, MayStartCall, HasEnteredService, GivesBack};
@@ -123,7 +123,7 @@ pub(crate) fn work<D: Drives, L: Ledger>(
     drives: &mut D,
     calls: &mut Steps<L>,
 ) -> Result<(), Failed>
-    requires { HoldsKept D.disks system.now.kernel bdos.old drives.old }
+    requires { HoldsDrives D.disks system.now.kernel bdos.old drives.old }
     ensures { WorksOnDrives D.Drives system.now bdos.old bdos.new drives.old drives.new calls.old calls.new result }
 {
     if let Turn::Work { .. } = system.kernel.disk().ahead() {

@@ -256,9 +256,9 @@ impl Machine {
         self.system.kernel.lost(console)
     }
 
-    /// One step. After an error the machine isn't stepped again. A function on files is done in the step in which it is called where
-    /// turns have no steps; else it waits for the disk, which serves one at a time in turns, and is done after its last one. A
-    /// drive that isn't synced before a step isn't so after it.
+    /// One step. After an error it isn't promised that the machine may be stepped again. A function on files which the disk serves is done in
+    /// the step in which it is called, where turns have no steps. Else it waits for the disk, which serves one at a time, and is done after its
+    /// last turn. A turn is the disk's work on one call: it lasts `turn_steps` steps, and calls the drive in the last of them.
     #[inline(always)]
     pub fn step<D: Drives, S: Sink, L: Ledger>(
         &mut self,
@@ -272,36 +272,40 @@ impl Machine {
         // The system is whole: its processes, lists and memory fit together. Nobody is left to be answered. What is kept of file calls and
         // the images stand for some files.
         requires between { IsBetweenSteps D.disks self.old drives.old }
-        // After a success the machine, the output and the images stand for `next` of whatever state they stood for, after the same first
-        // text.
+        // A state has a machine, all outputs so far and the files. After a success machine, output and images stand for `next` of whatever
+        // state they stood for, where the sink had some text before that state's outputs (`first`).
         ensures ok { StandingAt self.old render.old (S.written sink.old) (D.disks drives.old) (λ s first. OnOk result (StandsWithDrives self.new render.new (S.written sink.new) (D.disks drives.new) (next s) first)) }
-        // So it is of the machine and the images alone, whatever was written before.
+        // After a success machine and images stand for `next` too where nothing is known of the text.
         ensures model { (s : State) → IsAt self.old (D.disks drives.old) s → OnOk result (IsAt self.new (D.disks drives.new) (next s)) }
-        // After an error the text stops within that of this step, or before it where a drive failed. The images stand for drives within a
-        // turn, or after the step where the sink failed.
+        // Where a drive failed nothing of this step is written. The image of the call's drive stands for what that is within the turn, and
+        // each other one for what the call found. Where the sink failed all before this step is written, and then a first part of this step's
+        // text. The images stand for what is on the drives after the step.
         ensures stops { StandingAt self.old render.old (S.written sink.old) (D.disks drives.old) (λ s first. IfErr result (λ fault. StopsStep fault render.old.trace (leaving S.written D.disks render.new sink.new drives.new self.new.bdos.mounted) s first)) }
-        // Each byte that a step changes is one that it writes or answers. A resident hands bytes only to a segment that it has reserved, in
-        // which nobody lives. An instruction leaves all bytes but its own. A call is served by what it took. A spooler prints its file. It
-        // asks for a file's deletion only after it closed it, wholly printed. A scheduler sends what it accepted in order.
+        // Of `next`, which is what a success does: each byte that changes is one that the step writes, or that an answer brings to its caller.
+        // An interpreter that acts hands bytes only to a segment that it has reserved, in which nobody lives. An instruction leaves all but its
+        // own. Calls, also those on files and of residents, are served by what was taken as they were made, whatever else memory has. What a
+        // spooler printed came to its printer, stands last there while that is its own, and is a first part of its file's text. It asks for a
+        // file's deletion only after it closed it, and all of its text had come to the printer. What a scheduler sent is what it accepted, in
+        // order.
         ensures law { (s : State) → s.system ≡ self.old.system → IsStepOf s }
         // A success counts one step. The machine is whole again, nobody is left to be answered, no end of a process is due, and no two
-        // locks are of one record. An interpreter that acts keeps its segment, and the disk's turns have as many steps as before.
+        // locks are of one record. An interpreter that could act can do so still, and the disk's turns have as many steps as before.
         ensures leaves { OnOk result (StepsLeave 1 self.old self.new) }
-        // Then the images stand for files again: the machine may be stepped on.
+        // Then what is kept of file calls and the images stand for files again, so that the machine may be stepped on (`between`).
         ensures holds { OnOk result (HoldsDrives D.disks self.new.system.kernel self.new.bdos drives.new) }
-        // In any case each drive keeps its name, kind and size, and images of other names stay. No name joins the failed ones. A drive
-        // that isn't synced isn't so after it.
+        // In any case each drive keeps its name, kind and size, and an image that is no mounted drive's stays. The names that couldn't be
+        // attached stay the same. A drive with writes that weren't synced has such after it too.
         ensures drives { LeavesDrives D.Drives self.old.bdos.mounted self.new.bdos.mounted drives.old drives.new }
         // A success leaves the counts of faults. An error comes only where the count of the device that it names rose; the other count
         // stays. Whether calls are traced stays too.
         ensures ends { EndsByCause itself render.old.trace render.new.trace (counts S.faults D.faults sink.old drives.old) (counts S.faults D.faults sink.new drives.new) result }
-        // A step that does no work on a drive calls none, so only the sink can fail.
+        // Where the machine has no work on a drive to do in this step none is called, the drives are as before, and only the sink can fail.
         ensures rests { does_work self.old.system ≡ false → IfErr result (λ fault. fault ≡ StepFault.WriteFault) × (drives.new ≡ drives.old) × (calls.new ≡ calls.old) }
-        // Where no drive is mounted none is called, and none is mounted after it.
+        // Where no drive is mounted the drives are as before, only the sink can fail, and none is mounted after it.
         ensures none { HasNoDrive self.old.bdos.mounted → IfErr result (λ fault. fault ≡ StepFault.WriteFault) × (drives.new ≡ drives.old) × HasNoDrive self.new.bdos.mounted }
-        // A step calls drives at most 20 times for each turn that it does.
+        // Done or not, a step calls drives at most 20 times for each turn that it does.
         ensures calls { StandingFor self.old (D.disks drives.old) (λ files. calls.new ≤ calls.old + 20 * turns_done (working_in self.old.system files)) }
-        // Where turns have steps, it does at most one turn: 20 calls at most.
+        // Where turns have steps, that is at most 20 times, as it does at most one turn.
         ensures few { 0 < self.old.system.kernel.disk.turn_steps → calls.new ≤ calls.old + 20 }
     {
         match self.take_step(drives, render, sink, calls) {
@@ -354,30 +358,29 @@ impl Machine {
         // The system is whole: its processes, lists and memory fit together. Nobody is left to be answered. What is kept of file calls and
         // the images stand for some files.
         requires between { IsBetweenSteps D.disks self.old drives.old }
-        // After a success the machine, the output and the images stand for what comes `n` steps after whatever state they stood for,
-        // after the same first text.
+        // After a success machine, output and images stand for what comes `n` steps after whatever state they stood for, where the sink had
+        // some text before that state's outputs (`first`).
         ensures ok { StandingAt self.old render.old (S.written sink.old) (D.disks drives.old) (λ s first. OnOk result (StandsWithDrives self.new render.new (S.written sink.new) (D.disks drives.new) (after n s) first)) }
-        // So it is of the machine and the images alone, whatever was written before.
+        // After a success machine and images stand for that too where nothing is known of the text.
         ensures model { (s : State) → IsAt self.old (D.disks drives.old) s → OnOk result (IsAt self.new (D.disks drives.new) (after n s)) }
-        // After an error all text of the steps before the one that the error names is written. The text stops within that of this one, or
-        // before it where a drive failed. The images stand for drives within a turn, or after that step where the sink failed.
+        // After an error all text of the steps before the one that the error names is written. What `stops` of `step` says is so of that one.
         ensures stops { StandingAt self.old render.old (S.written sink.old) (D.disks drives.old) (λ s first. IfErr result (λ error. StopsRun error render.old.trace (leaving S.written D.disks render.new sink.new drives.new self.new.bdos.mounted) n s first)) }
         // Each of the steps keeps to what `law` of `step` says.
         ensures each { (s : State) → s.system ≡ self.old.system → (k : ℕ) → k < n → IsStepOf (after k s) }
         // A success counts `n` steps. The machine is whole again, nobody is left to be answered, no end of a process is due after a step,
-        // and no two locks are of one record. An interpreter that acts keeps its segment, and the disk's turns have as many steps.
+        // and no two locks are of one record. An interpreter that could act can do so still, and the disk's turns have as many steps.
         ensures leaves { OnOk result (StepsLeave n self.old self.new) }
-        // Then the images stand for files again: the machine may be run on.
+        // Then what is kept of file calls and the images stand for files again, so that the machine may be run on (`between`).
         ensures holds { OnOk result (HoldsDrives D.disks self.new.system.kernel self.new.bdos drives.new) }
-        // In any case each drive keeps its name, kind and size, and images of other names stay. No name joins the failed ones. A drive
-        // that isn't synced isn't so after it.
+        // In any case each drive keeps its name, kind and size, and an image that is no mounted drive's stays. The names that couldn't be
+        // attached stay the same. A drive with writes that weren't synced has such after it too.
         ensures drives { LeavesDrives D.Drives self.old.bdos.mounted self.new.bdos.mounted drives.old drives.new }
         // A success leaves the counts of faults. An error comes only where the count of the device that it names rose; the other count
         // stays. Whether calls are traced stays too.
         ensures ends { EndsByCause of_run render.old.trace render.new.trace (counts S.faults D.faults sink.old drives.old) (counts S.faults D.faults sink.new drives.new) result }
         // Without a step no drive is called.
         ensures still { n ≡ 0 → drives.new ≡ drives.old }
-        // Where no drive is mounted none is called, only the sink can fail, and none is mounted after it.
+        // Where no drive is mounted the drives are as before, only the sink can fail, and none is mounted after it.
         ensures none { HasNoDrive self.old.bdos.mounted → IfErr result (λ error. error.fault ≡ StepFault.WriteFault) × (drives.new ≡ drives.old) × HasNoDrive self.new.bdos.mounted }
         // Drives are called at most 20 times for each turn that these steps do.
         ensures calls { (s : State) → IsAt self.old (D.disks drives.old) s → calls.new ≤ calls.old + 20 * turns_in n s }

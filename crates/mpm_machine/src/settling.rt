@@ -1,5 +1,5 @@
 //! The end of a run: the call in service is carried to its end, the drives are synced, and unfinished lines are closed.
-ghost use Rattle.std.specs.Prelude.{◌≡◌, ℕ, ◌++◌, ◌+◌, ◌*◌, ◌<◌, ◌≤◌, List, [], Some, None, OnOk, OnErr, IfErr, IsSome};
+ghost use Rattle.std.specs.Prelude.{◌≡◌, ◌+◌, ◌*◌, ◌<◌, ◌≤◌, Some, None, OnOk, IfErr};
 
 use crate::due::end_all;
 use crate::machine::{Machine, StepFault};

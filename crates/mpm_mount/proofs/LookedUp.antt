@@ -29,7 +29,8 @@ use Rattle.mpm_mount.proofs.Collected.{ties, get_collected, scanned_here, scanne
 use Rattle.mpm_mount.proofs.Orders.{entry_total, file_total, same_file}
 use Rattle.mpm_mount.proofs.Distinct.{named_by, named_alone, xfcb_by, xfcb_alone, label_by}
 use Rattle.mpm_mount.proofs.Exchanged.{others_map, none_of, gives_name, gives_xfcb, none_first, first_alone, gives_label, label_only}
-use Rattle.mpm_mount.proofs.Sorts.{file_of, label_of}
+use Rattle.mpm_mount.specs.Looking.{label_of}
+use Rattle.mpm_mount.proofs.Sorts.{file_of}
 
 -- both are of one kind
 pub kind_of : (image : List ℕ) (d : Directory) (files : Drive) → Stands image d files → files.kind ≡ d.kind

@@ -15,6 +15,7 @@ use Rattle.mpm_mount.specs.Drives.{FileName, entry_cmp, file_cmp, PhysicalExtent
 use Rattle.mpm_mount.specs.Faults.{name_of}
 use Rattle.mpm_mount.specs.Images.{extent_in, protection_of}
 use Rattle.mpm_mount.specs.Changes.{exchanged}
+use Rattle.mpm_mount.specs.Looking.{label_of}
 use Rattle.mpm_mount.proofs.Orders.{entry_total, entry_same, file_total, file_same}
 
 as_many : (n : ℕ) → n + 0 - 0 ≡ n
@@ -84,9 +85,6 @@ xfcb_changed sectors drive x y file old new =
     ∙ ap (λ (m : FinMap file_cmp Protection). record drive { xfcbs = m }) (again file_cmp file_total file_same drive.xfcbs file (protection_of y))
 
 -- a label comes, or another in its place
-abbrev pub label_of : LabelEntry → DirectoryLabel
-label_of l = record { name = l.name; protection = record { mode = l.mode; decode = l.decode; password = l.password; first = l.first; second = l.second } }
-
 pub label_added : (sectors : Sectors) (drive : Drive) (l : LabelEntry) → exchanged sectors drive Free (Label l) ≡ record drive {
   label = Some (record {
     name = l.name;

@@ -26,7 +26,7 @@ const GREATEST_FLAG: u32 = 31;
 /// The first flag that isn't the system's.
 const LEAST_FLAG: u8 = 4;
 
-/// AddsEvent the events of a line.
+/// Adds the events of a line.
 #[tactic(auto, unfolding(crate::specs::Events::line_of))]
 pub fn add_line(events: &mut Vec<Timed>, line: &[u8]) -> Result<(), LineRefusal>
     ensures { AddsEvent events.old.items events.new.items result (spec.line_of (script.last_step events.old.items) line.now) }
@@ -51,7 +51,7 @@ fn last_step(events: &[Timed]) -> u64
     }
 }
 
-/// AddsEvent the events of a text at a step.
+/// Adds the events of a text at a step.
 #[tactic(auto, unfolding(crate::specs::Events::events_of))]
 fn add_events(events: &mut Vec<Timed>, step: u64, text: &[u8]) -> Result<(), LineRefusal>
     ensures { AddsEvent events.old.items events.new.items result (option_map (spec.at_step step) (spec.events_of text.now)) }
@@ -112,7 +112,7 @@ fn flag(text: &[u8]) -> Option<Event>
     Some(Event::Int { flag })
 }
 
-/// AddsEvent the keys that are typed at a console.
+/// Adds the keys that are typed at a console.
 #[tactic(auto, unfolding(crate::specs::Events::typed_events, crate::specs::Keys::typed_of))]
 fn add_typed(events: &mut Vec<Timed>, step: u64, text: &[u8]) -> Result<(), LineRefusal>
     ensures { AddsEvent events.old.items events.new.items result (option_map (spec.at_step step) (spec.typed_events text.now)) }
@@ -125,7 +125,7 @@ fn add_typed(events: &mut Vec<Timed>, step: u64, text: &[u8]) -> Result<(), Line
     add_keys(events, step, console as u8, keys)
 }
 
-/// AddsEvent the keys of a text, at most 128.
+/// Adds the keys of a text, at most 128.
 fn add_keys(events: &mut Vec<Timed>, step: u64, console: u8, text: &[u8]) -> Result<(), LineRefusal>
     ensures { AddsEvent events.old.items events.new.items result (option_map (spec.keys_at step console) (keys_of 128 text.now)) }
 {

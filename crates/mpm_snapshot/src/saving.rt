@@ -12,7 +12,7 @@ use mpm_core::Core;
 use mpm_devices::Passage;
 use mpm_machine::Machine;
 use mpm_port::{Drives, Failed, Files, OutOfMemory, Sink};
-use mpm_top::{Asked, Form, Look, Status, run_command};
+use mpm_top::{Asked, Look, Status, run_command};
 use std::alloc::Global;
 
 /// Takes the core of a process of the machine at which it looks.

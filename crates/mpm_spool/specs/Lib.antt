@@ -1,3 +1,4 @@
 pub mod SpoolLists
 pub mod Listing
 pub mod Spoolers
+pub mod Printed

@@ -53,6 +53,7 @@ impl Spool {
     ghost use Rattle.std.specs.Prelude.{◌≡◌, ◌≤◌, [], take, true};
     ghost use Rattle.mpm_base.specs.Calls.{no_reply};
     ghost use Rattle.mpm_messages.specs.Asking.{Asks};
+    ghost use Rattle.mpm_spool.specs.Printed.{GoesOnPrinting};
     ghost use Rattle.mpm_spool.specs.Spoolers.{opening, next_call, took as behind, took_at, with_block, row_at as row_of, begun_next, IsSpoolerRow};
     ghost use Rattle.mpm_spool.specs.declared.table.Row.TheVariants.{ReadList, Open, Read, Print, Detach};
 
@@ -124,9 +125,19 @@ impl Spool {
         }
     }
 
-    /// Takes the answer to that call.
-    #[tactic(auto, unfolding(crate::specs::Spoolers::took, crate::specs::Spoolers::next_call))]
+    /// Takes the answer to that call. Whatever the answers are, what it prints is the text of what it reads, and it asks for a file's
+    /// deletion only after all of that.
+    #[tactic(auto, using(crate::proofs::PrintedLaws::goes_on_printing))]
     pub fn took(&mut self, reply: &Reply)
+        ensures took { self.new ≡ behind self.old reply.now }
+        ensures prints { GoesOnPrinting self.old self.new reply.now }
+    {
+        self.take(reply);
+    }
+
+    /// Goes on by the answer to the call of its row.
+    #[tactic(auto, unfolding(crate::specs::Spoolers::took, crate::specs::Spoolers::next_call))]
+    fn take(&mut self, reply: &Reply)
         ensures { self.new ≡ behind self.old reply.now }
     {
         match self.row {

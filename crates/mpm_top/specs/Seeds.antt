@@ -4,6 +4,7 @@ use Rattle.mpm_base.specs.declared.kind.Kind.TheVariants.{Hd4}
 use Rattle.mpm_port.specs.Causes.{Rose}
 use Rattle.mpm_port.specs.Texts.{AppendsPart}
 use Rattle.mpm_devices.specs.Kinds.{counted}
+use Rattle.mpm_lines.specs.Lines.{number_line}
 use Rattle.mpm_script.specs.Numbers.{number_of}
 use Rattle.mpm_script.specs.declared.line.TheConstants.{GREATEST_STEP}
 use Rattle.mpm_generator.specs.Images.{image_of}
@@ -73,13 +74,9 @@ pub record MayRunSeeded (asked : Seeded) : Type 0 where
   pub seed : asked.seed < 2147483648
   pub steps : asked.steps ≤ GREATEST_STEP
 
--- a line of a word and a number
-abbrev pub line_with : List ℕ → ℕ → List ℕ
-line_with word number = word ++ (decimal number ++ (10 ∷ []))
-
 -- what is reported: three lines
 unfoldable pub report : Found → List ℕ
-report found = line_with (codes "lines ") found.lines ++ (line_with (codes "calls ") found.calls ++ line_with (codes "data ") found.data)
+report found = number_line (codes "lines") found.lines ++ (number_line (codes "calls") found.calls ++ number_line (codes "data") found.data)
 
 -- how such a run ends: with its report, or with a first part of it where the sink failed; or for want of memory, with nothing
 abbrev pub EndsSeeded : Seeded → List ℕ → List ℕ → ℕ → ℕ → Status → Type 0

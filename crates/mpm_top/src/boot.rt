@@ -6,7 +6,7 @@ ghost use Rattle.mpm_top.specs.BootParts.{BootsCommand, FetchesInput, BootsBytes
 use crate::status::{Input, Status};
 use crate::words::Form;
 use mpm_machine::{BootError, Machine};
-use mpm_machine_file::{MachineError, MachineFile, Text, read_machine};
+use mpm_machine_file::{MachineError, MachineFile, read_machine};
 use mpm_port::{Drives, FetchError, Fetched, Files};
 use mpm_script::{Script, ScriptError, read_script};
 use std::alloc::Global;

@@ -4,6 +4,7 @@
 
 mod disks;
 mod scene;
+mod suiting;
 mod turns;
 
 pub use crate::disks::NO_RECORD;

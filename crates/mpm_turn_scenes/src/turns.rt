@@ -1,16 +1,19 @@
 //! Jobs by their turns on drive 0 in memory, where a call of the drive fails, and what is then seen of the disk.
-ghost use Rattle.std.specs.Prelude.{◌≡◌, ◌<◌, Some, IsSome, IfOk};
+ghost use Rattle.std.specs.Prelude.{◌≡◌, ◌<◌, Some, IsSome, IfOk, is_some};
+ghost use Rattle.std.specs.Bool.{OnTrue};
 ghost use Rattle.mpm_port.specs.Disks.{size_of};
 ghost use Rattle.mpm_port.specs.MemoryDisks.{disks_of};
 ghost use Rattle.mpm_blocks.specs.Geometries.{geometry_of};
-ghost use Rattle.mpm_cache.specs.Coherent.{IsCoherent, HasNoAlias};
+ghost use Rattle.mpm_files.specs.Serving.{turns_in};
+ghost use Rattle.mpm_files.specs.Standing.{SameDisk};
+ghost use Rattle.mpm_turn_scenes.specs.Standing.{IsDiskOfFiles, IsInTurns};
 
 use crate::disks::{attached, entries, has_size, one_byte, record, restore};
 use crate::scene::{FREE, Scene, Seen, call_count, seen_after, slot_of};
+use crate::suiting::suits;
 use mpm_base::{Kind, Steps};
 use mpm_blocks::geometry;
 use mpm_cache::Cache;
-use mpm_dirent::LAST_POSITION;
 use mpm_files::{Job, JobKind, Progress, RecordError, Work, plan, turn, turns};
 use mpm_images::image;
 use mpm_mount::{Mounted, mount};
@@ -75,7 +78,6 @@ fn came_of(work: &Work) -> Came {
 }
 
 /// Does the turns of a job up to its last one, or up to a call of the drives that fails, and says whether it came to its end.
-#[tactic(auto, using(mpm_sectors::proofs::LeavesLaws::ready_of))]
 fn ends<L: Ledger>(
     mounted: &mut Mounted,
     cache: &mut Cache,
@@ -83,16 +85,12 @@ fn ends<L: Ledger>(
     drives: &mut MemoryDrives,
     steps: &mut Steps<L>,
 ) -> bool
-    requires size { size_of (disks_of drives.old) mounted.old.drive ≡ Some (geometry_of mounted.old.kind).bytes }
-    requires coherent { IsCoherent cache.old (disks_of drives.old) }
-    requires apart { HasNoAlias cache.old (disks_of drives.old) mounted.old.drive }
+    requires { IsInTurns (disks_of drives.old) mounted.old cache.old work.old 0 (turns_in work.old) }
     ensures size { size_of (disks_of drives.new) mounted.old.drive ≡ Some (geometry_of mounted.old.kind).bytes }
-    ensures coherent { IsCoherent cache.new (disks_of drives.new) }
-    ensures apart { HasNoAlias cache.new (disks_of drives.new) mounted.old.drive }
-    ensures drive { mounted.new.drive ≡ mounted.old.drive }
-    ensures kind { mounted.new.kind ≡ mounted.old.kind }
+    ensures same { SameDisk mounted.old mounted.new }
+    ensures stands { OnTrue result (IsDiskOfFiles (disks_of drives.new) mounted.new cache.new) }
 {
-    for _ in 0..turns(work) {
+    for _turn in 0..turns(work) {
         match turn(mounted, cache, work, drives, steps) {
             Ok(Progress::Again) => {}
             Ok(Progress::Done) => return true,
@@ -102,7 +100,7 @@ fn ends<L: Ledger>(
     false
 }
 
-/// Begins a job, and does its turns.
+/// Begins a job that suits the drive, and does its turns.
 fn does<L: Ledger>(
     mounted: &mut Mounted,
     cache: &mut Cache,
@@ -110,16 +108,12 @@ fn does<L: Ledger>(
     steps: &mut Steps<L>,
     job: &Job,
 ) -> Option<Came>
-    requires size { size_of (disks_of drives.old) mounted.old.drive ≡ Some (geometry_of mounted.old.kind).bytes }
-    requires coherent { IsCoherent cache.old (disks_of drives.old) }
-    requires apart { HasNoAlias cache.old (disks_of drives.old) mounted.old.drive }
+    requires { IsDiskOfFiles (disks_of drives.old) mounted.old cache.old }
     ensures size { size_of (disks_of drives.new) mounted.old.drive ≡ Some (geometry_of mounted.old.kind).bytes }
-    ensures coherent { IsCoherent cache.new (disks_of drives.new) }
-    ensures apart { HasNoAlias cache.new (disks_of drives.new) mounted.old.drive }
-    ensures drive { mounted.new.drive ≡ mounted.old.drive }
-    ensures kind { mounted.new.kind ≡ mounted.old.kind }
+    ensures same { SameDisk mounted.old mounted.new }
+    ensures stands { OnTrue (is_some result) (IsDiskOfFiles (disks_of drives.new) mounted.new cache.new) }
 {
-    if job.first > LAST_POSITION || job.count > 16 {
+    if !suits(mounted, job) {
         return None;
     }
     let mut work = plan(mounted, job);
@@ -138,14 +132,10 @@ fn all_done<L: Ledger>(
     steps: &mut Steps<L>,
     jobs: &[Job],
 ) -> Option<Came>
-    requires size { size_of (disks_of drives.old) mounted.old.drive ≡ Some (geometry_of mounted.old.kind).bytes }
-    requires coherent { IsCoherent cache.old (disks_of drives.old) }
-    requires apart { HasNoAlias cache.old (disks_of drives.old) mounted.old.drive }
+    requires { IsDiskOfFiles (disks_of drives.old) mounted.old cache.old }
     ensures size { size_of (disks_of drives.new) mounted.old.drive ≡ Some (geometry_of mounted.old.kind).bytes }
-    ensures coherent { IsCoherent cache.new (disks_of drives.new) }
-    ensures apart { HasNoAlias cache.new (disks_of drives.new) mounted.old.drive }
-    ensures drive { mounted.new.drive ≡ mounted.old.drive }
-    ensures kind { mounted.new.kind ≡ mounted.old.kind }
+    ensures same { SameDisk mounted.old mounted.new }
+    ensures stands { OnTrue (is_some result) (IsDiskOfFiles (disks_of drives.new) mounted.new cache.new) }
 {
     let mut last = None;
     for job in jobs {

@@ -1,13 +1,34 @@
-use Rattle.std.proofs.Common.{Some, IfSome, refl, sym, ap, subst, ◌∙◌, arith}
+use Rattle.std.proofs.Common.{◌≡◌, Some, IfSome, sym, ap, subst, ◌∙◌}
 use Rattle.std.specs.Prelude.{OnErr, option_map}
+use Rattle.mpm_port.specs.Disks.{size_of}
+use Rattle.mpm_blocks.specs.Geometries.{geometry_of}
+use Rattle.mpm_cache.specs.Coherent.{HasNoAlias}
+use Rattle.mpm_mount.specs.Directories.{Directory}
 use Rattle.mpm_files.specs.Turning.{IsNextCached}
 use Rattle.mpm_bdos.specs.Turns.{HasLeftDisk, IsWorking, IsContainedAt, drive_and_kind}
-use Rattle.mpm_files.proofs.Causing.{cause_none}
-use Rattle.mpm_bdos.proofs.TurnedAt.{told_by_job, labels_as, nothing_there, left_alone}
+use Rattle.mpm_bdos.specs.Asking.{HasTurnAt}
+use Rattle.mpm_bdos.proofs.TurnedAt.{told_by_job, labels_as}
 use Rattle.mpm_bdos.proofs.turning.turn_at.Goals as goal
 
-pub returns-in-Some : goal.returns-in-Some
-returns-in-Some g c =
+pub turn-result-requires : goal.turn-result-requires
+turn-result-requires g c =
+    let disks = g.D.Drives.disks c.args.drives.now in
+    record {
+      ready = record {
+        size = subst (λ place. IfSome place (λ (d : Directory). size_of disks d.drive ≡ Some (geometry_of d.kind).bytes)) c.in-Some.is c.requires.size;
+        coherent = c.requires.coherent;
+        apart = subst (λ place. IfSome place (λ (d : Directory). HasNoAlias c.args.cache.now disks d.drive)) c.in-Some.is c.requires.apart;
+      };
+      left = subst (λ place. HasTurnAt disks place c.args.work.now) c.in-Some.is c.requires.left;
+    }
+
+-- it is mounted
+
+pub unreachable-requires : goal.unreachable-requires
+unreachable-requires g c = absurd (subst (λ place. HasTurnAt (g.D.Drives.disks c.args.drives.now) place c.args.work.now) c.in-None.is c.requires.left)
+
+pub returns : goal.returns
+returns g c =
     let did = c.turn-result.ensures in
     let result = c.turn-result.result in
     let work = c.args.work.now in
@@ -31,18 +52,4 @@ returns-in-Some g c =
       leaves = subst (λ place. HasLeftDisk g.D.Drives.disks g.D.Drives.told g.D.Drives.failed_names g.D.Drives.unsynced place c.args.cache.now c.turn-result.new.cache c.args.drives.now c.turn-result.new.drives)
           (sym c.in-Some.is) did.works.leaves;
       cause = did.works.cause;
-    }
-
-pub returns-in-None : goal.returns-in-None
-returns-in-None g c =
-    let disks = g.D.Drives.disks c.args.drives.now in
-    record {
-      ok = λ before job j suits working h. absurd (subst (λ place. IsWorking disks place before job j c.args.work.now) c.in-None.is working);
-      err = λ before job j suits working h. tt;
-      progress = λ before job j working. absurd (subst (λ place. IsWorking disks place before job j c.args.work.now) c.in-None.is working);
-      same = refl;
-      takes = record { calls = omega arith; one_call = λ read. omega arith; unsynced = λ read other. refl; no_call = λ next. refl };
-      directory = nothing_there _ c.args.place.now c.in-None.is;
-      leaves = left_alone g.D.Drives.disks g.D.Drives.told g.D.Drives.failed_names g.D.Drives.unsynced c.args.place.now c.args.cache.now c.args.drives.now c.in-None.is;
-      cause = cause_none _ _;
     }

@@ -16,8 +16,8 @@ returns-clause-floppies c =
     let disks : Disks = disks_of c.mounted_drive-2.new.drives.drives in
     let one : IsFloppy disks c.in_ok-b.b.drive c.in_ok-b.b =
     subst (λ (d : Disks). IsFloppy d c.in_ok-b.b.drive c.in_ok-b.b) (sym c.mounted_drive-2.ensures.same)
-    (subst (λ number. IsFloppy (disks_of c.mounted_drive.new.drives.drives) number c.in_ok-b.b) (sym c.in_ok-b.ensures.drive) c.in_ok-b.ensures.floppy) in
+    (subst (λ number. IsFloppy (disks_of c.mounted_drive.new.drives.drives) number c.in_ok-b.b) (sym c.in_ok-b.ensures.floppy.its) c.in_ok-b.ensures.floppy) in
     let other : IsFloppy disks c.in_ok-a.a.drive c.in_ok-a.a =
     subst (λ (d : Disks). IsFloppy d c.in_ok-a.a.drive c.in_ok-a.a) (sym (c.mounted_drive-2.ensures.same ∙ c.mounted_drive.ensures.same))
-    (subst (λ number. IsFloppy (disks_of c.args.drives.now.drives) number c.in_ok-a.a) (sym c.in_ok-a.ensures.drive) c.in_ok-a.ensures.floppy) in
+    (subst (λ number. IsFloppy (disks_of c.args.drives.now.drives) number c.in_ok-a.a) (sym c.in_ok-a.ensures.floppy.its) c.in_ok-a.ensures.floppy) in
     subst (AreFloppies disks) (sym (c.in_ok-in_places.ensures.places ∙ ap in_places all)) (two_floppies disks c.in_ok-b.b c.in_ok-a.a one other)

@@ -1,5 +1,5 @@
-use Rattle.mpm_bdos.specs.Turns.{FitsDrives}
+use Rattle.mpm_file_scenes.specs.Standing.{IsBetweenCalls}
 use Rattle.mpm_file_scenes.proofs.scene.opens.Given as goal
 
 abbrev pub invariant-loop-slot : goal.invariant-loop-slot
-invariant-loop-slot g l = FitsDrives g.D.Drives.disks l.bdos.mounted l.bdos.cached l.drives
+invariant-loop-slot g l = IsBetweenCalls g.D.Drives.disks l.bdos l.drives

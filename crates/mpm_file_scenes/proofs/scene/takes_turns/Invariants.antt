@@ -1,5 +1,5 @@
-use Rattle.mpm_bdos.specs.Turns.{FitsDrives}
+use Rattle.mpm_file_scenes.specs.Standing.{IsWithinCall}
 use Rattle.mpm_file_scenes.proofs.scene.takes_turns.Given as goal
 
 abbrev pub invariant-loop-turn : goal.invariant-loop-turn
-invariant-loop-turn g l = FitsDrives g.D.Drives.disks l.bdos.mounted l.bdos.cached l.drives
+invariant-loop-turn g l = IsWithinCall g.D.Drives.disks l.bdos l.drives l.turn l.turns

@@ -1,9 +1,9 @@
 use Rattle.std.proofs.Common.{None, refl, sym, subst, ◌∙◌, rules, arith}
 use Rattle.mpm_dirent.specs.declared.kinds.Entry.TheVariants.{Free}
 use Rattle.mpm_mount.specs.Searching.{search_of, IsNext}
-use Rattle.mpm_files.proofs.NextDone.{put_does, never_next, found_within}
-use Rattle.mpm_files.proofs.DeleteTurns.{entry_deleted, xfcb_deleted, due_within, deletion_goes_on}
-use Rattle.mpm_files.proofs.WorkingLaws.{works_not}
+use Rattle.mpm_files.proofs.NextDone.{put_does, found_within}
+use Rattle.mpm_files.proofs.DeleteTurns.{entry_deleted, xfcb_deleted, due_within}
+use Rattle.mpm_files.proofs.UnitsLeft.{deletes_on}
 use Rattle.std.proofs.lemmas.Grind.{common_steps}
 use Rattle.mpm_files.proofs.changing.delete_next.Goals as goal
 
@@ -25,31 +25,26 @@ put_entry-requires-in-Some-next g c = record {
 
 pub returns-in-Some : goal.returns-in-Some
 returns-in-Some g c = record {
-  does = λ kind.
+  does =
       put_does (g.D.Drives.disks c.args.drives.now) (g.D.Drives.disks c.put_entry.new.drives) c.args.mounted.now c.put_entry.new.mounted c.args.work.now _ c.in-Some.slot Free c.put_entry.result
       refl c.put_entry.ensures.puts (λ image before job j suits stands serving h.
-      xfcb_deleted image c.args.mounted.now before job j c.args.work.now c.in-Some.slot stands serving kind h (sym c.xfcb_due-due.ensures ∙ c.in-Some.is));
+      xfcb_deleted image c.args.mounted.now before job j c.args.work.now c.in-Some.slot stands serving c.requires.sort h (sym c.xfcb_due-due.ensures ∙ c.in-Some.is));
   counts = record { units = refl; ended = refl };
   works = c.put_entry.ensures.works;
 }
 
 pub returns-in-Some-next : goal.returns-in-Some-next
 returns-in-Some-next g c = record {
-  does = λ kind.
+  does =
       put_does (g.D.Drives.disks c.args.drives.now) (g.D.Drives.disks c.put_entry-in-Some-next.new.drives) c.args.mounted.now c.put_entry-in-Some-next.new.mounted c.args.work.now _
       c.in-Some-next.found.slot Free c.put_entry-in-Some-next.result refl c.put_entry-in-Some-next.ensures.puts (λ image before job j suits stands serving h.
-      entry_deleted image c.args.mounted.now before job j c.args.work.now c.in-Some-next.found stands serving kind h (sym c.xfcb_due-due.ensures ∙ c.in-None.is)
+      entry_deleted image c.args.mounted.now before job j c.args.work.now c.in-Some-next.found stands serving c.requires.sort h (sym c.xfcb_due-due.ensures ∙ c.in-None.is)
       (subst (IsNext c.args.mounted.now.kind (search_of c.args.mounted.now.kind c.args.work.now.job.user c.args.work.now.job.name None) c.args.mounted.now.entries) c.in-Some-next.is c.next.ensures));
   counts = record { units = refl; ended = refl };
   works = c.put_entry-in-Some-next.ensures.works;
 }
 
-pub returns-in-None-next : goal.returns-in-None-next
-returns-in-None-next g c = record {
-  does = λ kind.
-      never_next (g.D.Drives.disks c.args.drives.now) (g.D.Drives.disks c.args.drives.now) c.args.mounted.now c.args.mounted.now c.args.work.now _ _ (λ image before job j suits service h.
-      deletion_goes_on image c.args.mounted.now before job j c.args.work.now service.stands service.serving kind h (sym c.xfcb_due-due.ensures ∙ c.in-None.is)
-      (subst (IsNext c.args.mounted.now.kind (search_of c.args.mounted.now.kind c.args.work.now.job.user c.args.work.now.job.name None) c.args.mounted.now.entries) c.in-None-next.is c.next.ensures));
-  counts = record { units = refl; ended = refl };
-  works = works_not g.D.Drives _ _ _ _ _ _ c.requires.ready.coherent;
-}
+pub unreachable-requires : goal.unreachable-requires
+unreachable-requires g c =
+    deletes_on (g.D.Drives.disks c.args.drives.now) c.args.mounted.now c.args.work.now c.requires.left c.requires.sort (sym c.xfcb_due-due.ensures ∙ c.in-None.is)
+    (subst (IsNext c.args.mounted.now.kind (search_of c.args.mounted.now.kind c.args.work.now.job.user c.args.work.now.job.name None) c.args.mounted.now.entries) c.in-None-next.is c.next.ensures)

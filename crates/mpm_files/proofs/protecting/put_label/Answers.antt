@@ -8,10 +8,13 @@ use Rattle.mpm_mount.specs.Directories.{others, entry_in}
 use Rattle.mpm_files.specs.Units.{PutsLabel}
 use Rattle.mpm_files.specs.Plans.{protection_in}
 use Rattle.mpm_files.proofs.NextDone.{goes_as}
-use Rattle.mpm_files.proofs.Placing.{label_clean_over, label_clean_new, label_over_stage, label_new_stage, label_has_room}
+use Rattle.mpm_files.proofs.Placing.{label_clean_over, label_clean_new, label_over_stage, label_new_stage}
 use Rattle.std.proofs.lemmas.Grind.{common_steps}
-use Rattle.mpm_files.proofs.WorkingLaws.{works_not}
+use Rattle.mpm_files.proofs.FoundEntries.{not_missing}
 use Rattle.mpm_files.proofs.protecting.put_label.Goals as goal
+
+pub unreachable-requires : goal.unreachable-requires
+unreachable-requires g c = not_missing _ c.free_slot.result (c.requires.room (sym c.label.ensures ∙ c.in-None.is)) c.free_slot.ensures c.in-None-free_slot.is
 
 pub put_entry-requires : goal.put_entry-requires
 put_entry-requires g c = record {
@@ -33,7 +36,7 @@ put_entry-requires-in-Some-free_slot g c = record {
 
 pub returns-in-Some : goal.returns-in-Some
 returns-in-Some g c = record {
-  does = λ image files told stands room.
+  does = λ image files told stands.
       goes_as (g.D.Drives.disks c.put_entry.new.drives) c.args.mounted.now.drive c.put_entry.new.mounted files _ (PutsLabel (record { name = c.args.job.now.new_name; protection = protection_in c.args.job.now })) c.put_entry.result
       (c.put_entry.ensures.puts image files told stands) (label_over_stage image c.args.mounted.now files c.args.job.now c.in-Some.slot stands (sym c.label.ensures ∙ c.in-Some.is)
       ∙ ap (λ (x : LabelEntry). exchanged (sectors_of image c.args.mounted.now.kind) files (entry_in c.args.mounted.now c.in-Some.slot) (Label x) ∷ []) (sym c.label_of.ensures));
@@ -42,17 +45,10 @@ returns-in-Some g c = record {
 
 pub returns-in-Some-free_slot : goal.returns-in-Some-free_slot
 returns-in-Some-free_slot g c = record {
-  does = λ image files told stands room.
+  does = λ image files told stands.
       goes_as (g.D.Drives.disks c.put_entry-in-Some-free_slot.new.drives) c.args.mounted.now.drive c.put_entry-in-Some-free_slot.new.mounted files _
       (PutsLabel (record { name = c.args.job.now.new_name; protection = protection_in c.args.job.now })) c.put_entry-in-Some-free_slot.result (c.put_entry-in-Some-free_slot.ensures.puts image files told stands)
       (label_new_stage image c.args.mounted.now files c.args.job.now c.in-Some-free_slot.slot (sym c.free_slot.ensures ∙ c.in-Some-free_slot.is)
       ∙ ap (λ (x : LabelEntry). exchanged (sectors_of image c.args.mounted.now.kind) files (entry_in c.args.mounted.now c.in-Some-free_slot.slot) (Label x) ∷ []) (sym c.label_of.ensures));
   works = c.put_entry-in-Some-free_slot.ensures.works;
-}
-
-pub returns-in-None-free_slot : goal.returns-in-None-free_slot
-returns-in-None-free_slot g c = record {
-  does = λ image files told stands room.
-      absurd (label_has_room image c.args.mounted.now files stands (sym c.label.ensures ∙ c.in-None.is) (sym c.free_slot.ensures ∙ c.in-None-free_slot.is) room);
-  works = works_not g.D.Drives _ _ _ _ _ _ c.requires.ready.coherent;
 }

@@ -1,20 +1,13 @@
-use Rattle.std.proofs.Common.{◌≡◌, ◌⊎◌, ◌∙◌, sym, inl, inr, arith}
+use Rattle.std.proofs.Common.{◌≡◌, ◌∙◌, sym, arith}
 use Rattle.mpm_jobs.specs.declared.jobs.JobKind.TheVariants.{Read, Write, TestWrite, Make, Delete, Rename, Attributes, Label, Xfcb, Nothing}
 use Rattle.mpm_files.proofs.WorkingLaws.{works_within}
 use Rattle.mpm_files.proofs.turning.do_next.Goals as goal
-
--- one of three
-
-one_of : {A B C P : Type 0} → A ⊎ (B ⊎ C) → (A → P) → (B → P) → (C → P) → P
-one_of (inl a) f g h = f a
-one_of (inr (inl b)) f g h = g b
-one_of (inr (inr e)) f g h = h e
 
 pub returns-in-Read : goal.returns-in-Read
 returns-in-Read g c =
     let next = c.read_next.ensures in
     record {
-      does = next.does c.in-Read.is;
+      does = next.does;
       counts = next.counts;
       reads = λ is. next.reads;
       works = works_within g.D.Drives 1 20 _ _ _ _ _ _ _ _ _ (omega arith) next.works;
@@ -27,7 +20,7 @@ returns-in-Write g c =
     let next = c.write_next.ensures in
     let never : c.args.work.now.job.kind ≡ Read → ⊥ = λ is. let no : Read ≡ Write = sym is ∙ c.in-Write.is in absurd (cc) in
     record {
-      does = next.does c.in-Write.is;
+      does = next.does;
       counts = next.counts;
       reads = λ is. absurd (never is);
       works = next.works;
@@ -38,7 +31,7 @@ returns-in-TestWrite g c =
     let next = c.test_next.ensures in
     let never : c.args.work.now.job.kind ≡ Read → ⊥ = λ is. let no : Read ≡ TestWrite = sym is ∙ c.in-TestWrite.is in absurd (cc) in
     record {
-      does = next.does c.in-TestWrite.is;
+      does = next.does;
       counts = next.counts;
       reads = λ is. absurd (never is);
       works = works_within g.D.Drives 6 20 _ _ _ _ _ _ _ _ _ (omega arith) next.works;
@@ -49,7 +42,7 @@ returns-in-Make g c =
     let next = c.make_next.ensures in
     let never : c.args.work.now.job.kind ≡ Read → ⊥ = λ is. let no : Read ≡ Make = sym is ∙ c.in-Make.is in absurd (cc) in
     record {
-      does = next.does c.in-Make.is;
+      does = next.does;
       counts = next.counts;
       reads = λ is. absurd (never is);
       works = works_within g.D.Drives 2 20 _ _ _ _ _ _ _ _ _ (omega arith) next.works;
@@ -60,7 +53,7 @@ returns-in-Delete g c =
     let next = c.delete_next.ensures in
     let never : c.args.work.now.job.kind ≡ Read → ⊥ = λ is. let no : Read ≡ Delete = sym is ∙ c.in-Delete.is in absurd (cc) in
     record {
-      does = next.does c.in-Delete.is;
+      does = next.does;
       counts = next.counts;
       reads = λ is. absurd (never is);
       works = works_within g.D.Drives 2 20 _ _ _ _ _ _ _ _ _ (omega arith) next.works;
@@ -71,7 +64,7 @@ returns-in-Rename g c =
     let next = c.rename_next.ensures in
     let never : c.args.work.now.job.kind ≡ Read → ⊥ = λ is. let no : Read ≡ Rename = sym is ∙ c.in-Rename.is in absurd (cc) in
     record {
-      does = next.does c.in-Rename.is;
+      does = next.does;
       counts = next.counts;
       reads = λ is. absurd (never is);
       works = works_within g.D.Drives 2 20 _ _ _ _ _ _ _ _ _ (omega arith) next.works;
@@ -82,7 +75,7 @@ returns-in-Attributes g c =
     let next = c.set_next.ensures in
     let never : c.args.work.now.job.kind ≡ Read → ⊥ = λ is. let no : Read ≡ Attributes = sym is ∙ c.in-Attributes.is in absurd (cc) in
     record {
-      does = next.does c.in-Attributes.is;
+      does = next.does;
       counts = next.counts;
       reads = λ is. absurd (never is);
       works = works_within g.D.Drives 2 20 _ _ _ _ _ _ _ _ _ (omega arith) next.works;
@@ -90,14 +83,32 @@ returns-in-Attributes g c =
 
 pub returns-in-Label : goal.returns-in-Label
 returns-in-Label g c =
-    let next = c.put_next.ensures in
-    let never : c.args.work.now.job.kind ≡ Read → ⊥ = λ is.
-    one_of c.in-Label.is
-    (λ label. let no : Read ≡ Label = sym is ∙ label in absurd (cc))
-    (λ xfcb. let no : Read ≡ Xfcb = sym is ∙ xfcb in absurd (cc))
-    (λ nothing. let no : Read ≡ Nothing = sym is ∙ nothing in absurd (cc)) in
+    let next = c.label_next.ensures in
+    let never : c.args.work.now.job.kind ≡ Read → ⊥ = λ is. let no : Read ≡ Label = sym is ∙ c.in-Label.is in absurd (cc) in
     record {
-      does = one_of c.in-Label.is next.label next.xfcb next.nothing;
+      does = next.does;
+      counts = next.counts;
+      reads = λ is. absurd (never is);
+      works = works_within g.D.Drives 2 20 _ _ _ _ _ _ _ _ _ (omega arith) next.works;
+    }
+
+pub returns-in-Xfcb : goal.returns-in-Xfcb
+returns-in-Xfcb g c =
+    let next = c.xfcb_next.ensures in
+    let never : c.args.work.now.job.kind ≡ Read → ⊥ = λ is. let no : Read ≡ Xfcb = sym is ∙ c.in-Xfcb.is in absurd (cc) in
+    record {
+      does = next.does;
+      counts = next.counts;
+      reads = λ is. absurd (never is);
+      works = works_within g.D.Drives 2 20 _ _ _ _ _ _ _ _ _ (omega arith) next.works;
+    }
+
+pub returns-in-Nothing : goal.returns-in-Nothing
+returns-in-Nothing g c =
+    let next = c.idle_next.ensures in
+    let never : c.args.work.now.job.kind ≡ Read → ⊥ = λ is. let no : Read ≡ Nothing = sym is ∙ c.in-Nothing.is in absurd (cc) in
+    record {
+      does = next.does;
       counts = next.counts;
       reads = λ is. absurd (never is);
       works = works_within g.D.Drives 2 20 _ _ _ _ _ _ _ _ _ (omega arith) next.works;

@@ -1,8 +1,11 @@
 use Rattle.std.proofs.Common.{arith, rules, refl}
-use Rattle.mpm_files.proofs.TurnDone.{idle_turn}
+use Rattle.mpm_files.proofs.TurnDone.{idle_turn, unit_left}
 use Rattle.std.proofs.lemmas.Grind.{common_steps}
 use Rattle.mpm_files.proofs.WorkingLaws.{works_not}
 use Rattle.mpm_files.proofs.turning.do_unit.Goals as goal
+
+pub do_next-requires : goal.do_next-requires
+do_next-requires g c = record { ready = c.requires.ready; left = unit_left (g.D.Drives.disks c.args.drives.now) c.args.mounted.now c.args.work.now c.requires.left c.if-work.true }
 
 pub returns-else-work : goal.returns-else-work
 returns-else-work g c = record {

@@ -4,9 +4,17 @@ use Rattle.mpm_service.specs.Disk.{turn_answer}
 use Rattle.mpm_service.specs.declared.service.Turn.TheVariants.{Work}
 use Rattle.mpm_machine.specs.Parts.{of_drive}
 use Rattle.mpm_machine.proofs.TurnLaws.{turn_works, nothing_to_work}
-use Rattle.mpm_machine.proofs.WorkLaws.{works_here, no_work_here, works_in, turn_failed, holds_worked}
+use Rattle.mpm_machine.proofs.WorkLaws.{turn_to_do, works_here, no_work_here, works_in, turn_failed, holds_worked}
 use Rattle.mpm_machine.proofs.PartsLaws.{uses_none, uses_turns, done_fails}
 use Rattle.mpm_machine.proofs.filing.work.Goals as goal
+
+-- a turn of the call in service is left
+
+pub turn-requires : goal.turn-requires
+turn-requires g c = record {
+  fits = c.requires.calls.fits;
+  left = turn_to_do c.args.system.now.kernel.disk c.args.bdos.now (g.D.Drives.disks c.args.drives.now) c.requires.files c.requires.stands;
+}
 
 -- a drive failed in the turn
 
@@ -20,10 +28,10 @@ returns-in-Err g c = record {
   uses =
       let turned = c.turn.ensures in
       uses_turns g.D.Drives of_drive c.args.bdos.now c.turn.new.self c.args.drives.now c.turn.new.drives _ turned.left
-      (λ bare. (turned.idle (c.requires.workless bare)).drives) (λ bare. absurd (done_fails (c.in-Err.ensures.done (c.requires.workless bare))));
+      (λ bare. (turned.idle (c.requires.calls.workless bare)).drives) (λ bare. absurd (done_fails (c.in-Err.ensures.done (c.requires.calls.workless bare))));
   holds =
       holds_worked g.D.Drives.disks c.args.system.now.kernel c.args.bdos.now c.turn.new.self c.args.drives.now c.turn.new.drives
-      c.requires c.turn.ensures.left.kept c.turn.ensures.still c.turn.ensures.left.fits;
+      c.requires.calls c.turn.ensures.left.kept c.turn.ensures.still c.turn.ensures.left.fits;
   workless = search rules;
   idle = λ idle.
       absurd (false≢true (sym idle ∙ works_in c.args.system.now
@@ -44,10 +52,10 @@ returns-in_default-turn g c = record {
   uses =
       let turned = c.turn.ensures in
       uses_turns g.D.Drives of_drive c.args.bdos.now c.turn.new.self c.args.drives.now c.turn.new.drives _ turned.left
-      (λ bare. (turned.idle (c.requires.workless bare)).drives) (λ bare. tt);
+      (λ bare. (turned.idle (c.requires.calls.workless bare)).drives) (λ bare. tt);
   holds =
       holds_worked g.D.Drives.disks c.args.system.now.kernel c.args.bdos.now c.turn.new.self c.args.drives.now c.turn.new.drives
-      c.requires c.turn.ensures.left.kept c.turn.ensures.still c.turn.ensures.left.fits;
+      c.requires.calls c.turn.ensures.left.kept c.turn.ensures.still c.turn.ensures.left.fits;
   workless = search rules;
   idle = λ idle.
       absurd (false≢true (sym idle ∙ works_in c.args.system.now
@@ -65,7 +73,7 @@ returns-in_default g c = record {
       (no_work_here c.args.system.now.kernel.disk c.ahead.result (c.ahead.ensures ∙ ap turn_answer c.disk.ensures) c.in_default.not-Work) stands;
   err = λ files stands. tt;
   uses = uses_none _ of_drive _ _ _ tt;
-  holds = c.requires;
+  holds = c.requires.calls;
   workless = λ less. refl;
   idle = λ idle. record { sink = tt; drives = refl; calls = refl };
   few = omega arith;

@@ -15,8 +15,22 @@ use Rattle.mpm_bdos.specs.Turns.{FitsDrives, KeepsToldOf, KeepsUnsynced, StaysBe
 use Rattle.mpm_bdos.proofs.NextTurns.{idle_work}
 use Rattle.mpm_bdos.proofs.Fitting.{stays_same, told_same}
 use Rattle.mpm_files.proofs.Causing.{cause_none}
+use Rattle.mpm_bdos.proofs.AskingLaws.{begun_turns}
 use Rattle.mpm_bdos.proofs.AtOnceLaws.{changes_alone, alone_still}
 use Rattle.mpm_bdos.proofs.bdos.Bdos.call_at_once.Goals as goal
+
+-- its turns are left
+
+pub do_turns-requires : goal.do_turns-requires
+do_turns-requires g c =
+    let disks = g.D.Drives.disks in
+    let file : is_some (function_of c.args.call.now.function) ≡ true = sym c.is_file_call.ensures ∙ c.if-not-is_file_call.false in
+    record {
+      fits = subst (λ (kept : Kept). FitsDrives disks kept.mounted kept.cached c.args.drives.now) (sym c.start-turns.ensures.kept) c.requires.fits;
+      left = λ works.
+          begun_turns (images_of (disks c.args.drives.now)) c.args.self.now c.start-turns.new.self c.args.p c.args.process.now c.args.call.now c.args.now c.start-turns.result file
+          c.requires.stand c.start-turns.ensures;
+    }
 
 -- no call on files
 

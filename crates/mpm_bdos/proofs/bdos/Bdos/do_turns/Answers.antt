@@ -1,6 +1,7 @@
 use Rattle.std.proofs.Common.{◌≡◌, ◌+◌, refl, sym, subst, ◌∙◌, arith, add-zero}
 use Rattle.mpm_bdos.specs.Serving.{Serves}
 use Rattle.mpm_bdos.specs.Turns.{images_of}
+use Rattle.mpm_bdos.proofs.AskingLaws.{left_after}
 use Rattle.mpm_bdos.proofs.AtOnceLaws.{no_turns, one_more, one_more_turn, rests_again, still_none, cause_since, is_ok_or_err}
 use Rattle.mpm_bdos.proofs.bdos.Bdos.do_turns.Goals as goal
 
@@ -10,8 +11,18 @@ loop-turn-init g c = record {
   left = no_turns g.D.Drives.disks g.D.Drives.told g.D.Drives.failed_names g.D.Drives.unsynced c.args.self.now c.args.drives.now c.requires.fits;
   calls = omega arith;
   idle = λ none. record { kept = refl; device = refl; calls = refl };
+  working = refl;
   count = refl;
 }
+
+pub turn-requires : goal.turn-requires
+turn-requires g c =
+    let so = c.loop-turn.invariant in
+    record {
+      fits = so.left.fits;
+      left = left_after g.D.Drives.disks c.args.self.now c.loop-turn.self c.args.drives.now c.loop-turn.drives c.loop-turn._turn c.args.turns c.requires
+          (omega (arith, c.loop-turn-test.true)) so.working so.serves;
+    }
 
 pub loop-turn-preserved : goal.loop-turn-preserved
 loop-turn-preserved g c =
@@ -26,6 +37,7 @@ loop-turn-preserved g c =
       calls = omega (arith, does.takes.calls, so.calls);
       idle = λ none. rests_again c.args.self.now c.loop-turn.self now.self c.args.drives.now c.loop-turn.drives now.drives c.args.steps.now c.loop-turn.steps now.steps (so.idle none) does.left.kept
           (does.idle (still_none c.args.self.now c.loop-turn.self (so.idle none).kept none));
+      working = does.still ∙ so.working;
       count = c.in_default.ensures.cause.stays ∙ so.count;
     }
 

@@ -12,5 +12,6 @@ invariant-loop-turn g l = record {
   left : TurnsLeave g.D.Drives.disks g.D.Drives.told g.D.Drives.failed_names g.D.Drives.unsynced l.initial.self l.self l.initial.drives l.drives;
   calls : l.steps ≤ l.initial.steps + 20 * l._turn;
   idle : has_work l.initial.self.service ≡ false → IsAtRest l.initial.self l.self l.initial.drives l.drives l.initial.steps l.steps;
+  working : has_work l.self.service ≡ has_work l.initial.self.service;
   count : g.D.Drives.faults l.drives ≡ g.D.Drives.faults l.initial.drives;
 }

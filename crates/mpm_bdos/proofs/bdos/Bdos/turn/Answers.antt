@@ -1,9 +1,20 @@
-use Rattle.std.proofs.Common.{refl, sym, subst, rules, arith}
+use Rattle.std.proofs.Common.{IfSome, refl, sym, subst, rules, arith}
 use Rattle.mpm_bdos.specs.Serving.{Kept, Serves}
-use Rattle.mpm_bdos.specs.Turns.{images_of}
+use Rattle.mpm_bdos.specs.Turns.{FitsDrives, images_of}
+use Rattle.mpm_bdos.specs.Asking.{HasTurnIfWork}
+use Rattle.mpm_bdos.proofs.AskingLaws.{turn_left}
 use Rattle.mpm_bdos.proofs.NextTurns.{next_served, next_stopped, next_progress}
 use Rattle.std.proofs.lemmas.Grind.{common_steps}
 use Rattle.mpm_bdos.proofs.bdos.Bdos.turn.Goals as goal
+
+pub turn_service-requires : goal.turn_service-requires
+turn_service-requires g c =
+    let disks = g.D.Drives.disks in
+    record {
+      fits = subst (λ (kept : Kept). FitsDrives disks kept.mounted kept.cached c.args.drives.now) (sym c.self.view_is) c.requires.fits;
+      left = subst (λ (kept : Kept). IfSome kept.service (HasTurnIfWork (disks c.args.drives.now) kept.mounted)) (sym c.self.view_is)
+          (turn_left disks c.args.self.now c.args.drives.now c.requires);
+    }
 
 pub returns : goal.returns
 returns g c = record {

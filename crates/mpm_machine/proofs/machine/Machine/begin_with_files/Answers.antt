@@ -34,6 +34,8 @@ call_or_wait-requires g c =
         lives = m.lives;
         ready = m.ready is_ready;
         holds = holds_kept g.D.Drives.disks old made c.args.self.now.bdos c.args.drives.now (keeps_made c.args.p old made may.whole.sound is_ready is) may.holds;
+        files = may.files;
+        stands = gate_stands c.args.p old made c.args.self.now.bdos (g.D.Drives.disks c.args.drives.now) may.files is may.stands;
       };
     }
 

@@ -14,6 +14,7 @@ use Rattle.mpm_machine.specs.DiskStep.{files_called, told_at_gate}
 use Rattle.mpm_machine.specs.After.{HasCalled}
 use Rattle.mpm_machine.specs.FileCalls.{told_of}
 use Rattle.mpm_machine.proofs.AtGateLaws.{IsCalled, waits_steps, waits_ok, waits_made, once_ok, once_made, once_err, once_still, once_images, once_fault, once_trace, once_cause, between, fails_images, once_calls, served_directly, holds_filed}
+use Rattle.mpm_machine.proofs.WorkLaws.{stand_at_once}
 use Rattle.mpm_machine.proofs.PartsLaws.{uses_none, uses_as, uses_kept}
 use Rattle.mpm_machine.proofs.machine.Machine.call_or_wait.Goals as goal
 
@@ -27,7 +28,12 @@ wait_for_disk-requires g c = record {
 }
 
 pub call_files-requires : goal.call_files-requires
-call_files-requires g c = record { living = record { whole = c.requires.may.whole; lives = c.requires.may.lives }; fits = c.requires.may.holds.fits }
+call_files-requires g c = record {
+  living = record { whole = c.requires.may.whole; lives = c.requires.may.lives };
+  fits = c.requires.may.holds.fits;
+  stand = stand_at_once c.args.self.now.system.kernel.disk (function_of (call_of c.args.self.now.system.kernel.dispatcher.procs c.args.p).function) c.args.self.now.bdos
+      (g.D.Drives.disks c.args.drives.now) c.requires.may.files (c.is_done_at_once.ensures.apart c.if-not-is_done_at_once.false) c.requires.may.stands;
+}
 
 pub conclude-requires : goal.conclude-requires
 conclude-requires g c =

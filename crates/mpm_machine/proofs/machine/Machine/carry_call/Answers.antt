@@ -21,7 +21,19 @@ pub finish_disk_call-turns-requires : goal.finish_disk_call-turns-requires
 finish_disk_call-turns-requires g c = record { sound = c.requires.between.whole.sound }
 
 pub do_turns-requires : goal.do_turns-requires
-do_turns-requires g c = record { fits = c.requires.between.holds.calls.fits }
+do_turns-requires g c =
+    let disk = c.args.self.now.system.kernel.disk in
+    let holds = c.requires.between.holds in
+    let its = in_call holds.files disk c.args.p c.args.self.now.bdos (g.D.Drives.disks c.args.drives.now) c.requires.served holds.stands in
+    record {
+      fits = holds.calls.fits;
+      left = λ works. record {
+        situation = its.call;
+        ended = its.turns;
+        serves = its.serves;
+        left = omega (arith, its.left, c.finish_disk_call-turns.ensures.turns, all_left_turns disk);
+      };
+    }
 
 pub end_call-requires : goal.end_call-requires
 end_call-requires g c = record {

@@ -10,11 +10,20 @@ use Rattle.mpm_machine.proofs.PartsLaws.{uses_as, uses_both, uses_kept}
 use Rattle.mpm_machine.proofs.machine.Machine.take_step.Goals as goal
 
 pub work-requires : goal.work-requires
-work-requires g c = c.requires.between.holds.calls
+work-requires g c = c.requires.between.holds
 
 pub begin_step-requires : goal.begin_step-requires
 begin_step-requires g c = record {
-  may = record { most = c.requires.most; whole = c.requires.between.whole; no_completions = c.requires.between.no_completions; holds = c.work.ensures.holds };
+  may =
+      let between = c.requires.between in
+      record {
+        most = c.requires.most;
+        whole = between.whole;
+        no_completions = between.no_completions;
+        holds = c.work.ensures.holds;
+        files = between.holds.files;
+        stands = c.in_default.ensures.ok between.holds.files between.holds.stands;
+      };
 }
 
 pub end_step-requires : goal.end_step-requires

@@ -9,13 +9,14 @@ use Rattle.mpm_base.proofs.Choices.{either}
 use Rattle.mpm_base.specs.Lists.{in_width}
 use Rattle.mpm_base.proofs.Widths.{length_in_width}
 use Rattle.mpm_base.specs.Calls.{Answer}
+use Rattle.mpm_base.specs.declared.functions.TheConstants.{DELETE_FILE}
 use Rattle.mpm_port.specs.Texts.{Begins}
 use Rattle.mpm_spool.specs.Spoolers.{Spooler, opening, call_at, next_call, took, took_at, after, record_in, row_at, begun_with, begun_next, with_list, with_block, counted}
 use Rattle.mpm_spool.specs.SpoolLists.{list_of}
 use Rattle.mpm_spool.specs.declared.list.SpoolItem.{SpoolItem}
 use Rattle.mpm_spool.specs.declared.table.Row.{Row}
 use Rattle.mpm_spool.specs.declared.table.Row.TheVariants.{ReadList, Open, Attach, AskStop, Read, Print, Detach, Close, Delete}
-use Rattle.mpm_machine.specs.Printed.{text_of, to_printer, read_by, read_in, ended_by, ended_in, printed_by, printed_in, has_file, has_ended, PrintsText}
+use Rattle.mpm_spool.specs.Printed.{text_of, to_printer, read_by, read_in, ended_by, ended_in, printed_by, printed_in, has_file, has_ended, PrintsText, GoesOnPrinting}
 
 -- the text of bytes
 
@@ -276,6 +277,23 @@ whole_at Detach s read printed ended g e = g.whole
 whole_at Close s read printed ended g e = g.whole
 whole_at Delete s read printed ended g e = g.0.whole
 
+-- it calls function 19 in its last row alone
+
+deletes_at : (row : Row) (s : Spooler) → (call_at row s).function ≡ DELETE_FILE → row ≡ Delete
+deletes_at ReadList s is = absurd (omega (arith, is))
+deletes_at Open s is = absurd (omega (arith, is))
+deletes_at Attach s is = absurd (omega (arith, is))
+deletes_at AskStop s is = absurd (omega (arith, is))
+deletes_at Read s is = absurd (omega (arith, is))
+deletes_at Print s is = absurd (omega (arith, is))
+deletes_at Detach s is = absurd (omega (arith, is))
+deletes_at Close s is = absurd (omega (arith, is))
+deletes_at Delete s is = refl
+
+pub deletes_alone : (s : Spooler) → (next_call s).function ≡ DELETE_FILE → s.row ≡ Delete
+unfolding next_call
+deletes_alone s is = deletes_at s.row s is
+
 pub prints_text : (answers : List Answer) → PrintsText (after answers) (read_in answers) (printed_in answers)
 prints_text answers =
     let s = after answers in
@@ -284,8 +302,13 @@ prints_text answers =
       begins = begins_at s.row s (read_in answers) (printed_in answers) (ended_in answers) so.goes;
       count = so.count;
       whole = whole_at s.row s (read_in answers) (printed_in answers) (ended_in answers) so.goes;
-      deletes = λ is. (let at : Goes Delete s (read_in answers) (printed_in answers) (ended_in answers) = subst (λ (row : Row). Goes row s (read_in answers) (printed_in answers) (ended_in answers)) is so.goes in at.1);
+      deletes = λ asks. (let is = deletes_alone s asks in let at : Goes Delete s (read_in answers) (printed_in answers) (ended_in answers) = subst (λ (row : Row). Goes row s (read_in answers) (printed_in answers) (ended_in answers)) is so.goes in at.1);
     }
+
+pub goes_on_printing : (old new : Spooler) (reply : Answer) → new ≡ took old reply → GoesOnPrinting old new reply
+unfolding after
+goes_on_printing old new reply is earlier so =
+    subst (λ (s : Spooler). PrintsText s (read_in (reply ∷ earlier)) (printed_in (reply ∷ earlier))) (sym (is ∙ ap (λ (s : Spooler). took s reply) so)) (prints_text (reply ∷ earlier))
 
 -- as it attaches the printer nothing is printed
 pub nothing_at_attach : (answers : List Answer) → (after answers).row ≡ Attach → printed_in answers ≡ []

@@ -1,0 +1,2 @@
+pub mod SuitLaws
+pub mod TurnLaws
