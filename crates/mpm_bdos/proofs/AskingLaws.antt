@@ -24,7 +24,7 @@ use Rattle.mpm_bdos.specs.Serving.{InService, Kept, Serves}
 use Rattle.mpm_bdos.specs.Turns.{FitsDrives, IsWorkingOn, IsServing, has_work, images_of}
 use Rattle.mpm_bdos.specs.Starting.{entering_at}
 use Rattle.mpm_bdos.specs.WholeCalls.{StartsService}
-use Rattle.mpm_bdos.specs.Asking.{HasTurnAt, HasTurnIfWork, HasTurnsLeft, MayDoTurns, MayTurnPlace, StandForSome}
+use Rattle.mpm_bdos.specs.Asking.{HasTurnAt, HasTurnIfWork, HasTurnHeld, HasCallTurns, MayDoTurns, MayTurnPlace, StandForSome}
 use Rattle.mpm_bdos.proofs.Fitting.{its_number, is_there}
 use Rattle.mpm_bdos.proofs.NextTurns.{idle_work, its_suits, job_turns, serving_told}
 
@@ -83,9 +83,13 @@ serves_turn disks kept s j serves turn = by_job (job_of s) refl
         left_by disks kept.mounted (drive_at s) job j kept.service (its_suits (images_of disks) kept s j job is serves) (subst (λ turns. j < turns) (job_turns s job is) turn)
         (serving_told disks kept s j job is serves)
 
+held : (disks : Disks) (mounted : List (Option Directory)) (service : Option InService) → is_some service ≡ true → IfSome service (HasTurnIfWork disks mounted) → HasTurnHeld disks mounted service
+held disks mounted None served left = absurd (true≢false (sym served))
+held disks mounted (Some service) served left = left
+
 -- one more may be done of the call in service
-pub turn_left : {D : Type 0} (disks : D → Disks) (kept : Kept) (drives : D) → MayDoTurns disks 1 kept drives → IfSome kept.service (HasTurnIfWork (disks drives) kept.mounted)
-turn_left disks kept drives may = by_work (has_work kept.service) refl
+pub turn_left : {D : Type 0} (disks : D → Disks) (kept : Kept) (drives : D) → MayDoTurns disks 1 kept drives → HasTurnHeld (disks drives) kept.mounted kept.service
+turn_left disks kept drives may = held (disks drives) kept.mounted kept.service may.served (by_work (has_work kept.service) refl)
   where
     by_work : (works : Bool) → has_work kept.service ≡ works → IfSome kept.service (HasTurnIfWork (disks drives) kept.mounted)
     by_work false none = none_by (disks drives) kept.mounted kept.service none
@@ -94,7 +98,7 @@ turn_left disks kept drives may = by_work (has_work kept.service) refl
 -- after some turns, one of those that were left
 pub left_after : {D : Type 0} (disks : D → Disks) (old now : Kept) (drives later : D) (turn turns : ℕ) → MayDoTurns disks turns old drives → turn < turns → has_work now.service ≡ has_work old.service
     → ((s : Situation) (ended : ℕ) → Serves (images_of (disks drives)) old s ended → ended + turn ≤ call_turns s → Serves (images_of (disks later)) now s (ended + turn))
-    → has_work now.service ≡ true → HasTurnsLeft (images_of (disks later)) now 1
+    → has_work now.service ≡ true → HasCallTurns (images_of (disks later)) now 1
 left_after disks old now drives later turn turns may below still serves is =
     let left = may.left (sym still ∙ is) in
     record {
@@ -106,10 +110,10 @@ left_after disks old now drives later turn turns may below still serves is =
 
 -- a call on files that has entered service upon some drives has all its turns left
 pub begun_turns : (images : ℕ → List ℕ) (old new : Kept) (p : ℕ) (process : Process) (call : Taken) (now : Moment) (turns : ℕ) → is_some (function_of call.function) ≡ true
-    → StandForSome images old.mounted → StartsService old new p process call now turns → HasTurnsLeft images new turns
+    → StandForSome images old.mounted → StartsService old new p process call now turns → HasCallTurns images new turns
 begun_turns images old new p process call now turns file stand starts = by_function (function_of call.function) refl file
   where
-    by_function : (function : Option FileFunction) → function_of call.function ≡ function → is_some function ≡ true → HasTurnsLeft images new turns
+    by_function : (function : Option FileFunction) → function_of call.function ≡ function → is_some function ≡ true → HasCallTurns images new turns
     by_function None is some = absurd (true≢false (sym some))
     by_function (Some function) is some =
         let all = starts.turns images stand.drives function is stand.stand in

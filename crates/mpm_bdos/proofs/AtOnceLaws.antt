@@ -37,6 +37,17 @@ same_drive one other same = sym (its_drive other) ∙ ap drive_served same ∙ i
 pub still_there : (one other : Option Directory) → option_map drive_and_kind other ≡ option_map drive_and_kind one → is_some other ≡ is_some one
 still_there one other same = sym (there_label other) ∙ ap is_some same ∙ there_label one
 
+-- and so it stays in service
+pub same_there : (one other : Option InService) → option_map without_work other ≡ option_map without_work one → is_some other ≡ is_some one
+same_there one other same = sym (there_still other) ∙ ap is_some same ∙ there_still one
+  where
+    there_still : (service : Option InService) → is_some (option_map without_work service) ≡ is_some service
+    there_still None = refl
+    there_still (Some service) = refl
+
+pub still_served : (old new : Kept) → TurnKeeps old new → is_some old.service ≡ true → is_some new.service ≡ true
+still_served old new kept served = same_there old.service new.service kept.service ∙ served
+
 -- what is kept, after some turns and one more
 kept_again : (old mid new : Kept) → TurnKeeps old mid → TurnKeeps mid new → TurnKeeps old new
 kept_again old mid new first next = record {

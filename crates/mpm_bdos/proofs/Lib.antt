@@ -44,4 +44,5 @@ pub mod KeptFile
 pub mod OpenedFile
 pub mod ClosedFile
 pub mod AtOnceLaws
+pub mod HeldLaws
 pub mod SyncLaws

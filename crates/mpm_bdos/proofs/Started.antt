@@ -2,7 +2,7 @@
 use Rattle.std.proofs.Common.{◌≡◌, ◌∙◌, ℕ, ◌≤◌, ◌<◌, true, false, List, Option, Some, None, IfSome, sym, refl, ap, subst, arith}
 use Rattle.std.specs.Prelude.{is_some, max, length, unwrap_or, slice_index_or, slice_set}
 use Rattle.std.proofs.lemmas.List.{set-get_or}
-use Rattle.std.proofs.lemmas.Option.{same_Some, none-some}
+use Rattle.std.proofs.lemmas.Option.{none-some}
 use Rattle.std.proofs.Math.Nat.{min-eq_left}
 use Rattle.mpm_base.specs.Calls.{Taken}
 use Rattle.std.specs.FinMap.{get-empty}
@@ -235,6 +235,3 @@ pub entered_turns : (images : ℕ → List ℕ) (kept : Kept) (drives : List (Op
     → turns_where service.work ≡ call_turns (entering kept drives its_caller its_function call its_moment)
 entered_turns images kept drives caller its_caller function its_function call moment its_moment service e f g among =
     its_turns _ _ (entering kept drives caller function call moment) service among.enters ∙ (λ i. call_turns (entering kept drives (e i) (f i) call (g i)))
-
-pub one_function : (result : Option FileFunction) (function found : FileFunction) (of_number : Option FileFunction) → result ≡ Some function → result ≡ of_number → of_number ≡ Some found → function ≡ found
-one_function result function found of_number e f g = same_Some function found (sym e ∙ f ∙ g)

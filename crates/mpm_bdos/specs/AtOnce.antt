@@ -1,5 +1,5 @@
 -- A file call that is done at once, its turns one after another.
-use Rattle.std.specs.Prelude.{◌≡◌, ◌≢◌, ℕ, ◌+◌, ◌*◌, ◌<◌, ◌≤◌, Bool, true, false, List, Option, Some, None, option_map, Result, Ok, IsOk, IfOk, OnOk, OnErr}
+use Rattle.std.specs.Prelude.{◌≡◌, ◌≢◌, ℕ, ◌+◌, ◌*◌, ◌<◌, ◌≤◌, Bool, true, false, List, Option, Some, None, option_map, Result, IsOk, IfOk, OnOk, OnErr}
 use Rattle.mpm_base.specs.Calls.{Answer, Taken}
 use Rattle.mpm_clock.specs.declared.moment.Moment.{Moment}
 use Rattle.mpm_procs.specs.declared.process.Process.{Process}
@@ -11,7 +11,6 @@ use Rattle.mpm_mount.specs.Directories.{Directory}
 use Rattle.mpm_file_functions.specs.declared.functions.FileFunction.{FileFunction}
 use Rattle.mpm_file_functions.specs.declared.functions.FileFunction.TheVariants.{OpenFile, DeleteFile, ReadSequential, WriteSequential, MakeFile, RenameFile, SetAttributes, ReadRandom, WriteRandom, TestAndWrite, SetLabel, WriteXfcb}
 use Rattle.mpm_file_functions.specs.declared.refusals.Extended.{Extended}
-use Rattle.mpm_file_functions.specs.Functions.{function_of}
 use Rattle.mpm_refusals.specs.Filing.{Situation}
 use Rattle.mpm_refusals.specs.Subjects.{drive_number}
 use Rattle.mpm_bdos.specs.Jobs.{call_turns, job_of}
@@ -70,13 +69,6 @@ has_job SetLabel = true
 has_job WriteXfcb = true
 has_job function = false
 
--- nothing is done in a call that is none on files and drives
-pub record IsUntouched {R D : Type 0} (old new : Kept) (old_reply new_reply : R) (old_drives new_drives : D) (old_calls new_calls : ℕ) : Type 0 where
-  pub kept : new ≡ old
-  pub answer : new_reply ≡ old_reply
-  pub device : new_drives ≡ old_drives
-  pub calls : new_calls ≡ old_calls
-
 -- a call was done at once, in the situation in which it entered: it comes to its outcome, or its drive failed in one of its turns; each
 -- turn takes 20 calls of the drives at most, and without a job there is none
 pub record DoneAtOnce {D E : Type 0} (disks : D → Disks) (s : Situation) (new : Kept) (answer : Answer) (old_drives new_drives : D) (old_calls new_calls : ℕ) (result : Result (Option Extended) E) : Type 0 where
@@ -115,14 +107,13 @@ pub record DoesTurns {D A E : Type 0} (of : Ghosts D) (turns : ℕ) (old new : K
   pub unfailing : has_work old.service ≡ false → IsOk result
   pub cause : HasCause (of.faults old_drives) (of.faults new_drives) result
 
--- a process's call at a moment is done at once, if it is one on files and drives, and keeps to its drive; after it none is in service. Where
--- no drive is mounted no device is asked
+-- a process's call on files and drives at a moment is done at once, and keeps to its drive; after it none is in service. Where no drive is
+-- mounted no device is asked
 pub record ServesAtOnce {D E : Type 0} (of : Ghosts D) (old new : Kept) (p : ℕ) (process : Process) (call : Taken) (now : Moment) (old_reply new_reply : Answer) (old_drives new_drives : D) (old_calls new_calls : ℕ) (result : Result (Option Extended) E) : Type 0 where
   pub done : UponDrives (images_of (of.disks old_drives)) old call (λ before function. DoneAtOnce of.disks (entering_at old p process call now before function) new new_reply old_drives new_drives old_calls new_calls result)
   pub own : (before : List (Option Drive)) → OfFunction call (λ function. KeepsToDrive of (drive_number (entering_at old p process call now before function)) old.mounted new.mounted old_drives new_drives)
   pub none : ((number : ℕ) → directory_at old.mounted number ≡ None) → (new_drives ≡ old_drives) × IsOk result
   pub service : OfFunction call (λ function. new.service ≡ None)
-  pub other : function_of call.function ≡ None → IsUntouched old new old_reply new_reply old_drives new_drives old_calls new_calls × (result ≡ Ok None)
   pub stopped : OnErr result (IsBrokenOff old new old_reply new_reply)
   pub left : AtOnceLeaves of old new old_drives new_drives
   pub cause : HasCause (of.faults old_drives) (of.faults new_drives) result

@@ -1,12 +1,13 @@
 -- What a call in service comes to after its turns. (MP/M II Programmer's Guide, "BDOS Function Calls", "BDOS Error Handling".)
-use Rattle.std.specs.Prelude.{◌≡◌, ℕ, Bool, List, [], Option, Some}
+use Rattle.std.specs.Prelude.{◌≡◌, ℕ, Bool, false, List, [], Option, Some, IsSome}
 use Rattle.mpm_base.specs.Calls.{Answer}
 use Rattle.mpm_mount.specs.Directories.{Directory}
 use Rattle.mpm_opens.specs.Opens.{OpenFiles}
 use Rattle.mpm_file_functions.specs.declared.refusals.Extended.{Extended}
 use Rattle.mpm_file_functions.specs.declared.refusals.Refusal.{Refusal}
 use Rattle.mpm_bdos.specs.declared.replying.Served.{Served}
-use Rattle.mpm_refusals.specs.Filing.{LastSearch, Situation}
+use Rattle.mpm_directories.specs.Places.{directory_at}
+use Rattle.mpm_refusals.specs.Filing.{LastSearch, Situation, HaveUsers}
 use Rattle.mpm_refusals.specs.Subjects.{found}
 use Rattle.mpm_bdos.specs.Jobs.{call_turns, turned}
 use Rattle.mpm_bdos.specs.Changes.{protected_then, opens_by, search_of_call}
@@ -14,7 +15,8 @@ use Rattle.mpm_refusals.specs.Searches.{searches_by}
 use Rattle.mpm_marks.specs.Driving.{marks_by}
 use Rattle.mpm_bdos.specs.Replies.{answer_after}
 use Rattle.mpm_bdos.specs.Outcomes.{file_call}
-use Rattle.mpm_bdos.specs.Serving.{InService, Kept, StandEach, Serves, filing_of}
+use Rattle.mpm_bdos.specs.Serving.{InService, IsCaller, Kept, StandEach, Serves, filing_of}
+use Rattle.mpm_bdos.specs.Replying.{is_on_drives}
 
 -- all that is kept but for what is cached, with a call in service
 abbrev pub serving : List (Option Directory) → List Bool → OpenFiles → List ℕ → List (Option LastSearch) → InService → Kept
@@ -47,6 +49,12 @@ pub record ComesTo (images : ℕ → List ℕ) (s : Situation) (kept : Kept) (an
 abbrev pub ComesToAfterTurns : Kept → Kept → Answer → Option Extended → Type 0
 ComesToAfterTurns old new answer extended =
     (images : ℕ → List ℕ) (s : Situation) → Serves images old s (call_turns s) → ComesTo images s new answer extended
+
+-- a call that isn't refused may be answered by what is kept of it: its drive is mounted, unless it is one on drives
+pub record MayReplyGranted (mounted : List (Option Directory)) (opens : OpenFiles) (served : Served) : Type 0 where
+  pub caller : IsCaller served.file_call.caller
+  pub users : HaveUsers opens
+  pub drive : is_on_drives served.file_call.function ≡ false → IsSome (directory_at mounted served.drive)
 
 -- a call in service, of what its reply is made of, its moment and its refusal
 abbrev pub service_of : Served → List ℕ → Option Refusal → InService

@@ -16,6 +16,7 @@ pub mod Ending
 pub mod Planning
 pub mod Leaving
 pub mod Replying
+pub mod Held
 pub mod Starting
 pub mod Finishing
 pub mod AtOnce

@@ -26,7 +26,7 @@ pub record TurnsWork {D E : Type 0} (of : Ghosts D) (old_service new_service : I
   pub takes : CountsTurnCalls (IsReadingRecord old_service.work) (IsReadingCached old_cached (directory_at old_mounted old_service.drive) old_service.work) old_calls new_calls (of.unsynced old) (of.unsynced new)
   pub cause : HasCause (of.faults old) (of.faults new) result
 
--- the same of the call in service, where one is
+-- the same of the call in service
 pub record TurnsHeldCall {D E : Type 0} (of : Ghosts D) (old_service new_service : Option InService) (old_mounted new_mounted : List (Option Directory)) (old_cached new_cached : List (SectorPlace × List ℕ)) (old new : D) (old_calls new_calls : ℕ) (result : Result Progress E) : Type 0 where
   pub ok : WhileWorking (λ before job j. IsServing (of.disks old) old_mounted before job j old_service) (λ before job j. OnOk result (IsServing (of.disks new) new_mounted before job (suc j) new_service))
   pub err : WhileWorking (λ before job j. IsServing (of.disks old) old_mounted before job j old_service) (λ before job j. OnErr result (IsServiceContained (of.disks new) old_mounted before job j old_service))
@@ -40,7 +40,7 @@ pub record TurnsHeldCall {D E : Type 0} (of : Ghosts D) (old_service new_service
   pub cause : HasCause (of.faults old) (of.faults new) result
 
 -- the next turn of the call in service is done: it is served with one turn more, or its drive failed within that turn. The result tells
--- whether turns are left. Where no call is in service, or its call has no work, nothing is done
+-- whether turns are left. Where the call has no work nothing is done
 pub record TurnsServedCall {D E : Type 0} (of : Ghosts D) (old new : Kept) (old_drives new_drives : D) (old_calls new_calls : ℕ) (result : Result Progress E) : Type 0 where
   pub ok : WhileServing (images_of (of.disks old_drives)) old (λ s j. j < call_turns s → OnOk result (Serves (images_of (of.disks new_drives)) new s (suc j)))
   pub err : WhileServing (images_of (of.disks old_drives)) old (λ s j. j < call_turns s → OnErr result (StopsWithin (of.disks new_drives) s j))

@@ -110,11 +110,11 @@ turns_where None = 1
 turns_where (Some work) = turns_in work
 
 -- a caller's call of a function is in service
-pub record IsEntered (caller : Caller) (function : FileFunction) (call : Taken) (service : InService) : Type 0 where
+pub record IsCallBy (caller : Caller) (function : FileFunction) (call : Taken) (service : InService) : Type 0 where
   pub caller_is : service.caller ≡ caller
   pub function_is : service.function ≡ function
   pub call_is : service.call ≡ call
 
 abbrev pub HasBegunService : Caller → FileFunction → Taken → Option InService → Type 0
 HasBegunService caller function call None = ⊥
-HasBegunService caller function call (Some service) = IsEntered caller function call service
+HasBegunService caller function call (Some service) = IsCallBy caller function call service

@@ -77,7 +77,7 @@ abbrev pub HasLeftDisk : {D : Type 0} → (D → Disks) → (D → List ℕ → 
 HasLeftDisk disks told failed unsynced None old_cached new_cached old new = ⊥
 HasLeftDisk disks told failed unsynced (Some directory) old_cached new_cached old new = LeavesDisks disks told failed unsynced directory.drive old_cached new_cached old new
 
--- a turn syncs no drive, and each other drive than that of its call is synced or not as before
+-- a turn leaves no drive synced that wasn't, and each other drive than that of its call as it was
 pub record KeepsUnsynced (drive : Option ℕ) (old new : ℕ → Bool) : Type 0 where
   pub beside : (other : ℕ) → drive ≢ Some other → new other ≡ old other
   pub owed : (number : ℕ) → old number ≡ true → new number ≡ true
@@ -104,7 +104,7 @@ abbrev pub ServesCached : List (SectorPlace × List ℕ) → List (Option Direct
 ServesCached cached mounted None = ⊥
 ServesCached cached mounted (Some service) = IsReadingCached cached (directory_at mounted service.drive) service.work
 
--- no call is in service, or it has no work: then nothing is done
+-- the call in service has no work: then nothing is done
 pub record IsDiskIdle {S M D : Type 0} (old_service new_service : S) (old_mounted new_mounted : M) (old_cached new_cached : List (SectorPlace × List ℕ)) (old new : D) (old_calls new_calls : ℕ) : Type 0 where
   pub call : new_service ≡ old_service
   pub directories : new_mounted ≡ old_mounted

@@ -38,7 +38,7 @@ pub struct Bdos {
 
 impl Model for Bdos {
     ghost use Rattle.mpm_bdos.specs.Serving.{Kept};
-    ghost use Rattle.mpm_refusals.specs.Filing.{HaveUsers};
+    ghost use Rattle.mpm_bdos.specs.Held.{HoldsCall};
 
     ghost Value = { Kept };
 
@@ -52,7 +52,7 @@ impl Model for Bdos {
       service = b.service;
     } };
 
-    ghost invariant = { λ b. HaveUsers b.opens };
+    ghost invariant = { λ b. HoldsCall b.mounted b.opens b.service };
 }
 
 impl Bdos {
@@ -66,7 +66,6 @@ impl Bdos {
     ///
     /// # Errors
     /// Where no memory is found for the cache, or for a call in service.
-    #[tactic(auto, using(crate::proofs::KeptLaws::no_users))]
     pub fn new(alloc: Global, mounted: Vec<Option<Mounted>>) -> Result<Bdos, OutOfMemory>
         requires { AreInPlace mounted.items }
         ensures { KeepsNothingYet mounted.items result }
@@ -111,14 +110,14 @@ impl Bdos {
     }
 
     /// Says what is so at any time of open files and locks, no two of which are of one record.
-    pub fn tell_sound(&self)
+    pub fn recall_sound(&self)
         ensures { AreOpen self.now.opens }
     {
-        self.opens.tell_sound();
+        self.opens.recall_sound();
     }
 
     /// Gives back all that a process that ended has open, its locks and its marks, and forgets what it searched for last.
-    #[tactic(auto, using(crate::proofs::KeptLaws::users_left), unfolding(crate::specs::Outcomes::left_by, crate::specs::Outcomes::without_search))]
+    #[tactic(auto, using(crate::proofs::HeldLaws::held_left), unfolding(crate::specs::Outcomes::left_by, crate::specs::Outcomes::without_search))]
     pub fn give_back(&mut self, p: Pid)
         ensures filing { (drives : List (Option Drive)) → filing_of self.new drives ≡ without_search (left_by (filing_of self.old drives) p) p }
         ensures rest { self.new ≡ record self.old { opens = self.new.opens; marks = self.new.marks; searches = self.new.searches } }
@@ -128,9 +127,9 @@ impl Bdos {
         self.searches.forget(p);
     }
 
-    /// Does the next turn of the call in service, which has one left where it has work on its drive, and tells whether another is left.
-    /// Where no call is in service, or its call has no work, nothing is done. It takes 20 calls of the drives at most; one that reads a record, one, or none where that
-    /// record's sector is cached.
+    /// Does the next turn of the call in service, and tells whether another is left. Where the call has work on its drive, a turn of
+    /// it must be left; where it has none, nothing is done. A turn takes 20 calls of the drives at most; one that reads a record
+    /// takes one, or none where that record's sector is cached.
     ///
     /// # Errors
     /// Where the drive of the call failed: each other drive is as it was.

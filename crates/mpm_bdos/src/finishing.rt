@@ -1,4 +1,4 @@
-ghost use Rattle.std.specs.Prelude.{◌≡◌, ◌≤◌, ◌<◌, ℕ, true, List, Option, None, length};
+ghost use Rattle.std.specs.Prelude.{◌≡◌, ◌≤◌, ◌<◌, ℕ, true, List, Option, None, IsSome, length};
 ghost use Rattle.std.specs.Option.{option_copied};
 ghost use Rattle.mpm_dirent.specs.declared.limits.TheConstants.{LAST_POSITION};
 ghost use Rattle.mpm_fcb.specs.Blocks.{block_of};
@@ -9,7 +9,9 @@ ghost use Rattle.mpm_bdos.specs.Finishing as spec;
 ghost use Rattle.mpm_bdos.specs.Jobs.{call_turns};
 ghost use Rattle.mpm_refusals.specs.Refusals as refusals;
 ghost use Rattle.mpm_bdos.specs.Replying as replying;
-ghost use Rattle.mpm_bdos.specs.Serving.{IsCaller, CallsUpon, Serves};
+ghost use Rattle.mpm_directories.specs.Places.{directory_at};
+ghost use Rattle.mpm_bdos.specs.Held.{IsMountedFor};
+ghost use Rattle.mpm_bdos.specs.Serving.{IsCaller, Serves};
 ghost use Rattle.mpm_bdos.specs.Standing.{entered_at};
 ghost use Rattle.mpm_bdos.specs.ReplyParts.{RefusesCall, RepliesOnDrives};
 
@@ -18,7 +20,6 @@ use crate::bdos::Bdos;
 use crate::directories::Directories;
 use crate::replying::{Served, reply_mounted};
 use crate::service::Service;
-use crate::starting::first_position;
 use mpm_base::{Call, Reply};
 use mpm_file_functions::{Extended, FileFunction, Refusal};
 use mpm_marks::{Marks, Protected, leave_drives, mark_drives, protect_drives};
@@ -50,13 +51,13 @@ fn refuse(reply: &mut Reply, refusal: Refusal, drive: u8) -> Option<Extended>
     answered.extended(drive)
 }
 
-/// The sequential position of a call's file control block.
-fn position_of_call(call: &Call) -> u32
+/// Says what is so of a call's file control block: its sequential position is one that a file can have.
+fn recall_position(call: &Call)
     ensures size { length call.now.fcb ≡ 36 }
     ensures low { sequential_record (block_of call.now.fcb) ≤ LAST_POSITION }
 {
     let block = block_of_call(call);
-    first_position(&block, FileFunction::ReadSequential)
+    block.sequential_record();
 }
 
 /// Answers a call on drives that isn't refused, with what it leaves of marks, of open files and of drives that are protected from
@@ -85,7 +86,7 @@ fn reply_on_drives(
     mark_drives(marks, caller.process, word, function);
 }
 
-/// Answers a call on the drive that it names, where that is mounted.
+/// Answers a call on the drive that it names, which is mounted.
 fn reply_on(
     reply: &mut Reply,
     mounted: Option<&Mounted>,
@@ -94,14 +95,14 @@ fn reply_on(
     searches: &mut Searches,
     served: &Served<'_>,
 )
-    requires { IsCaller served.now.file_call.caller }
+    requires caller { IsCaller served.now.file_call.caller }
+    requires drive { IsSome (option_copied mounted) }
     ensures users { HaveUsers opens.old → HaveUsers opens.new }
     ensures replied { replying.IsRepliedWhere (option_copied mounted.entry) (λ drives marks moment. entered_at served.now.file_call moment protected.now opens.old searches.old drives marks) served.now.work.now served.now.deleted.now reply.new opens.new searches.new }
 {
     match mounted {
         Some(mounted) => reply_mounted(reply, mounted, protected, opens, searches, served),
-        // A call on a drive that isn't mounted is refused.
-        None => reply.answer(0),
+        None => unreachable!(),
     }
 }
 
@@ -115,13 +116,12 @@ fn reply_granted(
     searches: &mut Searches,
     served: &Served<'_>,
 )
-    requires { CallsUpon served.now.file_call.caller opens.old }
+    requires { spec.MayReplyGranted mounted.now opens.old served.now }
     ensures users { HaveUsers opens.new }
     ensures finished { (images : ℕ → List ℕ) (s : Situation) (moment : List ℕ) (refusal : Option Refused)
         → Serves images (spec.serving mounted.now protected.old opens.old marks.old searches.old (spec.service_of served.now moment refusal)) s (call_turns s) → refusals.refusal_of s ≡ None → spec.IsFinished s reply.new protected.new opens.new marks.new searches.new }
 {
-    // Each block has a position that a file can have.
-    let _ = position_of_call(served.file_call.call);
+    recall_position(served.file_call.call);
     if is_on_drives(served.file_call.function) {
         reply_on_drives(
             reply,
@@ -154,6 +154,7 @@ fn reply_service(
     searches: &mut Searches,
 ) -> Option<Extended>
     requires users { HaveUsers opens.old }
+    requires granted { IsMountedFor (directory_at mounted.now service.now.drive) service.now }
     ensures users { HaveUsers opens.new }
     ensures comes { spec.ComesToAfterTurns (spec.serving mounted.now protected.old opens.old marks.old searches.old service.now) (spec.serving mounted.now protected.new opens.new marks.new searches.new service.now) reply.new result }
 {
@@ -178,13 +179,14 @@ fn reply_service(
 }
 
 impl Bdos {
-    ghost use Rattle.std.specs.Prelude.{◌≡◌, None};
+    ghost use Rattle.std.specs.Prelude.{IsSome};
     ghost use Rattle.mpm_bdos.specs.WholeCalls.{RepliesInService};
 
-    /// Answers the call in service, after its turns, with its extended error, if it has one; then none is in service. Nothing is
-    /// answered where none was. (MP/M II Programmer's Guide, "BDOS Function Calls", "BDOS Error Handling".)
+    /// Answers the call in service, after its turns, with its extended error, if it has one; then none is in service. (MP/M II
+    /// Programmer's Guide, "BDOS Function Calls", "BDOS Error Handling".)
     pub fn reply(&mut self, reply: &mut Reply) -> Option<Extended>
-        ensures { RepliesInService self.old self.new reply.old reply.new result }
+        requires { IsSome self.old.service }
+        ensures { RepliesInService self.old self.new reply.new result }
     {
         match self.service.get() {
             Some(service) => {
@@ -200,7 +202,7 @@ impl Bdos {
                 self.service.leave();
                 extended
             }
-            None => None,
+            None => unreachable!(),
         }
     }
 }

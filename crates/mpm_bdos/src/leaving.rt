@@ -63,35 +63,27 @@ fn lock_by(opens: &mut Opens, mounted: &Mounted, item: &OpenItem, first: u32, co
     }
 }
 
-/// Locks the records of a call by way of the open file that it names, if its caller has that. (MP/M II Programmer's Guide,
-/// "Function 42: Lock Record".)
-fn lock(
-    opens: &mut Opens,
-    mounted: &Mounted,
-    p: Pid,
-    item: Option<OpenItem>,
-    first: u32,
-    count: u8,
-) -> Ended
-    requires { MayLockBy opens.old p item first count }
-    ensures { LocksByItem mounted.now opens.old opens.new (λ drive. spec.locked_where drive opens.old p first count item) result }
+/// Locks the records of a call, from one on, by way of the open file that it names, if its caller has that. (MP/M II Programmer's
+/// Guide, "Function 42: Lock Record".)
+fn lock(opens: &mut Opens, mounted: &Mounted, asked: &Asked, first: u32) -> Ended
+    requires { MayLockBy opens.old asked.now.caller.process asked.now.item first asked.now.caller.multi }
+    ensures { LocksByItem mounted.now opens.old opens.new (λ drive. spec.locked_where drive opens.old asked.now.caller.process first asked.now.caller.multi asked.now.item) result }
 {
-    match item {
-        Some(item) => lock_by(opens, mounted, &item, first, count),
+    match asked.item {
+        Some(item) => lock_by(opens, mounted, &item, first, asked.caller.multi),
         None => nothing_locked(),
     }
 }
 
-/// Frees the records of a call by way of the open file that it names, if its caller has that. (MP/M II Programmer's Guide,
-/// "Function 43: Unlock Record".)
-fn unlock(opens: &mut Opens, p: Pid, item: Option<OpenItem>, first: u32, count: u8)
-    requires item { IfSome item (λ item. asking.IsOwnItem opens.old p item) }
+/// Frees the records of a call, from one on, by way of the open file that it names, if its caller has that. (MP/M II Programmer's
+/// Guide, "Function 43: Unlock Record".)
+fn unlock(opens: &mut Opens, asked: &Asked, first: u32)
+    requires item { IfSome asked.now.item (λ item. asking.IsOwnItem opens.old asked.now.caller.process item) }
     requires first { first ≤ 16777216 }
-    ensures { opens.new ≡ spec.unlocked_where opens.old p first count item }
+    ensures { opens.new ≡ spec.unlocked_where opens.old asked.now.caller.process first asked.now.caller.multi asked.now.item }
 {
-    let _ = p;
-    match item {
-        Some(item) => unlock_records(opens, item.number, first, count),
+    match asked.item {
+        Some(item) => unlock_records(opens, item.number, first, asked.caller.multi),
         None => {}
     }
 }
@@ -117,7 +109,7 @@ pub(crate) fn leave(
             note_written(opens, p, file, moved),
         FileFunction::UnlockRecord => {
             let first = first_record(&asked.block, asked.function);
-            unlock(opens, p, asked.item, first, asked.caller.multi);
+            unlock(opens, asked, first);
         }
         _ => {}
     }
@@ -154,14 +146,7 @@ fn end_records(opens: &mut Opens, mounted: &Mounted, asked: &Asked, work: &Optio
     ensures { EndsRecords mounted.now opens.old opens.new asked.now work.now result }
 {
     match asked.function {
-        FileFunction::LockRecord => lock(
-            opens,
-            mounted,
-            asked.caller.process,
-            asked.item,
-            first_locked(&asked.block),
-            asked.caller.multi,
-        ),
+        FileFunction::LockRecord => lock(opens, mounted, asked, first_locked(&asked.block)),
         function => ended(function, asked.caller.multi, work),
     }
 }

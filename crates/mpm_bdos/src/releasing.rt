@@ -75,8 +75,8 @@ pub(crate) fn deleted(
 ) -> [Option<FileKey>; 64]
     ensures { OnItsDrive mounted.now (λ drive. result ≡ map (file_where (is_given_back p (spec.is_deleted_in drive deletion.now))) opens.now.items) }
 {
-    // The list tells how many places there are.
-    let _ = opens.file(p, 0);
+    // There are 64 places.
+    opens.recall_sound();
     let mut deleted = [None; 64];
     for number in 0..64 {
         deleted[usize::from(number)] = deleted_at(mounted, opens, p, deletion, number);

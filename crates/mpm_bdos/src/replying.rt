@@ -42,8 +42,7 @@ pub(crate) fn answer_mounted(
     requires { MayAnswerMounted opens.old asked.now }
     ensures { AnswersMounted mounted.now opens.old opens.new asked.now served.now.work.now served.now.deleted.now (option_map (found_as mounted.now.kind) found.now) served.now.file_call.call.now reply.new }
 {
-    // Who has a lock tells that all open files are sound.
-    let _ = opens.owner(subject_key(asked), 0);
+    opens.recall_sound();
     leave(
         opens,
         asked,

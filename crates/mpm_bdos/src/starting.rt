@@ -1,4 +1,4 @@
-ghost use Rattle.std.specs.Prelude.{◌≡◌, ◌&&◌, Some, is_some, option_and_then, unwrap_or};
+ghost use Rattle.std.specs.Prelude.{◌≡◌, ◌&&◌, Some, is_some, IsSome, option_and_then, unwrap_or};
 ghost use Rattle.std.specs.Option.{option_copied};
 ghost use Rattle.mpm_opens.specs.Items.{file_named};
 ghost use Rattle.mpm_opens.specs.Opens.{item_of};
@@ -318,36 +318,37 @@ fn caller_of(p: Pid, process: &Process) -> Caller
     }
 }
 
-/// The function of a call, if that is one on files and drives.
-fn function_of_call(call: &Call) -> Option<FileFunction>
-    ensures { result ≡ function_of call.now.function }
+/// The function of a call on files and drives.
+fn function_of_call(call: &Call) -> FileFunction
+    requires { IsSome (function_of call.now.function) }
+    ensures { function_of call.now.function ≡ Some result }
 {
-    FileFunction::of(call.function)
+    match FileFunction::of(call.function) {
+        Some(function) => function,
+        None => unreachable!(),
+    }
 }
 
 impl Bdos {
-    ghost use Rattle.std.specs.Prelude.{◌≡◌, Some, is_some};
+    ghost use Rattle.std.specs.Prelude.{◌≡◌, IsSome};
     ghost use Rattle.mpm_clock.specs.Times.{IsTime};
     ghost use Rattle.mpm_file_functions.specs.Functions.{function_of};
     ghost use Rattle.mpm_bdos.specs.Serving.{IsCaller};
     ghost use Rattle.mpm_bdos.specs.Starting.{caller_of};
     ghost use Rattle.mpm_bdos.specs.WholeCalls.{StartsService};
 
-    /// A process's call on files and drives enters service: how many turns it takes. A call of another function doesn't, and takes
-    /// none. No device is asked. (MP/M II Programmer's Guide, "BDOS Function Calls".)
+    /// A process's call on files and drives enters service: how many turns it takes. No device is asked. (MP/M II Programmer's
+    /// Guide, "BDOS Function Calls".)
     pub fn start(&mut self, p: Pid, call: &Call, process: &Process, now: Moment) -> u32
         requires caller { IsCaller (caller_of p process.now) }
+        requires file { IsSome (function_of call.now.function) }
         requires time { IsTime now }
         ensures { StartsService self.old self.new p process.now call.now now result }
     {
-        let function = match function_of_call(call) {
-            Some(function) => function,
-            None => return 0,
-        };
         let caller = caller_of(p, process);
         let file_call = FileCall {
             caller,
-            function,
+            function: function_of_call(call),
             call,
             moment: stamp(now),
         };

@@ -26,7 +26,7 @@ pub(crate) fn turn_at<D: Drives, L: Ledger>(
         Some(mounted) => {
             let result = mpm_files::turn(mounted, cache, work, drives, steps);
             // Whatever the turn made of it, it is a directory of its kind.
-            let _ = mounted.kind();
+            mounted.recall_directory();
             result
         }
         None => unreachable!(),
@@ -53,7 +53,7 @@ impl Directories {
 }
 
 impl Service {
-    /// Does the next turn of the job, where the call has one.
+    /// Does the next turn of the job, if the call has one.
     #[tactic(auto, using(crate::proofs::Fitting::stays_same, crate::proofs::Fitting::told_same, crate::proofs::Fitting::unsynced_same))]
     pub(crate) fn turn<D: Drives, L: Ledger>(
         &mut self,
@@ -73,8 +73,7 @@ impl Service {
     }
 }
 
-/// Does the next turn of the job of the call in service, where one is and has one.
-#[tactic(auto, using(crate::proofs::Fitting::stays_same, crate::proofs::Fitting::told_same, crate::proofs::Fitting::unsynced_same))]
+/// Does the next turn of the job of the call in service, if it has one.
 pub(crate) fn turn_service<D: Drives, L: Ledger>(
     service: &mut Held,
     mounted: &mut Directories,
@@ -87,6 +86,6 @@ pub(crate) fn turn_service<D: Drives, L: Ledger>(
 {
     match &mut *service.place {
         Some(service) => service.turn(mounted, cache, drives, steps),
-        None => Ok(Progress::Done),
+        None => unreachable!(),
     }
 }

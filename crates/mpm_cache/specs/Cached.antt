@@ -1,12 +1,17 @@
 -- The cached sectors: of some sectors of some drives the bytes, at most 256 of them, the one that was used last first.
 use Rattle.std.specs.Prelude.{◌≡◌, ◌⊎◌, ℕ, ◌==◌, ◌&&◌, Bool, false, List, ◌∷◌, take, Option, Some, None, IfSome, IsSome, is_some, if◌then◌else◌}
 use Rattle.std.specs.Option.{option_map_or}
-use Rattle.std.specs.Map.{lookup, lookup_entry, remove_entry}
+use Rattle.std.specs.List.{IsDistinct}
+use Rattle.std.specs.Map.{keys_of, lookup, lookup_entry, remove_entry}
 use Rattle.mpm_cache.specs.declared.cache.SectorPlace.{SectorPlace}
 
 -- whether a place is a sector of a drive
 abbrev pub is_at : ℕ → ℕ → SectorPlace → Bool
 is_at drive sector place = (drive == place.drive) && (sector == place.sector)
+
+-- no sector is cached twice
+abbrev pub IsCachedOnce : List (SectorPlace × List ℕ) → Type 0
+IsCachedOnce cached = IsDistinct (λ place other. is_at place.drive place.sector other) (keys_of cached)
 
 -- what is cached of a sector
 unfoldable pub cached_at : List (SectorPlace × List ℕ) → ℕ → ℕ → Option (List ℕ)

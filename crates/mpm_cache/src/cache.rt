@@ -40,7 +40,7 @@ impl Model for Cache {
 }
 
 impl Cache {
-    ghost use Rattle.mpm_cache.specs.Cached.{cached_at, used, IsPut, taken_out, SameCached, CachesSector, Forgets};
+    ghost use Rattle.mpm_cache.specs.Cached.{IsCachedOnce, cached_at, used, IsPut, taken_out, SameCached, CachesSector, Forgets};
     ghost use Rattle.mpm_cache.specs.Coherent.{IsCoherent, HasNoAlias};
     ghost use Rattle.mpm_cache.specs.Calls.{MayRead, MayWrite, ReadsThrough, WritesThrough};
 
@@ -83,13 +83,19 @@ impl Cache {
         let _ = self.sectors.put(SectorPlace { drive, sector }, *bytes);
     }
 
+    /// Says what is so of the cached sectors at any time: none is cached twice.
+    fn recall_once(&self)
+        ensures { IsCachedOnce self.now }
+    {
+        let _ = self.sectors.len();
+    }
+
     /// Caches a sector no more.
     fn forget(&mut self, drive: u8, sector: u32)
         ensures out { self.new ≡ taken_out drive sector self.old }
         ensures forgotten { Forgets drive sector self.old self.new }
     {
-        // Its length tells that no sector stands twice.
-        let _cached = self.sectors.len();
+        self.recall_once();
         let _ = self.sectors.pop(&SectorPlace { drive, sector });
     }
 

@@ -257,7 +257,6 @@ impl Consoles {
         requires owner { owns self.old p (ConsoleUnit console) ≡ true }
         ensures { self.new ≡ gate_wait_begun self.old console key }
     {
-        let _slot = p.0;
         self.consoles[usize::from(console)].wait(key);
     }
 
@@ -355,7 +354,6 @@ impl Consoles {
         requires { MayBeListed p unit self.old }
         ensures { self.new ≡ listed self.old p priority unit }
     {
-        let _slot = p.0;
         self.waiters.insert(unit.place(), p, priority);
     }
 

@@ -17,6 +17,7 @@ use Rattle.mpm_machine.specs.declared.housing.Home.{Home}
 use Rattle.mpm_machine.specs.Housing.{home_in, home_of}
 use Rattle.mpm_core_file.specs.CoreFiles.{CoreContents, IsCore}
 use Rattle.mpm_core_file.specs.declared.head.Head.{Head}
+use Rattle.mpm_core.specs.Parts.{HasHome}
 use Rattle.mpm_core.specs.Taking.{IsHomeOf, head_of, core_in, segment_at, core_at}
 
 -- a space from its first address to its last
@@ -100,13 +101,20 @@ home_base system p home is = ap (λ (h : Home). h.base) (found system p home is)
 home_pages : (system : System) (p : ℕ) (home : Home) → home_of system p ≡ Some home → home.pages ≡ (segment_of system.memory home.seg).pages
 home_pages system p home is = ap (λ (h : Home). h.pages) (found system p home is).is
 
-pub home_pages_some : (system : System) (p : ℕ) (home : Home) → IsHomeOf p system home → 0 < 256 * home.pages
-home_pages_some system p home is = omega (arith, home_pages system p home is.there, is.is_home.pages)
+pub has_home : (system : System) (p : ℕ) (home : Home) → IsHomeOf p system home → HasHome system home
+has_home system p home is = record {
+  whole = is.whole;
+  is_home = is.is_home;
+  base = home_base system p home is.there;
+  pages = home_pages system p home is.there;
+}
 
-pub home_viewed : (system : System) (p : ℕ) (home : Home) (found : Option (List ℕ)) → IsHomeOf p system home
+pub home_pages_some : (system : System) (home : Home) → HasHome system home → 0 < 256 * home.pages
+home_pages_some system home has = omega (arith, has.pages, has.is_home.pages)
+
+pub home_viewed : (system : System) (home : Home) (found : Option (List ℕ)) → HasHome system home
     → found ≡ option_map (range_bytes system.memory) (range_of system.memory home.seg (256 * home.base) (256 * home.pages)) → found ≡ Some (segment_of system.memory home.seg).bytes
-home_viewed system p home found is viewed =
-    segment_viewed system home.seg home.base home.pages found is.whole is.is_home (home_base system p home is.there) (home_pages system p home is.there) viewed
+home_viewed system home found has viewed = segment_viewed system home.seg home.base home.pages found has.whole has.is_home has.base has.pages viewed
 
 -- and the core that is taken of it
 

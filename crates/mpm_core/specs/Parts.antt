@@ -2,8 +2,12 @@
 use Rattle.std.specs.Prelude.{◌≡◌, ◌<◌, ◌^◌, ℕ, Bool, List, Result, IsOk, length}
 use Rattle.z80_regs.specs.declared.regs.Regs.{Regs}
 use Rattle.mpm_base.specs.Lists.{zeros as so_many_zeros}
+use Rattle.mpm_banks.specs.Memory.{segment_of}
 use Rattle.mpm_procs.specs.Table.{process_in}
+use Rattle.mpm_gate.specs.Gates.{IsHome}
 use Rattle.mpm_system.specs.declared.system.System.{System}
+use Rattle.mpm_system.specs.Whole.{IsWhole}
+use Rattle.mpm_machine.specs.declared.housing.Home.{Home}
 use Rattle.mpm_core_file.specs.declared.head.Head.{Head}
 use Rattle.mpm_core_file.specs.declared.reading.CoreFault.{CoreFault}
 use Rattle.mpm_core_file.specs.CoreFiles.{CoreContents, IsCore, core_bytes}
@@ -37,6 +41,13 @@ pub record ReadsCore {A : Type 0} (text : List ℕ) (old new : CoreContents) (re
 pub record RunsByItself (most : ℕ) (old new : CoreContents) (result : Replayed) : Type 0 where
   pub runs : RunsCoreOn most old new result
   pub agrees : Agree most old new result
+
+-- a machine between two steps has the segment of a home, in which a process may live
+pub record HasHome (system : System) (home : Home) : Type 0 where
+  pub whole : IsWhole system
+  pub is_home : IsHome system.memory home.seg
+  pub base : home.base ≡ (segment_of system.memory home.seg).base
+  pub pages : home.pages ≡ (segment_of system.memory home.seg).pages
 
 -- the registers of a process
 pub record AreRegisters (p : ℕ) (system : System) (found : Regs) : Type 0 where

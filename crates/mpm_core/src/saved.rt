@@ -76,11 +76,11 @@ fn common_in(text: &[u8], pages: u8) -> &[u8]
     &text[HEAD_SIZE + 256 * usize::from(pages)..]
 }
 
-/// The interrupt mode, which is below 3 by its type.
-pub(crate) fn mode(regs: &Regs) -> u8
+/// Says what is so of the interrupt mode: it is below 3.
+pub(crate) fn recall_mode(regs: &Regs)
     ensures { regs.now.mode < 3 }
 {
-    regs.mode.0
+    let _mode = regs.mode.0;
 }
 
 /// Does the instructions of a process, at most so many.
@@ -96,7 +96,7 @@ fn replay_parts(head: &mut Head, segment: &mut [u8], common: &mut [u8], most: u6
         common,
         most,
     );
-    let _ = mode(&head.regs);
+    recall_mode(&head.regs);
     replayed
 }
 

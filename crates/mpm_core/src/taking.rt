@@ -3,9 +3,9 @@ ghost use Rattle.mpm_banks.specs.Memory.{segment_of};
 ghost use Rattle.mpm_procs.specs.Table.{Lives};
 ghost use Rattle.mpm_system.specs.Whole.{IsWhole};
 ghost use Rattle.mpm_core.specs.Taking.{IsHomeOf, Takes, core_at};
-ghost use Rattle.mpm_core.specs.Parts.{AreRegisters, CountsSteps, IsHeadAt, IsCoreIn};
+ghost use Rattle.mpm_core.specs.Parts.{AreRegisters, CountsSteps, HasHome, IsHeadAt, IsCoreIn};
 
-use crate::saved::{Core, mode};
+use crate::saved::{Core, recall_mode};
 use mpm_base::{Pid, Seg, SegmentSpec};
 use mpm_core_file::Head;
 use mpm_machine::{Home, Machine};
@@ -19,7 +19,7 @@ fn regs_of(machine: &Machine, p: Pid) -> Regs
 {
     match machine.regs(p) {
         Some(regs) => {
-            let _ = mode(regs);
+            recall_mode(regs);
             *regs
         }
         None => unreachable!(),
@@ -47,10 +47,10 @@ fn head_at(machine: &Machine, p: Pid, base: u8, pages: u8, inside: bool) -> Head
     }
 }
 
-/// The bytes of the segment in which a process lives.
+/// The bytes of the segment of a home.
 #[tactic(auto, using(crate::proofs::TakeLaws::home_viewed))]
-fn segment_at(machine: &Machine, p: Pid, home: Home) -> &[u8]
-    requires { IsHomeOf p machine.now.system home }
+fn segment_at(machine: &Machine, home: Home) -> &[u8]
+    requires { HasHome machine.now.system home }
     ensures { result.now ≡ (segment_of machine.now.system.memory home.seg).bytes }
 {
     match machine.view(
@@ -83,7 +83,7 @@ impl Core {
     {
         let seg = home.seg;
         let head = head_at(machine, p, home.base, home.pages, home.procedure);
-        let segment = segment_at(machine, p, home);
+        let segment = segment_at(machine, home);
         self.fill(head, segment, common_at(machine, seg));
     }
 

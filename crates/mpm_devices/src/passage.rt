@@ -1,4 +1,5 @@
-ghost use Rattle.std.specs.Prelude.{◌≡◌, ◌++◌, ◌∷◌, [], IfOk};
+ghost use Rattle.std.specs.Prelude.{◌≡◌, ◌+◌, ◌++◌, ◌∷◌, [], length, IfOk};
+ghost use Rattle.rtrb.specs.Ring.{sent, received, known_free, known_items, producer_capacity, IsPair, ProducerLooked, ConsumerLooked};
 
 use mpm_port::{Failed, OutOfMemory, Sink};
 use rtrb::{Consumer, Producer, RingBuffer};
@@ -50,11 +51,31 @@ impl Passage {
         ensures passed { self.new ≡ self.old ++ byte ∷ [] }
         ensures same { result ≡ byte }
     {
-        let _free = self.producer.slots_beside(&mut self.consumer);
+        recall_free(&mut self.producer, &mut self.consumer);
         self.producer.push_reserved(byte);
-        let _waiting = self.consumer.slots_beside(&mut self.producer);
+        recall_waiting(&mut self.producer, &mut self.consumer);
         self.consumer.pop_known()
     }
+}
+
+/// Says how many places of a ring are free: all but those of the bytes that wait.
+fn recall_free(producer: &mut Producer<u8>, consumer: &mut Consumer<u8>)
+    requires { IsPair producer.old consumer.old }
+    ensures producer { ProducerLooked producer.old producer.new }
+    ensures consumer { ConsumerLooked consumer.old consumer.new }
+    ensures free { known_free producer.new + length (sent producer.new) ≡ producer_capacity producer.new + length (received consumer.new) }
+{
+    let _ = producer.slots_beside(consumer);
+}
+
+/// Says which bytes wait in a ring: all that were sent and weren't received.
+fn recall_waiting(producer: &mut Producer<u8>, consumer: &mut Consumer<u8>)
+    requires { IsPair producer.old consumer.old }
+    ensures producer { ProducerLooked producer.old producer.new }
+    ensures consumer { ConsumerLooked consumer.old consumer.new }
+    ensures waiting { received consumer.new ++ known_items consumer.new ≡ sent producer.new }
+{
+    let _ = consumer.slots_beside(producer);
 }
 
 /// A sink that keeps nothing. Contracts see the whole text. It never fails.

@@ -27,8 +27,7 @@ fn put(places: &mut Vec<Option<Mounted>>, mounted: Mounted)
     ensures put { places.new.items ≡ slice_set places.old.items mounted.drive (Some mounted) }
     ensures placed { AreInPlace places.old.items → AreInPlace places.new.items }
 {
-    // Whatever kind it is of, it is a directory of that kind.
-    let _ = mounted.kind();
+    mounted.recall_directory();
     let number = usize::from(mounted.drive());
     if number < places.len() {
         places[number] = Some(mounted);

@@ -17,8 +17,8 @@ use Rattle.mpm_script.specs.Numbers.{value_from, is_plain, decimal_of, number_of
 use Rattle.mpm_script.specs.Events.{word, behind}
 use Rattle.mpm_fault_lines.specs.declared.fault.SlotFault.{SlotFault}
 use Rattle.mpm_fault_lines.specs.Lines.{other_text, line_of, list_text}
-use Rattle.mpm_fault_lines.specs.Lists.{is_cause, is_other, is_reason, slot_of_line, unless_bad, slots_from, slots_of}
-use Rattle.mpm_fault_lines.proofs.ListLaws.{parts_of, from_end, line_before}
+use Rattle.mpm_fault_lines.specs.Lists.{is_cause, is_other, is_reason, slot_of_line, parts_of, slots_of}
+use Rattle.mpm_fault_lines.proofs.ListLaws.{unless_bad, slots_from, slots_are, from_end, line_before}
 
 -- all bytes of a text are above one
 abbrev are_above : ℕ → List ℕ → Bool
@@ -246,8 +246,7 @@ read_from last number earlier (fault ∷ faults) small each =
 
 -- a list that was written is read back as its slots
 pub read_back : (last : ℕ) (faults : List SlotFault) → last < 512 → All (IsListable last) faults → slots_of last (list_text faults) ≡ Ok (map (λ fault. fault.slot) faults)
-unfolding slots_of
-read_back last faults small each = read_from last 1 [] faults small each
+read_back last faults small each = slots_are last (list_text faults) ∙ read_from last 1 [] faults small each
 
 -- its length
 other_short : (last : ℕ) (other : Option ℕ) → last < 512 → IfSome other (λ slot. slot ≤ last) → length (other_text other) ≤ 3

@@ -1,6 +1,6 @@
 -- A list of faults as it is read: of each line the slot alone counts.
-use Rattle.std.specs.Prelude.{ℕ, ◌+◌, ◌==◌, ◌&&◌, ◌||◌, Bool, false, List, [], ◌∷◌, ◌++◌, Option, Some, None, Result, Ok, Err, is_some, nat_le, bytes_eq, codes, length, map, slice_index_or, if◌then◌else◌}
-use Rattle.std.specs.List.{list_any, filter, range_with_len, slice_split}
+use Rattle.std.specs.Prelude.{ℕ, ◌+◌, ◌-◌, ◌==◌, ◌&&◌, ◌||◌, not, Bool, false, List, [], ◌∷◌, Option, Some, None, Result, Ok, Err, is_some, nat_le, bytes_eq, codes, length, map, take, slice_index_or, if◌then◌else◌}
+use Rattle.std.specs.List.{list_any, filter, filter_map, position_or_len, range_with_len, slice_split}
 use Rattle.mpm_script.specs.Numbers.{number_of}
 use Rattle.mpm_script.specs.Events.{word, behind}
 
@@ -22,22 +22,29 @@ unfoldable pub slot_of_line : ℕ → List ℕ → Option ℕ
 slot_of_line last line =
     if bytes_eq (word line) (codes "fault") && is_reason last (behind (behind line)) then number_of last (word (behind line)) else None
 
--- what follows a line with a slot; a line without one is bad
-abbrev pub unless_bad : ℕ → (ℕ → Result (List ℕ) ℕ) → Option ℕ → Result (List ℕ) ℕ
-unless_bad number more None = Err number
-unless_bad number more (Some slot) = more slot
+-- a text between its LFs: all parts but the last are its lines, and the last one is what stands after them
+abbrev pub parts_of : List ℕ → List (List ℕ)
+parts_of text = slice_split (λ byte. byte == 10) text
 
--- the slots of the earlier lines and of those from a line with a number on, or the number of the first bad one. After the
--- last LF nothing may stand
-unfoldable pub slots_from : ℕ → ℕ → List ℕ → List (List ℕ) → Result (List ℕ) ℕ
-slots_from last number earlier [] = Ok earlier
-slots_from last number earlier (rest ∷ []) = if length rest == 0 then Ok earlier else Err number
-slots_from last number earlier (line ∷ next ∷ lines) =
-    unless_bad number (λ slot. slots_from last (number + 1) (earlier ++ (slot ∷ [])) (next ∷ lines)) (slot_of_line last line)
+unfoldable pub lines_in : List (List ℕ) → List (List ℕ)
+lines_in parts = take (length parts - 1) parts
 
--- the slots that a text lists, line by line, or the number of its first bad line, counted from 1
+unfoldable pub rest_in : List (List ℕ) → List ℕ
+rest_in parts = slice_index_or parts (length parts - 1) []
+
+-- how many lines stand before the first that isn't a list's
+unfoldable pub good_lines : ℕ → List (List ℕ) → ℕ
+good_lines last lines = position_or_len (λ line. not (is_some (slot_of_line last line))) lines
+
+-- the slots of the lines, in their order, where all are a list's and nothing stands after them; else the number of the first bad line,
+-- counted from 1: what stands after the last LF is a bad line too
+unfoldable pub slots_by : ℕ → List (List ℕ) → List ℕ → Result (List ℕ) ℕ
+slots_by last lines rest =
+    if good_lines last lines == length lines && length rest == 0 then Ok (filter_map (slot_of_line last) lines) else Err (good_lines last lines + 1)
+
+-- the slots that a text lists, or the number of its first bad line
 unfoldable pub slots_of : ℕ → List ℕ → Result (List ℕ) ℕ
-slots_of last text = slots_from last 1 [] (slice_split (λ byte. byte == 10) text)
+slots_of last text = slots_by last (lines_in (parts_of text)) (rest_in (parts_of text))
 
 -- a list has a slot
 abbrev pub has_slot : List ℕ → ℕ → Bool

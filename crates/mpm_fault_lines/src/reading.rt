@@ -9,7 +9,6 @@ use mpm_script::{after, before, number, place_of};
 ///
 /// Each line is `fault`, a slot from 0 to the last one, a cause from 2 to 8, and a slot or `-`, with exactly one space
 /// between them, and LF. Numbers are decimal, without sign or needless zero.
-#[tactic(auto, unfolding(crate::specs::Lists::slots_of))]
 pub fn read_slots(text: &[u8], last: u16) -> Result<Slots, u32>
     requires last { last ≤ 511 }
     requires size { length text.now ≤ 65536 }

@@ -42,8 +42,7 @@ fn size_after(mounted: &Mounted, sought: &[u8; 11], found: &Found, size: u32) ->
 pub fn size(mounted: &Mounted, user: u8, name: &[u8; 11]) -> u32
     ensures { IsSizeOf mounted.now (record { user = user; name = plain name.now }) result }
 {
-    // The kind tells how many slots there are.
-    let _ = mounted.kind();
+    mounted.recall_directory();
     let sought = plain_name(name);
     let mut size = 0;
     let mut last = None;

@@ -74,8 +74,7 @@ fn told_at(entry: &Entry) -> Option<[u8; 128]>
 fn told_in(mounted: &Mounted, user: u8, name: &[u8; 11], extent: u16) -> Option<[u8; 128]>
     ensures { result ≡ spec.told_in mounted.now (record { user = user; name = plain name.now }) extent }
 {
-    // The kind tells how many slots there are.
-    let _ = mounted.kind();
+    mounted.recall_directory();
     match mounted.extent(user, name, extent) {
         Some(slot) => told_at(mounted.entry(slot)),
         None => None,

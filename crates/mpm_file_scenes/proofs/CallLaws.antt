@@ -1,4 +1,4 @@
--- A call of a scene: as it enters service, turn by turn, as it is answered, and done at once.
+-- A call of a scene: as it enters service, turn by turn, and done at once.
 use Rattle.std.proofs.Common.{◌≡◌, ℕ, ◌+◌, ◌<◌, true, Option, Some, None, Result, Ok, Err, refl, sym, ap, subst, arith}
 use Rattle.std.specs.Prelude.{is_some, OnOk}
 use Rattle.std.proofs.lemmas.Bool.{true≢false}
@@ -13,13 +13,12 @@ use Rattle.mpm_file_functions.specs.Functions.{function_of}
 use Rattle.mpm_files.specs.declared.turning.Progress.{Progress}
 use Rattle.mpm_bdos.specs.Asking.{MayDoTurns}
 use Rattle.mpm_bdos.specs.AtOnce.{ServesAtOnce}
-use Rattle.mpm_bdos.specs.Jobs.{call_turns}
 use Rattle.mpm_bdos.specs.Outcomes.{file_call}
 use Rattle.mpm_bdos.specs.Serving.{Kept, Serves}
 use Rattle.mpm_bdos.specs.ServiceTurns.{TurnsServedCall}
 use Rattle.mpm_bdos.specs.Starting.{entering_at}
 use Rattle.mpm_bdos.specs.Turns.{FitsDrives, images_of}
-use Rattle.mpm_bdos.specs.WholeCalls.{StartsService, RepliesInService}
+use Rattle.mpm_bdos.specs.WholeCalls.{StartsService}
 use Rattle.mpm_file_scenes.specs.Standing.{IsBetweenCalls, IsWithinCall}
 
 pub entered : {D : Type 0} (disks : D → Disks) (old new : Kept) (drives : D) (p : ℕ) (process : Process) (call : Taken) (now : Moment) (turns : ℕ) → IsBetweenCalls disks old drives
@@ -38,7 +37,11 @@ entered disks old new drives p process call now turns first file starts = by_fun
 -- a turn of it is left
 pub may_turn : {D : Type 0} (disks : D → Disks) (kept : Kept) (drives : D) (ended turns : ℕ) → IsWithinCall disks kept drives ended turns → ended < turns → MayDoTurns disks 1 kept drives
 may_turn disks kept drives ended turns so more =
-    record { fits = so.fits; left = λ work. record { situation = so.situation; ended = ended; serves = so.serves; left = omega (arith, more, so.all) } }
+    record {
+      fits = so.fits;
+      served = ap is_some so.serves.there;
+      left = λ work. record { situation = so.situation; ended = ended; serves = so.serves; left = omega (arith, more, so.all) };
+    }
 
 pub one_more : {D E : Type 0} (of : Ghosts D) (old new : Kept) (drives now : D) (before counted : ℕ) (progress : Progress) (ended turns : ℕ) → IsWithinCall of.disks old drives ended turns → ended < turns
     → TurnsServedCall {E = E} of old new drives now before counted (Ok progress) → IsWithinCall of.disks new now (ended + 1) turns
@@ -49,17 +52,6 @@ one_more of old new drives now before counted progress ended turns first more di
       (did.ok first.situation ended first.serves (subst (λ n. ended < n) (sym first.all) more));
   all = first.all;
 }
-
-pub answered : {D : Type 0} (disks : D → Disks) (old new : Kept) (drives : D) (turns : ℕ) (before after : Answer) (extended : Option Extended) → IsWithinCall disks old drives turns turns
-    → RepliesInService old new before after extended → IsBetweenCalls disks new drives
-answered disks old new drives turns before after extended last replies =
-    let images = images_of (disks drives) in
-    let all : Serves images old last.situation (call_turns last.situation) = subst (Serves images old last.situation) (sym last.all) last.serves in
-    record {
-      fits = subst (λ (kept : Kept). FitsDrives disks kept.mounted kept.cached drives) (sym replies.kept) last.fits;
-      stand = record { drives = (file_call last.situation).filing.drives; stand = (replies.comes images last.situation all).stand };
-      none = ap (λ (kept : Kept). kept.service) replies.kept;
-    }
 
 pub at_once : {D E : Type 0} (of : Ghosts D) (old new : Kept) (p : ℕ) (process : Process) (call : Taken) (now : Moment) (before after : Answer) (drives later : D) (calls counted : ℕ) (result : Result (Option Extended) E)
     → IsBetweenCalls of.disks old drives → is_some (function_of call.function) ≡ true → ServesAtOnce of old new p process call now before after drives later calls counted result

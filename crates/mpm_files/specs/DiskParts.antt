@@ -53,7 +53,8 @@ pub record MayPutStamped (disks : Disks) (d : Directory) (cached : List (SectorP
   pub proper : IsProper (geometry_of d.kind).wide (File placed.file)
   pub faultless : cause_of d.kind (others d.entries placed.slot) (File placed.file) ≡ None
 
--- the disk is ready, and an entry of a job's file may be added for an extent: there is none for it, and a slot is free
+-- the disk is ready, and an entry of a job's file may be added for an extent that a file can have, by a user from 0 to 15: there is none
+-- for it, and a slot is free
 pub record MayAddEntry (disks : Disks) (d : Directory) (cached : List (SectorPlace × List ℕ)) (job : Job) (extent : ℕ) : Type 0 where
   pub ready : IsReadyDisk disks d.drive d.kind cached
   pub user : job.user < 16
@@ -61,7 +62,7 @@ pub record MayAddEntry (disks : Disks) (d : Directory) (cached : List (SectorPla
   pub none : extent_slot d (file_of_job job) extent ≡ None
   pub room : IsSome (free_slot d)
 
--- the disk is ready, and an XFCB or the label may be put: there is one, or a slot is free
+-- the disk is ready, and an XFCB of a user from 0 to 15, or the label, may be put: there is one, or a slot is free
 pub record MayPutXfcb (disks : Disks) (d : Directory) (cached : List (SectorPlace × List ℕ)) (job : Job) : Type 0 where
   pub ready : IsReadyDisk disks d.drive d.kind cached
   pub user : job.user < 16
@@ -92,13 +93,14 @@ pub record MayRenameXfcb (disks : Disks) (d : Directory) (cached : List (SectorP
   pub there : IsSome (xfcb_slot d (file_of_job job))
   pub free : xfcb_slot d (new_file_of_job job) ≡ None
 
--- the disk is ready, and the block of a record is held
+-- the disk is ready, and the block of a record that a call can name is held
 pub record MayMoveRecord (disks : Disks) (d : Directory) (cached : List (SectorPlace × List ℕ)) (file : FileName) (n : ℕ) : Type 0 where
   pub ready : IsReadyDisk disks d.drive d.kind cached
   pub number : n ≤ LAST_NAMED
   pub held : lacks_block d file n ≡ false
 
--- the disk is ready, a record has a directory entry in which it lacks a block, and a fresh block is there for it
+-- the disk is ready, a record that a call can name has a directory entry in which it lacks a block, and a fresh block is there for it, by
+-- the disk's image
 pub record MayFillBlock (disks : Disks) (d : Directory) (cached : List (SectorPlace × List ℕ)) (file : FileName) (n : ℕ) (cleared : Option ℕ) : Type 0 where
   pub ready : IsReadyDisk disks d.drive d.kind cached
   pub number : n ≤ LAST_NAMED

@@ -23,7 +23,7 @@ use std::sync::ledger::Ledger;
 fn attributes(mounted: &Mounted, job: &Job) -> [u8; 11]
     ensures { (image : List ℕ) (files : Drive) → Stands image mounted.now files → map (nat_le 128) result ≡ attributes_of (extents_of files (file_of_job job.now)) }
 {
-    mounted.tell_directory();
+    mounted.recall_directory();
     match lowest_entry(mounted, job.user, &job.name) {
         Some(found) => file_at(mounted, found.slot).name,
         None => [0; 11],
@@ -58,7 +58,7 @@ pub(crate) fn add_entry<D: Drives, L: Ledger>(
     requires { MayAddEntry (D.disks drives.old) mounted.old cache.old job.now extent }
     ensures { DoesByDisk D.Drives 2 mounted.old mounted.new cache.old cache.new drives.old drives.new steps.old steps.new (λ image files does. does (AddsEntry (file_of_job job.now) extent)) result }
 {
-    mounted.tell_directory();
+    mounted.recall_directory();
     match mounted.free_slot() {
         Some(slot) => {
             let file = new_entry(mounted, job, extent);

@@ -44,7 +44,7 @@ pub(crate) fn delete_next<D: Drives, L: Ledger>(
     requires { MayDoUnitOf kinds.Delete (D.disks drives.old) mounted.old cache.old work.old }
     ensures { DoesNextWithin D.Drives 2 mounted.old mounted.new work.old work.new cache.old cache.new drives.old drives.new steps.old steps.new result }
 {
-    mounted.tell_directory();
+    mounted.recall_directory();
     let due = xfcb_due(mounted, work);
     work.cleared = None;
     match due {
@@ -70,7 +70,7 @@ pub(crate) fn rename_next<D: Drives, L: Ledger>(
     requires { MayDoUnitOf kinds.Rename (D.disks drives.old) mounted.old cache.old work.old }
     ensures { DoesNextWithin D.Drives 2 mounted.old mounted.new work.old work.new cache.old cache.new drives.old drives.new steps.old steps.new result }
 {
-    mounted.tell_directory();
+    mounted.recall_directory();
     work.cleared = None;
     match mounted.xfcb(work.job.user, &work.job.new_name) {
         Some(slot) => put_entry(mounted, cache, drives, slot, &Entry::Free, steps),

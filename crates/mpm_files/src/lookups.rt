@@ -31,7 +31,7 @@ pub(crate) fn file_at(mounted: &Mounted, slot: u16) -> FileEntry
     requires { HasFileAt mounted.now slot }
     ensures { IsFileAt mounted.now slot result }
 {
-    mounted.tell_directory();
+    mounted.recall_directory();
     match mounted.entry(slot) {
         Entry::File { file } => *file,
         _ => unreachable!(),
@@ -43,7 +43,7 @@ pub(crate) fn find_entry(mounted: &Mounted, job: &Job, n: u32) -> FoundEntry
     requires { IsEntered mounted.now (file_of_job job.now) n }
     ensures { HasEntry mounted.now (file_of_job job.now) n result.slot result.file }
 {
-    mounted.tell_directory();
+    mounted.recall_directory();
     match slot_of(mounted, job, n) {
         Some(slot) => FoundEntry {
             slot,
@@ -57,7 +57,7 @@ pub(crate) fn find_entry(mounted: &Mounted, job: &Job, n: u32) -> FoundEntry
 pub(crate) fn find_xfcb(mounted: &Mounted, job: &Job) -> Option<FoundXfcb>
     ensures { FindsXfcb mounted.now (file_of_job job.now) result }
 {
-    mounted.tell_directory();
+    mounted.recall_directory();
     let slot = match mounted.xfcb(job.user, &job.name) {
         Some(slot) => slot,
         None => return None,

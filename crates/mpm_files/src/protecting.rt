@@ -63,7 +63,7 @@ pub(crate) fn put_xfcb<D: Drives, L: Ledger>(
     requires { MayPutXfcb (D.disks drives.old) mounted.old cache.old job.now }
     ensures { DoesByDisk D.Drives 2 mounted.old mounted.new cache.old cache.new drives.old drives.new steps.old steps.new (λ image files does. does (PutsXfcb (file_of_job job.now) (protection_in job.now))) result }
 {
-    mounted.tell_directory();
+    mounted.recall_directory();
     let entry = Entry::Xfcb { xfcb: xfcb_of(job) };
     match mounted.xfcb(job.user, &job.name) {
         Some(slot) => put_entry(mounted, cache, drives, slot, &entry, steps),
@@ -85,7 +85,7 @@ pub(crate) fn put_label<D: Drives, L: Ledger>(
     requires { MayPutLabel (D.disks drives.old) mounted.old cache.old }
     ensures { DoesByDisk D.Drives 2 mounted.old mounted.new cache.old cache.new drives.old drives.new steps.old steps.new (λ image files does. does (PutsLabel (record { name = job.now.new_name; protection = protection_in job.now }))) result }
 {
-    mounted.tell_directory();
+    mounted.recall_directory();
     let entry = Entry::Label {
         label: label_of(job),
     };

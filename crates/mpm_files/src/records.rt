@@ -1,6 +1,7 @@
-ghost use Rattle.std.specs.Prelude.{◌≡◌, ◌/◌, ◌≤◌};
+ghost use Rattle.std.specs.Prelude.{◌≡◌, ◌/◌, ◌≤◌, true};
 ghost use Rattle.mpm_dirent.specs.declared.limits.TheConstants.{LAST_NAMED};
 ghost use Rattle.mpm_mount.specs.Drives as drives;
+ghost use Rattle.mpm_mount.specs.Files.{is_file};
 ghost use Rattle.mpm_mount.specs.Directories.{extent_slot};
 ghost use Rattle.mpm_files.specs.Plans.{file_of_job};
 ghost use Rattle.mpm_files.specs.Counting as spec;
@@ -36,13 +37,14 @@ pub(crate) fn lacks_entry(mounted: &Mounted, job: &Job, n: u32) -> bool
     slot_of(mounted, job, n).is_none()
 }
 
-/// The number of a record's block in its directory entry, 0 where it holds none.
+/// The number of a record's block in its directory entry, which is that of a file; 0 where it holds none.
 fn block_number(kind: Kind, entry: &Entry, n: u32) -> u16
+    requires { is_file entry.now ≡ true }
     ensures { result ≡ spec.number_in kind n entry.now }
 {
     match entry {
         Entry::File { file } => file.blocks[block_place(kind, n)],
-        _ => 0,
+        _ => unreachable!(),
     }
 }
 
@@ -53,6 +55,7 @@ pub(crate) fn lacks_block(mounted: &Mounted, job: &Job, n: u32) -> bool
     ensures { result ≡ spec.lacks_block mounted.now (file_of_job job.now) n }
 {
     let kind = mounted.kind();
+    mounted.recall_directory();
     match slot_of(mounted, job, n) {
         Some(slot) => block_number(kind, mounted.entry(slot), n) == 0,
         None => true,

@@ -35,7 +35,7 @@ pub(crate) fn set_next<D: Drives, L: Ledger>(
     requires { MayDoUnitOf kinds.Attributes (D.disks drives.old) mounted.old cache.old work.old }
     ensures { DoesNextWithin D.Drives 2 mounted.old mounted.new work.old work.new cache.old cache.new drives.old drives.new steps.old steps.new result }
 {
-    mounted.tell_directory();
+    mounted.recall_directory();
     let last = last_of_job(work);
     work.cleared = None;
     match mounted.next(work.job.user, &work.job.name, last) {

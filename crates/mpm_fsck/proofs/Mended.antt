@@ -1,5 +1,5 @@
 -- How a list that is applied ends, by the steps.
-use Rattle.std.proofs.Common.{◌≡◌, ◌≢◌, ℕ, ◌+◌, ◌*◌, ◌≤◌, inl, inr, Bool, false, List, ◌++◌, Option, Some, Ok, Err, ap, subst, ◌∙◌, arith}
+use Rattle.std.proofs.Common.{◌≡◌, ◌≢◌, ℕ, ◌+◌, ◌*◌, ◌≤◌, inl, inr, Bool, false, List, ◌++◌, Option, Some, Ok, Err, sym, ap, subst, ◌∙◌, arith}
 use Rattle.std.specs.Prelude.{⊤}
 use Rattle.mpm_base.specs.declared.kind.Kind.{Kind}
 use Rattle.mpm_blocks.specs.Geometries.{geometry_of}
@@ -10,11 +10,11 @@ use Rattle.mpm_fault_lines.specs.Lists.{listed, different}
 use Rattle.mpm_repair.specs.Freeing.{freed_image, FreesOn}
 use Rattle.mpm_fsck.specs.declared.status.FsckStatus.{FsckStatus}
 use Rattle.mpm_fsck.specs.declared.status.FsckStatus.TheVariants.{Done, Usage, Unsound, WrongSize, BadList, NotEnough, ReadFault, DiskFault, WriteFault, OutOfMemory, TooLong}
-use Rattle.mpm_fsck.specs.Outside.{DrivesSeen, SeenOutside, Freed}
-use Rattle.mpm_fsck.specs.Endings.{Mends, Applies, slots_in, drive_without}
-use Rattle.mpm_fsck.specs.Steps.{Unopened, Opened, ReadsSlots, Unlisted, FreesAll, Mending, IsSaid, slots_marked}
+use Rattle.mpm_fsck.specs.Outside.{DrivesSeen, SeenOutside, FailsNowhere, Freed}
+use Rattle.mpm_fsck.specs.Endings.{Mends, FreesPart, Applies, FailsDrives, FailsByEnding, slots_in, drive_without}
+use Rattle.mpm_fsck.specs.Steps.{Unopened, Opened, ReadsSlots, Unlisted, FreesAll, Mending, MendsByList, IsSaid, slots_marked}
 use Rattle.mpm_fsck.proofs.Left.{marked_in}
-use Rattle.mpm_fsck.proofs.Opened.{attached_still, keeps_images, lost_later}
+use Rattle.mpm_fsck.proofs.Opened.{attached_still, keeps_images}
 
 -- an image that isn't opened: nothing else was done
 pub unopened_applies : (missing : List ℕ → Type 0) (kind : Kind) (name list : List ℕ) (old new : SeenOutside) (status : FsckStatus) → Unopened kind name old.drives new.drives status
@@ -108,24 +108,73 @@ mended_applies missing kind name list old new mid marks (NotEnough slot cause) o
     }
 mended_applies missing kind name list old new mid marks ReadFault opened reads mending = absurd mending
 mended_applies missing kind name list old new mid marks DiskFault opened reads (inl (same, rose)) =
-    inl (lost_later name opened.checked.image old.drives mid new.drives opened.checked.attached opened.fails same rose)
-mended_applies missing kind name list old new mid marks DiskFault opened reads (inr some) =
-    let first = marked_slots (missing list) (old.contents list) kind old.unread new.unread marks reads (4 * some.frees.sectors) some.frees.within in
-    let same : slots_marked kind marks ≡ slots_in kind reads.lines = marked_slots (missing list) (old.contents list) kind old.unread new.unread marks reads ((geometry_of kind).drm + 1) (omega arith) in
     inr (record {
-      why = inr (some.failed ∙ opened.fails.failed, subst (λ (n : ℕ). Rose n new.drives.faults) opened.fails.faults some.rose);
+      failed = same.failed ∙ opened.fails.failed;
+      rose = subst (λ (n : ℕ). Rose n new.drives.faults) opened.fails.faults rose;
       image = opened.checked.image;
       size = opened.checked.size;
       lines = reads.lines;
       listed = reads.listed;
+      left = inl (attached_still name opened.checked.image old.drives mid new.drives opened.checked.attached same);
+    })
+mended_applies missing kind name list old new mid marks DiskFault opened reads (inr some) =
+    let first = marked_slots (missing list) (old.contents list) kind old.unread new.unread marks reads (4 * some.frees.sectors) some.frees.within in
+    let same : slots_marked kind marks ≡ slots_in kind reads.lines = marked_slots (missing list) (old.contents list) kind old.unread new.unread marks reads ((geometry_of kind).drm + 1) (omega arith) in
+    let part : FreesPart kind name opened.checked.image reads.lines old.drives new.drives = record {
       enough = subst (λ slots. files_of (freed_image kind slots opened.checked.image) kind ≡ Ok (drive_without kind slots opened.checked.image)) same some.enough;
       sectors = some.frees.sectors;
       within = some.frees.within;
       freed = frees_opened kind name (different (4 * some.frees.sectors) reads.lines) old.drives mid new.drives opened
           (subst (λ slots. FreesOn 0 kind slots mid.disks new.drives.disks) first some.frees.frees) some.known some.beside;
+    } in
+    inr (record {
+      failed = some.failed ∙ opened.fails.failed;
+      rose = subst (λ (n : ℕ). Rose n new.drives.faults) opened.fails.faults some.rose;
+      image = opened.checked.image;
+      size = opened.checked.size;
+      lines = reads.lines;
+      listed = reads.listed;
+      left = inr part;
     })
 mended_applies missing kind name list old new mid marks WriteFault opened reads mending =
     mends_all missing kind name list old new mid marks (IsSaid old.text new.text false) opened reads mending
 mended_applies missing kind name list old new mid marks OutOfMemory opened reads mending =
     keeps_images name opened.checked.image old.drives new.drives (attached_still name opened.checked.image old.drives mid new.drives opened.checked.attached mending.same)
 mended_applies missing kind name list old new mid marks TooLong opened reads mending = absurd mending
+
+-- a list that is read after an image was opened
+pub listed_applies : (missing : List ℕ → Type 0) (kind : Kind) (name list : List ℕ) (old new : SeenOutside) (mid : DrivesSeen) (status : FsckStatus)
+    (opened : Opened kind name old.drives mid (λ image. ⊤)) → MendsByList (missing list) kind list opened.checked.image (record old { drives = mid }) new status
+    → Applies missing kind name list old new status
+listed_applies missing kind name list old new mid status opened (inl refuses) =
+    unlisted_applies missing kind name list old new status (subst (λ (drives : DrivesSeen). Opened kind name old.drives drives (λ image. ⊤)) (sym refuses.drives) opened) refuses.unlisted
+listed_applies missing kind name list old new mid status opened (inr takes) =
+    mended_applies missing kind name list old new mid takes.marks status opened takes.reads takes.mending
+
+-- a list that is applied isn't told to be no request
+pub applies_request : (missing : List ℕ → Type 0) (kind : Kind) (name list : List ℕ) (old new : SeenOutside) (status : FsckStatus) → Applies missing kind name list old new status → status ≢ Usage
+applies_request missing kind name list old new status applies usage = subst (λ (s : FsckStatus). Applies missing kind name list old new s) usage applies
+
+-- which device failed, where none did before
+fails_both : (old mid new : DrivesSeen) → FailsNowhere old mid → FailsNowhere mid new → FailsNowhere old new
+fails_both old mid new first more = record { faults = more.faults ∙ first.faults; failed = more.failed ∙ first.failed }
+
+fails_drives : (old mid new : DrivesSeen) (status : FsckStatus) → FailsNowhere old mid → FailsDrives mid new status → FailsDrives old new status
+fails_drives old mid new Done first more = fails_both old mid new first more
+fails_drives old mid new Usage first more = fails_both old mid new first more
+fails_drives old mid new (Unsound count) first more = fails_both old mid new first more
+fails_drives old mid new WrongSize first more = fails_both old mid new first more
+fails_drives old mid new (BadList line) first more = fails_both old mid new first more
+fails_drives old mid new (NotEnough slot cause) first more = fails_both old mid new first more
+fails_drives old mid new ReadFault first more = fails_both old mid new first more
+fails_drives old mid new DiskFault first more = tt
+fails_drives old mid new WriteFault first more = fails_both old mid new first more
+fails_drives old mid new OutOfMemory first more = fails_both old mid new first more
+fails_drives old mid new TooLong first more = fails_both old mid new first more
+
+pub fails_listed : (old new : SeenOutside) (mid : DrivesSeen) (status : FsckStatus) → FailsNowhere old.drives mid → FailsByEnding (record old { drives = mid }) new status → FailsByEnding old new status
+fails_listed old new mid status first more = record {
+  files = more.files;
+  drives = fails_drives old.drives mid new.drives status first more.drives;
+  output = more.output;
+}

@@ -117,20 +117,26 @@ pub record Lacks (missing : Type 0) (list : Option (List ℕ)) (kind : Kind) (im
   pub listed : Lists missing list kind lines
   pub fault_is : files_of (freed_image kind (slots_in kind lines) image) kind ≡ Err fault
 
--- a drive failed as slots of a list were freed, without which the image has no fault: those of the first sectors of the directory are
--- free, perhaps of none or all
-pub record IsLostBetween (kind : Kind) (name : List ℕ) (missing : Type 0) (list : Option (List ℕ)) (old new : DrivesSeen) : Type 0 where
-  pub why : FailsSomewhere name old new
-  pub image : List ℕ
-  pub size : length image ≡ (geometry_of kind).bytes
-  pub lines : List ℕ
-  pub listed : Lists missing list kind lines
+-- slots of a list were freed, without which the image has no fault: those of the first sectors of the directory, perhaps of none or all
+pub record FreesPart (kind : Kind) (name image lines : List ℕ) (old new : DrivesSeen) : Type 0 where
   pub enough : files_of (freed_image kind (slots_in kind lines) image) kind ≡ Ok (drive_without kind (slots_in kind lines) image)
   pub sectors : ℕ
   pub within : 4 * sectors ≤ (geometry_of kind).drm + 1
   pub freed : Freed name image kind (different (4 * sectors) lines) old new
 
--- how a list ends that is applied
+-- a drive failed after it was attached and its size was had, and after the list was read: as its directory was read, and no image has
+-- changed, or as slots were freed
+pub record IsLostListed (kind : Kind) (name : List ℕ) (missing : Type 0) (list : Option (List ℕ)) (old new : DrivesSeen) : Type 0 where
+  pub failed : new.failed ≡ old.failed
+  pub rose : Rose old.faults new.faults
+  pub image : List ℕ
+  pub size : length image ≡ (geometry_of kind).bytes
+  pub lines : List ℕ
+  pub listed : Lists missing list kind lines
+  pub left : Attached name image old new ⊎ FreesPart kind name image lines old new
+
+-- How a list ends that is applied. The image is attached and its size asked for, then the list is read, and then the directory: so a drive
+-- fails before the list is asked for, and no image has changed, or after it was read.
 abbrev pub Applies : (List ℕ → Type 0) → Kind → List ℕ → List ℕ → SeenOutside → SeenOutside → FsckStatus → Type 0
 Applies missing kind name list old new Done =
     Mends kind name (missing list) (old.contents list) old.drives new.drives (λ text. new.text ≡ old.text ++ text)
@@ -143,7 +149,7 @@ Applies missing kind name list old new (NotEnough slot cause) =
     Checked kind name old.drives new.drives (λ image. Lacks (missing list) (old.contents list) kind image (record { cause = cause; place = slot }))
 Applies missing kind name list old new ReadFault = Checked kind name old.drives new.drives (λ image. new.unread ≡ old.unread ++ (list ∷ []))
 Applies missing kind name list old new DiskFault =
-    IsLost name old.drives new.drives ⊎ IsLostBetween kind name (missing list) (old.contents list) old.drives new.drives
+    IsLost name old.drives new.drives ⊎ IsLostListed kind name (missing list) (old.contents list) old.drives new.drives
 Applies missing kind name list old new WriteFault =
     Mends kind name (missing list) (old.contents list) old.drives new.drives (λ text. AppendsPart old.text text new.text)
 Applies missing kind name list old new OutOfMemory = KeepsEveryImage name old.drives new.drives

@@ -16,7 +16,7 @@ use Rattle.mpm_fsck.specs.declared.status.FsckStatus.TheVariants.{Usage}
 use Rattle.mpm_fsck.specs.Requests.{Apply}
 use Rattle.mpm_fsck.specs.Outside.{DrivesSeen, SeenOutside}
 use Rattle.mpm_fsck.specs.Endings.{Checks, Applies, TakesOwnList, FailsByEnding, FailsDrives, FailsOutput, WritesNoText}
-use Rattle.mpm_fsck.specs.Steps.{ReadsListText, LeavesImage, CountsRead, CountsLeft, Mending, IsSaid, slots_marked}
+use Rattle.mpm_fsck.specs.Steps.{ReadsListText, LeavesImage, CountsRead, CountsLeft, Mending, MendsByList, IsSaid, slots_marked}
 
 -- an image was checked, or not: why it ends so, and which device failed. The output is as it was (`Same`) where nothing is written
 pub record EndsCheck (Same : Type 0) (kind : Kind) (name : List ℕ) (old new : DrivesSeen) (first written : List ℕ) (before after : ℕ) (status : FsckStatus) : Type 0 where
@@ -34,6 +34,13 @@ pub record EndsList (Same : Type 0) (missing : List ℕ → Type 0) (kind : Kind
   pub nothing : WritesNoText status → Same
   pub files : (other : List ℕ) → new.contents other ≡ old.contents other
   pub usage : status ≢ Usage
+
+-- a list was read and applied to an opened image, or not; a drive failed only after it was read
+pub record EndsListed (Same : Type 0) (missing : List ℕ → Type 0) (kind : Kind) (list : List ℕ) (old new : SeenOutside) (status : FsckStatus) : Type 0 where
+  pub ends : (image : List ℕ) → old.drives.disks.image 0 ≡ Some image → MendsByList (missing list) kind list image old new status
+  pub fails : FailsByEnding old new status
+  pub nothing : WritesNoText status → Same
+  pub files : (other : List ℕ) → new.contents other ≡ old.contents other
 
 -- slots of an opened image were freed and their number was written, or not
 pub record EndsMending (Same : Type 0) (kind : Kind) (marks : List Bool) (old new : DrivesSeen) (first written : List ℕ) (before after : ℕ) (status : FsckStatus) : Type 0 where

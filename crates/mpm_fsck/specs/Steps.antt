@@ -17,7 +17,7 @@ use Rattle.mpm_repair.specs.Freeing.{freed_image, FreesOn, FreesFirst}
 use Rattle.mpm_fsck.specs.declared.checking.Findings.{Findings}
 use Rattle.mpm_fsck.specs.declared.status.FsckStatus.{FsckStatus}
 use Rattle.mpm_fsck.specs.declared.status.FsckStatus.TheVariants.{Done, Usage, Unsound, WrongSize, BadList, NotEnough, ReadFault, DiskFault, WriteFault, OutOfMemory, TooLong}
-use Rattle.mpm_fsck.specs.Outside.{DrivesSeen, FailsNowhere, KeepsEveryImage}
+use Rattle.mpm_fsck.specs.Outside.{DrivesSeen, SeenOutside, FailsNowhere, KeepsEveryImage}
 use Rattle.mpm_fsck.specs.Endings.{Checked, IsOfWrongSize, IsLost, IsLonger, Lists, HasBadListLine, said, status_of, drive_without, by_fault}
 
 -- an image of another size
@@ -223,3 +223,17 @@ Mending kind marks image old new Said TooLong = ⊥
 abbrev pub IsSaid : List ℕ → List ℕ → Bool → List ℕ → Type 0
 IsSaid first written true text = written ≡ first ++ text
 IsSaid first written false text = AppendsPart first text written
+
+-- A list is read before the directory of the image that is opened. It isn't read, and the drives are as they were:
+pub record RefusesList (missing : Type 0) (kind : Kind) (list : List ℕ) (old new : SeenOutside) (status : FsckStatus) : Type 0 where
+  pub unlisted : Unlisted missing (old.contents list) kind list old.unread new.unread status
+  pub drives : new.drives ≡ old.drives
+
+-- or it is, and then its slots are freed, or not
+pub record TakesList (missing : Type 0) (kind : Kind) (list image : List ℕ) (old new : SeenOutside) (status : FsckStatus) : Type 0 where
+  pub marks : List Bool
+  pub reads : ReadsSlots missing (old.contents list) kind old.unread new.unread marks
+  pub mending : Mending kind marks image old.drives new.drives (IsSaid old.text new.text) status
+
+abbrev pub MendsByList : Type 0 → Kind → List ℕ → List ℕ → SeenOutside → SeenOutside → FsckStatus → Type 0
+MendsByList missing kind list image old new status = RefusesList missing kind list old new status ⊎ TakesList missing kind list image old new status

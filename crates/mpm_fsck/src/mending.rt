@@ -7,7 +7,7 @@ ghost use Rattle.mpm_fault_lines.specs.Lists.{listed};
 ghost use Rattle.mpm_repair.specs.Freeing.{freed, FreesEntries};
 ghost use Rattle.mpm_fsck.specs.Outside.{drives_seen, seen};
 ghost use Rattle.mpm_fsck.specs.Steps.{IsLeftAtFault, slots_marked};
-ghost use Rattle.mpm_fsck.specs.Parts.{EndsList, EndsMending, ReadsList, CountsFreed};
+ghost use Rattle.mpm_fsck.specs.Parts.{EndsList, EndsListed, EndsMending, ReadsList, CountsFreed};
 
 use crate::opening::{open, read};
 use crate::status::FsckStatus;
@@ -37,9 +37,24 @@ pub(crate) fn apply<F: Files, D: Drives, S: Sink>(
         (seen F.Files D.Drives S.Sink files.old drives.old sink.old) (seen F.Files D.Drives S.Sink files.new drives.new sink.new) result }
 {
     match open(kind, name, drives) {
-        Ok(()) => {}
-        Err(status) => return status,
+        Ok(()) => apply_list(alloc, kind, list, files, drives, sink),
+        Err(status) => status,
     }
+}
+
+/// So for drive A, which has the size of its kind: first the list is read, then the directory.
+fn apply_list<F: Files, D: Drives, S: Sink>(
+    alloc: Global,
+    kind: Kind,
+    list: &str,
+    files: &mut F,
+    drives: &mut D,
+    sink: &mut S,
+) -> FsckStatus
+    requires { size_of (D.disks drives.old) 0 ≡ Some (geometry_of kind).bytes }
+    ensures { EndsListed (sink.new ≡ sink.old) (F.missing files.old) kind list.now
+        (seen F.Files D.Drives S.Sink files.old drives.old sink.old) (seen F.Files D.Drives S.Sink files.new drives.new sink.new) result }
+{
     match read_list(alloc, kind, list, files) {
         Ok(slots) => mend(alloc, kind, &slots, drives, sink),
         Err(status) => status,

@@ -4,7 +4,7 @@ use Rattle.std.specs.Prelude.{slice_set, option_map, is_some, take, drop, ◌++�
 use Rattle.std.proofs.lemmas.List.{get_or-set_same, get_or-set_other, set-get_or, get_or_past, length-append, length-take, length-drop}
 use Rattle.std.proofs.lemmas.Bool.{cases_eq, cases_lt, false≢true}
 use Rattle.mpm_port.specs.Disks.{Untold, Attaches, WritesSector, KeepsTold, IsInsideDrive, size_of, with_sector}
-use Rattle.mpm_host.specs.Attached.{Held, RealDisks, held_by, disks_in, disks_of, after_attach, after_write, written_if}
+use Rattle.mpm_host.specs.Attached.{Held, RealDisks, held_by, disks_in, disks_of, KeepsOtherImages, after_attach, after_write, written_if}
 
 here_after : (held : List (Option Held)) (drive : ℕ) (one : Option Held) → drive < length held → held_by (slice_set held drive one) drive ≡ one
 here_after held drive one within = get_or-set_same held drive one None within
@@ -86,6 +86,10 @@ writes_by held drive sector bytes (Some one) is wide inside = writes_held held d
 pub writes : (disks : RealDisks) (drive sector : ℕ) (bytes : List ℕ) → length bytes ≡ 128 → IsInsideDrive (size_of (disks_of disks) drive) sector
     → WritesSector drive sector bytes (disks_of disks) (disks_of (after_write disks drive sector bytes true))
 writes disks drive sector bytes wide inside = writes_by disks.held drive sector bytes (held_by disks.held drive) refl wide inside
+
+pub writes_beside : (disks : RealDisks) (drive sector : ℕ) (bytes : List ℕ) → KeepsOtherImages drive (disks_of disks) (disks_of (after_write disks drive sector bytes true))
+writes_beside disks drive sector bytes other apart =
+    ap (option_map (λ h. h.bytes)) (other_after disks.held drive other (written_if (held_by disks.held drive) sector bytes true) apart)
 
 same_if : (sector : ℕ) (bytes : List ℕ) (o : Option Held) → written_if o sector bytes false ≡ o
 same_if sector bytes None = refl

@@ -1,5 +1,5 @@
 -- The drives over files of the host: what is kept of them, and what each call leaves.
-use Rattle.std.specs.Prelude.{◌≡◌, ℕ, ◌+◌, ◌-◌, ◌^◌, min, Bool, true, false, List, [], Option, Some, None, IfSome, option_map, replicate, slice_index_or, slice_set, if◌then◌else◌}
+use Rattle.std.specs.Prelude.{◌≡◌, ◌≢◌, ℕ, ◌+◌, ◌-◌, ◌^◌, min, Bool, true, false, List, [], Option, Some, None, IfSome, option_map, replicate, slice_index_or, slice_set, if◌then◌else◌}
 use Rattle.mpm_port.specs.Disks.{Disks, ToldImage, Untold, Brings, with_sector}
 
 -- an image as it was read, with what was written to it since, and the name that its drive was attached by
@@ -28,6 +28,10 @@ disks_in held = record { image = λ drive. option_map (λ h. h.bytes) (held_by h
 
 abbrev pub disks_of : RealDisks → Disks
 disks_of disks = disks_in disks.held
+
+-- each drive but one has its image as it was
+abbrev pub KeepsOtherImages : ℕ → Disks → Disks → Type 0
+KeepsOtherImages drive old new = (other : ℕ) → other ≢ drive → new.image other ≡ old.image other
 
 -- of a name nothing is known before a drive is attached by it
 abbrev pub told_of : RealDisks → List ℕ → ToldImage

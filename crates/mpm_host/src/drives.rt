@@ -1,8 +1,8 @@
-ghost use Rattle.std.specs.Prelude.{◌≡◌, ◌+◌, ◌*◌, ◌<◌, Some, None, true, IsSome, IsOk, OnErr, IsTrue, ◌↔◌, length};
+ghost use Rattle.std.specs.Prelude.{◌≡◌, ◌+◌, ◌*◌, ◌<◌, Some, None, true, IsSome, IsOk, OnOk, OnErr, IsTrue, ◌↔◌, length};
 ghost use Rattle.mpm_port.specs.Causes.{HasCause};
 ghost use Rattle.mpm_port.specs.Disks.{IsInsideDrive, size_of};
 ghost use Rattle.mpm_port.specs.DriveCalls.{AnswersWrite};
-ghost use Rattle.mpm_host.specs.Attached.{no_drives, held_by, disks_of, told_of, real_agrees, is_unsynced, after_attach, after_write, after_access};
+ghost use Rattle.mpm_host.specs.Attached.{no_drives, held_by, disks_of, told_of, KeepsOtherImages, real_agrees, is_unsynced, after_attach, after_write, after_access};
 
 use crate::image::Image;
 use mpm_port::{Drives, Failed, FailedNames, FetchError};
@@ -135,12 +135,13 @@ impl Drives for RealDrives {
         Ok(())
     }
 
-    /// A call that fails changes no image in memory.
-    #[tactic(auto, using(crate::proofs::Holding::writes, crate::proofs::Holding::writes_none, crate::proofs::Holding::untold_still))]
+    /// A call that fails changes no image in memory, and one that went well none of another drive.
+    #[tactic(auto, using(crate::proofs::Holding::writes, crate::proofs::Holding::writes_none, crate::proofs::Holding::writes_beside, crate::proofs::Holding::untold_still))]
     fn write(&mut self, drive: u8, sector: u32, bytes: &[u8; 128]) -> Result<(), Failed>
         requires { IsInsideDrive (size_of (disks_of self.old) drive) sector }
         ensures answers { AnswersWrite disks_of told_of is_unsynced (λ d. d.faults) (λ d. d.failed) drive sector bytes.now self.old self.new result }
         ensures unchanged { OnErr result (disks_of self.new ≡ disks_of self.old) }
+        ensures beside { OnOk result (KeepsOtherImages drive (disks_of self.old) (disks_of self.new)) }
     {
         let done = self.write_image(drive, sector, bytes);
         self.answer(done)

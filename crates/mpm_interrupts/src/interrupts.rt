@@ -26,7 +26,7 @@ impl Interrupts {
         ensures interrupts { result ≡ record { tick_every = tick_every; ticks = 0; script = script } }
         ensures script { All IsTimed script }
     {
-        tell_script(&script);
+        recall_script(&script);
         Interrupts {
             tick_every,
             ticks: 0,
@@ -85,7 +85,7 @@ impl Interrupts {
 }
 
 /// Says what is so of the events of a script: they are such as there may be.
-fn tell_script(script: &Script)
+fn recall_script(script: &Script)
     ensures { All IsTimed script.now }
 {
     let _ = script.len();

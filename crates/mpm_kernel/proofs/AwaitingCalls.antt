@@ -36,7 +36,7 @@ use Rattle.mpm_kernel.specs.ConsoleInput.{is_cooked, is_raw, writes, raw_if, key
 use Rattle.mpm_kernel.specs.Dates.{date_set, date_answered, time_answered}
 use Rattle.mpm_kernel.specs.Procedures.{procedure_queue, inside, procedure_read, procedure_at, procedure_called}
 use Rattle.mpm_kernel.specs.Queueing.{with_queue, queue_made, opened, may_delete, deleted, queued, blocked_or_refused, taken_from, was_read, read_at, given_to, was_written, write_at}
-use Rattle.mpm_kernel.specs.Waiting.{polled, is_flag, flag_waited_for, waited, with_woken, signalled, flag_waited, flag_set, process_delayed}
+use Rattle.mpm_kernel.specs.Waiting.{polled, is_flag, flag_waited_for, waited, with_woken, signalled, flag_waited, set_if_flag, flag_set, process_delayed}
 use Rattle.mpm_kernel.proofs.AwaitingLaws.{awaits_moved, awaits_removed, awaits_ready, awaits_heir, awaits_none, awaits_woken, one_alone, waits_apart, held_by_read, held_by_write, awaits_other}
 use Rattle.mpm_kernel.proofs.Passing.{heir_lives, passed_detach}
 use Rattle.mpm_kernel.proofs.RowLaws.{by_rows, by_table}
@@ -86,7 +86,7 @@ unfolding signalled
 awaits_signalled k q flag kernel s below a = awaits_woke k q (flag_at kernel.flags flag) flag kernel s below refl a
 
 awaits_flag_set : (k q : ℕ) (call : Taken) (kernel : Kernel) → IsSoundKernel kernel → AwaitsIn k q kernel → AwaitsIn k q (flag_set call kernel).kernel
-unfolding flag_set
+unfolding set_if_flag
 awaits_flag_set k q call kernel s a =
     let flag = low_parameter call in
     either (λ (c : Called). AwaitsIn k q c.kernel) (is_flag flag) _ _ (λ is. awaits_signalled k q flag kernel s (flag_below flag is) a) (λ _. a)
@@ -264,19 +264,19 @@ awaits_owner_made k q console to kernel s living a =
     awaits_heir k q (if_it waiting to) kernel.dispatcher.procs kernel.dispatcher.lists kernel.dispatcher.completed s.slots
     (λ h is. subst (Lives kernel.dispatcher.procs) (this_heir waiting to h is) living) a
 
-awaits_assigned_to : (k q : ℕ) (o : Option ℕ) (call : Taken) (kernel : Kernel) → IsSoundKernel kernel → ((r : ℕ) → o ≡ Some r → Lives kernel.dispatcher.procs r) → AwaitsIn k q kernel
-    → AwaitsIn k q (assigned_to o call kernel).kernel
+awaits_assigned_to : (k q : ℕ) (o : Option ℕ) (console : ℕ) (own_only : Bool) (kernel : Kernel) → IsSoundKernel kernel → ((r : ℕ) → o ≡ Some r → Lives kernel.dispatcher.procs r) → AwaitsIn k q kernel
+    → AwaitsIn k q (assigned_to o console own_only kernel).kernel
 unfolding assigned_to
-awaits_assigned_to k q None call kernel s living a = a
-awaits_assigned_to k q (Some to) call kernel s living a =
-    either (λ (c : Called). AwaitsIn k q c.kernel) (is_meant call (process_in kernel.dispatcher.procs to)) _ _
-    (λ _. awaits_owner_made k q (byte_in call 0) to kernel s (living to refl) a) (λ _. a)
+awaits_assigned_to k q None console own_only kernel s living a = a
+awaits_assigned_to k q (Some to) console own_only kernel s living a =
+    either (λ (c : Called). AwaitsIn k q c.kernel) (is_meant console own_only (process_in kernel.dispatcher.procs to)) _ _
+    (λ _. awaits_owner_made k q console to kernel s (living to refl) a) (λ _. a)
 
 awaits_assigned : (k q : ℕ) (call : Taken) (p : ℕ) (kernel : Kernel) → IsSoundKernel kernel → AwaitsIn k q kernel → AwaitsIn k q (assigned call p kernel).kernel
 unfolding assigned
 awaits_assigned k q call p kernel s a =
     either (λ (c : Called). AwaitsIn k q c.kernel) (nat_lt (byte_in call 0) (length kernel.units.consoles) && may_attach kernel.units p (ConsoleUnit (byte_in call 0))) _ _
-    (λ _. awaits_assigned_to k q (named kernel.dispatcher.procs (name_at call 1)) call kernel s
+    (λ _. awaits_assigned_to k q (named kernel.dispatcher.procs (name_at call 1)) (byte_in call 0) (byte_in call 9 == 255) kernel s
     (λ r is. (and_parts (lives kernel.dispatcher.procs r) _ (lowest_passes (is_called kernel.dispatcher.procs (name_at call 1)) r is).0).0) a)
     (λ _. a)
 

@@ -6,7 +6,7 @@ use Rattle.mpm_procs.specs.declared.process.Process.{Process}
 use Rattle.mpm_procs.proofs.MapLaws.{call_after}
 use Rattle.mpm_kernel.specs.Kernel.{Kernel, IsSoundKernel, with_changed, dispatched}
 use Rattle.mpm_kernel.specs.Called.{Called, valued, low_parameter}
-use Rattle.mpm_kernel.specs.Waiting.{polled, is_flag, flag_waited_for, waited, with_woken, signalled, flag_waited, flag_set, process_delayed}
+use Rattle.mpm_kernel.specs.Waiting.{polled, is_flag, flag_waited_for, waited, with_woken, signalled, flag_waited, set_if_flag, flag_set, process_delayed}
 use Rattle.mpm_clock.specs.PackedDecimal.{names_time}
 use Rattle.mpm_kernel.specs.Dates.{date_set, date_answered, time_answered}
 use Rattle.mpm_kernel.specs.Calls.{called}
@@ -140,7 +140,7 @@ consoles_signalled flag kernel =
     consoles_with_woken (set_answer (flag_at kernel.flags flag)) (record kernel { flags = with_flag kernel.flags flag (after_set (flag_at kernel.flags flag)) })
 
 pub kept_flag_set : (call : Taken) (kernel : Kernel) → KeepsHome kernel (flag_set call kernel)
-unfolding flag_set
+unfolding set_if_flag
 kept_flag_set call kernel =
     kept_if kernel (is_flag (low_parameter call)) _ _ (kept_same kernel _ (procs_signalled (low_parameter call) kernel) (consoles_signalled (low_parameter call) kernel)) (kept_same kernel _ refl refl)
 

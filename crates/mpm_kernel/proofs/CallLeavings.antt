@@ -27,7 +27,7 @@ use Rattle.mpm_kernel.specs.Kernel.{Kernel, call_begun}
 use Rattle.mpm_kernel.specs.Called.{Called, low_parameter}
 use Rattle.mpm_kernel.specs.Calls.{call_done, called, does_echo}
 use Rattle.mpm_kernel.specs.Columns.{spoke}
-use Rattle.mpm_kernel.specs.Waiting.{polled, is_flag, flag_waited_for, waited, flag_waited, with_woken, signalled, flag_set, process_delayed}
+use Rattle.mpm_kernel.specs.Waiting.{polled, is_flag, flag_waited_for, waited, flag_waited, with_woken, signalled, set_if_flag, flag_set, process_delayed}
 use Rattle.mpm_kernel.specs.Dates.{date_set, date_answered, time_answered}
 use Rattle.mpm_kernel.specs.Queueing.{with_queue, queue_made, opened, may_delete, deleted, queued, blocked_or_refused, taken_from, was_read, read_at, given_to, was_written, write_at}
 use Rattle.mpm_kernel.specs.Procedures.{procedure_queue, inside, procedure_read, procedure_at, procedure_called}
@@ -139,16 +139,16 @@ alone_printer_set call p kernel =
     alone_if kernel (nat_lt printer (length kernel.units.printers)) _ _
     (alone_attached p (PrinterUnit printer) (printer_changed p printer kernel) ∙ alone_printer_changed p printer kernel) refl
 
-alone_assigned_to : (o : Option ℕ) (call : Taken) (kernel : Kernel) → LeavesAlone kernel (assigned_to o call kernel)
+alone_assigned_to : (o : Option ℕ) (console : ℕ) (own_only : Bool) (kernel : Kernel) → LeavesAlone kernel (assigned_to o console own_only kernel)
 unfolding assigned_to owner_made
-alone_assigned_to None call kernel = refl
-alone_assigned_to (Some to) call kernel = alone_if kernel (is_meant call (process_in kernel.dispatcher.procs to)) _ _ refl refl
+alone_assigned_to None console own_only kernel = refl
+alone_assigned_to (Some to) console own_only kernel = alone_if kernel (is_meant console own_only (process_in kernel.dispatcher.procs to)) _ _ refl refl
 
 alone_assigned : (call : Taken) (p : ℕ) (kernel : Kernel) → LeavesAlone kernel (assigned call p kernel)
 unfolding assigned
 alone_assigned call p kernel =
     alone_if kernel (nat_lt (byte_in call 0) (length kernel.units.consoles) && may_attach kernel.units p (ConsoleUnit (byte_in call 0))) _ _
-    (alone_assigned_to (named kernel.dispatcher.procs (name_at call 1)) call kernel) refl
+    (alone_assigned_to (named kernel.dispatcher.procs (name_at call 1)) (byte_in call 0) (byte_in call 9 == 255) kernel) refl
 
 alone_printer_called : (call : Taken) (p : ℕ) (kernel : Kernel) → LeavesAlone kernel (printer_called call p kernel)
 unfolding printer_called
@@ -287,7 +287,7 @@ one_signalled flag kernel =
     record { disk = woke.disk; few = woke.few }
 
 one_flag_set : (call : Taken) (kernel : Kernel) → CompletesOne kernel (flag_set call kernel).kernel
-unfolding flag_set
+unfolding set_if_flag
 one_flag_set call kernel = one_if kernel (is_flag (low_parameter call)) _ _ (one_signalled (low_parameter call) kernel) (completes_none kernel)
 
 one_was_read : (outcome : QueueOutcome) (may_wait : Bool) (call : Taken) (p q : ℕ) (kernel : Kernel) → CompletesOne kernel (was_read outcome may_wait call p q kernel).kernel

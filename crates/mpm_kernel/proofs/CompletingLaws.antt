@@ -7,6 +7,7 @@ use Rattle.mpm_dispatcher.specs.Dispatch.{first_completed}
 use Rattle.mpm_kernel.specs.Kernel.{Kernel, CompletedLive, MayCall}
 use Rattle.mpm_kernel.specs.Calls.{called}
 use Rattle.mpm_kernel.specs.Procedures.{still_completed, outside}
+use Rattle.mpm_kernel.specs.Ending.{dropped_out}
 use Rattle.mpm_kernel.proofs.CallLeavings.{one_called}
 use Rattle.mpm_kernel.proofs.SoundLaws.{live_called}
 
@@ -33,8 +34,14 @@ pub keeps_others : (p : ℕ) (kernel : Kernel) → CompletedLive kernel → leng
 unfolding outside
 keeps_others p kernel live few = all_but p kernel.dispatcher.completed kernel.dispatcher.procs few live
 
+-- and an end does it once the process stands nowhere
+pub end_keeps_others : (p : ℕ) (kernel : Kernel) → CompletedLive kernel → length kernel.dispatcher.completed ≤ 1
+    → (outside p (dropped_out p kernel)).dispatcher.completed ≡ filter (λ q. not (q == p)) kernel.dispatcher.completed
+unfolding dropped_out
+end_keeps_others p kernel live few = keeps_others p (dropped_out p kernel) live few
+
 -- so one that ends by its call forgets nobody else's that this completed
 pub forgets_none : (p : ℕ) (kernel : Kernel) → MayCall p kernel → let done = (called p kernel).kernel in
-    (outside p done).dispatcher.completed ≡ filter (λ q. not (q == p)) done.dispatcher.completed
+    (outside p (dropped_out p done)).dispatcher.completed ≡ filter (λ q. not (q == p)) done.dispatcher.completed
 forgets_none p kernel may =
-    keeps_others p (called p kernel).kernel (live_called p kernel may.sound may.lives may.ready) (completes_one p kernel)
+    end_keeps_others p (called p kernel).kernel (live_called p kernel may.sound may.lives may.ready) (completes_one p kernel)

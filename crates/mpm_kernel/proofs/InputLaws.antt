@@ -1,5 +1,5 @@
 -- What the calls that read from a console and write to it need.
-use Rattle.std.proofs.Common.{◌≡◌, ◌∙◌, ℕ, ◌<◌, Bool, true, false, not, ◌||◌, ◌==◌, if◌then◌else◌, List, length, Option, Some, None, refl, sym, ap, arith}
+use Rattle.std.proofs.Common.{◌≡◌, ◌∙◌, ℕ, ◌<◌, Bool, true, false, not, ◌||◌, ◌==◌, if◌then◌else◌, List, length, Option, Some, None, refl, sym, ap, subst, arith}
 use Rattle.std.proofs.lemmas.Bool.{false≢true}
 use Rattle.std.proofs.lemmas.List.{length-set}
 use Rattle.mpm_base.proofs.Choices.{either}
@@ -10,7 +10,8 @@ use Rattle.mpm_consoles.specs.Console.{is_owner, with_raw, without_first}
 use Rattle.mpm_consoles.specs.Consoles.{Consoles, console_at, HasUnit, owner_of, owns}
 use Rattle.mpm_consoles.specs.Handling.{listed, attaches, may_attach, attach_from, unit_attached, raw_set, first_taken}
 use Rattle.mpm_base.specs.declared.unit.Unit.{Unit}
-use Rattle.mpm_kernel.specs.Kernel.{Kernel}
+use Rattle.mpm_base.specs.declared.unit.Unit.TheVariants.{Console as ConsoleUnit}
+use Rattle.mpm_kernel.specs.Kernel.{Kernel, UsesConsole}
 use Rattle.mpm_kernel.specs.Columns.{spoke}
 use Rattle.mpm_kernel.specs.Consoling.{attaching, echoed}
 use Rattle.mpm_kernel.specs.ConsoleInput.{raw_if, key_joined}
@@ -68,12 +69,11 @@ pub owns_raw : (kernel : Kernel) (b raw : Bool) (p n : ℕ) (unit : Unit) → n 
     → owns (raw_if b n raw kernel).units p unit ≡ true
 owns_raw kernel b raw p n unit has own = owns_raw_if b raw kernel.units p n unit has own
 
-pub has_made_raw : (t new : Consoles) (n : ℕ) (raw : Bool) → new ≡ raw_set t n raw → n < length t.consoles → n < length new.consoles
-has_made_raw t new n raw is has = omega (arith, ap (λ (u : Consoles). length u.consoles) is, has_raw_if true raw t n n has)
-
-pub owns_made_raw : (t new : Consoles) (p n : ℕ) (unit : Unit) (raw : Bool) → new ≡ raw_set t n raw → n < length t.consoles → owns t p unit ≡ true
-    → owns new p unit ≡ true
-owns_made_raw t new p n unit raw is has own = ap (λ (u : Consoles). owns u p unit) is ∙ owns_raw_if true raw t p n unit has own
+-- and so does who uses it
+pub uses_made_raw : (kernel new : Kernel) (p n : ℕ) (b raw : Bool) → new ≡ raw_if b n raw kernel → UsesConsole p n kernel → UsesConsole p n new
+uses_made_raw kernel new p n b raw is uses =
+    subst (UsesConsole p n) (sym is)
+    (record { lives = uses.lives; has = has_raw kernel b raw n n uses.has; owner = owns_raw kernel b raw p n (ConsoleUnit n) uses.has uses.owner })
 
 -- and after a key was taken
 pub has_after_take : (t new : Consoles) (n : ℕ) → new ≡ first_taken t n → n < length t.consoles → n < length new.consoles
@@ -90,6 +90,14 @@ pub owns_then_attached : (kernel new : Kernel) (p : ℕ) (unit : Unit) (wait b :
     → b ≡ may_attach kernel.units p unit → b ≡ true → owns new.units p unit ≡ true
 owns_then_attached kernel new p unit wait b same has is may =
     ap (λ (k : Kernel). owns k.units p unit) same ∙ owns_attached kernel p unit wait has (sym is ∙ may)
+
+pub uses_then_attached : (kernel new : Kernel) (p n : ℕ) (wait b : Bool) → new ≡ attaching p (ConsoleUnit n) wait kernel → Lives kernel.dispatcher.procs p
+    → n < length kernel.units.consoles → b ≡ may_attach kernel.units p (ConsoleUnit n) → b ≡ true → UsesConsole p n new
+uses_then_attached kernel new p n wait b same living has is may = record {
+  lives = ap (λ (k : Kernel). lives k.dispatcher.procs p) same ∙ living;
+  has = has_then_attached kernel new p n (ConsoleUnit n) wait same has;
+  owner = owns_then_attached kernel new p (ConsoleUnit n) wait b same has is may;
+}
 
 -- what the kernel writes by itself changes no process
 pub procs_echoed : (console : ℕ) (bytes : List ℕ) (kernel : Kernel) → (echoed console bytes kernel).dispatcher.procs ≡ kernel.dispatcher.procs

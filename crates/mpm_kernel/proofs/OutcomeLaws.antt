@@ -28,7 +28,7 @@ use Rattle.mpm_kernel.specs.Kernel.{Kernel, call_begun}
 use Rattle.mpm_kernel.specs.Called.{Called, low_parameter}
 use Rattle.mpm_kernel.specs.Calls.{for_console, ending, going_on, done_by, call_done, called, does_echo}
 use Rattle.mpm_kernel.proofs.RowLaws.{by_rows, among}
-use Rattle.mpm_kernel.specs.Waiting.{polled, is_flag, flag_waited_for, waited, flag_waited, flag_set, process_delayed}
+use Rattle.mpm_kernel.specs.Waiting.{polled, is_flag, flag_waited_for, waited, flag_waited, set_if_flag, flag_set, process_delayed}
 use Rattle.mpm_kernel.specs.Dates.{date_set, date_answered, time_answered}
 use Rattle.mpm_kernel.specs.Queueing.{queue_made, opened, may_delete, deleted, blocked_or_refused, was_read, read_at, was_written, write_at, pointed}
 use Rattle.mpm_kernel.specs.Procedures.{procedure_queue, procedure_read, procedure_at, procedure_called}
@@ -82,7 +82,7 @@ goes_flag_waited hold retry call p kernel may =
     (goes_waited hold retry (wait_answer p (flag_at kernel.flags flag)) p (flag_waited_for kernel p flag) may) tt
 
 goes_flag_set : (hold retry : Bool) (call : Taken) (kernel : Kernel) → Goes hold retry (flag_set call kernel).outcome
-unfolding flag_set Goes
+unfolding set_if_flag Goes
 goes_flag_set hold retry call kernel = goes_if hold retry (is_flag (low_parameter call)) _ _ tt tt
 
 goes_delayed : (hold retry : Bool) (call : Taken) (p : ℕ) (kernel : Kernel) → hold ≡ true → Goes hold retry (process_delayed call p kernel).outcome
@@ -194,17 +194,17 @@ goes_printer_set hold retry call p kernel may =
     let printer = low_parameter call in
     goes_if hold retry (nat_lt printer (length kernel.units.printers)) _ _ (goes_attached hold retry p (PrinterUnit printer) (printer_changed p printer kernel) may) tt
 
-goes_assigned_to : (hold retry : Bool) (to : Option ℕ) (call : Taken) (kernel : Kernel) → Goes hold retry (assigned_to to call kernel).outcome
+goes_assigned_to : (hold retry : Bool) (to : Option ℕ) (console : ℕ) (own_only : Bool) (kernel : Kernel) → Goes hold retry (assigned_to to console own_only kernel).outcome
 unfolding assigned_to Goes
-goes_assigned_to hold retry None call kernel = tt
-goes_assigned_to hold retry (Some to) call kernel = goes_if hold retry (is_meant call (process_in kernel.dispatcher.procs to)) _ _ tt tt
+goes_assigned_to hold retry None console own_only kernel = tt
+goes_assigned_to hold retry (Some to) console own_only kernel = goes_if hold retry (is_meant console own_only (process_in kernel.dispatcher.procs to)) _ _ tt tt
 
 goes_assigned : (hold retry : Bool) (call : Taken) (p : ℕ) (kernel : Kernel) → Goes hold retry (assigned call p kernel).outcome
 unfolding assigned Goes
 goes_assigned hold retry call p kernel =
     let console = byte_in call 0 in
     goes_if hold retry (nat_lt console (length kernel.units.consoles) && may_attach kernel.units p (ConsoleUnit console)) _ _
-    (goes_assigned_to hold retry (named kernel.dispatcher.procs (name_at call 1)) call kernel) tt
+    (goes_assigned_to hold retry (named kernel.dispatcher.procs (name_at call 1)) console (byte_in call 9 == 255) kernel) tt
 
 -- keys and lines
 

@@ -7,7 +7,7 @@ use Rattle.mpm_base.proofs.Choices.{either}
 use Rattle.mpm_procs.specs.Table.{Table, lives, Lives, process_in, with_process}
 use Rattle.mpm_procs.proofs.MapLaws.{lives_changed, lives_after}
 use Rattle.mpm_queues.specs.Queue.{is_full, with_given}
-use Rattle.mpm_queues.specs.Queues.{is_made, queue_in}
+use Rattle.mpm_queues.specs.Queues.{IsMade, is_made, queue_in}
 use Rattle.mpm_queues.specs.Handling.{first_reader, written_by, delivered_to, procs_after_write, write_outcome, woken_by}
 use Rattle.mpm_kernel.specs.Kernel.{Kernel, IsSoundKernel, CompletedLive, with_changed, dispatched}
 use Rattle.mpm_kernel.specs.Called.{valued}
@@ -37,6 +37,17 @@ unfolding outside
 lives_outside p q kernel h =
     let process = record (process_in kernel.dispatcher.procs p) { procedure = None } in
     lives_after (with_process kernel.dispatcher.procs p process) p q (writing (process_in kernel.dispatcher.procs p).kept) ∙ lives_changed kernel.dispatcher.procs p q process ∙ h
+
+-- the queue of the procedure that it was in is there
+
+there_by_width : (alive : Bool) (width : ℕ) → (if alive then Some width else None) ≡ Some 2 → alive ≡ true
+there_by_width true width is = refl
+there_by_width false width is = absurd (cc is)
+
+pub queue_outside : (p q : ℕ) (kernel : Kernel) → IsSoundKernel kernel → Lives kernel.dispatcher.procs p
+    → (process_in kernel.dispatcher.procs p).procedure ≡ Some q → IsMade (outside p kernel).queues q
+unfolding outside
+queue_outside p q kernel s h is = there_by_width (is_made kernel.queues q) _ (s.inside p q h is)
 
 -- who is still to be answered lives and is another process, and there is one at most
 

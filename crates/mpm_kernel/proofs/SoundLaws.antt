@@ -28,7 +28,7 @@ use Rattle.mpm_kernel.specs.Kernel.{Kernel, poll_list, is_waiter, flags_of, wait
 use Rattle.mpm_procs.specs.Settings.{is_count, with_user, with_multi}
 use Rattle.mpm_kernel.specs.Calls.{call_done, called}
 use Rattle.mpm_kernel.specs.Called.{Called, valued, low_parameter, failure_code}
-use Rattle.mpm_kernel.specs.Waiting.{polled, is_flag, waited, flag_waited, with_woken, signalled, flag_set, process_delayed}
+use Rattle.mpm_kernel.specs.Waiting.{polled, is_flag, waited, flag_waited, with_woken, signalled, set_if_flag, flag_set, process_delayed}
 use Rattle.mpm_clock.specs.PackedDecimal.{names_time, named_moment}
 use Rattle.mpm_kernel.specs.Dates.{date_set, date_answered, time_answered}
 use Rattle.mpm_kernel.specs.Events.{MayCome, with_tick, clock_ticked, pollers, with_ready, device_ready, happens, happened, flag_came}
@@ -242,7 +242,7 @@ unfolding flag_came
 procs_flag_came flag kernel = either (λ (k : Kernel). k.dispatcher.procs ≡ kernel.dispatcher.procs) (is_flag flag) _ _ (λ _. procs_signalled flag kernel) (λ _. refl)
 
 stays_flag_set : (call : Taken) (p : ℕ) (kernel : Kernel) → Calls p kernel → StaysSound p (flag_set call kernel)
-unfolding flag_set
+unfolding set_if_flag
 stays_flag_set call p kernel c =
     let flag = low_parameter call in
     called_if p (is_flag flag) _ _

@@ -260,17 +260,16 @@ unfolding owner_made console_assigned
 sound_owner_made console to kernel s h has =
     owner_by (owns kernel.units to (ConsoleUnit console)) (waits_for kernel.units to (ConsoleUnit console)) console to kernel s h has refl refl
 
-stays_assigned_to : (o : Option ℕ) (call : Taken) (p : ℕ) (kernel : Kernel) → Calls p kernel → ((q : ℕ) → o ≡ Some q → Lives kernel.dispatcher.procs q)
-    → byte_in call 0 < length kernel.units.consoles → StaysSound p (assigned_to o call kernel)
+stays_assigned_to : (o : Option ℕ) (console : ℕ) (own_only : Bool) (p : ℕ) (kernel : Kernel) → Calls p kernel → ((q : ℕ) → o ≡ Some q → Lives kernel.dispatcher.procs q)
+    → console < length kernel.units.consoles → StaysSound p (assigned_to o console own_only kernel)
 unfolding assigned_to owner_made
-stays_assigned_to None call p kernel c live below = same p failure_code kernel c
-stays_assigned_to (Some to) call p kernel c live below =
-    let console = byte_in call 0 in
+stays_assigned_to None console own_only p kernel c live below = same p failure_code kernel c
+stays_assigned_to (Some to) console own_only p kernel c live below =
     let afterwards = owner_made console to kernel in
     let fit = c.sound.fit to (live to refl) in
     let many = many_assigned kernel.units console to in
     let process = record (process_in kernel.dispatcher.procs to) { console = console } in
-    called_if p (is_meant call (process_in kernel.dispatcher.procs to)) _ _
+    called_if p (is_meant console own_only (process_in kernel.dispatcher.procs to)) _ _
     (λ _. record {
       sound = sound_changed afterwards to process (sound_owner_made console to kernel c.sound (live to refl) below) (live to refl)
           (fit_kept kernel.units afterwards.units process many.consoles many.printers (record { console = below; printer = fit.printer; some = fit.some; few = fit.few }))
@@ -287,7 +286,7 @@ stays_assigned call p kernel c =
     called_if p (nat_lt console (length kernel.units.consoles) && may_attach kernel.units p (ConsoleUnit console)) _ _
     (λ may.
     let fits = (and_parts (nat_lt console (length kernel.units.consoles)) _ may).0 in
-    stays_assigned_to (named kernel.dispatcher.procs (name_at call 1)) call p kernel c
+    stays_assigned_to (named kernel.dispatcher.procs (name_at call 1)) console (byte_in call 9 == 255) p kernel c
     (λ q is. (and_parts (lives kernel.dispatcher.procs q) _ (lowest_passes (is_called kernel.dispatcher.procs (name_at call 1)) q is).0).0)
     (grind (arith, nat_tests, fits)))
     (λ _. same p failure_code kernel c)

@@ -100,19 +100,19 @@ kept_printer_set call p kernel s h =
     (kept_attached p (PrinterUnit printer) _))
     (kept_same kernel _ refl refl)
 
-kept_assigned_to : (o : Option ℕ) (call : Taken) (kernel : Kernel) → IsSoundKernel kernel → ((q : ℕ) → o ≡ Some q → Lives kernel.dispatcher.procs q) → KeepsHome kernel (assigned_to o call kernel)
+kept_assigned_to : (o : Option ℕ) (console : ℕ) (own_only : Bool) (kernel : Kernel) → IsSoundKernel kernel → ((q : ℕ) → o ≡ Some q → Lives kernel.dispatcher.procs q) → KeepsHome kernel (assigned_to o console own_only kernel)
 unfolding assigned_to owner_made
-kept_assigned_to None call kernel s live = kept_same kernel _ refl refl
-kept_assigned_to (Some to) call kernel s live =
-    kept_if kernel (is_meant call (process_in kernel.dispatcher.procs to)) _ _
-    (kept_procs kernel (with_changed kernel to (record (process_in kernel.dispatcher.procs to) { console = byte_in call 0 })) _ (kept_changed to 0 kernel _ s (live to refl) refl refl (λ _. refl) (λ _. refl)) refl (many_assigned kernel.units (byte_in call 0) to).consoles)
+kept_assigned_to None console own_only kernel s live = kept_same kernel _ refl refl
+kept_assigned_to (Some to) console own_only kernel s live =
+    kept_if kernel (is_meant console own_only (process_in kernel.dispatcher.procs to)) _ _
+    (kept_procs kernel (with_changed kernel to (record (process_in kernel.dispatcher.procs to) { console = console })) _ (kept_changed to 0 kernel _ s (live to refl) refl refl (λ _. refl) (λ _. refl)) refl (many_assigned kernel.units console to).consoles)
     (kept_same kernel _ refl refl)
 
 kept_assigned : (call : Taken) (p : ℕ) (kernel : Kernel) → IsSoundKernel kernel → KeepsHome kernel (assigned call p kernel)
 unfolding assigned
 kept_assigned call p kernel s =
     kept_if kernel (nat_lt (byte_in call 0) (length kernel.units.consoles) && may_attach kernel.units p (ConsoleUnit (byte_in call 0))) _ _
-    (kept_assigned_to (named kernel.dispatcher.procs (name_at call 1)) call kernel s
+    (kept_assigned_to (named kernel.dispatcher.procs (name_at call 1)) (byte_in call 0) (byte_in call 9 == 255) kernel s
     (λ q is. (and_parts (lives kernel.dispatcher.procs q) _ (lowest_passes (is_called kernel.dispatcher.procs (name_at call 1)) q is).0).0))
     (kept_same kernel _ refl refl)
 

@@ -45,11 +45,6 @@ pub record MaySignal (flag : ℕ) (kernel : Kernel) : Type 0 where
   pub sound : IsSoundKernel kernel
   pub below : flag < 32
 
--- a process may set the flag that its call names
-pub record MaySetFlag (p number : ℕ) (kernel : Kernel) : Type 0 where
-  pub sound : IsSoundKernel kernel
-  pub flag : number ≡ low_parameter (call_of kernel.dispatcher.procs p)
-
 -- a living process may poll the device that its call names
 pub record MayPoll (p number : ℕ) (kernel : Kernel) : Type 0 where
   pub lives : Lives kernel.dispatcher.procs p

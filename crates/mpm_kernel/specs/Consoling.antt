@@ -86,22 +86,21 @@ owner_made console to kernel =
     (record kernel { units = console_assigned kernel.units console to })
 
 -- function 149: where the flag is FFh, only a process whose console it is already is meant
-abbrev pub is_meant : Taken → Process → Bool
-is_meant call process = not (byte_in call 9 == 255) || process.console == byte_in call 0
+abbrev pub is_meant : ℕ → Bool → Process → Bool
+is_meant console own_only process = not own_only || process.console == console
 
-unfoldable pub assigned_to : Option ℕ → Taken → Kernel → Called
-assigned_to None call kernel = valued failure_code kernel
-assigned_to (Some to) call kernel =
+unfoldable pub assigned_to : Option ℕ → ℕ → Bool → Kernel → Called
+assigned_to None console own_only kernel = valued failure_code kernel
+assigned_to (Some to) console own_only kernel =
     let process = process_in kernel.dispatcher.procs to in
-    if is_meant call process
-    then done (with_changed (owner_made (byte_in call 0) to kernel) to (record process { console = byte_in call 0 }))
+    if is_meant console own_only process then done (with_changed (owner_made console to kernel) to (record process { console = console }))
     else (valued failure_code kernel)
 
 unfoldable pub assigned : Taken → ℕ → Kernel → Called
 assigned call p kernel =
     let console = byte_in call 0 in
     if nat_lt console (length kernel.units.consoles) && may_attach kernel.units p (ConsoleUnit console)
-    then assigned_to (named kernel.dispatcher.procs (name_at call 1)) call kernel
+    then assigned_to (named kernel.dispatcher.procs (name_at call 1)) console (byte_in call 9 == 255) kernel
     else (valued failure_code kernel)
 
 -- the calls on printers: they are attached, also before a byte is written, detached and changed; a machine without printers

@@ -18,12 +18,12 @@ use Rattle.mpm_procs.specs.declared.process.NewProcess.{NewProcess}
 use Rattle.mpm_procs.specs.declared.procs.NoSlot.{NoSlot}
 use Rattle.mpm_queues.specs.Handling.{woken_by, must_wait, read_outcome, read_reply, write_outcome}
 use Rattle.mpm_queues.specs.declared.queues.QueueOutcome.{QueueOutcome}
-use Rattle.mpm_kernel.specs.Kernel.{Kernel, IsSoundKernel, IsConsole, OwnsConsole, CompletedLive, dispatched, with_changed}
+use Rattle.mpm_kernel.specs.Kernel.{Kernel, IsSoundKernel, IsConsole, CompletedLive, dispatched, with_changed}
 use Rattle.mpm_kernel.specs.Called.{Yields}
 use Rattle.mpm_kernel.specs.Calls.{called}
 use Rattle.mpm_kernel.specs.Columns.{wrote, spaces_for}
 use Rattle.mpm_kernel.specs.Consoling.{abort_taken}
-use Rattle.mpm_kernel.specs.ConsoleInput.{raw_if, key_taken, next_key, key_joined, line_of, greatest}
+use Rattle.mpm_kernel.specs.ConsoleInput.{key_taken, next_key, key_joined, line_of, greatest}
 use Rattle.mpm_kernel.specs.Disk.{ready_again}
 use Rattle.mpm_kernel.specs.Events.{handed_out}
 use Rattle.mpm_kernel.specs.Procedures.{outside, still_completed}
@@ -95,11 +95,6 @@ pub record TakesKey (console : ℕ) (old new : Kernel) (result : Option ℕ) : T
   pub key : result ≡ next_key console old
   pub has : IsConsole new console
   pub kernel : MatchOption result (new ≡ old) (λ key. new ≡ key_taken console old)
-
--- a console is made raw or not, or stays as it is, and so does its owner
-pub record SetsRawIf (changes : Bool) (p number : ℕ) (raw : Bool) (old new : Kernel) : Type 0 where
-  pub kernel : new ≡ raw_if changes number raw old
-  pub console : OwnsConsole p number new
 
 -- a process is in no procedure any more, and the answer is the queue of the one that it was in
 pub record LeavesProcedure (p : ℕ) (old new : Kernel) (result : Option ℕ) : Type 0 where

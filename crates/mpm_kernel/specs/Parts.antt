@@ -1,12 +1,12 @@
 -- What parts of the kernel's work ask of it, and what they leave.
-use Rattle.std.specs.Prelude.{◌≡◌, ℕ, Bool, false, ◌==◌, Option, IfSome}
-use Rattle.mpm_base.specs.Calls.{Answer, answering, byte_in}
+use Rattle.std.specs.Prelude.{◌≡◌, ℕ, false, Option, IfSome}
+use Rattle.mpm_base.specs.Calls.{Answer, answering}
 use Rattle.mpm_procs.specs.Table.{Lives, call_of}
 use Rattle.mpm_queues.specs.Queues.{holds}
 use Rattle.mpm_service.specs.Disk.{HasBegun, begun as begun_with}
 use Rattle.mpm_service.specs.Turns.{TakesTurns}
 use Rattle.mpm_service.specs.Ahead.{turned_by, passed_by}
-use Rattle.mpm_kernel.specs.Kernel.{Kernel, IsSoundKernel, IsConsole, LivesInKernel, MayComplete, CompletedLive}
+use Rattle.mpm_kernel.specs.Kernel.{Kernel, IsSoundKernel, IsConsole, MayComplete, CompletedLive}
 use Rattle.mpm_kernel.specs.Disk.{with_disk}
 use Rattle.mpm_kernel.specs.Ending.{discharged}
 
@@ -22,14 +22,6 @@ pub record MayHandOver (console : ℕ) (to : Option ℕ) (kernel : Kernel) : Typ
   pub sound : IsSoundKernel kernel
   pub there : IsConsole kernel console
   pub lives : IfSome to (λ p. Lives kernel.dispatcher.procs p)
-
--- a console may be assigned to a living process, as the call of another one asks
-pub record MayAssign (to p console : ℕ) (own_only : Bool) (kernel : Kernel) : Type 0 where
-  pub process : LivesInKernel to kernel
-  pub caller : Lives kernel.dispatcher.procs p
-  pub number : console ≡ byte_in (call_of kernel.dispatcher.procs p) 0
-  pub there : IsConsole kernel console
-  pub only : own_only ≡ (byte_in (call_of kernel.dispatcher.procs p) 9 == 255)
 
 -- a process has ended, and holds nothing
 pub record Discharges (p : ℕ) (old new : Kernel) : Type 0 where

@@ -52,7 +52,8 @@ procedure_called call p kernel =
     else (procedure_at (procedure_queue kernel.queues call) p kernel)
 
 -- whose held call the process's own call completed, before it ended by that: where it lives and is another one it is still to be
--- answered. A call completes one at most (law `completes_one`), so that nobody else's is forgotten (law `forgets_none`)
+-- answered. A call completes one at most (law `completes_one`), so that nobody else's is forgotten (laws `keeps_others`,
+-- `forgets_none`; of function 47, `chain_forgets_none` of mpm_machine)
 abbrev pub still_completed : Option ℕ → ℕ → Table → List ℕ
 still_completed None p procs = []
 still_completed (Some q) p procs = if q == p then [] else (if lives procs q then q ∷ [] else [])

@@ -61,12 +61,14 @@ set_value Set = 0
 set_value Overrun = failure_code
 set_value (Woke p) = 0
 
--- function 133
-unfoldable pub flag_set : Taken → Kernel → Called
-flag_set call kernel =
-    let flag = low_parameter call in
+-- function 133: a flag is set, where there is one of that number
+unfoldable pub set_if_flag : ℕ → Kernel → Called
+set_if_flag flag kernel =
     if is_flag flag then valued (set_value (set_answer (flag_at kernel.flags flag))) (signalled flag kernel)
     else (valued failure_code kernel)
+
+abbrev pub flag_set : Taken → Kernel → Called
+flag_set call kernel = set_if_flag (low_parameter call) kernel
 
 -- function 141: a process waits for ticks; for none, it is put after its equals, as function 142 does
 unfoldable pub process_delayed : Taken → ℕ → Kernel → Called

@@ -82,7 +82,7 @@ impl Kernel {
             }
             functions::POLL => return self.poll(p, byte, reply),
             functions::FLAG_WAIT => return self.wait_flag(p, byte, reply),
-            functions::FLAG_SET => return self.set_flag(p, byte, reply),
+            functions::FLAG_SET => return self.set_flag(byte, reply),
             functions::MAKE_QUEUE => return self.make_queue(p, reply),
             functions::OPEN_QUEUE => return self.open_queue(p, reply),
             functions::DELETE_QUEUE => return self.delete_queue(p, reply),

@@ -5,12 +5,13 @@ use mpm_dispatcher::done;
 use mpm_line_input::{answer_line, edited, full_line, is_full, key_echo};
 
 impl Kernel {
+    ghost use Rattle.std.specs.Prelude.{◌≡◌};
     ghost use Rattle.mpm_procs.specs.Table.{Lives, call_of};
     ghost use Rattle.mpm_kernel.specs.Kernel.{IsConsole, OwnsConsole, UsesConsole, MayCall};
     ghost use Rattle.mpm_kernel.specs.Called.{Yields};
     ghost use Rattle.mpm_kernel.specs.Consoling.{awaited};
-    ghost use Rattle.mpm_kernel.specs.ConsoleInput.{next_key, shown_key, read_key, polled_key, direct, line_done, line_with, line_read, console_served, unless_stopped, console_called, MayJoinLine};
-    ghost use Rattle.mpm_kernel.specs.Leaving.{EditsLine, TakesKey, SetsRawIf};
+    ghost use Rattle.mpm_kernel.specs.ConsoleInput.{raw_if, next_key, shown_key, read_key, polled_key, direct, line_done, line_with, line_read, console_served, unless_stopped, console_called, MayJoinLine};
+    ghost use Rattle.mpm_kernel.specs.Leaving.{EditsLine, TakesKey};
 
     /// The calls that read from the caller's console or write to it: it is attached first, or waited for. (MP/M II Programmer's
     /// Guide, functions 1 to 4, 6 and 9 to 11.)
@@ -26,7 +27,7 @@ impl Kernel {
             return self.dispatcher.retry(p, reply);
         }
         let cooks = is_cooked(self.dispatcher.procs.call(p).function);
-        self.set_raw_if(cooks, p, console, false);
+        self.set_raw_if(cooks, console, false);
         self.unless_stopped(p, console, reply)
     }
 
@@ -40,7 +41,7 @@ impl Kernel {
             return self.wait_at_gate(p, console, false, reply);
         }
         let raw = is_raw(self.dispatcher.procs.call(p).function);
-        self.set_raw_if(raw, p, console, true);
+        self.set_raw_if(raw, console, true);
         self.serve_console(p, console, reply)
     }
 
@@ -187,12 +188,10 @@ impl Kernel {
     }
 
     /// A console is made raw, or not, if it is at all.
-    #[tactic(auto, using(crate::proofs::InputLaws::has_made_raw))]
-    fn set_raw_if(&mut self, changes: bool, p: Pid, console: u8, raw: bool)
-        requires { OwnsConsole p console self.old }
-        ensures { SetsRawIf changes p console raw self.old self.new }
+    fn set_raw_if(&mut self, changes: bool, console: u8, raw: bool)
+        requires { IsConsole self.old console }
+        ensures { self.new ≡ raw_if changes console raw self.old }
     {
-        let _owner = p.0;
         if changes {
             self.units.set_raw(console, raw);
         }

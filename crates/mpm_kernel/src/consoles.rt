@@ -16,7 +16,7 @@ impl Kernel {
     ghost use Rattle.mpm_consoles.specs.Console.{MakesAndAnswers};
     ghost use Rattle.mpm_kernel.specs.Kernel.{IsSoundKernel, IsConsole, LivesInKernel, MayCall, MayUseUnit, HasSoundUnit, BecomesSound};
     ghost use Rattle.mpm_kernel.specs.Called.{Yields, done};
-    ghost use Rattle.mpm_kernel.specs.Parts.{MayHandOver, MayAssign};
+    ghost use Rattle.mpm_kernel.specs.Parts.{MayHandOver};
     ghost use Rattle.mpm_kernel.specs.Asking.{MayGive, MayMakeOwner, MayFinishKey};
     ghost use Rattle.mpm_kernel.specs.Leaving.{WritesUnit, TakesAbort, TellsOwner};
     ghost use Rattle.mpm_kernel.specs.Columns.{spoke};
@@ -272,23 +272,16 @@ impl Kernel {
             return done(reply, FAILURE_CODE);
         }
         match self.dispatcher.procs.named(name) {
-            Some(to) => self.assign_to(p, to, console, own_only, reply),
+            Some(to) => self.assign_to(to, console, own_only, reply),
             None => done(reply, FAILURE_CODE),
         }
     }
 
     /// A console is assigned to a process, if its number may be changed.
     #[tactic(auto, unfolding(crate::specs::Consoling::assigned_to, crate::specs::Consoling::owner_made))]
-    fn assign_to(
-        &mut self,
-        p: Pid,
-        to: Pid,
-        console: u8,
-        own_only: bool,
-        reply: &mut Reply,
-    ) -> Outcome
-        requires { MayAssign to p console own_only self.old }
-        ensures { Yields (assigned_to (Some to) (call_of self.old.dispatcher.procs p) self.old) self.new result reply.new }
+    fn assign_to(&mut self, to: Pid, console: u8, own_only: bool, reply: &mut Reply) -> Outcome
+        requires { MayMakeOwner to console self.old }
+        ensures { Yields (assigned_to (Some to) console own_only self.old) self.new result reply.new }
     {
         if own_only && self.dispatcher.procs.get(to).console != console {
             return done(reply, FAILURE_CODE);

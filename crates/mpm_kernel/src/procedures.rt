@@ -81,16 +81,14 @@ impl Kernel {
 
     /// The message of a process's resident procedure, where it is in one, is written back to its queue, which loses it where
     /// it is full; the process is in no procedure then.
-    #[tactic(auto, using(crate::proofs::ProcedureLaws::sound_outside, crate::proofs::ProcedureLaws::lives_outside), unfolding(crate::specs::Procedures::given_back, crate::specs::Procedures::given_back_to))]
+    #[tactic(auto, using(crate::proofs::ProcedureLaws::sound_outside, crate::proofs::ProcedureLaws::lives_outside), unfolding(crate::specs::Procedures::given_back))]
     pub fn put_back(&mut self, p: Pid)
         requires { LivesInKernel p self.old }
         ensures { BecomesWhole (given_back p self.old) self.new }
     {
         let queue = self.leave_procedure(p);
         if let Some(q) = queue {
-            if self.queues.length(q).is_some() {
-                self.write_back(p, q);
-            }
+            self.write_back(p, q);
         }
     }
 

@@ -18,8 +18,9 @@ impl Kernel {
         requires { MayMakeSystemQueue name message_length count self.old }
         ensures { BecomesSound (with_system_queue self.old name message_length count) self.new }
     {
-        if let Ok(number) = self.queues.make(name, message_length, count) {
-            self.system_queues = number + 1;
+        match self.queues.make(name, message_length, count) {
+            Ok(number) => self.system_queues = number + 1,
+            Err(_) => unreachable!(),
         }
     }
 

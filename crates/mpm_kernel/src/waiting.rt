@@ -20,9 +20,10 @@ impl Kernel {
     ghost use Rattle.mpm_procs.specs.Table.{call_of};
     ghost use Rattle.mpm_flags.specs.States.{flag_at, set_answer};
     ghost use Rattle.mpm_consoles.specs.Console.{MakesAndAnswers};
-    ghost use Rattle.mpm_kernel.specs.Asking.{MayPoll, MaySetFlag, MayDelay, MaySignal};
+    ghost use Rattle.mpm_kernel.specs.Kernel.{IsSoundKernel};
+    ghost use Rattle.mpm_kernel.specs.Asking.{MayPoll, MayDelay, MaySignal};
     ghost use Rattle.mpm_kernel.specs.Called.{Yields, low_parameter};
-    ghost use Rattle.mpm_kernel.specs.Waiting.{polled, flag_waited, flag_set as flag_set_by, process_delayed, signalled};
+    ghost use Rattle.mpm_kernel.specs.Waiting.{polled, flag_waited, set_if_flag, process_delayed, signalled};
 
     /// A process waits until a device is ready, unless it is. (MP/M II Programmer's Guide, "Function 131: Poll".)
     #[cold]
@@ -63,13 +64,13 @@ impl Kernel {
         }
     }
 
-    /// A process sets a flag. (MP/M II Programmer's Guide, "Function 133: Flag Set".)
+    /// The flag of a number is set, where there is one. (MP/M II Programmer's Guide, "Function 133: Flag Set".)
     #[cold]
     #[inline(never)]
-    #[tactic(auto, unfolding(crate::specs::Waiting::flag_set))]
-    pub(crate) fn set_flag(&mut self, p: Pid, flag: u8, reply: &mut Reply) -> Outcome
-        requires { MaySetFlag p flag self.old }
-        ensures { Yields (flag_set_by (call_of self.old.dispatcher.procs p) self.old) self.new result reply.new }
+    #[tactic(auto, unfolding(crate::specs::Waiting::set_if_flag))]
+    pub(crate) fn set_flag(&mut self, flag: u8, reply: &mut Reply) -> Outcome
+        requires { IsSoundKernel self.old }
+        ensures { Yields (set_if_flag flag self.old) self.new result reply.new }
     {
         if flag < FIRST_FLAG || LAST_FLAG < flag {
             return done(reply, FAILURE_CODE);

@@ -15,7 +15,7 @@ use Rattle.mpm_residents.specs.declared.native.Native.TheVariants.{Spool}
 use Rattle.mpm_service.specs.Places.{at_disk}
 use Rattle.mpm_spool.specs.SpoolLists.{list_of}
 use Rattle.mpm_spool.specs.Spoolers.{Spooler, call_at, next_call, begun_next, begun_with, with_list, with_block, record_in, row_at, with_record, took, took_at, after}
-use Rattle.mpm_spool.proofs.PrintedLaws.{deletes_alone}
+use Rattle.mpm_spool.proofs.CallingRows.{deletes_alone, ClosesWhole, asks_at}
 use Rattle.mpm_spool.specs.declared.list.SpoolItem.{SpoolItem}
 use Rattle.mpm_spool.specs.declared.table.Row.{Row}
 use Rattle.mpm_spool.specs.declared.table.Row.TheVariants.{ReadList, Open, Attach, AskStop, Read, Print, Detach, Close, Delete}
@@ -40,61 +40,6 @@ use Rattle.mpm_machine.specs.Printing.{NamesFile, key_of_spool_item, has_closing
 use Rattle.mpm_machine.specs.Spooling.{IsAtHome}
 use Rattle.mpm_machine.specs.State.{State}
 use Rattle.mpm_machine.specs.Stepping.{before_disk, files_begun, stepped, step_with, telling_of, telling_then, told_first, told_first_by, told_within}
-
--- by its table: an answer has it ask for a deletion only in the row in which it closes its file
-
-record ClosesWhole (row : Row) (s new : Spooler) : Type 0 where
-  closes : row ≡ Close
-  printed : s.is_unprinted ≡ false
-  same : new ≡ record s { row = Delete }
-
-begun_by_item : (next : Option SpoolItem) (s : Spooler) → (begun_with next s).row ≡ Delete → ⊥
-begun_by_item None s is = absurd (cc)
-begun_by_item (Some item) s is = absurd (cc)
-
-begun_never : (s : Spooler) → (begun_next s).row ≡ Delete → ⊥
-unfolding begun_next
-begun_never s is = begun_by_item (slice_get s.left 0) (record s { left = drop 1 s.left }) is
-
-listed_never : (list : Option (List SpoolItem)) (s : Spooler) → s.row ≡ ReadList → (with_list list s).row ≡ Delete → ⊥
-listed_never None s at is = absurd (cc)
-listed_never (Some items) s at is = begun_never (record s { left = items }) is
-
-row_never : (bytes : List ℕ) (place : ℕ) → row_at bytes place ≡ Delete → ⊥
-row_never bytes place = by_tests (nat_lt place 128) (slice_index bytes place == 26)
-  where
-    by_tests : (below ends : Bool) → (if below then (if ends then Detach else Print) else AskStop) ≡ Delete → ⊥
-    by_tests true true is = absurd (cc)
-    by_tests true false is = absurd (cc)
-    by_tests false ends is = absurd (cc)
-
-record_never : (reply : Answer) (s : Spooler) → (with_record reply s).row ≡ Delete → ⊥
-record_never reply s = by_tests (reply.hl == 0) (reply.hl == 1)
-  where
-    by_tests : (came over : Bool)
-        → (if came then record s { row = row_at (record_in reply) 0; bytes = record_in reply; place = 0 }
-        else (if over then record s { row = Detach } else record s { row = Detach; is_unprinted = true })).row ≡ Delete → ⊥
-    by_tests true over is = row_never (record_in reply) 0 is
-    by_tests false true is = absurd (cc)
-    by_tests false false is = absurd (cc)
-
-kept_printed : (deletes unprinted : Bool) → (deletes && not unprinted) ≡ true → unprinted ≡ false
-kept_printed true true both = absurd (false≢true both)
-kept_printed true false both = refl
-kept_printed false unprinted both = absurd (false≢true both)
-
-asks_at : (row : Row) (s : Spooler) (reply : Answer) → s.row ≡ row → (took_at row s reply).row ≡ Delete → ClosesWhole row s (took_at row s reply)
-asks_at ReadList s reply at is = absurd (listed_never (list_of (in_width 128 reply.bytes)) s at is)
-asks_at Open s reply at is = absurd (either (λ (t : Spooler). t.row ≡ Delete → ⊥) (reply.hl == 0) _ _ (λ _ e. absurd (cc)) (λ _. begun_never s) is)
-asks_at Attach s reply at is = absurd (either (λ (t : Spooler). t.row ≡ Delete → ⊥) (reply.hl == 0) _ _ (λ _ e. absurd (cc)) (λ _ e. absurd (cc)) is)
-asks_at AskStop s reply at is = absurd (either (λ (t : Spooler). t.row ≡ Delete → ⊥) (reply.hl == 0) _ _ (λ _ e. absurd (cc)) (λ _ e. absurd (cc)) is)
-asks_at Read s reply at is = absurd (record_never reply (with_block reply s) is)
-asks_at Print s reply at is = absurd (row_never s.bytes (s.place + 1) is)
-asks_at Detach s reply at is = absurd (cc)
-asks_at Close s reply at is =
-    either (λ (t : Spooler). t.row ≡ Delete → ClosesWhole Close s t) (s.item.delete && not s.is_unprinted) _ _
-    (λ both _. record { closes = refl; printed = kept_printed s.item.delete s.is_unprinted both; same = refl }) (λ _ e. absurd (begun_never s e)) is
-asks_at Delete s reply at is = absurd (begun_never s is)
 
 -- since a step began, as it had taken the first answers: where it now asks for a deletion, it has taken no other, or one more, to its closing
 abbrev AsksOnly : List Answer → List Answer → Type 0

@@ -34,7 +34,7 @@ use Rattle.mpm_kernel.specs.Dates.{date_set, date_answered, time_answered}
 use Rattle.mpm_kernel.specs.Kernel.{Kernel, with_changed, dispatched, call_begun}
 use Rattle.mpm_kernel.specs.Procedures.{procedure_queue, inside, procedure_read, procedure_at, procedure_called}
 use Rattle.mpm_kernel.specs.Queueing.{with_queue, queue_made, opened, may_delete, deleted, queued, blocked_or_refused, taken_from, was_read, read_at, given_to, was_written, write_at}
-use Rattle.mpm_kernel.specs.Waiting.{polled, is_flag, flag_waited_for, waited, with_woken, signalled, flag_waited, flag_set, process_delayed}
+use Rattle.mpm_kernel.specs.Waiting.{polled, is_flag, flag_waited_for, waited, with_woken, signalled, flag_waited, set_if_flag, flag_set, process_delayed}
 use Rattle.mpm_line_input.specs.Lines.{is_full, ends, line_end}
 use Rattle.mpm_procs.proofs.MapLaws.{process_kept, process_after, call_after, call_changed}
 use Rattle.mpm_procs.specs.Table.{Table, process_in, call_of, with_call}
@@ -225,21 +225,21 @@ made_same : (console to : ℕ) (kernel : Kernel) → settings_of (process_in ker
 unfolding owner_made
 made_same console to kernel = refl
 
-prints_assigned_to : (q : ℕ) (o : Option ℕ) (call : Taken) (kernel : Kernel) → PrintsOn q kernel (assigned_to o call kernel)
+prints_assigned_to : (q : ℕ) (o : Option ℕ) (console : ℕ) (own_only : Bool) (kernel : Kernel) → PrintsOn q kernel (assigned_to o console own_only kernel)
 unfolding assigned_to
-prints_assigned_to q None call kernel = prints_same q kernel kernel refl refl
-prints_assigned_to q (Some to) call kernel =
-    let made = owner_made (byte_in call 0) to kernel in
-    prints_if q kernel (is_meant call (process_in kernel.dispatcher.procs to)) _ _
-    (prints_both q kernel made _ (prints_owner_made q (byte_in call 0) to kernel)
-    (prints_changed q to made (record (process_in kernel.dispatcher.procs to) { console = byte_in call 0 }) (made_same (byte_in call 0) to kernel)))
+prints_assigned_to q None console own_only kernel = prints_same q kernel kernel refl refl
+prints_assigned_to q (Some to) console own_only kernel =
+    let made = owner_made console to kernel in
+    prints_if q kernel (is_meant console own_only (process_in kernel.dispatcher.procs to)) _ _
+    (prints_both q kernel made _ (prints_owner_made q console to kernel)
+    (prints_changed q to made (record (process_in kernel.dispatcher.procs to) { console = console }) (made_same console to kernel)))
     (prints_same q kernel kernel refl refl)
 
 prints_assigned : (q : ℕ) (call : Taken) (p : ℕ) (kernel : Kernel) → PrintsOn q kernel (assigned call p kernel)
 unfolding assigned
 prints_assigned q call p kernel =
     prints_if q kernel (nat_lt (byte_in call 0) (length kernel.units.consoles) && may_attach kernel.units p (Console (byte_in call 0))) _ _
-    (prints_assigned_to q (named kernel.dispatcher.procs (name_at call 1)) call kernel) (prints_same q kernel kernel refl refl)
+    (prints_assigned_to q (named kernel.dispatcher.procs (name_at call 1)) (byte_in call 0) (byte_in call 9 == 255) kernel) (prints_same q kernel kernel refl refl)
 
 prints_printer_called : (q : ℕ) (call : Taken) (p : ℕ) (kernel : Kernel) → q ≢ p → PrintsOn q kernel (printer_called call p kernel)
 unfolding printer_called
@@ -408,7 +408,7 @@ pub prints_signalled : (q flag : ℕ) (kernel : Kernel) → KeepsPrinter q kerne
 prints_signalled q flag kernel = prints_same q kernel (signalled flag kernel) (procs_signalled flag kernel) (printers_signalled flag kernel)
 
 prints_flag_set : (q : ℕ) (call : Taken) (kernel : Kernel) → PrintsOn q kernel (flag_set call kernel)
-unfolding flag_set
+unfolding set_if_flag
 prints_flag_set q call kernel = prints_if q kernel (is_flag (low_parameter call)) _ _ (prints_signalled q (low_parameter call) kernel) (prints_same q kernel _ refl refl)
 
 prints_delayed : (q : ℕ) (call : Taken) (p : ℕ) (kernel : Kernel) → PrintsOn q kernel (process_delayed call p kernel)

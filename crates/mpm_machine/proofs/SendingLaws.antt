@@ -1,6 +1,6 @@
 -- A command that is sent leaves a whole system, and its process keeps its call's function and parameter.
-use Rattle.std.proofs.Common.{◌≡◌, ◌≢◌, ◌∙◌, ℕ, ◌<◌, ◌==◌, Bool, List, Some, length, refl, sym, ap, subst, arith}
-use Rattle.std.specs.Prelude.{nat_lt}
+use Rattle.std.proofs.Common.{◌≡◌, ◌≢◌, ◌∙◌, ℕ, ◌<◌, ◌≤◌, ◌==◌, Bool, true, not, List, Some, length, refl, sym, ap, subst, arith}
+use Rattle.std.specs.Prelude.{filter, nat_lt}
 use Rattle.std.proofs.lemmas.Bool.{and_parts}
 use Rattle.std.proofs.lemmas.Bool.Decides.{nat_tests}
 use Rattle.mpm_base.specs.Lists.{in_width}
@@ -13,16 +13,20 @@ use Rattle.mpm_procs.specs.Table.{Table, Lives, lives, process_in, call_of}
 use Rattle.mpm_dispatcher.specs.Dispatch.{IsReady}
 use Rattle.mpm_kernel.specs.Kernel.{Kernel}
 use Rattle.mpm_kernel.specs.Called.{Called}
+use Rattle.mpm_kernel.specs.Calls.{called}
+use Rattle.mpm_kernel.specs.Ending.{dropped_out}
+use Rattle.mpm_kernel.specs.Procedures.{outside}
 use Rattle.mpm_kernel.specs.Completion.{completion_of}
 use Rattle.mpm_kernel.specs.Consoling.{given}
 use Rattle.mpm_kernel.specs.Waiting.{completion_reply}
 use Rattle.mpm_kernel.proofs.SoundLaws.{live_kept}
+use Rattle.mpm_kernel.proofs.CompletingLaws.{completes_one, end_keeps_others}
 use Rattle.mpm_kernel.proofs.HomeLaws.{homes_stay}
 use Rattle.mpm_kernel.proofs.GivingLaws.{sound_gave, procs_gave, completed_gave}
 use Rattle.mpm_system.specs.declared.system.System.{System}
 use Rattle.mpm_system.specs.Whole.{IsWhole}
-use Rattle.mpm_system.specs.Calling.{asking, calling, served_by}
-use Rattle.mpm_system.specs.Sending.{chained, framed, console_sent, may_pass, passed, passed_after, sent, may_send, sending, chaining, is_command, let_in}
+use Rattle.mpm_system.specs.Calling.{with_kept, asking, calling, served_by}
+use Rattle.mpm_system.specs.Sending.{chained, framed, renamed, console_sent, may_pass, passed, passed_after, sent, may_send, sending, chaining, is_command, let_in}
 use Rattle.mpm_system.proofs.WholeLaws.{keeps_asked, whole_calling, whole_kernel}
 use Rattle.mpm_machine.proofs.WholeLaws.{StaysServed, stays_as_served}
 
@@ -113,6 +117,33 @@ whole_chaining interprets p system w h ready is =
     either (λ (c : Called). StaysServed p system (served_by c system).system) interprets _ _
     (λ _. whole_sent CHAIN_TO_PROGRAM message p system w h ready (sym is) (λ e. absurd (omega (arith, e))))
     (λ _. stays_as_served p system system (record { whole = w; lives = h; call = refl }))
+
+-- it completes one held call at most
+
+completed_after : (outcome : Outcome) (reply : Answer) (p : ℕ) (kernel : Kernel) → (passed_after outcome reply p kernel).dispatcher.completed ≡ kernel.dispatcher.completed
+completed_after Done reply p kernel =
+    either (λ (k : Kernel). k.dispatcher.completed ≡ kernel.dispatcher.completed) (reply.hl == 0) _ kernel (λ _. completed_passed p kernel) (λ _. refl)
+completed_after Held reply p kernel = refl
+completed_after Retry reply p kernel = refl
+completed_after Ended reply p kernel = refl
+
+sends_one : (function : ℕ) (message : List ℕ) (p : ℕ) (kernel : Kernel) → length (sent function message p kernel).kernel.dispatcher.completed ≤ 1
+unfolding sent
+sends_one function message p kernel =
+    let asked = with_kept p (framed message (call_of kernel.dispatcher.procs p)) kernel in
+    let done = called p asked in
+    omega (arith, ap (λ (ps : List ℕ). length ps) (completed_after done.outcome done.reply p (renamed function p done.kernel)), completes_one p asked)
+
+-- so a process that ends by function 47 forgets nobody else's that this completed
+pub chain_forgets_none : (p : ℕ) (system : System) → IsWhole system → Lives system.kernel.dispatcher.procs p → IsReady system.kernel.dispatcher p
+    → (call_of system.kernel.dispatcher.procs p).function ≡ CHAIN_TO_PROGRAM → let done = (chaining true p system.kernel).kernel in
+    (outside p (dropped_out p done)).dispatcher.completed ≡ filter (λ q. not (q == p)) done.dispatcher.completed
+unfolding chaining
+chain_forgets_none p system w h ready is =
+    let message = chained (process_in system.kernel.dispatcher.procs p) (call_of system.kernel.dispatcher.procs p).bytes in
+    end_keeps_others p (sent CHAIN_TO_PROGRAM message p system.kernel).kernel
+    (whole_sent CHAIN_TO_PROGRAM message p system w h ready (sym is) (λ e. absurd (omega (arith, e)))).whole.live
+    (sends_one CHAIN_TO_PROGRAM message p system.kernel)
 
 -- a command that was held goes in, as its call is completed: the process lives, and its answer is the same
 pub record LetsIn (old new : System) : Type 0 where

@@ -185,7 +185,7 @@ open_leads A H false with_it s asks = leads_begun A H s
 -- by its row: the answer of its call
 filed_leads : (row : Row) (q : ℕ) (s : Spooler) (reply : Answer) (printed : List ℕ) (kernel : Kernel) (outputs : List Output) → is_of_files (call_at row s).function ≡ true
     → (call_of kernel.dispatcher.procs q).function ≡ (call_at row s).function → (has_printer row ≡ true → HasPrinter q printed kernel outputs)
-    → Leads (Asks q kernel) (HasPrinter q (printed_by row (call_at row s).word printed) kernel outputs) (took_at row s reply).row
+    → Leads (Asks q kernel) (HasPrinter q (printed_by row (call_at row s) printed) kernel outputs) (took_at row s reply).row
 unfolding is_of_files Rattle.mpm_file_functions.specs.Functions.function_of Rattle.mpm_file_functions.specs.Functions.direct_of
 filed_leads Open q s reply printed kernel outputs files kept has =
     open_leads (Asks q kernel) (HasPrinter q [] kernel outputs) (reply.hl == 0) (with_block reply s) s (ap opens_or_attaches kept)

@@ -124,9 +124,9 @@ leads_at Asks Has bytes place has =
 
 -- what is so after an answer to a row, where what it printed is known
 
-word_is : (answers : List Answer) (reply : Answer) (row : Row) → (after answers).row ≡ row → printed_in (reply ∷ answers) ≡ printed_by row (call_at row (after answers)).word (printed_in answers)
+word_is : (answers : List Answer) (reply : Answer) (row : Row) → (after answers).row ≡ row → printed_in (reply ∷ answers) ≡ printed_by row (call_at row (after answers)) (printed_in answers)
 unfolding printed_in next_call
-word_is answers reply row is = ap (λ (r : Row). printed_by r (call_at r (after answers)).word (printed_in answers)) is
+word_is answers reply row is = ap (λ (r : Row). printed_by r (call_at r (after answers)) (printed_in answers)) is
 
 after_is : (answers : List Answer) (reply : Answer) (row : Row) → (after answers).row ≡ row → after (reply ∷ answers) ≡ took_at row (after answers) reply
 unfolding after took
@@ -134,7 +134,7 @@ after_is answers reply row is = ap (λ (r : Row). took_at r (after answers) repl
 
 -- in a row that prints nothing, what was printed of the file that it has still stands, and of one that it has opened nothing is printed yet
 pub came_still : (row : Row) (s : Spooler) (reply : Answer) (printed whole : List ℕ) → s.row ≡ row → (row ≡ Print → ⊥) → (has_file row ≡ true → Includes (reverse printed) whole)
-    → has_file (took_at row s reply).row ≡ true → Includes (reverse (printed_by row (call_at row s).word printed)) whole
+    → has_file (took_at row s reply).row ≡ true → Includes (reverse (printed_by row (call_at row s) printed)) whole
 came_still ReadList s reply printed whole is other came has = absurd (listed_has_no_file (list_of (in_width 128 reply.bytes)) s is has)
 came_still Open s reply printed whole is other came has = includes_first [] whole (record { rest = whole; whole_is = refl })
 came_still Print s reply printed whole is other came has = absurd (other refl)
@@ -154,15 +154,15 @@ Asks q kernel = opens_or_attaches (call_of kernel.dispatcher.procs q).function �
 pub takes_at : {Such : List Answer → Type 0} (q : ℕ) (answers : List Answer) (reply : Answer) (row : Row) (system : System) (outputs : List Output) → (after answers).row ≡ row
     → native_in system.residents q ≡ Some (Spool (after answers)) → IsAtHome q system → AwaitsIn 0 q system.kernel → at_disk system.kernel.disk q ≡ 0
     → Such (reply ∷ answers) → Stays Such
-    → (has_file (took_at row (after answers) reply).row ≡ true → Includes (reverse (printed_by row (call_at row (after answers)).word (printed_in answers))) (bytes_to 0 outputs))
-    → Leads (Asks q system.kernel) (HasPrinter q (printed_by row (call_at row (after answers)).word (printed_in answers)) system.kernel outputs) (took_at row (after answers) reply).row
+    → (has_file (took_at row (after answers) reply).row ≡ true → Includes (reverse (printed_by row (call_at row (after answers)) (printed_in answers))) (bytes_to 0 outputs))
+    → Leads (Asks q system.kernel) (HasPrinter q (printed_by row (call_at row (after answers)) (printed_in answers)) system.kernel outputs) (took_at row (after answers) reply).row
     → Takes Such q answers reply system outputs
 takes_at {Such} q answers reply row system outputs is acts home none gone such stays came leads =
     let next = after_is answers reply row is in
     let bytes = word_is answers reply row is in
     let P : List ℕ → Type 0 = λ printed. Leads (Asks q system.kernel) (HasPrinter q printed system.kernel outputs) (after (reply ∷ answers)).row in
     let so : P (printed_in (reply ∷ answers)) =
-    subst P (sym bytes) (subst (λ (s : Spooler). Leads (Asks q system.kernel) (HasPrinter q (printed_by row (call_at row (after answers)).word (printed_in answers)) system.kernel outputs) s.row) (sym next) leads) in
+    subst P (sym bytes) (subst (λ (s : Spooler). Leads (Asks q system.kernel) (HasPrinter q (printed_by row (call_at row (after answers)) (printed_in answers)) system.kernel outputs) s.row) (sym next) leads) in
     record {
       acts = acts;
       home = home;
@@ -323,7 +323,7 @@ asked_so q answers reply row system outputs a =
 record IsAnswered (q : ℕ) (answers : List Answer) (row : Row) (outputs : List Output) (old : Kernel) (call : Called) : Type 0 where
   set : settings_of (process_in call.kernel.dispatcher.procs q) ≡ settings_of (process_in old.dispatcher.procs q)
   none : AwaitsIn 0 q call.kernel
-  leads : Leads (Asks q call.kernel) (HasPrinter q (printed_by row (call_at row (after answers)).word (printed_in answers)) call.kernel outputs) (took_at row (after answers) call.reply).row
+  leads : Leads (Asks q call.kernel) (HasPrinter q (printed_by row (call_at row (after answers)) (printed_in answers)) call.kernel outputs) (took_at row (after answers) call.reply).row
 
 record StaysInRow (q : ℕ) (row : Row) (old : Kernel) (call : Called) : Type 0 where
   set : settings_of (process_in call.kernel.dispatcher.procs q) ≡ settings_of (process_in old.dispatcher.procs q)

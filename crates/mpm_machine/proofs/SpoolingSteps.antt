@@ -175,7 +175,7 @@ unfolding next_call
 own_finished {Such} q system outputs i out =
     let s = after i.answers in
     let reply = completion_reply system.kernel q in
-    let bytes = printed_by s.row (call_at s.row s).word (printed_in i.answers) in
+    let bytes = printed_by s.row (call_at s.row s) (printed_in i.answers) in
     spooling_took q i.answers reply system outputs
     (takes_at q i.answers reply s.row system outputs refl i.acts i.home out.none out.gone
     (i.stays i.answers reply (waiting_row s.row s out.waited) i.so) i.stays

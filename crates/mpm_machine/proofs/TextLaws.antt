@@ -17,7 +17,8 @@ use Rattle.mpm_spool.specs.Spoolers.{file_block, call_at, next_call, after}
 use Rattle.mpm_spool.specs.declared.list.SpoolItem.{SpoolItem}
 use Rattle.mpm_spool.specs.declared.table.Row.{Row}
 use Rattle.mpm_spool.specs.declared.table.Row.TheVariants.{ReadList, Open, Attach, AskStop, Read, Print, Detach, Close, Delete}
-use Rattle.mpm_spool.proofs.PrintedLaws.{text_end, text_more, prints_text, EndsText, ends_text, deletes_alone}
+use Rattle.mpm_spool.proofs.PrintedLaws.{text_end, text_more, prints_text, EndsText, ends_text}
+use Rattle.mpm_spool.proofs.CallingRows.{deletes_alone}
 use Rattle.mpm_machine.proofs.NamedLaws.{named_in_full}
 use Rattle.mpm_machine.proofs.OpeningLaws.{deleting_names}
 use Rattle.mpm_machine.proofs.PrintedItems.{has_item, its_item}

@@ -4,7 +4,7 @@ use Rattle.std.proofs.lemmas.Bool.{false≢true}
 use Rattle.mpm_base.specs.Calls.{Taken}
 use Rattle.mpm_file_functions.specs.declared.functions.FileFunction.{FileFunction}
 use Rattle.mpm_refusals.specs.declared.caller.Caller.{Caller}
-use Rattle.mpm_bdos.specs.Starting.{IsEntered, HasBegunService}
+use Rattle.mpm_bdos.specs.Starting.{IsCallBy, HasBegunService}
 use Rattle.std.proofs.lemmas.Option.{none-some, same_Some}
 use Rattle.mpm_port.specs.Disks.{Disks}
 use Rattle.mpm_ready.specs.Order.{first_of}
@@ -21,12 +21,12 @@ use Rattle.mpm_base.proofs.Options.{none_there}
 use Rattle.mpm_procs.specs.Table.{Table, call_of}
 use Rattle.mpm_kernel.specs.Kernel.{Kernel}
 use Rattle.mpm_bdos.specs.Turns.{FitsDrives, KeepsImages, StopsWithin, TurnKeeps, drive_served, has_work, drive_and_kind, images_of, without_work}
-use Rattle.mpm_bdos.specs.Asking.{HasTurnsLeft, StandForSome}
+use Rattle.mpm_bdos.specs.Asking.{HasCallTurns, StandForSome}
 use Rattle.mpm_bdos.proofs.ServedLaws.{none_before}
 use Rattle.mpm_system.specs.declared.system.System.{System}
 use Rattle.mpm_system.specs.Owing.{nobody_owes}
 use Rattle.mpm_machine.specs.Files.{FilesInService, Between, Within, turns_ended, StandsServed, StandsForFiles, StandsWorkedBy, StandsWorked}
-use Rattle.mpm_machine.specs.Holding.{IsOwnCall, HoldsKept}
+use Rattle.mpm_machine.specs.Holding.{IsOwnCall, OwnsService, HoldsKept}
 use Rattle.mpm_machine.specs.DiskStep.{owed_then, all_paid}
 use Rattle.mpm_machine.specs.Failing.{Working, is_work, working_turn, working_turn_of, works_in_turn, HaveImagesOf, FailsWithin}
 use Rattle.mpm_machine.proofs.FailingLaws.{turn_fails}
@@ -149,8 +149,8 @@ works_in system some = ap (λ b. b && is_work (turn_answer system.kernel.disk)) 
 
 -- what holds of drives does so as a turn's work is done
 
-same_entered : (caller : Caller) (function : FileFunction) (call : Taken) (one other : InService) → without_work other ≡ without_work one → IsEntered caller function call one
-    → IsEntered caller function call other
+same_entered : (caller : Caller) (function : FileFunction) (call : Taken) (one other : InService) → without_work other ≡ without_work one → IsCallBy caller function call one
+    → IsCallBy caller function call other
 same_entered caller function call one other same is = record {
   caller_is = ap (λ (s : InService). s.caller) same ∙ is.caller_is;
   function_is = ap (λ (s : InService). s.function) same ∙ is.function_is;
@@ -185,16 +185,28 @@ holds_worked disks kernel old new before behind holds keeps still fits = record 
   workless = λ none. still ∙ holds.workless (λ number. none_before (directory_at old.mounted number) (directory_at new.mounted number) (keeps.labels number) (none number));
 }
 
+-- where the disk serves a call, what is kept has it in service
+begun_there : (caller : Caller) (function : FileFunction) (call : Taken) (service : Option InService) → HasBegunService caller function call service → is_some service ≡ true
+begun_there caller function call None begun = absurd begun
+begun_there caller function call (Some service) begun = refl
+
+owned_by : (served : Option Served) (procs : Table) (service : Option InService) → is_some served ≡ true → IfSome served (λ (call : Served). IsOwnCall procs call.p service) → is_some service ≡ true
+owned_by None procs service some own = absurd (false≢true some)
+owned_by (Some call) procs service some own = begun_there own.caller own.function (call_of procs call.p) service own.entered
+
+pub is_held : (kernel : Kernel) (service : Option InService) → is_some kernel.disk.served ≡ true → OwnsService kernel service → is_some service ≡ true
+is_held kernel service some own = owned_by kernel.disk.served kernel.dispatcher.procs service some own
+
 -- where the call in service has work, the files for which all stands have a turn of it left
 turn_served : (served : Option Served) (kept : Kept) (disks : Disks) (files : FilesInService) → StandsServed served kept disks files → has_work kept.service ≡ true
-    → HasTurnsLeft (images_of disks) kept 1
+    → HasCallTurns (images_of disks) kept 1
 turn_served None kept disks (Between filing) stands works = absurd (false≢true (sym (ap has_work stands.idle) ∙ works))
 turn_served None kept disks (Within s) stands works = absurd stands
 turn_served (Some call) kept disks (Between filing) stands works = absurd stands
 turn_served (Some call) kept disks (Within s) stands works = record { situation = s; ended = stands.turns; serves = stands.serves; left = omega (arith, stands.left, stands.some) }
 
 pub turn_to_do : (disk : DiskService) (kept : Kept) (disks : Disks) (files : FilesInService) → StandsForFiles disk kept disks files → has_work kept.service ≡ true
-    → HasTurnsLeft (images_of disks) kept 1
+    → HasCallTurns (images_of disks) kept 1
 turn_to_do disk kept disks files stands works = turn_served disk.served kept disks files stands.stands works
 
 -- where no call is in service, the images stand for the drives that the files have

@@ -36,8 +36,8 @@ pub record DriveCalls : Type 0 where
 abbrev pub drive_calls : {D : Type 0} → (D → ℕ → Bool) → D → ℕ → DriveCalls
 drive_calls unsynced drives calls = record { unsynced = unsynced drives; calls = calls }
 
--- the turns that were left call the drive of the call in service, at most 20 times each, and sync none; without a call in service none
--- is called
+-- the turns that were left call the drive of the call in service, at most 20 times each, and leave none synced that wasn't; without a call
+-- in service none is called
 pub record TurnsCall (system : System) (kept : Kept) (old new : DriveCalls) : Type 0 where
   pub unsynced : KeepsUnsynced (drive_served kept.service) old.unsynced new.unsynced
   pub calls : new.calls ≤ old.calls + 20 * turns_left system.kernel.disk

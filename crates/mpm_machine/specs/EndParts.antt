@@ -1,5 +1,5 @@
 -- The end of a run and its parts, each as one relation between what is there before it and after it, whether it was done or stopped.
-use Rattle.std.specs.Prelude.{◌≡◌, ℕ, ◌++◌, ◌+◌, ◌<◌, ◌≤◌, List, [], None, Result, OnOk, OnErr, IfErr, IsSome}
+use Rattle.std.specs.Prelude.{◌≡◌, ℕ, ◌++◌, ◌+◌, ◌<◌, ◌≤◌, List, [], length, None, Result, OnOk, OnErr, IfErr, IsSome}
 use Rattle.mpm_port.specs.Disks.{Disks}
 use Rattle.mpm_port.specs.Frames.{SameDrives}
 use Rattle.mpm_port.specs.declared.Failed.{Failed}
@@ -15,7 +15,7 @@ use Rattle.mpm_bdos.specs.Serving.{Serves}
 use Rattle.mpm_bdos.specs.Syncing.{mounted_count}
 use Rattle.mpm_bdos.specs.Turns.{FitsDrives, images_of}
 use Rattle.mpm_system.specs.declared.system.System.{System}
-use Rattle.mpm_system.specs.Whole.{IsWhole}
+use Rattle.mpm_system.specs.Whole.{IsWhole, HasRoomForAll}
 use Rattle.mpm_machine.specs.declared.machine.Machine.{Machine}
 use Rattle.mpm_machine.specs.declared.machine.StepFault.{StepFault}
 use Rattle.mpm_machine.specs.Files.{Within, filing_in}
@@ -40,12 +40,20 @@ pub record Carries {D A : Type 0} (of : Ghosts D) (old new : Setup D) (result : 
   pub fits : FitsDrives of.disks new.machine.bdos.mounted new.machine.bdos.cached new.drives
   pub ends : EndsByCause itself old.outside.kept.trace new.outside.kept.trace (counts_of of old) (counts_of of new) result
 
--- the turns of a call were done, no call is in service, and no record is left to be written: it may be answered
-pub record MayEndLast (p : ℕ) (system : System) : Type 0 where
-  pub whole : IsWhole system
-  pub over : IsOver p system.kernel
-  pub none : system.records ≡ []
-  pub idle : system.kernel.disk.served ≡ None
+-- the turns of a call were done, which what is kept of file calls has in service still: it may be answered
+pub record MayAnswerCall (p : ℕ) (machine : Machine) : Type 0 where
+  pub whole : IsWhole machine.system
+  pub over : IsOver p machine.system.kernel
+  pub room : HasRoomForAll (length machine.system.records + 1)
+  pub held : IsSome machine.bdos.service
+
+-- the turns of a call were done, which is in service still, the disk serves none, and no record is left to be written: it may be answered
+pub record MayEndLast (p : ℕ) (machine : Machine) : Type 0 where
+  pub whole : IsWhole machine.system
+  pub over : IsOver p machine.system.kernel
+  pub none : machine.system.records ≡ []
+  pub idle : machine.system.kernel.disk.served ≡ None
+  pub held : IsSome machine.bdos.service
 
 -- after its turns it is answered, and the ends that are due come
 pub record EndsCall {A : Type 0} (p : ℕ) (old_outside new_outside : Outside) (old new : Machine) (result : Result A Failed) : Type 0 where

@@ -9,8 +9,8 @@ use Rattle.mpm_sched.specs.Schedulers.{Scheduler}
 use Rattle.mpm_sched.specs.Schedules.{after, SendsInOrder}
 use Rattle.mpm_sched.specs.Keeping.{KeepsSchedule}
 
--- the resident of a slot is a scheduler, as it is after these answers: it keeps what waits of all that it accepted, and its commands are sent
--- in order
+-- the resident of a slot is a scheduler, as it is after these answers: it keeps what waits of all that it accepted, and each command that it
+-- sends is the first, by time and arrival, of those that then wait
 pub record IsScheduling (q : ℕ) (answers : List Answer) (natives : List Native) : Type 0 where
   pub scheduler : Scheduler
   pub acts : native_in natives q ≡ Some (Sched scheduler)

@@ -96,7 +96,8 @@ fn bring_about(system: &mut System, outcome: Outcome, p: Pid, seg: Seg)
     match outcome {
         Outcome::Ended => end(system, p),
         Outcome::Held => system.pop(p, seg),
-        Outcome::Done | Outcome::Retry => {}
+        Outcome::Retry => {}
+        Outcome::Done => unreachable!(),
     }
 }
 

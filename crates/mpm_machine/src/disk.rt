@@ -1,4 +1,5 @@
 ghost use Rattle.mpm_procs.specs.Table.{Lives, call_of};
+ghost use Rattle.mpm_service.specs.Disk.{IsSoundService};
 ghost use Rattle.mpm_machine.specs.Acting.{MayEndCall, Makes};
 ghost use Rattle.mpm_machine.specs.FileCalls.{told_of};
 ghost use Rattle.mpm_machine.specs.DiskStep.{call_over};
@@ -12,14 +13,20 @@ use mpm_port::{Failed, Sink};
 use mpm_render::Render;
 use mpm_system::System;
 
+/// Says what is so of the disk: where it serves a call, its turns have steps.
+fn recall_turns(system: &System)
+    ensures { IsSoundService system.now.kernel.disk }
+{
+    system.kernel.disk().serving();
+}
+
 /// Whether the file call that a process made is done in its gate step: one that no disk serves, and any where turns have no steps.
 #[tactic(auto, unfolding(crate::specs::DiskStep::is_done_at_once))]
 pub(crate) fn is_done_at_once(system: &System, p: Pid) -> bool
     requires lives { Lives system.now.kernel.dispatcher.procs p }
     ensures { TellsAtOnce p system.now result }
 {
-    // Asked only for what is so of the disk: where it serves a call its turns have steps, as the clause `apart` says.
-    let _serving = system.kernel.disk().serving();
+    recall_turns(system);
     FileFunction::of(system.kernel.kept_call(p).function).is_none()
         || system.kernel.disk().turn_steps() == 0
 }

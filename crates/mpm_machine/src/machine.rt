@@ -285,8 +285,8 @@ impl Machine {
         // An interpreter that acts hands bytes only to a segment that it has reserved, in which nobody lives. An instruction leaves all but its
         // own. Calls, also those on files and of residents, are served by what was taken as they were made, whatever else memory has. What a
         // spooler printed came to its printer, stands last there while that is its own, and is a first part of its file's text. It asks for a
-        // file's deletion only after it closed it, and all of its text had come to the printer. What a scheduler sent is what it accepted, in
-        // order.
+        // file's deletion only after it closed it, and all of its text had come to the printer. What a scheduler sent is what it accepted, each
+        // command the first of those that then waited.
         ensures law { (s : State) → s.system ≡ self.old.system → IsStepOf s }
         // A success counts one step. The machine is whole again, nobody is left to be answered, no end of a process is due, and no two
         // locks are of one record. An interpreter that could act can do so still, and the disk's turns have as many steps as before.
@@ -310,7 +310,7 @@ impl Machine {
     {
         match self.take_step(drives, render, sink, calls) {
             Ok(()) => {
-                self.bdos.tell_sound();
+                self.bdos.recall_sound();
                 Ok(())
             }
             Err(fault) => Err(fault),
@@ -394,7 +394,7 @@ impl Machine {
                 Err(error) => return Err(error),
             }
         }
-        self.bdos.tell_sound();
+        self.bdos.recall_sound();
         Ok(())
     }
 
@@ -414,7 +414,7 @@ impl Machine {
     {
         let done = self.run_on(most, drives, render, sink);
         if done == most {
-            self.bdos.tell_sound();
+            self.bdos.recall_sound();
             return Ok(done);
         }
         let step = self.steps_done() + 1;

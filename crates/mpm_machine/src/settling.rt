@@ -136,7 +136,7 @@ impl Machine {
 
     /// After its turns it is answered, and the ends that are due come.
     fn end_call<S: Sink>(&mut self, p: Pid, render: &mut Render, sink: &mut S) -> Result<(), Failed>
-        requires { MayEndLast p self.old.system }
+        requires { MayEndLast p self.old }
         ensures { EndsCall p (seen S.written S.faults render.old sink.old) (seen S.written S.faults render.new sink.new) self.old self.new result }
     {
         if let Err(Failed) = self.answer_call(p, render, sink) {

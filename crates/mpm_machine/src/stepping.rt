@@ -17,7 +17,8 @@ use std::sync::ledger::Ledger;
 impl Machine {
     ghost use Rattle.mpm_procs.specs.Table.{call_of};
     ghost use Rattle.mpm_output.specs.Outside.{seen};
-    ghost use Rattle.mpm_machine.specs.Acting.{MayAnswer, MayEndCall};
+    ghost use Rattle.mpm_machine.specs.Acting.{MayAnswer};
+    ghost use Rattle.mpm_machine.specs.EndParts.{MayAnswerCall};
     ghost use Rattle.mpm_machine.specs.DiskStep.{is_done_at_once};
     ghost use Rattle.mpm_machine.specs.FileCalls.{file_caller, told_of, concluded};
     ghost use Rattle.mpm_machine.specs.Parts.{MayBeginStep, MayCallFiles, MayEnd, MayEndStep};
@@ -178,7 +179,7 @@ impl Machine {
         render: &mut Render,
         sink: &mut S,
     ) -> Result<(), Failed>
-        requires { MayEndCall p self.old.system }
+        requires { MayAnswerCall p self.old }
         ensures { AnswersCall p (seen S.written S.faults render.old sink.old) (seen S.written S.faults render.new sink.new) self.old self.new result }
     {
         let extended = self.bdos.reply(&mut self.reply);

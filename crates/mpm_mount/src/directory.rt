@@ -67,7 +67,7 @@ impl Mounted {
     }
 
     /// Says what is so of the directory: it has all slots and no fault, and its entries can be written.
-    pub fn tell_directory(&self)
+    pub fn recall_directory(&self)
         ensures { IsDirectory self.now.kind self.now.entries }
     {
         let _ = &self.entries;
@@ -103,7 +103,7 @@ impl Mounted {
         requires { MayReplace self.old.kind self.old.entries slot entry }
         ensures { self.new ≡ with_entry self.old slot entry }
     {
-        tell_whole(&entry);
+        recall_whole(&entry);
         replace(
             self.kind,
             &mut self.entries,
@@ -169,33 +169,33 @@ impl Mounted {
 }
 
 /// Says how long an array is.
-fn tell_size<T, const N: usize>(array: &[T; N])
+fn recall_size<T, const N: usize>(array: &[T; N])
     ensures { length array.now ≡ N }
 {}
 
 /// Says what is so of each entry: its parts have the lengths of their arrays.
-fn tell_whole(entry: &Entry)
+fn recall_whole(entry: &Entry)
     ensures { IsWholeEntry entry.now }
 {
     match entry {
         Entry::Free => {}
         Entry::File { file } => {
-            tell_size(&file.name);
-            tell_size(&file.blocks);
+            recall_size(&file.name);
+            recall_size(&file.blocks);
         }
         Entry::Xfcb { xfcb } => {
-            tell_size(&xfcb.name);
-            tell_size(&xfcb.password);
-            tell_size(&xfcb.first);
-            tell_size(&xfcb.second);
+            recall_size(&xfcb.name);
+            recall_size(&xfcb.password);
+            recall_size(&xfcb.first);
+            recall_size(&xfcb.second);
         }
         Entry::Label { label } => {
-            tell_size(&label.name);
-            tell_size(&label.password);
-            tell_size(&label.first);
-            tell_size(&label.second);
+            recall_size(&label.name);
+            recall_size(&label.password);
+            recall_size(&label.first);
+            recall_size(&label.second);
         }
-        Entry::Kept { bytes } => tell_size(bytes),
+        Entry::Kept { bytes } => recall_size(bytes),
     }
 }
 

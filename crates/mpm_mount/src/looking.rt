@@ -29,7 +29,7 @@ fn label_at(entry: &Entry) -> Option<LabelEntry>
 fn label_in(mounted: &Mounted) -> Option<LabelEntry>
     ensures { result ≡ spec.label_in mounted.now }
 {
-    mounted.tell_directory();
+    mounted.recall_directory();
     match mounted.label() {
         Some(slot) => label_at(mounted.entry(slot)),
         None => None,
@@ -70,7 +70,7 @@ fn xfcb_at(entry: &Entry) -> Option<XfcbEntry>
 fn xfcb_in(mounted: &Mounted, user: u8, name: &[u8; 11]) -> Option<XfcbEntry>
     ensures { result ≡ spec.xfcb_in mounted.now (record { user = user; name = plain name.now }) }
 {
-    mounted.tell_directory();
+    mounted.recall_directory();
     match mounted.xfcb(user, name) {
         Some(slot) => xfcb_at(mounted.entry(slot)),
         None => None,
@@ -116,7 +116,7 @@ fn count_at(entry: &Entry, extent: u16) -> Option<u8>
 fn count_of(mounted: &Mounted, user: u8, name: &[u8; 11], extent: u16) -> Option<u8>
     ensures { result ≡ spec.count_of mounted.now (record { user = user; name = plain name.now }) extent }
 {
-    mounted.tell_directory();
+    mounted.recall_directory();
     match mounted.extent(user, name, extent) {
         Some(slot) => count_at(mounted.entry(slot), extent),
         None => None,
@@ -160,7 +160,7 @@ pub fn attributes(mounted: &Mounted, user: u8, name: &[u8; 11]) -> Option<[bool;
     ensures { (image : List ℕ) (drive : Drive) → Stands image mounted.now drive
         → file_attributes drive (record { user = user; name = plain name.now }) ≡ result }
 {
-    mounted.tell_directory();
+    mounted.recall_directory();
     match lowest_entry(mounted, user, name) {
         Some(found) => attributes_at(mounted.entry(found.slot)),
         None => None,

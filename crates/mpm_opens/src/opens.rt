@@ -117,8 +117,7 @@ impl Opens {
         requires { IsLive self.old item }
         ensures { Closes item self.old self.new }
     {
-        // Reading a field tells that all is sound, which the clauses need.
-        let _ = &self.items;
+        self.recall_sound();
         self.close_once(item);
     }
 
@@ -189,7 +188,7 @@ impl Opens {
     }
 
     /// Says what is so of open files and locks at any time: no two locks are of one record.
-    pub fn tell_sound(&self)
+    pub fn recall_sound(&self)
         ensures { AreOpen self.now }
     {
         // Reading a field tells it.
@@ -222,8 +221,7 @@ impl Opens {
     fn give_back_files(&mut self, p: Pid, files: &FileSet)
         ensures { Leaves p (is_among files.now) self.old self.new }
     {
-        // Reading a field tells that all is sound, which the clauses need.
-        let _ = &self.items;
+        self.recall_sound();
         self.let_go(p, files);
     }
 

@@ -89,8 +89,7 @@ fn may_act(queues: &Queues, p: Pid, q: u8, procs: &Procs) -> bool
     ensures lives { OnTrue result (Lives procs.now p) }
     ensures waiting { OnTrue result ((w : ℕ) → waits_at queues.now q w ≡ true → Lives procs.now w) }
 {
-    let _slot = p.0;
-    all_live(procs) && queues.length(q).is_some()
+    procs.lives(p) && all_live(procs) && queues.length(q).is_some()
 }
 
 /// The answer of a queue.

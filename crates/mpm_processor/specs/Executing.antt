@@ -59,12 +59,12 @@ pub record MayExecuteAt (inside : Bool) (seg : ℕ) (view : View) : Type 0 where
   pub home : IsHome view.memory seg
   pub gate : gate_of inside view.memory seg view.regs.pc ≡ None
 
--- so many instructions, of at most so many
-pub record MovesAtMost (inside : Bool) (most n : ℕ) (old new : View) : Type 0 where
+-- so many instructions, of at most so many, at none of which a gate is, whether the process is in a resident procedure or not
+pub record MovesAtMost (most n : ℕ) (old new : View) : Type 0 where
   pub count : n ≤ most
-  pub moved : Moves inside n 0 old new
+  pub moved : (inside : Bool) → Moves inside n 0 old new
 
--- and none only where none can be done
+-- so many instructions, of at most so many, and none only where none can be done
 pub record MovesUnlessStopped (inside : Bool) (most n : ℕ) (old new : View) : Type 0 where
   pub count : n ≤ most
   pub moved : Moves inside n 0 old new
@@ -75,8 +75,7 @@ pub record MayExecutePlain (most : ℕ) (spec : SegmentSpec) : Type 0 where
   pub fits : FitsBelowCommon spec
   pub some : 0 < most
 
--- and the processor stands in a HALT
-pub record MayPauseInHalt (most : ℕ) (spec : SegmentSpec) (regs : Regs) : Type 0 where
+-- the processor stands in a HALT
+pub record MayPauseInHalt (spec : SegmentSpec) (regs : Regs) : Type 0 where
   pub fits : FitsBelowCommon spec
-  pub some : 0 < most
   pub halted : regs.halted ≡ true

@@ -1,4 +1,4 @@
-ghost use Rattle.std.specs.Prelude.{◌≡◌, option_map};
+ghost use Rattle.std.specs.Prelude.{◌≡◌, ℕ, ◌<◌, option_map};
 ghost use Rattle.z80_ext.specs.Instruction.{IsRareAt, IsLoadUpAt};
 ghost use Rattle.z80_ext.specs.Steps.{IsFetched};
 ghost use Rattle.mpm_banks.specs.Allocations.{FitsBelowCommon};
@@ -184,7 +184,6 @@ fn execute_load(
 /// Transfers of LDIR, as long as it is at PC, at most so many. It is code of its own, so that its bus stays in registers.
 #[inline(never)]
 fn execute_loads(
-    inside: bool,
     most: u64,
     spec: SegmentSpec,
     regs: &mut Regs,
@@ -193,7 +192,7 @@ fn execute_loads(
     devices: &mut Devices,
 ) -> u64
     requires { FitsBelowCommon spec }
-    ensures { MovesAtMost inside most result (view_of spec regs.old segment.old common.old devices.old)
+    ensures { MovesAtMost most result (view_of spec regs.old segment.old common.old devices.old)
         (view_of spec regs.new segment.new common.new devices.new) }
 {
     for done in 0..most {
@@ -230,15 +229,7 @@ fn execute_others(
     if regs.pc != pc {
         return 1;
     }
-    1 + execute_loads(
-        burst.inside,
-        burst.most - 1,
-        spec,
-        regs,
-        segment,
-        common,
-        devices,
-    )
+    1 + execute_loads(burst.most - 1, spec, regs, segment, common, devices)
 }
 
 /// What plain instructions in a row came to.
@@ -266,15 +257,14 @@ fn opcode_of(fetched: Option<Fetched>) -> Option<u8>
 #[inline(never)]
 fn pause_in_halt(
     inside: bool,
-    most: u64,
     spec: SegmentSpec,
     regs: &Regs,
     segment: &mut [u8],
     common: &mut [u8],
     devices: &mut Devices,
 ) -> Paused
-    requires { MayPauseInHalt most spec regs.now }
-    ensures { IsPaused inside most (view_of spec regs.now segment.old common.old devices.old)
+    requires { MayPauseInHalt spec regs.now }
+    ensures { (most : ℕ) → 0 < most → IsPaused inside most (view_of spec regs.now segment.old common.old devices.old)
         (view_of spec regs.now segment.new common.new devices.new) result }
 {
     let here = fetch(inside, spec, regs.pc, segment, common, devices);
@@ -301,7 +291,7 @@ fn execute_plain(
         (view_of spec regs.new segment.new common.new devices.new) result }
 {
     if regs.halted {
-        return pause_in_halt(inside, most, spec, regs, segment, common, devices);
+        return pause_in_halt(inside, spec, regs, segment, common, devices);
     }
     for done in 0..most {
         let fetched = match fetch(inside, spec, regs.pc, segment, common, devices) {

@@ -59,7 +59,7 @@ impl Queues {
     ghost use Rattle.std.specs.Prelude.{is_some};
     ghost use Rattle.mpm_ready.specs.Tables.{list_of};
     ghost use Rattle.mpm_queues.specs.Queue.{is_drained, is_full};
-    ghost use Rattle.mpm_queues.specs.Queues.{no_queues, IsMade, FindsQueue, MakesQueue, found, is_named, is_free, holds, lowest_held, may_end};
+    ghost use Rattle.mpm_queues.specs.Queues.{AreSoundQueues, no_queues, IsMade, FindsQueue, MakesQueue, found, is_named, is_free, holds, lowest_held, may_end};
     ghost use Rattle.mpm_queues.specs.Handling.{MayReadQueue, MayWriteQueue, MayEnlist, enlisted, queues_without_waiter, may_wait};
     ghost use Rattle.mpm_queues.specs.Exchanges.{FindsFree, TellsWidth, DeletesQueue, TakesMessage, ReadsMessage, PutsMessage, WritesMessage};
 
@@ -104,12 +104,19 @@ impl Queues {
         Ok(q as u8)
     }
 
+    /// Says what is so of the queues at any time: they are proper and differ in their names, and who waits may wait.
+    fn recall_sound(&self)
+        ensures { AreSoundQueues self.now }
+    {
+        let _ = &self.alive;
+    }
+
     /// The number of the queue of that name. (MP/M II Programmer's Guide, "Function 135: Open Queue".)
     #[tactic(auto, using(crate::proofs::Finding::failed_none, crate::proofs::Finding::failed_more, crate::proofs::Finding::found_lowest, crate::proofs::Finding::found_none, crate::proofs::WaitLaws::named_made))]
     pub fn find(&self, name: Name8) -> Option<u8>
         ensures { FindsQueue (found self.now name) self.now result }
     {
-        let _ = &self.alive;
+        self.recall_sound();
         for q in 0..QUEUES {
             if self.is_named(q, name) {
                 return Some(q as u8);
@@ -234,7 +241,6 @@ impl Queues {
         requires { MayEnlist p q reader self.old }
         ensures { self.new ≡ enlisted self.old p priority q reader }
     {
-        let _slot = p.0;
         self.waiters.insert(list_for(q, reader), p, priority);
     }
 
@@ -287,7 +293,7 @@ impl Queues {
     pub fn held(&self, p: Pid) -> Option<u8>
         ensures { FindsQueue (lowest_held self.now p) self.now result }
     {
-        let _ = &self.alive;
+        self.recall_sound();
         for q in 0..QUEUES {
             if self.is_holder(p, q) {
                 return Some(q as u8);

@@ -38,11 +38,19 @@ impl Lists {
         }
     }
 
+    /// Says what is so of the lists at any time: each is in ready order, and a process is in at most one of them, and once.
+    pub fn recall_table(&self)
+        ensures { IsTable self.now }
+    {
+        let _ = &self.links;
+    }
+
     /// Puts a process that is in no list into one, after all of equal or better priority (0 is best, 255 worst).
     pub fn insert(&mut self, list: u8, p: Pid, priority: u8)
         requires below { list < 96 }
         requires unlisted { list_of self.old p ≡ None }
-        ensures { self.new ≡ inserted self.old list (record { slot = p; priority = priority }) }
+        ensures lists { self.new ≡ inserted self.old list (record { slot = p; priority = priority }) }
+        ensures slot { p < 32 }
     {
         self.links.put(p, ListPlace { list, priority });
     }

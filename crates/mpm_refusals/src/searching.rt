@@ -102,18 +102,18 @@ fn is_behind(kind: Kind, behind: Option<EntryPlace>, found: &Found) -> bool
 }
 
 /// Whether an entry covers the extent that is sought, or each is sought, by `?`.
-fn is_of_extent(kind: Kind, user: u8, extent: u8, found: &Found) -> bool
-    ensures { result ≡ spec.is_of_extent kind extent (entry_found kind user found.now) }
+fn is_of_extent(kind: Kind, extent: u8, found: &Found) -> bool
+    ensures { (user : ℕ) → result ≡ spec.is_of_extent kind extent (entry_found kind user found.now) }
 {
     extent == b'?' || number_of(kind, found.extent) == number_of(kind, u16::from(extent))
 }
 
 /// Whether an entry covers the extent that is sought, and is after a place, if there is one.
-fn is_sought(kind: Kind, user: u8, extent: u8, behind: Option<EntryPlace>, found: &Found) -> bool
-    ensures { result
+fn is_sought(kind: Kind, extent: u8, behind: Option<EntryPlace>, found: &Found) -> bool
+    ensures { (user : ℕ) → result
         ≡ (spec.is_of_extent kind extent (entry_found kind user found.now) && spec.is_behind (option_map (at_place user) behind) (entry_found kind user found.now)) }
 {
-    is_of_extent(kind, user, extent, found) && is_behind(kind, behind, found)
+    is_of_extent(kind, extent, found) && is_behind(kind, behind, found)
 }
 
 /// The first entry of a user after a place, if there is one, whose name fits a pattern and that covers an extent. (MP/M II
@@ -130,7 +130,7 @@ pub(crate) fn found_in(
     let kind = mounted.kind();
     let mut last = start_of(kind, behind);
     while let Some(found) = mounted.next(user, pattern, last) {
-        if is_sought(kind, user, extent, behind, &found) {
+        if is_sought(kind, extent, behind, &found) {
             return Some(found);
         }
         last = Some(found);

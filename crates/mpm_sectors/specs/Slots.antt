@@ -21,13 +21,17 @@ is_extended sort = nat_le 16 sort && nat_le sort 32
 abbrev pub with_reserved : List ℕ → List ℕ → List ℕ
 with_reserved old bytes = if is_extended (slice_index old 0) then take 14 bytes ++ (part 14 2 old ++ drop 16 bytes) else bytes
 
--- the bytes of an entry in the place of others: a free entry changes the first byte alone
+-- an entry, by its bytes, in the place of others: a free entry changes the first byte alone
+abbrev pub laid_over : List ℕ → Entry → List ℕ → List ℕ
+laid_over old Free bytes = 229 ∷ drop 1 old
+laid_over old (File f) bytes = bytes
+laid_over old (Xfcb x) bytes = with_reserved old bytes
+laid_over old (Label l) bytes = with_reserved old bytes
+laid_over old (Kept kept) bytes = bytes
+
+-- the same by the width of its map
 unfoldable pub bytes_over : Bool → List ℕ → Entry → List ℕ
-bytes_over wide old Free = 229 ∷ drop 1 old
-bytes_over wide old (File f) = bytes_of (File f) wide
-bytes_over wide old (Xfcb x) = with_reserved old (bytes_of (Xfcb x) wide)
-bytes_over wide old (Label l) = with_reserved old (bytes_of (Label l) wide)
-bytes_over wide old (Kept bytes) = bytes_of (Kept bytes) wide
+bytes_over wide old entry = laid_over old entry (bytes_of entry wide)
 
 -- an entry that is written over the bytes of another is read back as it was
 pub record IsReadBack (wide : Bool) (entry : Entry) : Type 0 where

@@ -169,7 +169,7 @@ impl Disk {
             Ok(()) => {}
             Err(failed) => return Err(failed),
         }
-        put_entry(&mut sector, slot % 4, entry, &bytes, wide);
+        put_entry(&mut sector, slot % 4, entry, &bytes);
         self.put(cache, drives, u32::from(slot / 4), &sector, steps)
     }
 
@@ -198,14 +198,8 @@ impl Disk {
             Ok(()) => {}
             Err(failed) => return Err(failed),
         }
-        put_entry(&mut sector, first.slot % 4, &first.entry, &bytes, wide);
-        put_entry(
-            &mut sector,
-            second.slot % 4,
-            &second.entry,
-            &second_bytes,
-            wide,
-        );
+        put_entry(&mut sector, first.slot % 4, &first.entry, &bytes);
+        put_entry(&mut sector, second.slot % 4, &second.entry, &second_bytes);
         self.put(cache, drives, u32::from(first.slot / 4), &sector, steps)
     }
 }

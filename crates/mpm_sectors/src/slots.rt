@@ -1,7 +1,8 @@
 ghost use Rattle.std.specs.Prelude.{◌≡◌, ◌<◌, ◌≤◌, ◌∷◌, drop};
 ghost use Rattle.mpm_dirent.specs.Entries.{part, bytes_of};
 ghost use Rattle.mpm_dirent.specs.Proper.{IsProper};
-ghost use Rattle.mpm_sectors.specs.Slots.{IsReadBack, with_reserved, bytes_over, with_entry};
+ghost use Rattle.mpm_blocks.specs.Sectors.{with_slot};
+ghost use Rattle.mpm_sectors.specs.Slots.{IsReadBack, with_reserved, laid_over, slot_bytes};
 
 use mpm_dirent::{Entry, write_entry};
 
@@ -17,20 +18,12 @@ pub(crate) fn entry_bytes(entry: &Entry, wide: bool) -> [u8; 32]
 }
 
 /// Puts an entry of these bytes in the place of another, one of the four of a sector.
-#[tactic(auto, unfolding(crate::specs::Slots::with_entry))]
-pub(crate) fn put_entry(
-    sector: &mut [u8; 128],
-    place: u16,
-    entry: &Entry,
-    bytes: &[u8; 32],
-    wide: bool,
-)
-    requires place { place < 4 }
-    requires bytes { bytes.now ≡ bytes_of entry.now wide }
-    ensures { sector.new ≡ with_entry wide sector.old place entry.now }
+pub(crate) fn put_entry(sector: &mut [u8; 128], place: u16, entry: &Entry, bytes: &[u8; 32])
+    requires { place < 4 }
+    ensures { sector.new ≡ with_slot sector.old place (laid_over (slot_bytes sector.old place) entry.now bytes.now) }
 {
     let from = 32 * usize::from(place);
-    let over = entry_over(&slot_bytes(sector, from), entry, bytes, wide);
+    let over = entry_over(&slot_bytes(sector, from), entry, bytes);
     sector[from..from + 32].copy_from_slice(&over);
 }
 
@@ -45,10 +38,8 @@ fn slot_bytes(sector: &[u8; 128], from: usize) -> [u8; 32]
 }
 
 /// An entry of these bytes in the place of others.
-#[tactic(auto, unfolding(crate::specs::Slots::bytes_over))]
-fn entry_over(old: &[u8; 32], entry: &Entry, bytes: &[u8; 32], wide: bool) -> [u8; 32]
-    requires { bytes.now ≡ bytes_of entry.now wide }
-    ensures { result ≡ bytes_over wide old.now entry.now }
+fn entry_over(old: &[u8; 32], entry: &Entry, bytes: &[u8; 32]) -> [u8; 32]
+    ensures { result ≡ laid_over old.now entry.now bytes.now }
 {
     match entry {
         Entry::Free => freed(old),

@@ -209,8 +209,7 @@ impl Service {
     pub fn serving(&self) -> Option<Pid>
         ensures { TellsServed self.now result }
     {
-        // Asked only for what is so of the list, which `waiting` of the contract says.
-        let _first = self.waiting.first();
+        self.waiting.recall_list();
         match self.served {
             Some(call) => Some(call.p),
             None => None,

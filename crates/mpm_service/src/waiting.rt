@@ -1,5 +1,6 @@
 ghost use Rattle.std.specs.Prelude.{◌≡◌, [], false};
 ghost use Rattle.mpm_ready.specs.Order.{put_in, in_list};
+ghost use Rattle.mpm_service.specs.Waiting.{IsWaitList};
 ghost use Rattle.mpm_service.specs.Calling.{TellsFirst, RemovesWaiter};
 
 use mpm_base::Pid;
@@ -46,6 +47,13 @@ impl Waiting {
         ensures { self.new ≡ put_in self.old (record { slot = p; priority = priority }) }
     {
         self.lists.insert(LIST, p, priority);
+    }
+
+    /// Says what is so of the list at any time: it is in ready order, and each process is in it once.
+    pub(crate) fn recall_list(&self)
+        ensures { IsWaitList self.now }
+    {
+        self.lists.recall_table();
     }
 
     /// The first that waits, none exactly where nobody does.

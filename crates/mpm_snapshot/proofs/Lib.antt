@@ -1,3 +1,4 @@
+mod EndingLaws
 pub mod RequestLaws
 pub mod Saved
 pub mod SaveLaws

@@ -1,4 +1,4 @@
-ghost use Rattle.std.specs.Prelude.{◌≡◌};
+ghost use Rattle.std.specs.Prelude.{◌≡◌, ◌≢◌};
 ghost use Rattle.mpm_snapshot.specs.Numbers.{number_of};
 ghost use Rattle.mpm_snapshot.specs.Endings.{run_of as run_said};
 
@@ -28,6 +28,7 @@ pub fn number(status: SnapStatus) -> u8
 
 /// How the run of a machine ended, where that is the ending.
 fn run_of(status: SnapStatus) -> Status
+    requires { run_said status ≢ Status.Ran }
     ensures { result ≡ run_said status }
 {
     match status {
@@ -47,7 +48,10 @@ fn run_of(status: SnapStatus) -> Status
         SnapStatus::ReadFault => Status::ReadFault,
         SnapStatus::DiskFault { step } => Status::DiskFault { step },
         SnapStatus::OutOfMemory => Status::OutOfMemory,
-        _ => Status::Ran,
+        SnapStatus::Done => unreachable!(),
+        SnapStatus::WriteFault => unreachable!(),
+        SnapStatus::NoProcess => unreachable!(),
+        SnapStatus::CoreFault { .. } => unreachable!(),
     }
 }
 
@@ -61,6 +65,7 @@ impl fmt::Display for Message {
 
     ghost output = { λ message. Some (message_of message.0) };
 
+    #[tactic(auto, using(crate::proofs::EndingLaws::ended_early))]
     fn fmt<W: fmt::Write>(&self, f: &mut fmt::Formatter<W>) -> fmt::Result {
         match self.0 {
             SnapStatus::Done => write!(f, ""),

@@ -1,4 +1,4 @@
-ghost use Rattle.std.specs.Prelude.{◌≡◌, ◌≤◌, true, IfOk};
+ghost use Rattle.std.specs.Prelude.{◌≡◌, ◌≢◌, ◌≤◌, true, IfOk};
 ghost use Rattle.mpm_script.specs.declared.line.TheConstants.{GREATEST_STEP};
 ghost use Rattle.mpm_core_file.specs.CoreFiles.{IsCore};
 ghost use Rattle.mpm_top.specs.Beginnings.{command_on};
@@ -67,10 +67,11 @@ impl Taker {
 
 /// How a save ends whose run ended early.
 fn stopped(status: Status) -> SnapStatus
+    requires { status ≢ Status.Ran }
     ensures { result ≡ status_of status }
 {
     match status {
-        Status::Ran => SnapStatus::Done,
+        Status::Ran => unreachable!(),
         Status::Usage => SnapStatus::Usage,
         Status::MachineFault => SnapStatus::MachineFault,
         Status::ScriptFault { line } => SnapStatus::ScriptFault { line },

@@ -38,7 +38,6 @@ pub fn snapshot_words<F: Files, D: Drives, S: Sink>(
             let Some(most) = asked_to_resume(word.as_str(), name.as_str(), most.as_str()) else {
                 return SnapStatus::Usage;
             };
-            let _ = drives;
             resume(alloc, name.as_str(), most, files, sink)
         }
         [word, form, name, steps, process] => {

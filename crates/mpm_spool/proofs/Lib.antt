@@ -1,4 +1,5 @@
 pub mod Items
 pub mod Lists
+pub mod CallingRows
 pub mod PrintedLaws
 pub mod examples

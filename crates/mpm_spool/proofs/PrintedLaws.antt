@@ -9,8 +9,8 @@ use Rattle.mpm_base.proofs.Choices.{either}
 use Rattle.mpm_base.specs.Lists.{in_width}
 use Rattle.mpm_base.proofs.Widths.{length_in_width}
 use Rattle.mpm_base.specs.Calls.{Answer}
-use Rattle.mpm_base.specs.declared.functions.TheConstants.{DELETE_FILE}
 use Rattle.mpm_port.specs.Texts.{Begins}
+use Rattle.mpm_spool.proofs.CallingRows.{prints_with_printer, deletes_alone, deletes_closed}
 use Rattle.mpm_spool.specs.Spoolers.{Spooler, opening, call_at, next_call, took, took_at, after, record_in, row_at, begun_with, begun_next, with_list, with_block, counted}
 use Rattle.mpm_spool.specs.SpoolLists.{list_of}
 use Rattle.mpm_spool.specs.declared.list.SpoolItem.{SpoolItem}
@@ -204,8 +204,13 @@ counts_more s printed byte count few =
 
 -- each row
 
+abbrev printed_at : Row → ℕ → List ℕ → List ℕ
+printed_at Open byte bytes = []
+printed_at Print byte bytes = bytes ++ byte % 256 ∷ []
+printed_at _ byte bytes = bytes
+
 went : (row : Row) (s : Spooler) (reply : Answer) (read printed : List ℕ) (ended : Bool) → s.row ≡ row → Goes row s read printed ended → (has_file row ≡ true → Counts s printed)
-    → IsPrinting (took_at row s reply) (read_by row reply read) (printed_by row (slice_index s.bytes s.place) printed) (ended_by row reply ended)
+    → IsPrinting (took_at row s reply) (read_by row reply read) (printed_at row (slice_index s.bytes s.place) printed) (ended_by row reply ended)
 went ReadList s reply read printed ended is g c = listed_any (list_of (in_width 128 reply.bytes)) s read printed ended is
 went Open s reply read printed ended is g c =
     either (λ (t : Spooler). IsPrinting t [] [] false) (reply.hl == 0) _ _ (λ _. record { goes = (refl, refl, g); count = λ _ _. g }) (λ _. begun_any s [] [] false)
@@ -235,7 +240,7 @@ went Delete s reply read printed ended is g c = begun_any s read printed ended
 
 -- after any answers
 
-word_at_print : (row : Row) (s : Spooler) (printed : List ℕ) → printed_by row (slice_index s.bytes s.place) printed ≡ printed_by row (call_at row s).word printed
+word_at_print : (row : Row) (s : Spooler) (printed : List ℕ) → printed_at row (slice_index s.bytes s.place) printed ≡ printed_by row (call_at row s) printed
 word_at_print ReadList s printed = refl
 word_at_print Open s printed = refl
 word_at_print Attach s printed = refl
@@ -277,23 +282,6 @@ whole_at Detach s read printed ended g e = g.whole
 whole_at Close s read printed ended g e = g.whole
 whole_at Delete s read printed ended g e = g.0.whole
 
--- it calls function 19 in its last row alone
-
-deletes_at : (row : Row) (s : Spooler) → (call_at row s).function ≡ DELETE_FILE → row ≡ Delete
-deletes_at ReadList s is = absurd (omega (arith, is))
-deletes_at Open s is = absurd (omega (arith, is))
-deletes_at Attach s is = absurd (omega (arith, is))
-deletes_at AskStop s is = absurd (omega (arith, is))
-deletes_at Read s is = absurd (omega (arith, is))
-deletes_at Print s is = absurd (omega (arith, is))
-deletes_at Detach s is = absurd (omega (arith, is))
-deletes_at Close s is = absurd (omega (arith, is))
-deletes_at Delete s is = refl
-
-pub deletes_alone : (s : Spooler) → (next_call s).function ≡ DELETE_FILE → s.row ≡ Delete
-unfolding next_call
-deletes_alone s is = deletes_at s.row s is
-
 pub prints_text : (answers : List Answer) → PrintsText (after answers) (read_in answers) (printed_in answers)
 prints_text answers =
     let s = after answers in
@@ -302,13 +290,22 @@ prints_text answers =
       begins = begins_at s.row s (read_in answers) (printed_in answers) (ended_in answers) so.goes;
       count = so.count;
       whole = whole_at s.row s (read_in answers) (printed_in answers) (ended_in answers) so.goes;
-      deletes = λ asks. (let is = deletes_alone s asks in let at : Goes Delete s (read_in answers) (printed_in answers) (ended_in answers) = subst (λ (row : Row). Goes row s (read_in answers) (printed_in answers) (ended_in answers)) is so.goes in at.1);
-    }
+      deletes = λ asks. deleted (deletes_alone s asks);
+      prints = prints_with_printer s;
+    } where
+      deleted : (after answers).row ≡ Delete → ((after answers).is_unprinted ≡ false) × (printed_in answers ≡ to_printer (text_of (read_in answers)))
+      deleted is =
+          let at : Goes Delete (after answers) (read_in answers) (printed_in answers) (ended_in answers) =
+          subst (λ (row : Row). Goes row (after answers) (read_in answers) (printed_in answers) (ended_in answers)) is (always answers).goes in
+          (at.1, at.0.whole at.1)
 
 pub goes_on_printing : (old new : Spooler) (reply : Answer) → new ≡ took old reply → GoesOnPrinting old new reply
 unfolding after
-goes_on_printing old new reply is earlier so =
-    subst (λ (s : Spooler). PrintsText s (read_in (reply ∷ earlier)) (printed_in (reply ∷ earlier))) (sym (is ∙ ap (λ (s : Spooler). took s reply) so)) (prints_text (reply ∷ earlier))
+goes_on_printing old new reply is = record {
+  prints = λ earlier so.
+      subst (λ (s : Spooler). PrintsText s (read_in (reply ∷ earlier)) (printed_in (reply ∷ earlier))) (sym (is ∙ ap (λ (s : Spooler). took s reply) so)) (prints_text (reply ∷ earlier));
+  deletes = deletes_closed old new reply is;
+}
 
 -- as it attaches the printer nothing is printed
 pub nothing_at_attach : (answers : List Answer) → (after answers).row ≡ Attach → printed_in answers ≡ []

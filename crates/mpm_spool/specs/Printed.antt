@@ -2,8 +2,8 @@
 -- (MP/M II User's Guide, "SPOOL"; Programmer's Guide, "Function 5: List Output".)
 use Rattle.std.specs.Prelude.{◌≡◌, ℕ, ◌<◌, ◌%◌, ◌^◌, Bool, true, false, ◌==◌, if◌then◌else◌, List, [], ◌∷◌, ◌++◌, length, map}
 use Rattle.std.specs.List.{before_first}
-use Rattle.mpm_base.specs.Calls.{Answer}
-use Rattle.mpm_base.specs.declared.functions.TheConstants.{DELETE_FILE}
+use Rattle.mpm_base.specs.Calls.{Answer, Taken}
+use Rattle.mpm_base.specs.declared.functions.TheConstants.{LIST_OUTPUT, CLOSE_FILE, DELETE_FILE}
 use Rattle.mpm_port.specs.Texts.{Begins}
 use Rattle.mpm_spool.specs.Spoolers.{Spooler, next_call, record_in, after}
 use Rattle.mpm_spool.specs.SpoolLists.{no_item}
@@ -40,14 +40,13 @@ ended_in [] = false
 ended_in (reply ∷ earlier) = ended_by (after earlier).row reply (ended_in earlier)
 
 -- and those with which it has called function 5 since
-abbrev pub printed_by : Row → ℕ → List ℕ → List ℕ
-printed_by Open byte bytes = []
-printed_by Print byte bytes = bytes ++ byte % 256 ∷ []
-printed_by _ byte bytes = bytes
+abbrev pub printed_by : Row → Taken → List ℕ → List ℕ
+printed_by Open call bytes = []
+printed_by _ call bytes = if call.function == LIST_OUTPUT then bytes ++ call.word % 256 ∷ [] else bytes
 
 unfoldable pub printed_in : List Answer → List ℕ
 printed_in [] = []
-printed_in (reply ∷ earlier) = printed_by (after earlier).row (next_call (after earlier)).word (printed_in earlier)
+printed_in (reply ∷ earlier) = printed_by (after earlier).row (next_call (after earlier)) (printed_in earlier)
 
 -- the item whose file it opened last
 abbrev pub item_by : Row → SpoolItem → SpoolItem → SpoolItem
@@ -82,13 +81,16 @@ has_ended Delete = true
 has_ended _ = false
 
 -- what it has printed is a first part of the text of what it has read, as many bytes as it counts, and all of that text where it has come
--- to the end and hasn't left the file unprinted; it asks only then for a deletion
+-- to the end and hasn't left the file unprinted. It asks for a deletion only then, and for a byte's printing only while it has the printer
 pub record PrintsText (s : Spooler) (read printed : List ℕ) : Type 0 where
   pub begins : has_file s.row ≡ true → Begins printed (to_printer (text_of read))
   pub count : has_file s.row ≡ true → length printed < 2 ^ 64 → s.printed ≡ length printed
   pub whole : has_ended s.row ≡ true → s.is_unprinted ≡ false → printed ≡ to_printer (text_of read)
-  pub deletes : (next_call s).function ≡ DELETE_FILE → s.is_unprinted ≡ false
+  pub deletes : (next_call s).function ≡ DELETE_FILE → (s.is_unprinted ≡ false) × (printed ≡ to_printer (text_of read))
+  pub prints : (next_call s).function ≡ LIST_OUTPUT → has_printer s.row ≡ true
 
--- an answer is taken: after any that came before, what the spooler has printed is still such a part of what it has read
-abbrev pub GoesOnPrinting : Spooler → Spooler → Answer → Type 0
-GoesOnPrinting old new reply = (earlier : List Answer) → old ≡ after earlier → PrintsText new (read_in (reply ∷ earlier)) (printed_in (reply ∷ earlier))
+-- an answer is taken: after any that came before, what the spooler has printed is still such a part of what it has read. Where it then asks
+-- for a deletion, that was the answer to its closing the file
+pub record GoesOnPrinting (old new : Spooler) (reply : Answer) : Type 0 where
+  pub prints : (earlier : List Answer) → old ≡ after earlier → PrintsText new (read_in (reply ∷ earlier)) (printed_in (reply ∷ earlier))
+  pub deletes : (next_call new).function ≡ DELETE_FILE → (next_call old).function ≡ CLOSE_FILE

@@ -24,9 +24,10 @@ use Rattle.mpm_bdos.specs.Serving.{Kept as Filed, nothing_kept}
 use Rattle.mpm_directories.specs.Places.{in_places}
 use Rattle.mpm_machine.specs.State.{State}
 use Rattle.mpm_machine.specs.Files.{Between, StandsForFiles}
-use Rattle.mpm_machine.specs.Booting.{IsBootedOn}
+use Rattle.mpm_machine.specs.Booting.{IsBootedOn, IsOfProgram}
 use Rattle.mpm_machine.specs.Mounting.{HasDrives, HasNoDrive, OpensOn, untouched}
-use Rattle.mpm_machine.proofs.MountedLaws.{none_mounted}
+use Rattle.mpm_machine.proofs.MountedLaws.{none_mounted, holds_nothing}
+use Rattle.mpm_machine.proofs.SettlingLaws.{nobody_yet}
 use Rattle.mpm_machine.proofs.DriveLaws.{nothing_mounted}
 use Rattle.mpm_drives.specs.Stopping.{Failures, IsFaultless, StopsMounting, IsFirst, Stops}
 use Rattle.mpm_top.proofs.StatusLaws.{always_disk, always_file}
@@ -307,6 +308,32 @@ program_starts host bytes disks system kept is none stand idle = record {
 }
 
 -- where no drive was called, that is so of each ending
+
+-- what is so of a program's machine, whatever drives there are: it begins as the command does, between two steps, and has none of them
+
+pub starts_of_program : (host : Host) (bytes : List ℕ) (disks : Disks) (result : Result (Box Machine) Status) → IfOk result (λ machine. IsOfProgram bytes machine.value)
+    → IfOk result (λ machine. StartsOf host Program (λ content. content ≡ bytes) machine.value.system machine.value.bdos disks)
+starts_of_program host bytes disks (Ok machine) is =
+    program_starts host bytes disks machine.value.system machine.value.bdos is.opening is.bdos (is.files disks) (nobody_yet machine.value.system.kernel.disk 0 is.disk)
+starts_of_program host bytes disks (Err status) is = tt
+
+pub program_at_start : {D : Type 0} (disks : D → Disks) (drives : D) (bytes : List ℕ) (result : Result (Box Machine) Status)
+    → IfOk result (λ machine. IsOfProgram bytes machine.value) → IfOk result (λ machine. IsAtStart disks machine.value drives)
+program_at_start disks drives bytes (Ok machine) is = record {
+  between = record {
+    whole = is.whole;
+    no_completions = is.no_completions;
+    holds = holds_nothing disks machine.value.system.kernel 0 machine.value.bdos drives is.disk is.bdos;
+  };
+  start = is.start;
+  idle = nobody_yet machine.value.system.kernel.disk 0 is.disk;
+}
+program_at_start disks drives bytes (Err status) is = tt
+
+pub program_has_no_drive : (bytes : List ℕ) (result : Result (Box Machine) Status) → IfOk result (λ machine. IsOfProgram bytes machine.value)
+    → IfOk result (λ machine. HasNoDrive machine.value.bdos.mounted)
+program_has_no_drive bytes (Ok machine) is = subst (λ (k : Filed). HasNoDrive k.mounted) (sym is.bdos) none_mounted
+program_has_no_drive bytes (Err status) is = tt
 
 pub either_way : {M : Type 0} (result : Result M Status) (P : Type 0) → P → MatchResult result (λ _. P) (λ status. UnlessDiskFault status P)
 either_way (Ok machine) P p = p

@@ -5,13 +5,14 @@ use Rattle.mpm_port.specs.declared.drives.Drives.{Ghosts}
 use Rattle.mpm_port.specs.declared.files.Files.{Ghosts as FileGhosts}
 use Rattle.mpm_script.specs.declared.event.Timed.{Timed}
 use Rattle.mpm_machine.specs.declared.machine.Machine.{Machine}
+use Rattle.mpm_machine.specs.Booting.{IsOfProgram}
 use Rattle.mpm_machine.specs.Mounting.{HasNoDrive}
 use Rattle.mpm_top.specs.declared.status.Input.{Input}
 use Rattle.mpm_top.specs.declared.status.Status.{Status}
 use Rattle.mpm_top.specs.declared.status.Status.TheVariants.{ReadFault, OutOfMemory}
 use Rattle.mpm_top.specs.declared.words.Form.{Form}
 use Rattle.mpm_top.specs.declared.words.Form.TheVariants.{Program, Run}
-use Rattle.mpm_top.specs.Beginnings.{Host, host, failed, input_of, room_for, script_name, Holds, HoldsEvents, Scripted, IsAtStart, Starts, StartsOf}
+use Rattle.mpm_top.specs.Beginnings.{host, failed, input_of, room_for, script_name, Holds, HoldsEvents, Scripted, Starts, StartsOf}
 use Rattle.mpm_top.specs.Endings.{Unfetched, Unread, Ends, EndsAfter, EndsAs}
 use Rattle.mpm_top.specs.Parts.{LeavesFiles, LeavesHost, IsReadyToRun}
 
@@ -37,11 +38,9 @@ pub record FetchesInput {F : Type 0} (of : FileGhosts F) (input : Input) (name :
   pub missing : of.missing old name → MatchResult result (λ _. ⊥) (λ status. EndsAs ReadFault status)
   pub stays_missing : (other : List ℕ) → of.missing new other ↔ of.missing old other
 
--- the machine of a program's bytes was booted, without a drive; or there was no memory
-pub record BootsBytes {D : Type 0} (on : Ghosts D) (bytes : List ℕ) (drives : D) (result : Result (Box Machine Global) Status) : Type 0 where
-  pub starts : (host : Host) → IfOk result (λ machine. StartsOf host Program (λ content. content ≡ bytes) machine.value.system machine.value.bdos (on.disks drives))
-  pub begins : IfOk result (λ machine. IsAtStart on.disks machine.value drives)
-  pub no_drive : IfOk result (λ machine. HasNoDrive machine.value.bdos.mounted)
+-- the machine of a program's bytes was booted; or there was no memory
+pub record BootsBytes (bytes : List ℕ) (result : Result (Box Machine Global) Status) : Type 0 where
+  pub program : IfOk result (λ machine. IsOfProgram bytes machine.value)
   pub memory : IfErr result (λ status. status ≡ OutOfMemory)
 
 -- the machine of a machine file's bytes was booted: it begins by them and by the script that they name, and may be run; or it wasn't, for a

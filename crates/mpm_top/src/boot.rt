@@ -38,7 +38,7 @@ pub(crate) fn boot<F: Files, D: Drives>(
         Err(status) => return Err(status),
     };
     match form {
-        Form::Program => boot_program(alloc, bytes.as_slice(), drives),
+        Form::Program => boot_program(alloc, bytes.as_slice()),
         Form::Run => boot_machine(alloc, bytes.as_slice(), files, drives),
     }
 }
@@ -63,11 +63,10 @@ fn fetch<F: Files>(
 
 /// The machine of a program's bytes. No drive is mounted.
 #[inline(never)]
-fn boot_program<D: Drives>(alloc: Global, bytes: &[u8], drives: &D) -> Result<Box<Machine>, Status>
+fn boot_program(alloc: Global, bytes: &[u8]) -> Result<Box<Machine>, Status>
     requires { length bytes.now ≤ 48512 }
-    ensures { BootsBytes D.Drives bytes.now drives.now result }
+    ensures { BootsBytes bytes.now result }
 {
-    let _ = drives;
     match Machine::boot_program(alloc, bytes) {
         Ok(machine) => Ok(machine),
         Err(_) => Err(Status::OutOfMemory),

@@ -74,7 +74,7 @@ fn sector_of(mounted: &Mounted, place: u8) -> Option<u32>
         → visible_of files data_file place ≡ option_map (sector_said image) result }
     ensures within { IfSome result (λ sector. sector < 32768) }
 {
-    let _kind = mounted.kind();
+    mounted.recall_directory();
     match mounted.extent(0, &NAME, 0) {
         Some(slot) => match mounted.entry(slot) {
             Entry::File { file } => sector_in(file, place),

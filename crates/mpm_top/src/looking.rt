@@ -22,7 +22,5 @@ pub(crate) struct Nobody;
 impl Look for Nobody {
     ghost saw = { λ old system new. new ≡ old };
 
-    fn look(&mut self, machine: &Machine) {
-        let _ = machine;
-    }
+    fn look(&mut self, _machine: &Machine) {}
 }

@@ -128,7 +128,7 @@ fn suits_kind(mounted: &Mounted, job: &Job) -> bool
 }
 
 /// Says how many bytes a job has.
-fn tell_size(bytes: &[u8; 4096])
+fn recall_size(bytes: &[u8; 4096])
     ensures { length bytes.now ≡ 4096 }
 {}
 
@@ -136,6 +136,6 @@ fn tell_size(bytes: &[u8; 4096])
 pub(crate) fn suits(mounted: &Mounted, job: &Job) -> bool
     ensures { OnTrue result (OnItsDrive mounted.now (λ drive. Suits drive job.now)) }
 {
-    tell_size(&job.bytes);
+    recall_size(&job.bytes);
     job.user < 16 && job.first <= LAST_POSITION && job.count <= 16 && suits_kind(mounted, job)
 }

@@ -1,4 +1,4 @@
-ghost use Rattle.std.specs.Prelude.{◌≡◌, ◌==◌, ◌||◌, true, false};
+ghost use Rattle.std.specs.Prelude.{◌≡◌, ℕ, ◌==◌, ◌||◌, true, false};
 ghost use Rattle.z80_regs.specs.Words.{onward};
 ghost use Rattle.z80_decode.specs.PageOpcodes.{indexed_bit_form_of};
 ghost use Rattle.z80_decode.specs.Decoding.{index_tail_of, instr_with, index_bit_instr_by, index_instr_of};
@@ -243,19 +243,19 @@ fn calculate_from<B: Bus>(math: Math, address: u16, regs: &mut Regs, bus: &B)
     }
 }
 
-/// Acts as a form's instruction, which PC is past. Its third byte is known, the fourth is read where it belongs to it.
+/// Acts as a form's instruction, whatever its opcode is, which PC is past. Its third byte is known, the fourth is read where
+/// it belongs to it.
 #[inline(always)]
 #[tactic(auto, unfolding(crate::specs::Index::index_performed, z80_regs::specs::Outcome::LeavesBus))]
 fn perform<B: Bus>(
     form: IndexForm,
     index: IndexRegister,
-    opcode: u8,
     third: u8,
     address: u16,
     regs: &mut Regs,
     bus: &mut B,
 )
-    ensures { Leaves B.Bus (index_performed form index (instr_with (index_tail_of form) (page_of index) 2 opcode third (B.byte bus.old (onward address 3))) regs.old (B.byte bus.old)) regs.new bus.old bus.new }
+    ensures { (opcode : ℕ) → Leaves B.Bus (index_performed form index (instr_with (index_tail_of form) (page_of index) 2 opcode third (B.byte bus.old (onward address 3))) regs.old (B.byte bus.old)) regs.new bus.old bus.new }
 {
     match form {
         IndexForm::AddPair(pair) => add_pair(index, pair, regs),
@@ -382,7 +382,7 @@ pub fn step_index<B: Bus>(
         Some(form) => {
             let address = regs.pc;
             regs.pc = address.wrapping_add(u16::from(index_length(form)));
-            perform(form, index, opcode, third, address, regs, bus);
+            perform(form, index, third, address, regs, bus);
             true
         }
     }

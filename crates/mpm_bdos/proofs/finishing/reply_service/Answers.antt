@@ -1,9 +1,18 @@
 use Rattle.std.proofs.Common.{None, refl, sym, subst}
+use Rattle.mpm_directories.specs.Places.{directory_at}
+use Rattle.mpm_bdos.specs.Held.{IsMountedFor}
 use Rattle.mpm_bdos.specs.Jobs.{call_turns}
 use Rattle.mpm_bdos.specs.Serving.{InService, Serves}
 use Rattle.mpm_bdos.specs.Finishing.{serving, ComesTo}
 use Rattle.mpm_bdos.proofs.FinishLaws.{granted_comes, refused_comes, none_refuses}
 use Rattle.mpm_bdos.proofs.finishing.reply_service.Goals as goal
+
+pub reply_granted-requires : goal.reply_granted-requires
+reply_granted-requires c = record {
+  caller = c.service.invariant;
+  users = c.requires.users;
+  drive = subst (λ (one : InService). IsMountedFor (directory_at c.args.mounted.now one.drive) one) (sym c.service.view_is) c.requires.granted c.in-None.is;
+}
 
 pub returns-in-Some-clause-comes : goal.returns-in-Some-clause-comes
 returns-in-Some-clause-comes c = λ images s serves.

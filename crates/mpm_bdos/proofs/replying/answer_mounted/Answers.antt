@@ -18,7 +18,7 @@ grant-granted-requires c =
     record {
       item = λ f.
           subst (λ opens. IfSome a.item (λ item. IsOwnItem opens a.caller.process item))
-          (sym (c.leave.ensures ∙ ap (left_by c.args.opens.now a c.subject_key-2.result c.moved_by.result c.args.served.now.deleted.now) f)) c.requires.own;
+          (sym (c.leave.ensures ∙ ap (left_by c.args.opens.now a c.subject_key.result c.moved_by.result c.args.served.now.deleted.now) f)) c.requires.own;
       few = c.requires.caller.few;
     }
 
@@ -27,7 +27,7 @@ returns c = record {
   sound = first_of (search rules, grind (arith, common_steps));
   users = λ users low.
       c.grant-granted.ensures.users
-      (users_kept c.args.opens.now c.leave.new.opens c.args.asked.now c.subject_key-2.result c.moved_by.result c.args.served.now.deleted.now c.leave.ensures users) low;
+      (users_kept c.args.opens.now c.leave.new.opens c.args.asked.now c.subject_key.result c.moved_by.result c.args.served.now.deleted.now c.leave.ensures users) low;
   opens = first_of (search rules, grind (arith, common_steps));
   reply = λ image drive records entry stands granted is.
       let a = c.args.asked.now in
@@ -36,7 +36,7 @@ returns c = record {
       let deleted = c.args.served.now.deleted.now in
       let left : c.leave.new.opens ≡ left_first opens a work deleted =
       c.leave.ensures
-      ∙ ap (λ key. left_by opens a key c.moved_by.result deleted a.function) c.subject_key-2.ensures
+      ∙ ap (λ key. left_by opens a key c.moved_by.result deleted a.function) c.subject_key.ensures
       ∙ ap (λ moved. left_by opens a (key_asked a) moved deleted a.function) c.moved_by.ensures
       in
       let same : c.grant-granted.result ≡ granted_by drive (left_first opens a work deleted) a work =

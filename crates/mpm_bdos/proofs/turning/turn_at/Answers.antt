@@ -48,7 +48,7 @@ returns g c =
         unsynced = λ read. (did.reads read).unsynced;
         no_call = λ next. (did.reads next.0).uncalled (subst (λ place. IfSome place (λ d. IsNextCached c.args.cache.now d work)) c.in-Some.is next.1);
       };
-      directory = c.kind.ensures.directory;
+      directory = c.recall_directory.ensures;
       leaves = subst (λ place. HasLeftDisk g.D.Drives.disks g.D.Drives.told g.D.Drives.failed_names g.D.Drives.unsynced place c.args.cache.now c.turn-result.new.cache c.args.drives.now c.turn-result.new.drives)
           (sym c.in-Some.is) did.works.leaves;
       cause = did.works.cause;

@@ -2,9 +2,15 @@ use Rattle.std.proofs.Common.{◌≡◌, ◌∙◌, ◌+◌, ◌<◌, ◌==◌, 
 use Rattle.std.specs.List.{position_or_len, before_first, after_first}
 use Rattle.std.proofs.lemmas.Grind.{common_steps}
 use Rattle.std.proofs.lemmas.Bool.Decides.{nat_tests}
-use Rattle.mpm_fault_lines.specs.Lists.{slot_of_line, slots_from, unless_bad}
-use Rattle.mpm_fault_lines.proofs.ListLaws.{AreRead, parts_of, from_unended, from_line, from_end, read_more}
+use Rattle.mpm_fault_lines.specs.Lists.{slot_of_line, parts_of}
+use Rattle.mpm_fault_lines.proofs.ListLaws.{AreRead, slots_from, unless_bad, slots_are, from_unended, from_line, from_end, read_more}
 use Rattle.mpm_fault_lines.proofs.reading.read_slots.Goals as goal
+
+pub loop-rest-init : goal.loop-rest-init
+loop-rest-init c = record {
+  read = record { earlier = []; same = slots_are c.args.last c.args.text.now; marks_are = c.new-slots.ensures };
+  count = omega arith;
+}
 
 pub returns-then-place_of-rest : goal.returns-then-place_of-rest
 returns-then-place_of-rest c =

@@ -17,7 +17,7 @@ loop-found-init c = record {
 pub size_after-size-requires : goal.size_after-size-requires
 size_after-size-requires c =
     let least = subst (IsNext c.args.mounted.now.kind (search_of c.args.mounted.now.kind c.args.user c.args.name.now c.loop-found.last) c.args.mounted.now.entries) c.in-Some.is c.next.ensures in
-    record { slot = omega (arith, least.within, c.kind.ensures.directory.full); small = c.loop-found.invariant.small }
+    record { slot = omega (arith, least.within, c.recall_directory.ensures.full); small = c.loop-found.invariant.small }
 
 pub loop-found-smaller : goal.loop-found-smaller
 loop-found-smaller c =

@@ -7,7 +7,7 @@ use Rattle.mpm_files.proofs.Placing.{lowest_attributes, no_attributes}
 use Rattle.mpm_files.proofs.adding.attributes.Goals as goal
 
 pub file_at-requires : goal.file_at-requires
-file_at-requires c = record { within = omega (arith, c.in-Some.ensures.within, c.tell_directory.ensures.full); was = ap is_file c.in-Some.ensures.found.there }
+file_at-requires c = record { within = omega (arith, c.in-Some.ensures.within, c.recall_directory.ensures.full); was = ap is_file c.in-Some.ensures.found.there }
 
 pub returns-in-Some : goal.returns-in-Some
 returns-in-Some c = λ image files stands.

@@ -10,7 +10,7 @@ use Rattle.mpm_files.proofs.changing.delete_next.Goals as goal
 pub put_entry-requires : goal.put_entry-requires
 put_entry-requires g c = record {
   ready = c.requires.ready;
-  slot = due_within c.args.mounted.now c.args.work.now c.in-Some.slot c.tell_directory.ensures.full (sym c.xfcb_due-due.ensures ∙ c.in-Some.is);
+  slot = due_within c.args.mounted.now c.args.work.now c.in-Some.slot c.recall_directory.ensures.full (sym c.xfcb_due-due.ensures ∙ c.in-Some.is);
   proper = first_of (search rules, grind (arith, common_steps));
   faultless = first_of (search rules, grind (arith, common_steps));
 }
@@ -18,7 +18,7 @@ put_entry-requires g c = record {
 pub put_entry-requires-in-Some-next : goal.put_entry-requires-in-Some-next
 put_entry-requires-in-Some-next g c = record {
   ready = c.requires.ready;
-  slot = found_within c.args.mounted.now c.args.work.now.job.user c.args.work.now.job.name None c.in-Some-next.found c.next.result c.tell_directory.ensures.full c.in-Some-next.is c.next.ensures;
+  slot = found_within c.args.mounted.now c.args.work.now.job.user c.args.work.now.job.name None c.in-Some-next.found c.next.result c.recall_directory.ensures.full c.in-Some-next.is c.next.ensures;
   proper = first_of (search rules, grind (arith, common_steps));
   faultless = first_of (search rules, grind (arith, common_steps));
 }

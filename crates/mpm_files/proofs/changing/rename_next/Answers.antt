@@ -13,7 +13,7 @@ use Rattle.mpm_files.proofs.changing.rename_next.Goals as goal
 
 pub rename_entry-requires : goal.rename_entry-requires
 rename_entry-requires g c =
-    may_rename_entry (g.D.Drives.disks c.args.drives.now) c.args.mounted.now c.args.cache.now c.args.work.now c.in-Some-next.found c.requires.ready c.requires.left c.requires.sort c.tell_directory.ensures.full
+    may_rename_entry (g.D.Drives.disks c.args.drives.now) c.args.mounted.now c.args.cache.now c.args.work.now c.in-Some-next.found c.requires.ready c.requires.left c.requires.sort c.recall_directory.ensures.full
     (sym c.xfcb.ensures ∙ c.in-None.is)
     (subst (IsNext c.args.mounted.now.kind (search_of c.args.mounted.now.kind c.args.work.now.job.user c.args.work.now.job.name None) c.args.mounted.now.entries) c.in-Some-next.is c.next.ensures)
 

@@ -22,7 +22,7 @@ put_entry-requires g c = record {
   slot = first_of (search rules, grind (arith, common_steps));
   proper = first_of (search rules, grind (arith, common_steps));
   faultless = subst (λ (x : XfcbEntry). cause_of c.args.mounted.now.kind (others c.args.mounted.now.entries c.in-Some.slot) (Xfcb x) ≡ None) (sym c.xfcb_of.ensures)
-      (clean_over c.args.mounted.now c.args.job.now c.in-Some.slot c.tell_directory.ensures.faultless (sym c.xfcb.ensures ∙ c.in-Some.is));
+      (clean_over c.args.mounted.now c.args.job.now c.in-Some.slot c.recall_directory.ensures.faultless (sym c.xfcb.ensures ∙ c.in-Some.is));
 }
 
 pub put_entry-requires-in-Some-free_slot : goal.put_entry-requires-in-Some-free_slot

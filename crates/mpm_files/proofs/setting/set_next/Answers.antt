@@ -15,7 +15,7 @@ use Rattle.mpm_files.proofs.setting.set_next.Goals as goal
 pub set_attributes-requires : goal.set_attributes-requires
 set_attributes-requires g c = record {
   ready = c.requires.ready;
-  within = found_within c.args.mounted.now c.args.work.now.job.user c.args.work.now.job.name c.last_of_job-last.result c.in-Some.found c.next.result c.tell_directory.ensures.full c.in-Some.is c.next.ensures;
+  within = found_within c.args.mounted.now c.args.work.now.job.user c.args.work.now.job.name c.last_of_job-last.result c.in-Some.found c.next.result c.recall_directory.ensures.full c.in-Some.is c.next.ensures;
   was = ap is_file c.in-Some.ensures.entry;
 }
 

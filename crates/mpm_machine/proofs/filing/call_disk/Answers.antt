@@ -1,5 +1,7 @@
-use Rattle.std.proofs.Common.{rules, ◌≤◌, sym, subst, ◌∙◌, ap}
+use Rattle.std.proofs.Common.{rules, ◌≡◌, ◌≤◌, true, sym, subst, ◌∙◌, ap}
+use Rattle.mpm_base.specs.Calls.{Taken}
 use Rattle.mpm_procs.specs.declared.process.Process.{Process}
+use Rattle.mpm_file_functions.specs.Functions.{function_of}
 use Rattle.mpm_machine.proofs.FilingLaws.{disk_is, at_once_idle, at_once_owed, bare_still}
 use Rattle.mpm_machine.proofs.FailingLaws.{disk_fails, disk_calls}
 use Rattle.mpm_machine.proofs.PartsLaws.{none_fails}
@@ -12,6 +14,9 @@ looked_at-caller-requires g c = record {
   some = subst (λ (one : Process). 1 ≤ one.multi) (sym c.living.ensures) (c.requires.living.whole.sound.fit c.args.p c.requires.living.lives).some;
   few = subst (λ (one : Process). one.multi ≤ 16) (sym c.living.ensures) (c.requires.living.whole.sound.fit c.args.p c.requires.living.lives).few;
 }
+
+pub call_at_once-requires-clause-file : goal.call_at_once-requires-clause-file
+call_at_once-requires-clause-file g c = subst (λ (call : Taken). is_some (function_of call.function) ≡ true) (sym c.kept_call.ensures) c.requires.function
 
 pub returns : goal.returns
 returns g c = record {

@@ -14,6 +14,9 @@ looked_at-caller-requires c = record {
   few = subst (λ (one : Process). one.multi ≤ 16) (sym c.living.ensures) (c.requires.living.whole.sound.fit c.args.p c.requires.living.lives).few;
 }
 
+pub start-requires-clause-file : goal.start-requires-clause-file
+start-requires-clause-file c = subst (λ (call : Taken). is_some (function_of call.function) ≡ true) (sym c.kept_call.ensures) c.requires.function
+
 pub returns : goal.returns
 returns c = record {
   starts = record {
@@ -26,7 +29,7 @@ returns c = record {
     entered = λ function is.
         entered_as c.args.p c.looked_at-caller.result c.living.result.now c.kept_call.result.now c.args.system.now c.start.new.self.service function
         c.looked_at-caller.ensures.process c.living.ensures c.kept_call.ensures is c.start.ensures.entered;
-    some = c.start.ensures.some (subst (λ (call : Taken). is_some (function_of call.function) ≡ true) (sym c.kept_call.ensures) c.requires.function);
+    some = c.start.ensures.some;
   };
   workless = first_of (search rules, grind (arith, common_steps));
   kept = first_of (search rules, grind (arith, common_steps));

@@ -4,7 +4,7 @@ use Rattle.mpm_service.specs.Disk.{turn_answer}
 use Rattle.mpm_service.specs.declared.service.Turn.TheVariants.{Work}
 use Rattle.mpm_machine.specs.Parts.{of_drive}
 use Rattle.mpm_machine.proofs.TurnLaws.{turn_works, nothing_to_work}
-use Rattle.mpm_machine.proofs.WorkLaws.{turn_to_do, works_here, no_work_here, works_in, turn_failed, holds_worked}
+use Rattle.mpm_machine.proofs.WorkLaws.{turn_to_do, has_served, is_held, works_here, no_work_here, works_in, turn_failed, holds_worked}
 use Rattle.mpm_machine.proofs.PartsLaws.{uses_none, uses_turns, done_fails}
 use Rattle.mpm_machine.proofs.filing.work.Goals as goal
 
@@ -13,6 +13,10 @@ use Rattle.mpm_machine.proofs.filing.work.Goals as goal
 pub turn-requires : goal.turn-requires
 turn-requires g c = record {
   fits = c.requires.calls.fits;
+  served = is_held c.args.system.now.kernel c.args.bdos.now.service
+      (has_served c.args.system.now.kernel.disk
+      (works_here c.args.system.now.kernel.disk c.ahead.result (Work c.in-Work.p c.in-Work.last) true (c.ahead.ensures ∙ ap turn_answer c.disk.ensures) c.in-Work.is refl))
+      c.requires.calls.own;
   left = turn_to_do c.args.system.now.kernel.disk c.args.bdos.now (g.D.Drives.disks c.args.drives.now) c.requires.files c.requires.stands;
 }
 

@@ -36,6 +36,6 @@ returns c =
     record {
       count = first_of (search rules, grind (arith, common_steps));
       moved = moves_join c.args.burst.inside 1 c.execute_loads.result 0 view new _
-          (ran_once c.args.burst.inside c.execute_other.result view new c.requires.gate c.in-Ran.is c.execute_other.ensures.illegal is) c.execute_loads.ensures.moved;
+          (ran_once c.args.burst.inside c.execute_other.result view new c.requires.gate c.in-Ran.is c.execute_other.ensures.illegal is) (c.execute_loads.ensures.moved c.args.burst.inside);
       stopped = first_of (search rules, grind (arith, common_steps));
     }

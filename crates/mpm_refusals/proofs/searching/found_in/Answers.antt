@@ -25,7 +25,7 @@ returns-then-is_sought c = λ image drive stands.
     (subst (IsNext d.kind (search_of d.kind c.args.user c.args.pattern.now c.loop-found.last) d.entries) c.in-Some.is c.next.ensures)
     ∙ ap (λ b. cond b (Some found) (next_in drive c.args.user c.args.pattern.now (is_sought drive.kind c.args.extent behind) (Some found)))
     (ap (λ kind. is_sought kind c.args.extent behind found) (kind_of image d drive stands)
-    ∙ ap (λ kind. is_sought kind c.args.extent behind (entry_found kind c.args.user c.in-Some.found)) (sym c.kind-kind.ensures.kind) ∙ sym c.is_sought.ensures ∙ c.if-is_sought.true))
+    ∙ ap (λ kind. is_sought kind c.args.extent behind (entry_found kind c.args.user c.in-Some.found)) (sym c.kind-kind.ensures.kind) ∙ sym (c.is_sought.ensures c.args.user) ∙ c.if-is_sought.true))
 
 pub loop-found-smaller : goal.loop-found-smaller
 loop-found-smaller c =
@@ -43,7 +43,7 @@ loop-found-preserved c = λ image drive stands.
     (subst (IsNext d.kind (search_of d.kind c.args.user c.args.pattern.now c.loop-found.last) d.entries) c.in-Some.is c.next.ensures)
     ∙ ap (λ b. cond b (Some found) (next_in drive c.args.user c.args.pattern.now (is_sought drive.kind c.args.extent behind) (Some found)))
     (ap (λ kind. is_sought kind c.args.extent behind found) (kind_of image d drive stands)
-    ∙ ap (λ kind. is_sought kind c.args.extent behind (entry_found kind c.args.user c.in-Some.found)) (sym c.kind-kind.ensures.kind) ∙ sym c.is_sought.ensures ∙ c.if-is_sought.false)
+    ∙ ap (λ kind. is_sought kind c.args.extent behind (entry_found kind c.args.user c.in-Some.found)) (sym c.kind-kind.ensures.kind) ∙ sym (c.is_sought.ensures c.args.user) ∙ c.if-is_sought.false)
 
 pub returns : goal.returns
 returns c = λ image drive stands.

@@ -6,7 +6,7 @@ use Rattle.mpm_top.specs.declared.status.Input.{Input}
 use Rattle.mpm_top.specs.declared.words.Form.TheVariants.{Program, Run}
 use Rattle.mpm_top.specs.Beginnings.{Contents, host, failed, Holds, StartsOf}
 use Rattle.mpm_top.specs.Endings.{EndsAfter}
-use Rattle.mpm_top.proofs.BootLaws.{program_names_nothing, starts_with_contents, ends_with_contents, either_way, refusal_early, ready_by, memory_early, either_file, since_fetched}
+use Rattle.mpm_top.proofs.BootLaws.{program_names_nothing, starts_with_contents, ends_with_contents, either_way, refusal_early, ready_by, memory_early, either_file, since_fetched, starts_of_program, program_at_start, program_has_no_drive}
 use Rattle.mpm_top.proofs.StatusLaws.{always_disk}
 use Rattle.mpm_top.proofs.Syncing.{nothing_called, none_synced}
 use Rattle.mpm_top.proofs.boot.boot.Goals as goal
@@ -18,11 +18,13 @@ returns-in-Program g c = record {
       let from_file = subst (Holds found.contents c.input.result c.args.name.now) (sym c.as_slice.ensures.value) c.in-Ok.ensures.contents_are in
       let P : Input → Type 0 = λ input. Holds found.contents input c.args.name.now c.as_slice.result.now in
       starts_with_contents found c.args.form Program c.args.name.now c.as_slice.result.now disks c.boot_program.result c.in-Program.is (subst P c.input.ensures from_file)
-      (c.boot_program.ensures.starts found);
-  ready = let booted = c.boot_program.ensures in
+      (starts_of_program found c.as_slice.result.now disks c.boot_program.result c.boot_program.ensures.program);
+  ready = let is = c.boot_program.ensures.program in
+      let bytes = c.as_slice.result.now in
       let drives = c.args.drives.now in
-      ready_by g.D.Drives drives drives c.boot_program.result booted.begins (nothing_called c.boot_program.result (g.D.Drives.disks drives))
-      (none_synced c.boot_program.result (g.D.Drives.unsynced drives) booted.no_drive);
+      ready_by g.D.Drives drives drives c.boot_program.result (program_at_start g.D.Drives.disks drives bytes c.boot_program.result is)
+      (nothing_called c.boot_program.result (g.D.Drives.disks drives))
+      (none_synced c.boot_program.result (g.D.Drives.unsynced drives) (program_has_no_drive bytes c.boot_program.result is));
   leaves = record {
     early = memory_early c.boot_program.result c.boot_program.ensures.memory;
     names = either_file c.boot_program.result _ c.in-Ok.ensures.leaves.names;
@@ -35,7 +37,7 @@ returns-in-Program g c = record {
   missing = first_of (search rules, grind (arith, common_steps));
   missing_script = λ bytes script told fits named missing. absurd (program_names_nothing c.args.form bytes script c.in-Program.is named);
   program = first_of (search rules, grind (arith, common_steps));
-  no_drive = first_of (search rules, grind (arith, common_steps));
+  no_drive = λ is. program_has_no_drive c.as_slice.result.now c.boot_program.result c.boot_program.ensures.program;
 }
 
 pub returns-in-Err : goal.returns-in-Err

@@ -14,7 +14,7 @@ returns-in-File-clause-record c image files stands =
 pub returns-in-File-clause-within : goal.returns-in-File-clause-within
 returns-in-File-clause-within c =
     subst (λ (found : Option ℕ). IfSome found (λ sector. sector < 32768)) (sym c.sector_in.ensures)
-    (within_disk c.args.mounted.now c.args.place c.in-Some.slot c.in-File.file c.requires.kind c.requires.place c.kind-kind.ensures.directory.full c.kind-kind.ensures.directory.faultless
+    (within_disk c.args.mounted.now c.args.place c.in-Some.slot c.in-File.file c.requires.kind c.requires.place c.recall_directory.ensures.full c.recall_directory.ensures.faultless
     (sym c.extent.ensures ∙ c.in-Some.is) (sym c.entry.ensures.entry ∙ c.in-File.is))
 
 pub returns-in-Free-clause-record : goal.returns-in-Free-clause-record

@@ -1,11 +1,7 @@
-use Rattle.std.proofs.Common.{◌≡◌, ℕ, ◌+◌, ◌*◌, ◌≤◌, Option, Some, None, true, refl, ap, sym, ◌∙◌, subst, arith}
+use Rattle.std.proofs.Common.{◌≡◌, ℕ, ◌+◌, ◌*◌, ◌≤◌, Option, None, refl, ap, sym, ◌∙◌, subst, arith}
 use Rattle.std.specs.Prelude.{is_some, option_map}
-use Rattle.std.proofs.lemmas.Bool.{true≢false}
-use Rattle.mpm_base.proofs.Options.{none_there}
 use Rattle.mpm_base.specs.declared.kind.Kind.{Kind}
 use Rattle.mpm_clock.specs.PackedDecimal.{stamp}
-use Rattle.mpm_file_functions.specs.declared.functions.FileFunction.{FileFunction}
-use Rattle.mpm_file_functions.specs.Functions.{function_of}
 use Rattle.mpm_refusals.specs.Subjects.{drive_number}
 use Rattle.mpm_bdos.specs.Jobs.{call_turns}
 use Rattle.mpm_bdos.specs.Serving.{Kept, Serves}
@@ -13,10 +9,9 @@ use Rattle.mpm_directories.specs.Places.{directory_at}
 use Rattle.mpm_bdos.specs.Starting.{caller_of, entering}
 use Rattle.mpm_bdos.specs.Turns.{FitsDrives, KeepsToldOf, KeepsUnsynced, StaysBeside, drive_and_kind, images_of}
 use Rattle.mpm_bdos.proofs.NextTurns.{idle_work}
-use Rattle.mpm_bdos.proofs.Fitting.{stays_same, told_same}
-use Rattle.mpm_files.proofs.Causing.{cause_none}
 use Rattle.mpm_bdos.proofs.AskingLaws.{begun_turns}
-use Rattle.mpm_bdos.proofs.AtOnceLaws.{changes_alone, alone_still}
+use Rattle.mpm_bdos.specs.Asking.{HasCallTurns}
+use Rattle.mpm_bdos.proofs.AtOnceLaws.{changes_alone, alone_still, still_served}
 use Rattle.mpm_bdos.proofs.bdos.Bdos.call_at_once.Goals as goal
 
 -- its turns are left
@@ -24,43 +19,32 @@ use Rattle.mpm_bdos.proofs.bdos.Bdos.call_at_once.Goals as goal
 pub do_turns-requires : goal.do_turns-requires
 do_turns-requires g c =
     let disks = g.D.Drives.disks in
-    let file : is_some (function_of c.args.call.now.function) ≡ true = sym c.is_file_call.ensures ∙ c.if-not-is_file_call.false in
+    let begun : HasCallTurns (images_of (disks c.args.drives.now)) c.start-turns.new.self c.start-turns.result =
+    begun_turns (images_of (disks c.args.drives.now)) c.args.self.now c.start-turns.new.self c.args.p c.args.process.now c.args.call.now c.args.now c.start-turns.result c.requires.file
+    c.requires.stand c.start-turns.ensures
+    in
     record {
       fits = subst (λ (kept : Kept). FitsDrives disks kept.mounted kept.cached c.args.drives.now) (sym c.start-turns.ensures.kept) c.requires.fits;
-      left = λ works.
-          begun_turns (images_of (disks c.args.drives.now)) c.args.self.now c.start-turns.new.self c.args.p c.args.process.now c.args.call.now c.args.now c.start-turns.result file
-          c.requires.stand c.start-turns.ensures;
+      served = ap is_some begun.serves.there;
+      left = λ works. begun;
     }
 
--- no call on files
+-- it is still in service then
 
-pub returns-then-not-is_file_call : goal.returns-then-not-is_file_call
-returns-then-not-is_file_call g c =
-    let none : function_of c.args.call.now.function ≡ None = none_there (function_of c.args.call.now.function) (sym c.is_file_call.ensures ∙ c.if-not-is_file_call.true) in
-    let never : (function : FileFunction) → function_of c.args.call.now.function ≡ Some function → ⊥ = λ function is. true≢false (ap is_some (sym is ∙ none)) in
-    record {
-      done = λ before function is stand. absurd (never function is);
-      own = λ before function is. absurd (never function is);
-      none = λ free. (refl, refl);
-      service = λ function is. absurd (never function is);
-      other = λ is. (record { kept = refl; answer = refl; device = refl; calls = refl }, refl);
-      stopped = tt;
-      left = record {
-        labels = λ number. refl;
-        fits = c.requires.fits;
-        beside = stays_same c.args.self.now.mounted (g.D.Drives.disks c.args.drives.now);
-        told_are = told_same c.args.self.now.mounted (g.D.Drives.disks c.args.drives.now) (g.D.Drives.told c.args.drives.now);
-        names = refl;
-      };
-      cause = cause_none _ _;
-    }
+pub reply-requires : goal.reply-requires
+reply-requires g c =
+    let disks = g.D.Drives.disks in
+    let begun : HasCallTurns (images_of (disks c.args.drives.now)) c.start-turns.new.self c.start-turns.result =
+    begun_turns (images_of (disks c.args.drives.now)) c.args.self.now c.start-turns.new.self c.args.p c.args.process.now c.args.call.now c.args.now c.start-turns.result c.requires.file
+    c.requires.stand c.start-turns.ensures
+    in
+    still_served c.start-turns.new.self c.do_turns.new.self c.do_turns.ensures.left.kept (ap is_some begun.serves.there)
 
 -- its turns were done
 
 pub returns-in-Ok : goal.returns-in-Ok
 returns-in-Ok g c =
     let left = c.do_turns.ensures.left in
-    let file : is_some (function_of c.args.call.now.function) ≡ true = sym c.is_file_call.ensures ∙ c.if-not-is_file_call.false in
     record {
       done = λ before function is stand. record {
         ok =
@@ -95,9 +79,8 @@ returns-in-Ok g c =
             let unsynced = g.D.Drives.unsynced in
             subst (λ drive. KeepsUnsynced drive (unsynced c.args.drives.now) (unsynced c.do_turns.new.drives)) (c.start-turns.ensures.drive before function is) c.do_turns.ensures.left.kept_unsynced;
       };
-      none = λ none. ((c.do_turns.ensures.idle (c.start-turns.ensures.workless (sym c.is_file_call.ensures ∙ c.if-not-is_file_call.false) none)).device, refl);
+      none = λ none. ((c.do_turns.ensures.idle (c.start-turns.ensures.workless none)).device, refl);
       service = λ function is. ap (λ (kept : Kept). kept.service) c.reply.ensures.kept;
-      other = λ none. absurd (true≢false (sym file ∙ ap is_some none));
       stopped = tt;
       left = record {
         labels = λ number.
@@ -116,7 +99,6 @@ returns-in-Ok g c =
 pub returns-in-Err : goal.returns-in-Err
 returns-in-Err g c =
     let left = c.do_turns.ensures.left in
-    let file : is_some (function_of c.args.call.now.function) ≡ true = sym c.is_file_call.ensures ∙ c.if-not-is_file_call.false in
     record {
       done = λ before function is stand. record {
         ok =
@@ -149,9 +131,8 @@ returns-in-Err g c =
             let unsynced = g.D.Drives.unsynced in
             subst (λ drive. KeepsUnsynced drive (unsynced c.args.drives.now) (unsynced c.do_turns.new.drives)) (c.start-turns.ensures.drive before function is) c.do_turns.ensures.left.kept_unsynced;
       };
-      none = λ none. ((c.do_turns.ensures.idle (c.start-turns.ensures.workless (sym c.is_file_call.ensures ∙ c.if-not-is_file_call.false) none)).device, c.in-Err.ensures.unfailing (c.start-turns.ensures.workless (sym c.is_file_call.ensures ∙ c.if-not-is_file_call.false) none));
+      none = λ none. ((c.do_turns.ensures.idle (c.start-turns.ensures.workless none)).device, c.in-Err.ensures.unfailing (c.start-turns.ensures.workless none));
       service = λ function is. ap (λ (kept : Kept). kept.service) c.leave_service.ensures;
-      other = λ none. absurd (true≢false (sym file ∙ ap is_some none));
       stopped = record {
         kept =
             let old = c.args.self.now in

@@ -2,7 +2,7 @@ use Rattle.std.proofs.Common.{◌≡◌, ◌+◌, refl, sym, subst, ◌∙◌, a
 use Rattle.mpm_bdos.specs.Serving.{Serves}
 use Rattle.mpm_bdos.specs.Turns.{images_of}
 use Rattle.mpm_bdos.proofs.AskingLaws.{left_after}
-use Rattle.mpm_bdos.proofs.AtOnceLaws.{no_turns, one_more, one_more_turn, rests_again, still_none, cause_since, is_ok_or_err}
+use Rattle.mpm_bdos.proofs.AtOnceLaws.{no_turns, one_more, one_more_turn, rests_again, still_none, still_served, cause_since, is_ok_or_err}
 use Rattle.mpm_bdos.proofs.bdos.Bdos.do_turns.Goals as goal
 
 pub loop-turn-init : goal.loop-turn-init
@@ -20,6 +20,7 @@ turn-requires g c =
     let so = c.loop-turn.invariant in
     record {
       fits = so.left.fits;
+      served = still_served c.args.self.now c.loop-turn.self so.left.kept c.requires.served;
       left = left_after g.D.Drives.disks c.args.self.now c.loop-turn.self c.args.drives.now c.loop-turn.drives c.loop-turn._turn c.args.turns c.requires
           (omega (arith, c.loop-turn-test.true)) so.working so.serves;
     }

@@ -1,8 +1,9 @@
-use Rattle.std.proofs.Common.{IfSome, refl, sym, subst, rules, arith}
+use Rattle.std.proofs.Common.{refl, sym, subst, rules, arith}
 use Rattle.mpm_bdos.specs.Serving.{Kept, Serves}
 use Rattle.mpm_bdos.specs.Turns.{FitsDrives, images_of}
-use Rattle.mpm_bdos.specs.Asking.{HasTurnIfWork}
+use Rattle.mpm_bdos.specs.Asking.{HasTurnHeld}
 use Rattle.mpm_bdos.proofs.AskingLaws.{turn_left}
+use Rattle.mpm_bdos.proofs.HeldLaws.{held_again}
 use Rattle.mpm_bdos.proofs.NextTurns.{next_served, next_stopped, next_progress}
 use Rattle.std.proofs.lemmas.Grind.{common_steps}
 use Rattle.mpm_bdos.proofs.bdos.Bdos.turn.Goals as goal
@@ -12,9 +13,14 @@ turn_service-requires g c =
     let disks = g.D.Drives.disks in
     record {
       fits = subst (λ (kept : Kept). FitsDrives disks kept.mounted kept.cached c.args.drives.now) (sym c.self.view_is) c.requires.fits;
-      left = subst (λ (kept : Kept). IfSome kept.service (HasTurnIfWork (disks c.args.drives.now) kept.mounted)) (sym c.self.view_is)
+      left = subst (λ (kept : Kept). HasTurnHeld (disks c.args.drives.now) kept.mounted kept.service) (sym c.self.view_is)
           (turn_left disks c.args.self.now c.args.drives.now c.requires);
     }
+
+pub invariant_of-self : goal.invariant_of-self
+invariant_of-self g c =
+    held_again c.self.inside.mounted c.turn_service.new.mounted c.self.inside.opens c.self.inside.service c.turn_service.new.service c.turn_service.ensures.kept c.turn_service.ensures.left.labels
+    c.self.invariant
 
 pub returns : goal.returns
 returns g c = record {

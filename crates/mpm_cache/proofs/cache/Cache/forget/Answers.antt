@@ -1,6 +1,7 @@
-use Rattle.std.proofs.Common.{ap, subst, ◌≡◌, List, ℕ}
+use Rattle.std.proofs.Common.{ap, subst, ◌≡◌, ◌∙◌, List, ℕ}
 use Rattle.mpm_cache.specs.declared.cache.SectorPlace.{SectorPlace}
-use Rattle.mpm_cache.specs.Cached.{taken_out, Forgets}
+use Rattle.std.specs.Map.{remove_entry}
+use Rattle.mpm_cache.specs.Cached.{is_at, taken_out}
 use Rattle.mpm_cache.proofs.CachedLaws.{taken, forgets}
 use Rattle.mpm_cache.proofs.cache.Cache.forget.Goals as goal
 
@@ -11,5 +12,5 @@ returns-clause-out c =
 
 pub returns-clause-forgotten : goal.returns-clause-forgotten
 returns-clause-forgotten c =
-    subst (λ (es : List (SectorPlace × List ℕ)). Forgets c.args.drive c.args.sector es c.pop.new.self.entries) c.self.view_is
-    (forgets c.args.drive c.args.sector c.self.inside.sectors.entries c.pop.new.self.entries c.len-cached.ensures.valid.0 (ap (λ l. l.entries) c.pop.ensures.entries))
+    forgets c.args.drive c.args.sector c.args.self.now c.pop.new.self.entries c.recall_once.ensures
+    (ap (λ l. l.entries) c.pop.ensures.entries ∙ ap (λ (es : List (SectorPlace × List ℕ)). remove_entry (is_at c.args.drive c.args.sector) es) c.self.view_is)

@@ -1,4 +1,4 @@
-use Rattle.std.proofs.Common.{◌≡◌, ◌≢◌, ◌∙◌, ◌<◌, ap, sym, subst, ℕ, List, None, false}
+use Rattle.std.proofs.Common.{◌≡◌, ◌≢◌, ◌∙◌, ap, sym, subst, ℕ, List, None, false}
 use Rattle.mpm_ready.specs.Order.{Member}
 use Rattle.mpm_ready.specs.Tables.{inserted}
 use Rattle.mpm_consoles.specs.Consoles.{Consoles, HasUnit, WaitsForNoUnit, owner_of, owns, AreSoundConsoles}
@@ -14,6 +14,6 @@ invariant_of-self c =
     let nowhere = subst (λ (t : Consoles). WaitsForNoUnit t c.args.p) (sym c.self.view_is) c.requires.nowhere in
     let owned = subst (λ (t : Consoles). owner_of t c.args.unit ≢ None) (sym c.self.view_is) c.requires.owned in
     let other = subst (λ (t : Consoles). owns t c.args.p c.args.unit ≡ false) (sym c.self.view_is) c.requires.other in
-    let put = c.insert.ensures ∙ ap (λ (k : ℕ). inserted c.self.inside.waiters k (record { slot = c.args.p; priority = c.args.priority })) c.place.ensures.place in
+    let put = c.insert.ensures.lists ∙ ap (λ (k : ℕ). inserted c.self.inside.waiters k (record { slot = c.args.p; priority = c.args.priority })) c.place.ensures.place in
     subst (λ (ws : List (List Member)). AreSoundConsoles (record t { waiters = ws })) (sym put)
-    (sound_listed t c.args.p c.args.priority c.args.unit c.self.invariant has (subst (λ (n : ℕ). n < 32) c.p.view_is c.p.invariant) nowhere owned other)
+    (sound_listed t c.args.p c.args.priority c.args.unit c.self.invariant has c.insert.ensures.slot nowhere owned other)

@@ -1,11 +1,14 @@
 use Rattle.std.proofs.Common.{◌∙◌, ◌<◌, ◌^◌, sym, subst}
 use Rattle.mpm_core_file.specs.declared.head.Head.{Head}
 use Rattle.mpm_core_file.specs.CoreFiles.{IsCore}
-use Rattle.mpm_core.proofs.TakeLaws.{taken_is, taken_holds, home_lives}
+use Rattle.mpm_core.proofs.TakeLaws.{taken_is, taken_holds, home_lives, has_home}
 use Rattle.mpm_core.proofs.saved.Core.take_from.Goals as goal
 
 pub head_at-head-requires : goal.head_at-head-requires
 head_at-head-requires c = home_lives c.args.machine.now.system c.args.p c.args.home c.requires.there
+
+pub segment_at-segment-requires : goal.segment_at-segment-requires
+segment_at-segment-requires c = has_home c.args.machine.now.system c.args.p c.args.home c.requires
 
 pub fill-requires : goal.fill-requires
 fill-requires c =

@@ -1,7 +1,7 @@
 -- A write that was done is in the image, and one that wasn't changes none.
 use Rattle.std.proofs.Common.{rules, arith}
 use Rattle.std.proofs.lemmas.Grind.{common_steps}
-use Rattle.mpm_host.proofs.Holding.{writes, writes_none, untold_still}
+use Rattle.mpm_host.proofs.Holding.{writes, writes_none, writes_beside, untold_still}
 use Rattle.mpm_host.proofs.drives.RealDrivesDrives.write.Goals as goal
 
 pub returns-clause-answers : goal.returns-clause-answers

@@ -1,4 +1,6 @@
-use Rattle.std.proofs.Common.{◌∙◌, sym}
+use Rattle.std.proofs.Common.{◌∙◌, ℕ, ◌%◌, sym, subst}
+use Rattle.mpm_kernel.specs.Called.{Yields}
+use Rattle.mpm_kernel.specs.Waiting.{set_if_flag}
 use Rattle.mpm_kernel.proofs.RowLaws.{yields_at}
 use Rattle.mpm_kernel.proofs.kernel.Kernel.serve_begun.Goals as goal
 
@@ -12,7 +14,9 @@ pub returns-in-132 : goal.returns-in-132
 returns-in-132 c = yields_at c.args.p c.args.self.now 132 _ _ _ (sym c.requires.function ∙ c.in-132.is) c.wait_flag.ensures
 
 pub returns-in-133 : goal.returns-in-133
-returns-in-133 c = yields_at c.args.p c.args.self.now 133 _ _ _ (sym c.requires.function ∙ c.in-133.is) c.set_flag.ensures
+returns-in-133 c =
+    let P : ℕ → Type 0 = λ word. Yields (set_if_flag (word % 256) c.args.self.now) c.set_flag.new.self c.set_flag.result c.set_flag.new.reply in
+    yields_at c.args.p c.args.self.now 133 _ _ _ (sym c.requires.function ∙ c.in-133.is) (subst P c.requires.word c.set_flag.ensures)
 
 pub returns-in-134 : goal.returns-in-134
 returns-in-134 c = yields_at c.args.p c.args.self.now 134 _ _ _ (sym c.requires.function ∙ c.in-134.is) c.make_queue.ensures

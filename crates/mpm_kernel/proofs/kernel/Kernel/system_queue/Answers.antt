@@ -5,8 +5,8 @@ use Rattle.mpm_kernel.specs.Queueing.{OnlySystems, with_system_queue}
 use Rattle.mpm_kernel.proofs.SystemQueues.{system_made, sound_system_queue}
 use Rattle.mpm_kernel.proofs.kernel.Kernel.system_queue.Goals as goal
 
-pub returns-in-Ok : goal.returns-in-Ok
-returns-in-Ok c =
+pub returns : goal.returns
+returns c =
     let before = the_view c.self.inside in
     let sound = subst IsSoundKernel (sym c.self.view_is) c.requires.sound in
     let only = subst OnlySystems (sym c.self.view_is) c.requires.boot in

@@ -39,7 +39,7 @@ returns-then-done-most g c =
           whole = ran.whole;
           no_completions = ran.no_completions;
           due = ran.due;
-          locks = c.tell_sound.ensures;
+          locks = c.recall_sound.ensures;
           interprets = ran.interprets;
           turn_steps = ran.turn_steps;
         };

@@ -14,7 +14,9 @@ use Rattle.mpm_machine.specs.Settling.{HasCarried, StopsCarrying}
 use Rattle.mpm_machine.proofs.FailingLaws.{turns_fail}
 use Rattle.mpm_machine.proofs.CarryingLaws.{in_call, all_left_turns, whole_unserved, nobody_left, never_both}
 use Rattle.mpm_machine.proofs.SettlingLaws.{turns_call, somebody_served, is_served}
+use Rattle.mpm_bdos.proofs.AtOnceLaws.{still_served}
 use Rattle.mpm_machine.proofs.PartsLaws.{uses_turns, uses_kept}
+use Rattle.mpm_machine.proofs.WorkLaws.{is_held}
 use Rattle.mpm_machine.proofs.machine.Machine.carry_call.Goals as goal
 
 pub finish_disk_call-turns-requires : goal.finish_disk_call-turns-requires
@@ -27,6 +29,7 @@ do_turns-requires g c =
     let its = in_call holds.files disk c.args.p c.args.self.now.bdos (g.D.Drives.disks c.args.drives.now) c.requires.served holds.stands in
     record {
       fits = holds.calls.fits;
+      served = is_held c.args.self.now.system.kernel c.args.self.now.bdos.service (is_served c.args.self.now.system c.args.p c.requires.served) holds.calls.own;
       left = λ works. record {
         situation = its.call;
         ended = its.turns;
@@ -41,6 +44,8 @@ end_call-requires g c = record {
   over = c.finish_disk_call-turns.ensures.over c.args.p c.requires.served;
   none = c.requires.between.no_completions.written;
   idle = ap (λ (k : Kernel). k.disk.served) c.finish_disk_call-turns.ensures.kernel ∙ nobody_left c.args.self.now.system.kernel;
+  held = still_served c.args.self.now.bdos c.do_turns.new.self c.do_turns.ensures.left.kept
+      (is_held c.args.self.now.system.kernel c.args.self.now.bdos.service (is_served c.args.self.now.system c.args.p c.requires.served) c.requires.between.holds.calls.own);
 }
 
 -- a drive failed in a turn

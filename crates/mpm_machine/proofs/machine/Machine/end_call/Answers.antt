@@ -7,7 +7,7 @@ use Rattle.mpm_machine.proofs.CarryingLaws.{Pays, carried_stopped_first, carried
 use Rattle.mpm_machine.proofs.machine.Machine.end_call.Goals as goal
 
 pub answer_call-requires : goal.answer_call-requires
-answer_call-requires g c = record { whole = c.requires.whole; over = c.requires.over; room = omega (arith, ap length c.requires.none) }
+answer_call-requires g c = record { whole = c.requires.whole; over = c.requires.over; room = omega (arith, ap length c.requires.none); held = c.requires.held }
 
 pub end_all-requires : goal.end_all-requires
 end_all-requires g c = record { whole = subst IsWhole (sym c.pay.ensures.system) (whole_all_paid c.answer_call.new.self.system c.in_default.ensures.whole) }

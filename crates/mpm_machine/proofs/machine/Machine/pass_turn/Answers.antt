@@ -14,7 +14,7 @@ use Rattle.mpm_machine.specs.DiskStep.{told_of_call, call_over}
 use Rattle.mpm_machine.proofs.DiskStepLaws.{whole_passed}
 use Rattle.mpm_machine.proofs.EnterLaws.{nothing_passes, none_made, passed_filed, filed_if_passed}
 use Rattle.mpm_machine.proofs.ServeLaws.{IsOverFrom, over_made, passed_is, works_last, works_on, never_on, none_behind, pass_over, pass_stops, nobody_behind, none_holds, passes_so, passed_made, begun_so, own_so}
-use Rattle.mpm_machine.proofs.WorkLaws.{nobody_served, somebody_served}
+use Rattle.mpm_machine.proofs.WorkLaws.{nobody_served, somebody_served, is_held}
 use Rattle.mpm_machine.proofs.PartsLaws.{may_end, ends_still}
 use Rattle.mpm_machine.proofs.machine.Machine.pass_turn.Goals as goal
 
@@ -44,6 +44,11 @@ answer_call-requires g c = record {
   whole = subst IsWhole (sym (passed_is c.args.self.now.system c.turn_disk.new.self c.turn_disk.ensures.kernel)) (whole_passed c.args.self.now.system c.requires.whole);
   over = search rules;
   room = c.requires.room;
+  held =
+      let old = c.args.self.now.system in
+      is_held old.kernel c.args.self.now.bdos.service
+      (somebody_served old.kernel.disk c.serving.result c.is_none.result (c.serving.ensures.served ∙ ap served_process c.disk.ensures) c.is_none.ensures c.if-is_none.false)
+      c.requires.calls.own;
 }
 
 pub returns-then-last : goal.returns-then-last

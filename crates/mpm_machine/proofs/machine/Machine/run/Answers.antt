@@ -147,7 +147,7 @@ returns g c =
         whole = so_far.whole;
         no_completions = so_far.no_completions;
         due = λ some. so_far.due (omega (arith, some, all));
-        locks = c.tell_sound.ensures;
+        locks = c.recall_sound.ensures;
         interprets = so_far.interprets;
         turn_steps = so_far.turn_steps;
       };

@@ -50,7 +50,7 @@ returns-in-Ok g c =
         whole = made_whole old new c.requires.between.whole done.made.made;
         no_completions = made_no_completions old new done.made.made;
         due = λ some. made_nobody_due old new c.requires.between.whole done.made.made;
-        locks = c.tell_sound.ensures;
+        locks = c.recall_sound.ensures;
         interprets = interprets_stepped old new c.requires.between.whole done.made.made;
         turn_steps = done.made.turn_steps;
       };

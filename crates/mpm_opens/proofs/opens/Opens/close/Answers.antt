@@ -9,7 +9,7 @@ pub returns : goal.returns
 returns c =
     let item = c.args.item in
     let old = c.args.self.now in
-    let sound : AreOpen old = subst AreOpen c.self.view_is c.self.invariant in
+    let sound : AreOpen old = c.recall_sound.ensures in
     let P : OpenFiles → Type 0 = λ opens. IsClosed item old opens in
     record {
       opens = c.close_once.ensures ∙ closed_is old item sound c.requires;

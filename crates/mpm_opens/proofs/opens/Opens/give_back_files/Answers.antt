@@ -9,7 +9,7 @@ pub returns : goal.returns
 returns c =
     let old = c.args.self.now in
     let among = is_among c.args.files.now in
-    let sound : AreOpen old = subst AreOpen c.self.view_is c.self.invariant in
+    let sound : AreOpen old = c.recall_sound.ensures in
     let P : OpenFiles → Type 0 = λ opens. HasLeft c.args.p among old opens in
     record {
       opens = c.let_go.ensures;

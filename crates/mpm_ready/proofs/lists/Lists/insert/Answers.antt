@@ -8,8 +8,8 @@ invariant_of-self c =
     let unlisted = ap (λ lists. list_of lists c.args.p) c.self.view_is ∙ c.requires.unlisted in
     put_stands c.self.inside.links c.put.new.self c.args.list c.args.p c.args.priority c.self.invariant c.requires.below c.put.ensures.slot unlisted c.put.ensures.links
 
-pub returns : goal.returns
-returns c =
+pub returns-clause-lists : goal.returns-clause-lists
+returns-clause-lists c =
     let unlisted = ap (λ lists. list_of lists c.args.p) c.self.view_is ∙ c.requires.unlisted in
     put_inserts c.self.inside.links c.put.new.self c.args.list c.args.p c.args.priority c.self.invariant c.requires.below c.put.ensures.slot unlisted c.put.ensures.links
     ∙ ap (λ lists. inserted lists c.args.list (record { slot = c.args.p; priority = c.args.priority })) c.self.view_is

@@ -1,9 +1,9 @@
-use Rattle.std.proofs.Common.{rules, [], ◌∷◌, arith}
+use Rattle.std.proofs.Common.{◌∙◌, rules, [], ◌∷◌, arith}
 use Rattle.std.proofs.lemmas.Grind.{common_steps}
 use Rattle.mpm_sectors.specs.Slots.{slot_write}
 use Rattle.mpm_sectors.proofs.LeavesLaws.{leaves_over}
 use Rattle.mpm_sectors.proofs.WriteLaws.{first_none}
-use Rattle.mpm_sectors.proofs.SlotPuts.{slot_put}
+use Rattle.mpm_sectors.proofs.SlotPuts.{put_by_bytes, slot_put}
 use Rattle.mpm_sectors.proofs.disk.Disk.put_slot.Goals as goal
 
 pub returns-in-Err : goal.returns-in-Err
@@ -24,7 +24,7 @@ pub returns : goal.returns
 returns g c = record {
   puts = λ image told. slot_put c.args.self.now.drive c.args.self.now.kind image c.args.slot c.from.result c.from-2.result c.args.entry.now c.geometry-wide.result.wide
       c.read.new.out c.put_entry.new.sector _ _ _ c.put.result c.in-Ok.ensures.disks (first_of (search rules, grind (arith, common_steps))) (first_of (search rules, grind (arith, common_steps))) (first_of (search rules, grind (arith, common_steps)))
-      (c.in-Ok.ensures.bytes image told) c.put_entry.ensures c.put.ensures.puts;
+      (c.in-Ok.ensures.bytes image told) (c.put_entry.ensures ∙ put_by_bytes _ _ _ _ _ c.entry_bytes-bytes.ensures.bytes) c.put.ensures.puts;
   read = first_of (search rules, grind (arith, common_steps));
   calls = first_of (search rules, grind (arith, common_steps));
   leaves = leaves_over g.D.Drives.disks g.D.Drives.told g.D.Drives.failed_names g.D.Drives.unsynced c.args.self.now.drive c.args.cache.now _ _ c.args.drives.now _ _ c.in-Ok.ensures.leaves c.put.ensures.leaves;
