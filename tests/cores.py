@@ -1,6 +1,6 @@
 """python3 -m tests.cores [MPM_SNAPSHOT]: follows examples/README.md, "A fault is found", with a built mpm_snapshot, crates/mpm_snapshot/out/mpm_snapshot
 where none is named, and compares what each command writes with what the page has under it. Then it saves programs that wait in a call, and shows
-them by tools.core; and it saves processes that aren't there by a copy of `./snapshot`.
+them by tools.core; it saves processes that aren't there by a copy of `./snapshot`; and it tries a pipe, a closed output and a word that is no text.
 
 What differs has a line; the last line counts the cases. Status: 0 where nothing differs, 1 where something does, 2 where something ran
 out of time and nothing differs."""
@@ -14,6 +14,7 @@ import tempfile
 
 from tests import running
 from tests.lessons import missing
+from tests.program import HI_PRL, image, with_disk, with_file, write_files
 from tests.running import ROOT
 
 PAGE = os.path.join(ROOT, "examples", "README.md")
@@ -90,6 +91,27 @@ def missing_differences(program, folder):
         yield f"process {process} after {steps} steps", None if found == wanted else f"{found}, and not {wanted}"
 
 
+def device_differences(program, folder):
+    """A core that comes by a pipe is read once. A closed output takes no core, and no image gets it. A word that is no text is refused."""
+    core, pipe = os.path.join(folder, "hi.core"), os.path.join(folder, "pipe")
+    with open(core, "wb") as file:
+        running.run([program, "save", "program", os.path.join(ROOT, "examples", "hi.bin"), "2", "0"], stdout=file)
+    with open(core, "rb") as file, running.pipe(pipe, file.read()):
+        given, piped = (running.run([program, "resume", name, "1"], timeout=10) for name in (core, pipe))
+    yield "a core from a pipe", None if (given.returncode, given.stdout) == (piped.returncode, piped.stdout) == (0, piped.stdout) else str(piped)
+    disk = with_file(image(), 0, b"HI      PRL", 2, HI_PRL)
+    text = with_disk(1, (64, 64)).replace("hd4", "ibm3740")
+    write_files(folder, {"file": text, "keys": "0 key 0 hi\\r\n", "A": disk})
+    asked = ([program, "save", "run", "file", str(steps), str(process)] for steps in range(0, 2000, 5) for process in range(8))
+    words = next((words for words in asked if running.run(words, cwd=folder).returncode == 0), None)
+    closed = words and running.run(words, cwd=folder, preexec_fn=lambda: os.close(1))
+    with open(os.path.join(folder, "A"), "rb") as file:
+        found = closed and (closed.returncode, closed.stderr, file.read() == disk)
+    yield "a closed output", None if found == (8, b"output failed\n", True) else str(found)
+    refused = running.run([program, "resume", b"\xFF", "1"])
+    yield "a word that is no text", None if (refused.returncode, refused.stdout) == (1, b"") else str(refused)
+
+
 def main():
     program = running.program_in(sys.argv[1:], BUILT)
     with open(PAGE, encoding="utf-8") as file:
@@ -98,7 +120,7 @@ def main():
     with tempfile.TemporaryDirectory() as folder:
         for command, lines in commands(section):
             tally.add(command, running.in_time(wrong, command, lines, program, folder))
-        for group in (waiting_differences, missing_differences):
+        for group in (waiting_differences, missing_differences, device_differences):
             for name, said in running.each_in_time(group, program, folder):
                 tally.add(name, said)
     return tally.status()

@@ -120,6 +120,7 @@ ENDINGS = [
     (["check", "ibm3740", "disk.img", "list"], "", (1, "", USAGE), []),
     (["apply", "ibm3740", "disk.img"], "", (1, "", USAGE), []),
     (["check", "ibm3740", ""], "", (1, "", USAGE), []),
+    (["check", "ibm3740", b"\xFF"], "", (1, "", USAGE), []),
 ]
 
 
@@ -143,6 +144,24 @@ def mute(program, folder):
         found = ended(program, folder, "apply", "ibm3740", "disk.img", "list", stdout=full)
     left = without(KINDS["ibm3740"], image, [9])
     return None if (found, image_in(folder)) == ((8, "", "output failed"), left) else found
+
+
+def closed(program, folder):
+    """What is wrong with a run whose output is closed: nothing is said, the slot is free, and no other byte has changed."""
+    image = clashing()
+    write(folder, "disk.img", image)
+    write(folder, "list", "fault 9 4 3\n")
+    found = ended(program, folder, "apply", "ibm3740", "disk.img", "list", preexec_fn=lambda: os.close(1))
+    left = without(KINDS["ibm3740"], image, [9])
+    return None if (found, image_in(folder)) == ((8, "", "output failed"), left) else found
+
+
+def piped(program, folder):
+    """What is wrong with a run whose list comes by a pipe, from which it can be read once."""
+    write(folder, "disk.img", clashing())
+    with running.pipe(os.path.join(folder, "pipe"), b"fault 9 4 3\n"):
+        found = ended(program, folder, "apply", "ibm3740", "disk.img", "pipe", timeout=10)
+    return None if found == (0, "freed 1\n", "") else found
 
 
 def installed(program, folder):
@@ -189,8 +208,9 @@ def main(words):
     tally = running.Tally()
     with tempfile.TemporaryDirectory() as folder:
         for row in ENDINGS:
-            tally.add(" ".join(row[0]), running.in_time(ends, program, folder, *row))
-        tally.add("a full output", running.in_time(mute, program, folder))
+            tally.add(" ".join(map(str, row[0])), running.in_time(ends, program, folder, *row))
+        for name, wrong in (("a full output", mute), ("a closed output", closed), ("a list from a pipe", piped)):
+            tally.add(name, running.in_time(wrong, program, folder))
         with tempfile.TemporaryDirectory() as root:
             script = installed(program, os.path.realpath(root))
             for row in HINTS:

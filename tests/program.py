@@ -758,6 +758,20 @@ def outputs(program):
         yield f"output {name}", None if ending == (8, "output failed at step 100\n", True) else str(ending)
 
 
+def pipes(program):
+    """A program, a machine file and a script that come by a pipe, each of which is read once."""
+    for words, piped, contents, files, text in (
+        (["program", "file", "9"], "file", HI, {}, "c0 Hi\\r\n"),
+        (["run", "file", "10"], "file", SCRIPTED.encode(), {"keys": ""}, PROMPT),
+        (["run", "file", "1000"], "keys", b"0 key 0 user 3\\r\n", {"file": SCRIPTED}, "c0 0A>user 3\\r\nc0 3A>\\\n"),
+    ):
+        with tempfile.TemporaryDirectory() as folder, running.pipe(os.path.join(folder, piped), contents):
+            write_files(folder, files)
+            done = running.run([program, *words], timeout=10, cwd=folder)
+        ending = done.returncode, done.stderr.decode(), done.stdout.decode()
+        yield f"{' '.join(words)} with {piped} from a pipe", None if ending == writes(text) else str(ending)
+
+
 # Makes OUT.DAT and writes sixteen records at once, of zeros.
 OUT = (call(44, 16) + call(26, 0x0400) + call(22, AT) + call(21, AT) + END).ljust(AT - 0x0100, b"\0") + b"\0OUT     DAT".ljust(36, b"\0")
 
@@ -800,7 +814,7 @@ def main(words):
     program, tally = running.program_in(words), running.Tally()
     for name, wrong in given_cases(program):
         tally.add(name, running.in_time(wrong))
-    for group in (outputs, ends_within):
+    for group in (outputs, pipes, ends_within):
         for name, wrong in running.each_in_time(group, program):
             tally.add(name, wrong)
     return tally.status()

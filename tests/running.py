@@ -1,8 +1,10 @@
 """What the drivers of tests share: the program that they try, its runs with a limit of time, and the count of what was tried."""
 
+import contextlib
 import os
 import subprocess
 import sys
+import threading
 
 ROOT = os.path.dirname(os.path.dirname(os.path.abspath(__file__)))
 TESTS = os.path.join(ROOT, "tests")
@@ -23,6 +25,22 @@ def run(words, timeout=SECONDS, **options):
     """A run with these words. Its outputs are kept where `options`, which are those of subprocess.run, don't say where they go."""
     options = ({} if "input" in options else {"stdin": subprocess.DEVNULL}) | {"stdout": subprocess.PIPE, "stderr": subprocess.PIPE} | options
     return subprocess.run(words, timeout=timeout, check=False, **options)
+
+
+@contextlib.contextmanager
+def pipe(path, contents):
+    """A pipe of a name: who reads it first gets these bytes, and who reads it once more waits for ever."""
+
+    def fill():
+        with open(path, "wb") as file:
+            file.write(contents)
+
+    os.mkfifo(path)
+    threading.Thread(target=fill, daemon=True).start()
+    try:
+        yield
+    finally:
+        os.remove(path)
 
 
 class OutOfTime(str):
