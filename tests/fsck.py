@@ -1,7 +1,9 @@
 """python3 -m tests.fsck [PROGRAM [COUNT]]: runs a built mpm_fsck, crates/mpm_fsck/out/mpm_fsck where none is named, on images of each
 kind, COUNT (20) of them with some changes of the directory, and compares what it lists with the rules of docs/IMAGES.md and
 docs/PROFILE.md as they are written here and in tools/images.py. Each list is applied: byte 0 of the slots that it names has to be E5h then, and
-all else as it was. The other endings of the program have a case each, and so has what ./fsck says of them.
+all else as it was. Entries whose faults were worked out by hand are listed so, and lists that were are taken or refused. The other endings of
+the program have a case each, also where the system refuses something (refusing.py), and so has what ./fsck says of them. That reads of a
+drive fail is tried in crates/mpm_fsck: the built program reads an image once, as it is opened.
 
 A case that comes out otherwise, or that runs out of time, has a line; the last line counts the cases. Status: 0 where each came out as it
 should, 1 where one didn't, 2 where one ran out of time and all others came out as they should."""
@@ -12,9 +14,9 @@ import shutil
 import sys
 import tempfile
 
-from tests import running
+from tests import refusing, running
 from tools import image_maker, images
-from tools.images import FREE, KINDS
+from tools.images import FREE, KINDS, LABEL
 
 BUILT = os.path.join(running.ROOT, "crates", "mpm_fsck", "out", "mpm_fsck")
 USAGE = "usage: mpm_fsck check KIND IMAGE or mpm_fsck apply KIND IMAGE LIST"
@@ -112,10 +114,19 @@ ENDINGS = [
     (["apply", "ibm3740", "disk.img", "list"], "fault 9 4 3\r\n", (4, "", "bad list line 1"), []),
     (["apply", "ibm3740", "disk.img", "list"], "fault 9 4 3\nfault 3\n", (4, "", "bad list line 2"), []),
     (["apply", "ibm3740", "disk.img", "list"], "fault 9 4 3\n" * 5462, (10, "", "list too long"), []),
+    (["apply", "ibm3740", "disk.img", "list"], "fault 9 4 3\n" * 11 + "fault 9 4\n", (4, "", "bad list line 12"), []),
     (["apply", "ibm3740", "disk.img", "lost"], "", (6, "", "cannot read"), []),
+    (["apply", "ibm3740", "disk.img", "."], "", (6, "", "cannot read"), []),
     (["apply", "ibm3740", "lost.img", "list"], "", (7, "", "disk failed"), []),
     (["check", "ibm3740", "lost.img"], "", (7, "", "disk failed"), []),
     (["check", "hd4", "disk.img"], "", (3, "", "wrong size"), []),
+    (["apply", "hd8", "disk.img", "list"], "", (3, "", "wrong size"), []),
+    ([], "", (1, "", USAGE), []),
+    (["check"], "", (1, "", USAGE), []),
+    (["check", "hd5", "disk.img"], "", (1, "", USAGE), []),
+    (["apply", "ibm3740", "disk.img", ""], "", (1, "", USAGE), []),
+    (["apply", "ibm3740", "", "list"], "", (1, "", USAGE), []),
+    (["apply", "ibm3740", "disk.img", "list", "list"], "", (1, "", USAGE), []),
     (["check", "ibm3740"], "", (1, "", USAGE), []),
     (["check", "ibm3740", "disk.img", "list"], "", (1, "", USAGE), []),
     (["apply", "ibm3740", "disk.img"], "", (1, "", USAGE), []),
@@ -135,25 +146,159 @@ def ends(program, folder, words, text, wanted, slots):
     return None if image_in(folder) == without(KINDS["ibm3740"], image, slots) else "the image that is left"
 
 
-def mute(program, folder):
-    """What is wrong with a run whose output takes nothing: the slot is free all the same."""
-    image = clashing()
-    write(folder, "disk.img", image)
-    write(folder, "list", "fault 9 4 3\n")
-    with open("/dev/full", "wb") as full:
-        found = ended(program, folder, "apply", "ibm3740", "disk.img", "list", stdout=full)
-    left = without(KINDS["ibm3740"], image, [9])
-    return None if (found, image_in(folder)) == ((8, "", "output failed"), left) else found
+# The words, what is refused, how they end, and the slots that are free then.
+NOTHING = (8, "", "output failed")
+REFUSED = [
+    ("a full output", "check", refusing.full(), NOTHING, []),
+    ("a full output", "apply", refusing.full(), NOTHING, [9]),
+    ("a closed output", "check", lambda: os.close(1), NOTHING, []),
+    ("a closed output", "apply", lambda: os.close(1), NOTHING, [9]),
+    ("no write to the image", "apply", refusing.file_size(6_656), (7, "", "disk failed"), []),
+    # The system takes a half of the sector, with the slot's first byte, and then refuses the rest: what was there is written back.
+    ("no write of a half", "apply", refusing.file_size(8_256), (7, "", "disk failed"), []),
+    ("no sync", "check", refusing.no_sync(), (2, "fault 9 4 3\n", ""), []),
+    ("no sync", "apply", refusing.no_sync(), (7, "", "disk failed"), [9]),
+]
 
 
-def closed(program, folder):
-    """What is wrong with a run whose output is closed: nothing is said, the slot is free, and no other byte has changed."""
-    image = clashing()
-    write(folder, "disk.img", image)
+def refused(program, folder, word, prepare, wanted, slots):
+    """What is wrong with a run on the image of one clash to which the system refuses something; no other byte has changed."""
+    write(folder, "disk.img", clashing())
     write(folder, "list", "fault 9 4 3\n")
-    found = ended(program, folder, "apply", "ibm3740", "disk.img", "list", preexec_fn=lambda: os.close(1))
-    left = without(KINDS["ibm3740"], image, [9])
-    return None if (found, image_in(folder)) == ((8, "", "output failed"), left) else found
+    found = ended(program, folder, word, "ibm3740", "disk.img", *["list"] * (word == "apply"), preexec_fn=prepare)
+    left = without(KINDS["ibm3740"], clashing(), slots)
+    return None if (found, image_in(folder)) == (wanted, left) else found
+
+
+def starved(program, folder):
+    """What is wrong with runs that have little memory: they end so with nothing changed, or as they do with enough."""
+    image, found = clashing(), set()
+    write(folder, "list", "fault 9 4 3\n")
+    for most in range(0, 2_000_000, 65_536):
+        write(folder, "disk.img", image)
+        found.add((ended(program, folder, "apply", "ibm3740", "disk.img", "list", preexec_fn=refusing.memory(most)), image_in(folder) == image))
+    return refusing.wrong_of_starved(found, ((9, "", "out of memory"), True), ((0, "freed 1\n", ""), False))
+
+
+# Lists for the image of one clash, in slots 3 and 9: how many slots they free, or the first bad line.
+BAD_LISTS = """
+1 fault 9 4  3|
+1  fault 9 4 3|
+1 fault 9 4 3 |
+1 fault\t9 4 3|
+1 fault 09 4 3|
+1 fault +9 4 3|
+1 fault 64 4 3|
+1 fault 9 1 3|
+1 fault 9 9 3|
+1 fault 9 4 64|
+1 fault 9 4 --|
+1 fault 9 4|
+1 Fault 9 4 3|
+1 sound 1928|
+1 |
+1 fault 9 4 3
+2 fault 9 4 3||
+3 fault 9 4 3|fault 3 4 -|fault
+"""
+GOOD_LISTS = [
+    ("fault 3 8 63\n", [3]),
+    ("fault 9 4 3\nfault 9 2 -\n", [9]),
+    ("fault 9 4 3\nfault 3 4 -\n", [3, 9]),
+    ("fault 63 7 0\nfault 3 4 9\nfault 0 2 0\n", [0, 3, 63]),
+    ("fault 9 3 -\nfault 40 5 40\nfault 40 6 -\n", [9, 40]),
+    # Exactly as long as a list may be: 65,536 bytes.
+    ("fault 9 4 3\n" * 5459 + "fault 10 8 10\nfault 10 4 11\n", [9, 10]),
+]
+FULL_LIST = GOOD_LISTS[-1][0]
+
+
+def lists():
+    """The words of each list, its text, how it ends, and the slots that are free then, for `ends`."""
+    words = ["apply", "ibm3740", "disk.img", "list"]
+    for row in BAD_LISTS[1:-1].split("\n"):
+        yield words, row[2:].replace("|", "\n"), (4, "", f"bad list line {row[0]}"), []
+    for text, slots in GOOD_LISTS:
+        yield words, text, (0, f"freed {len(slots)}\n", ""), slots
+    yield words, "", (5, "", "not enough: cause 4 at 9"), []
+    yield words, FULL_LIST + "x", (10, "", "list too long"), []
+
+
+# Entries, in the first slots of a directory, and what was worked out by hand of them: what is listed.
+def floppy(letter, ex=0, s2=0, count=1, blocks=()):
+    return image_maker.entry_of(KINDS["ibm3740"], name=letter.encode().ljust(8) + b"TXT", ex=ex, s2=s2, count=count, blocks=blocks)
+
+
+def hard(name, letter, ex=0, blocks=()):
+    return image_maker.entry_of(KINDS[name], name=letter.encode().ljust(8) + b"TXT", ex=ex, blocks=blocks)
+
+
+def other(sort, letter):
+    return image_maker.protected_entry(sort, letter.encode().ljust(8) + b"TXT")
+
+
+UNUSED = b"\xE5" * 32
+A, HIGH_A = floppy("A"), floppy("A")[:1] + b"\xC1" + floppy("A")[2:]
+L, M = other(LABEL, "L"), other(LABEL, "M")
+THREE = [floppy(letter, blocks=[9]) for letter in "ABC"]
+LISTED = [
+    ("ibm3740", [], "sound 1928\n"),
+    ("ibm3740", [UNUSED, UNUSED, UNUSED, floppy("C", blocks=[7])], "sound 1920\n"),
+    ("ibm3740", [UNUSED, *THREE], "fault 2 4 1\nfault 3 4 1\n"),
+    # Of an entry that doesn't stay its other block, 12, clashes with none.
+    ("ibm3740", [UNUSED, THREE[0], floppy("B", blocks=[9, 12]), THREE[2], UNUSED, floppy("D", blocks=[12])], "fault 2 4 1\nfault 3 4 1\n"),
+    ("ibm3740", [floppy("A", count=129)], "fault 0 2 -\n"),
+    ("ibm3740", [floppy("A", blocks=[1])], "fault 0 3 -\n"),
+    ("ibm3740", [floppy("A", blocks=[20, 20])], "fault 0 4 0\n"),
+    ("ibm3740", [floppy("A", blocks=[20]), floppy("B", blocks=[21, 0, 20])], "fault 1 4 0\n"),
+    ("ibm3740", [A, UNUSED, A], "fault 2 5 0\n"),
+    ("ibm3740", [A, HIGH_A], "fault 1 5 0\n"),
+    ("ibm3740", [floppy("A", ex=32)], "fault 0 6 -\n"),
+    ("ibm3740", [floppy("A", s2=64)], "fault 0 6 -\n"),
+    ("ibm3740", [UNUSED, L, M], "fault 2 7 1\n"),
+    ("ibm3740", [other(16, "A"), other(16, "B"), other(16, "A")], "fault 2 8 0\n"),
+    ("ibm3740", [floppy("A", count=200), A, A, L, M], "fault 0 2 -\nfault 2 5 1\nfault 4 7 3\n"),
+    # The blocks of a hard disk have two bytes; on hd8 an entry covers two extents.
+    (
+        "hd4",
+        [hard("hd4", "A", 2, [0] * 7 + [2048]), hard("hd4", "A", 2, [0] * 7 + [2047]), hard("hd4", "A", 3, [2047])],
+        "fault 0 3 -\nfault 2 4 1\n",
+    ),
+    ("hd8", [hard("hd8", "A", 2), hard("hd8", "A", 3), hard("hd8", "B", 0, [0, 0, 0, 3])], "fault 1 5 0\nfault 2 3 -\n"),
+]
+
+
+def with_entries(name, entries):
+    """An unused image of a kind with these entries in its first slots."""
+    image = bytearray(b"\xE5" * KINDS[name].size)
+    for slot, entry in enumerate(entries):
+        image_maker.put_entry(KINDS[name], image, slot, entry)
+    return bytes(image)
+
+
+def listed(program, folder, name, entries, text):
+    """What is wrong with the list of an image with these entries, and with what comes of it."""
+    image = with_entries(name, entries)
+    write(folder, "disk.img", image)
+    faults = text.count("fault")
+    found = ended(program, folder, "check", name, "disk.img")
+    return checked(program, folder, name, image) if found == (2 if faults else 0, text, "") else found
+
+
+def lists_of_others(program, folder):
+    """Lists for other images: one that leaves an entry at fault; one that is empty, where there is nothing to free; of a hard disk the
+    last slot is 511."""
+    for name, entries, text, wanted in (
+        ("ibm3740", [UNUSED, *THREE], "fault 2 4 1\n", (5, "", "not enough: cause 4 at 3")),
+        ("ibm3740", [], "", (0, "freed 0\n", "")),
+        ("hd4", [], "fault 511 4 1\nfault 512 4 1\n", (4, "", "bad list line 2")),
+        ("hd4", [], "fault 511 4 1\n", (0, "freed 1\n", "")),
+    ):
+        image = with_entries(name, entries)
+        write(folder, "disk.img", image)
+        write(folder, "list", text)
+        found = ended(program, folder, "apply", name, "disk.img", "list")
+        yield f"the list {text!r}", None if (found, image_in(folder)) == (wanted, image) else found
 
 
 def piped(program, folder):
@@ -207,10 +352,16 @@ def main(words):
     count = int(words[1]) if len(words) > 1 else 20
     tally = running.Tally()
     with tempfile.TemporaryDirectory() as folder:
-        for row in ENDINGS:
-            tally.add(" ".join(map(str, row[0])), running.in_time(ends, program, folder, *row))
-        for name, wrong in (("a full output", mute), ("a closed output", closed), ("a list from a pipe", piped)):
+        for row in [*ENDINGS, *lists()]:
+            tally.add(f"{' '.join(map(str, row[0]))} by {row[1][:40]!r}", running.in_time(ends, program, folder, *row))
+        for name, *row in REFUSED:
+            tally.add(f"{name}: {row[0]}", running.in_time(refused, program, folder, *row))
+        for name, wrong in (("little memory", starved), ("a list from a pipe", piped)):
             tally.add(name, running.in_time(wrong, program, folder))
+        for row in LISTED:
+            tally.add(f"{row[0]} listed {row[2]!r}", running.in_time(listed, program, folder, *row))
+        for name, said in running.each_in_time(lists_of_others, program, folder):
+            tally.add(name, said)
         with tempfile.TemporaryDirectory() as root:
             script = installed(program, os.path.realpath(root))
             for row in HINTS:

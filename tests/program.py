@@ -10,7 +10,8 @@ import os
 import sys
 import tempfile
 
-from tests import hostile, running
+from tests import endings, hostile, running
+from tests.endings import write_files
 from tools import images
 
 USAGE = "usage: mpm program FILE STEPS [--trace] or mpm run MACHINE STEPS [--trace]"
@@ -228,6 +229,8 @@ def machines():
         # Keys that come twice, a bare CR, bytes that aren't UTF-8, and what is no document are not.
         "",
         "version = 1\n" + MACHINE,
+        HI,
+        bytes(48_513),
         MACHINE.replace("\n", "\r", 1),
         b"# \xFF\n" + MACHINE.encode(),
         # Other keys, at any level, and other types are TOML, and no machine file.
@@ -664,7 +667,7 @@ def stopped():
 
 # Scripts.
 
-SCRIPTED = "version = 1\nconsoles = 1\nscript = 'keys'\n[[segment]]\nbase = 0\npages = 192\n"
+SCRIPTED = endings.MACHINE
 TWO_CONSOLES = SCRIPTED.replace("consoles = 1", "consoles = 2")
 
 
@@ -706,7 +709,7 @@ c1 0A>\\
 def words():
     ran = ["run file 1", "run file 0", "run file 1 --trace", "program file 1", "program file 1 --trace"]
     refused = [
-        "", "run", "run file", "program file --trace", "Run file 1", "runs file 1", " file 1", "gen 1", "gen 1 x", "gen 01 0",
+        "", "run", "run file", "program file", "program file --trace", "Run file 1", "runs file 1", " file 1", "gen 1", "gen 1 x", "gen 01 0",
         "gen 2147483648 0", "gen -1 0", "gen 1 4000000001", "gen 1 0 --trace", "Gen 1 0",
         "run  1", "program  1", "run file ", "run file 09", "run file 00", "run file +9", "run file -0", "run file 1_0",
         "run file 4000000001", "run file 18446744073709551617", "program file 1 --Trace", "run file 1 trace",
@@ -726,12 +729,6 @@ def words():
         yield [word, "other", "9"], {"file": first}, CANNOT_READ
 
 
-def write_files(folder, files):
-    for name, contents in files.items():
-        with open(os.path.join(folder, name), "wb") as file:
-            file.write(contents.encode() if isinstance(contents, str) else contents)
-
-
 def run(program, words, files, left=None):
     """The exit status of the program with these words, in a folder with these files, and what it says and writes. The file of the
     name `left` is then answered too."""
@@ -745,31 +742,25 @@ def run(program, words, files, left=None):
             return *ending, file.read()
 
 
-def outputs(program):
-    """An output that takes nothing, and none at all: the step that writes first is reported, and the drive's image stays as it is."""
+def refused(program):
+    """Endings by images and by the system, and inputs from pipes."""
     files = {"file": with_disk(1, (0, 192)), "keys": "", "A": hard_disk()}
-    for name, output, prepare in (("full", "/dev/full", None), ("closed", os.devnull, lambda: os.close(1))):
-        with tempfile.TemporaryDirectory() as folder, open(output, "wb") as out:
-            write_files(folder, files)
-            words = [program, "run", "file", "100"]
-            done = running.run(words, cwd=folder, stdout=out, preexec_fn=prepare)
-            with open(os.path.join(folder, "A"), "rb") as file:
-                ending = done.returncode, done.stderr.decode(), file.read() == files["A"]
-        yield f"output {name}", None if ending == (8, "output failed at step 100\n", True) else str(ending)
-
-
-def pipes(program):
-    """A program, a machine file and a script that come by a pipe, each of which is read once."""
+    yield from endings.outputs(program, ["run", "file", "100"], files)
+    yield from endings.differences(program, ["run", "file", "10"], PROMPT.encode())
+    yield from endings.scripts(program)
+    yield from endings.of_images(program)
+    yield "an image that is cut short", endings.cut(program)
+    yield from endings.in_their_step(program, HI, LETTER, PROMPT.encode())
+    yield from endings.stops(program, next(files for _, files, _ in stopped() if files["file"].startswith("disk_turn = 20\n")))
+    yield "little memory", endings.starved(program, ["program", "file", "9"], {"file": HI})
+    # A program, a machine file and a script that come by a pipe, each of which is read once, in pieces where it is long.
     for words, piped, contents, files, text in (
         (["program", "file", "9"], "file", HI, {}, "c0 Hi\\r\n"),
+        (["program", "file", "9"], "file", HI.ljust(48_512), {}, "c0 Hi\\r\n"),
         (["run", "file", "10"], "file", SCRIPTED.encode(), {"keys": ""}, PROMPT),
         (["run", "file", "1000"], "keys", b"0 key 0 user 3\\r\n", {"file": SCRIPTED}, "c0 0A>user 3\\r\nc0 3A>\\\n"),
     ):
-        with tempfile.TemporaryDirectory() as folder, running.pipe(os.path.join(folder, piped), contents):
-            write_files(folder, files)
-            done = running.run([program, *words], timeout=10, cwd=folder)
-        ending = done.returncode, done.stderr.decode(), done.stdout.decode()
-        yield f"{' '.join(words)} with {piped} from a pipe", None if ending == writes(text) else str(ending)
+        yield f"{' '.join(words)} with {piped} from a pipe", endings.piped(program, words, piped, contents, files, text)
 
 
 # Makes OUT.DAT and writes sixteen records at once, of zeros.
@@ -814,7 +805,7 @@ def main(words):
     program, tally = running.program_in(words), running.Tally()
     for name, wrong in given_cases(program):
         tally.add(name, running.in_time(wrong))
-    for group in (outputs, pipes, ends_within):
+    for group in (refused, ends_within):
         for name, wrong in running.each_in_time(group, program):
             tally.add(name, wrong)
     return tally.status()

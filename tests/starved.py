@@ -1,16 +1,28 @@
 #!/usr/bin/env python3
-"""python3 -m tests.starved [PROGRAM]: runs a built mpm, crates/mpm/out/mpm where none is named, again and again, each time with one allocation of memory
-refused: the first, the second, and so on up to the last that a run makes; and then likewise with one and all after it. It does so
-for each of these runs:
+"""python3 -m tests.starved [PROGRAM..]: runs built programs, crates/NAME/out/NAME of mpm, mpm_fsck and mpm_snapshot where none is named, again
+and again, each time with one allocation of memory refused: the first, the second, and so on up to the last that a run makes; and then
+likewise with one and all after it. It does so for each of these runs, by the name of the program:
 
-program     a program, with records of its calls
-run         a machine of two consoles, two drives, a script and commands, whose programs write files
-in turns    the same with a disk that serves calls in turns
-refused     the same with a fault in the second drive's image
-gen         a machine of a seed
+mpm
+program       a program, with records of its calls
+run           a machine of two consoles, two drives, a script and commands, whose programs write files
+in turns      the same with a disk that serves calls in turns
+refused       the same with a fault in the second drive's image
+gen           a machine of a seed
 
-Each is to end as it does with all the memory it asks for, with the same output and the same images; or with status 9 and `out of memory`,
-with nothing written and the images as they were. It needs a C compiler (starved.c).
+mpm_fsck
+check         an image with two entries of one block
+sound         one without a fault
+apply         the list of the first, whose slot is freed
+not enough    a list that leaves a fault
+
+mpm_snapshot
+save program  a program
+save run      a machine whose program has written a file
+resume        a core, up to a gate
+
+Each is to end as it does with all the memory it asks for, with the same output and the same files; or with status 9 and `out of memory`,
+with nothing written and the files as they were. It needs a C compiler (starved.c).
 
 Each number at which it ends otherwise has a line, and so has each run, with how many allocations it makes and how many of them it can do
 without. Status: 0 where each ended as it should; 1 where one didn't; 2 where nothing can be compiled."""
@@ -20,8 +32,11 @@ import subprocess
 import sys
 import tempfile
 
-from tests import hostile, running
-from tests.running import TESTS
+from tests import fsck, hostile, running
+from tests.cores import core_file
+from tests.program import END, OUT, with_disk
+from tests.running import ROOT, TESTS
+from tools.images import KINDS
 
 
 def compiled(folder):
@@ -52,7 +67,7 @@ def ending(program, library, words, files, number, more):
         return (done.returncode, done.stderr, done.stdout, left), os.path.exists(mark)
 
 
-# The runs.
+# The runs: each with its status where memory is had, its name, its words and its files.
 
 # Asks for the version by function 12 and writes `A` by function 2, again and again: LD C; CALL 0005h; LD C; LD E; CALL 0005h; JR.
 PROGRAM = b"\x0E\x0C\xCD\x05\x00\x0E\x02\x1E\x41\xCD\x05\x00\x18\xF2"
@@ -77,16 +92,47 @@ def machine(turn):
     }  # fmt: skip
 
 
-def runs():
+def machine_runs():
     files = machine(0)
-    yield "program", ["program", "file", "20000", "--trace"], {"file": PROGRAM}
-    yield "run", ["run", "machine", "200000", "--trace"], files
-    yield "in turns", ["run", "machine", "200000", "--trace"], machine(20)
+    yield 0, "program", ["program", "file", "20000", "--trace"], {"file": PROGRAM}
+    yield 0, "run", ["run", "machine", "200000", "--trace"], files
+    yield 0, "in turns", ["run", "machine", "200000", "--trace"], machine(20)
     # A record count of 129 in the first slot.
     at_fault = bytearray(files["C"])
     at_fault[15] = 129
-    yield "refused", ["run", "machine", "200000"], files | {"C": bytes(at_fault)}
-    yield "gen", ["gen", "7", "50000"], {}
+    yield 4, "refused", ["run", "machine", "200000"], files | {"C": bytes(at_fault)}
+    yield 0, "gen", ["gen", "7", "50000"], {}
+
+
+def image_runs():
+    check, apply = (["check", "ibm3740", "image"], ["apply", "ibm3740", "image", "list"])
+    image = fsck.clashing()
+    yield 2, "check", check, {"image": image}
+    yield 0, "sound", check, {"image": fsck.without(KINDS["ibm3740"], image, [9])}
+    yield 0, "apply", apply, {"image": image, "list": b"fault 9 4 3\n"}
+    yield 5, "not enough", apply, {"image": image, "list": b"fault 40 2 -\n"}
+
+
+# Makes a file, writes sixteen records, and goes on for ever: JR to itself.
+WRITES = OUT.replace(END, b"\x18\xFE".ljust(len(END), b"\0"))
+
+
+def core_runs():
+    yield 0, "save program", ["save", "program", "file", "20000", "0"], {"file": PROGRAM}
+    disk = hostile.disk("ibm3740", {"OUT     COM": WRITES})
+    text = with_disk(1, (0, 192)).replace("hd4", "ibm3740")
+    files = {"machine": f"disk_turn = 20\n{text}".encode(), "keys": b"0 key 0 out\\r\n", "A": disk}
+    # Slots 0 and 1 have the interpreter and the terminal message processor, and slot 2 the program.
+    yield 0, "save run", ["save", "run", "machine", "2000", "2"], files
+    # CALL 0005h.
+    yield 0, "resume", ["resume", "core", "20000"], {"core": core_file(b"\xCD\x05\x00")}
+
+
+RUNS = {"mpm": machine_runs, "mpm_fsck": image_runs, "mpm_snapshot": core_runs}
+
+
+def built(name):
+    return os.path.join(ROOT, "crates", name, "out", name)
 
 
 def told(found):
@@ -94,11 +140,14 @@ def told(found):
     return f"status {status}, {said.decode(errors='replace').strip()!r}, {len(wrote)} bytes written"
 
 
-def starve(program, library, name, words, files, more):
+def starve(program, library, run, more):
     """How many numbers end otherwise than they should."""
+    status, name, words, files = run
     whole, _ = ending(program, library, words, files, 0, {})
     without = (9, b"out of memory\n", b"", files)
-    wrong = spared = number = 0
+    wrong, spared, number = int(whole[0] != status), 0, 0
+    if wrong:
+        print(f"{name}, with all memory: {told(whole)}, and not status {status}", flush=True)
     while True:
         number += 1
         found, is_refused = ending(program, library, words, files, number, more)
@@ -114,10 +163,14 @@ def starve(program, library, name, words, files, more):
 
 
 def main(words):
-    program = running.program_in(words)
+    programs = [running.program_in([path]) for path in words or map(built, RUNS)]
+    for program in programs:
+        if os.path.basename(program) not in RUNS:
+            sys.exit(f"{program} is none of {', '.join(RUNS)}")
     with tempfile.TemporaryDirectory() as folder:
         library = compiled(folder)
-        wrong = sum(starve(program, library, *run, more) for more in ({}, {"STARVED_ON": "1"}) for run in runs())
+        runs = [(program, run) for program in programs for run in RUNS[os.path.basename(program)]()]
+        wrong = sum(starve(program, library, run, more) for more in ({}, {"STARVED_ON": "1"}) for program, run in runs)
     return 1 if wrong else 0
 
 

@@ -31,6 +31,3 @@ fn main(rt: HostRuntime) -> ExitCode {
     ending::report(&rt, status);
     ExitCode::from(ending::number(status))
 }
-
-#[cfg(test)]
-mod tests;

@@ -21,9 +21,10 @@ pub record ShowsFailure (before : Drive) (job : Job) (files : Drive) : Type 0 wh
   pub keeps : KeepsOtherFiles (names before job) (is_label_job job.kind) before files
   pub shown : (file : FileName) (n : ℕ) → IsShown before (units_done before job (turns_of before job)) files file n
 
-pub failure_shown : (images : ℕ → List ℕ) (kept : Kept) (disks : Disks) (s : Situation) (j : ℕ) → Serves images kept s j
+-- a call that was served up to turn i, and whose drive failed in turn j
+pub failure_shown : (images : ℕ → List ℕ) (kept : Kept) (disks : Disks) (s : Situation) (i j : ℕ) → Serves images kept s i
     → (stopped : StopsWithin disks s j) → ShowsFailure (drive_at s) stopped.job stopped.contained.within.files
-failure_shown images kept disks s j serves stopped =
+failure_shown images kept disks s i j serves stopped =
     let before : Drive = drive_at s in
     let job : Job = stopped.job in
     let files : Drive = stopped.contained.within.files in

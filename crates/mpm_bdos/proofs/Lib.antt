@@ -23,6 +23,7 @@ pub mod EndingLaws
 pub mod Granted
 pub mod Absent
 pub mod NamedFiles
+pub mod FewRecords
 pub mod Planned
 pub mod Suited
 pub mod Started

@@ -7,10 +7,10 @@ use Rattle.mpm_opens.specs.declared.kinds.Mode.{Mode}
 use Rattle.mpm_opens.specs.declared.kinds.Mode.TheVariants.{Unlocked}
 use Rattle.mpm_opens.specs.Kinds.{is_same_mode, is_file, is_any}
 use Rattle.mpm_opens.specs.Items.{number_of}
-use Rattle.mpm_opens.specs.Opens.{OpenFiles, AreOpen, IsItemOf, process_of, with_its_item, added, closed_at, closed, written_at, written, locked, unlocked}
-use Rattle.mpm_opens.proofs.OpenLaws.{open_added}
+use Rattle.mpm_opens.specs.Opens.{OpenFiles, AreOpen, IsItemOf, process_of, with_its_item, added, closed_at, closed, written_at, written, locked}
+use Rattle.mpm_opens.proofs.OpenLaws.{locks_freed, open_added}
 use Rattle.mpm_opens.proofs.OpeningLaws.{number_is_live}
-use Rattle.mpm_opens.proofs.SoundLaws.{sound_given_back, sound_closed, sound_written, sound_locked, sound_unlocked}
+use Rattle.mpm_opens.proofs.SoundLaws.{sound_given_back, sound_closed, sound_written, sound_locked}
 use Rattle.mpm_opens.proofs.FindingLaws.{is_named_item}
 use Rattle.mpm_fcb.specs.Names.{has_f5}
 use Rattle.mpm_file_functions.specs.declared.ends.RecordEnd.{RecordEnd}
@@ -21,7 +21,7 @@ use Rattle.mpm_refusals.specs.Filing.{Filing, Situation, block}
 use Rattle.mpm_refusals.specs.Subjects.{drive_number, drive_at, open_mode, subject_key, first_record, mode_by, names_drive}
 use Rattle.mpm_refusals.specs.Refusals.{refusal_of}
 use Rattle.mpm_bdos.specs.Records.{Locking, end_of, unless_ended, locking}
-use Rattle.mpm_locks.specs.Locks.{unlocking}
+use Rattle.mpm_locks.specs.Locks.{is_lock_within, unlocking}
 use Rattle.mpm_bdos.specs.Jobs.{Turned, call_turns, turned}
 use Rattle.mpm_bdos.specs.Changes.{locking_of, is_deleted, opens_by, filing_after}
 use Rattle.mpm_bdos.specs.Leaving.{nothing_locked}
@@ -90,8 +90,7 @@ sound_locking s none is sound = by_mode (is_same_mode (open_mode s) Unlocked) (l
 
 sound_freeing : (opens : OpenFiles) (p : ℕ) (file : FileKey) (n count : ℕ) → AreOpen opens → AreOpen (unlocking opens p file n count)
 unfolding unlocking
-sound_freeing opens p file n zero sound = sound
-sound_freeing opens p file n (suc count) sound = sound_freeing (unlocked opens p file n) p file (n + 1) count (sound_unlocked opens p file n sound)
+sound_freeing opens p file n count sound = locks_freed opens.items opens.locks p (is_lock_within file n count) sound
 
 -- a call that isn't refused
 opens_sound : (s : Situation) (t : Turned) (f : FileFunction) → refusal_of s ≡ None → s.function ≡ f → AreOpen s.filing.opens → AreOpen (opens_by s t f)

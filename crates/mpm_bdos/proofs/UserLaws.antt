@@ -1,5 +1,5 @@
 -- Open files stay those of users 0 to 15.
-use Rattle.std.proofs.Common.{◌≡◌, ℕ, zero, suc, ◌+◌, ◌<◌, ◌==◌, Bool, true, false, cond, List, [], ◌∷◌, Option, Some, None, sym, subst}
+use Rattle.std.proofs.Common.{◌≡◌, ℕ, zero, suc, ◌<◌, ◌==◌, Bool, true, false, cond, List, [], ◌∷◌, Option, Some, None, sym, subst}
 use Rattle.std.specs.Prelude.{nat_lt, slice_set}
 use Rattle.mpm_opens.specs.declared.kinds.FileKey.{FileKey}
 use Rattle.mpm_opens.specs.declared.kinds.Item.{Item}
@@ -7,7 +7,7 @@ use Rattle.mpm_opens.specs.declared.kinds.Mode.{Mode}
 use Rattle.mpm_opens.specs.declared.kinds.OpenRefused.{OpenRefused}
 use Rattle.mpm_opens.specs.Kinds.{is_file}
 use Rattle.mpm_opens.specs.Items.{place_at, with_changed, opened_again, closed_once, that_wrote, new_item, first_free, number_of, refusal_of, opened_at, opened, where_granted, items_added, items_without}
-use Rattle.mpm_opens.specs.Opens.{OpenFiles, item_of, process_of, file_of, added, given_back, with_its_item, closed_at, closed, written_at, written, unlocked}
+use Rattle.mpm_opens.specs.Opens.{OpenFiles, item_of, process_of, file_of, added, given_back, with_its_item, closed_at, closed, written_at, written}
 use Rattle.mpm_opens.proofs.ItemLaws.{place_left, so_of_left}
 use Rattle.mpm_file_functions.specs.declared.functions.FileFunction.{FileFunction}
 use Rattle.mpm_file_functions.specs.declared.functions.FileFunction.TheVariants.{ResetDisks, OpenFile, CloseFile, SearchFirst, SearchNext, DeleteFile, ReadSequential, WriteSequential, MakeFile, RenameFile, ProtectDisk, SetAttributes, ReadRandom, WriteRandom, FileSize, ResetDrives, AccessDrives, FreeDrives, TestAndWrite, LockRecord, UnlockRecord, FreeSpace, FlushBuffers, SetLabel, LabelData, ReadXfcb, WriteXfcb}
@@ -74,18 +74,13 @@ written_unless true opens p file users = users
 written_unless false opens p file users = users_written opens p file users
 
 -- records that are freed
-users_freed : (opens : OpenFiles) (p : ℕ) (file : FileKey) (n : ℕ) → HaveUsers opens → HaveUsers (unlocked opens p file n)
-unfolding unlocked
-users_freed opens p file n users = users
-
-users_unlocking : (count : ℕ) (opens : OpenFiles) (p : ℕ) (file : FileKey) (n : ℕ) → HaveUsers opens → HaveUsers (unlocking opens p file n count)
+users_unlocking : (opens : OpenFiles) (p : ℕ) (file : FileKey) (n count : ℕ) → HaveUsers opens → HaveUsers (unlocking opens p file n count)
 unfolding unlocking
-users_unlocking zero opens p file n users = users
-users_unlocking (suc count) opens p file n users = users_unlocking count (unlocked opens p file n) p file (n + 1) (users_freed opens p file n users)
+users_unlocking opens p file n count users = users
 
 users_unlocked : (opens : OpenFiles) (p first count : ℕ) (item : Option OpenItem) → HaveUsers opens → HaveUsers (unlocked_where opens p first count item)
 users_unlocked opens p first count None users = users
-users_unlocked opens p first count (Some item) users = users_unlocking count opens p item.file first users
+users_unlocked opens p first count (Some item) users = users_unlocking opens p item.file first count users
 
 -- a file that is opened
 opened_users : (opens : OpenFiles) (p : ℕ) (file : FileKey) (mode : Mode) (number : Option ℕ) → HaveUsers opens → file.user < 16

@@ -1,6 +1,7 @@
-ghost use Rattle.std.specs.Prelude.{◌≡◌, ◌≤◌, Some};
+ghost use Rattle.std.specs.Prelude.{◌≡◌, ◌≤◌, Some, IfSome};
 ghost use Rattle.mpm_dirent.specs.declared.limits.TheConstants.{LAST_POSITION};
 ghost use Rattle.mpm_fcb.specs.Names.{new_name_of};
+ghost use Rattle.mpm_files.specs.Finding.{HasFewRecords};
 ghost use Rattle.mpm_jobs.specs.declared.jobs.JobKind.TheVariants as kinds;
 ghost use Rattle.mpm_jobs.specs.Jobs as jobs;
 ghost use Rattle.mpm_mount.specs.Standing.{OnItsDrive};
@@ -38,23 +39,29 @@ pub(crate) struct About {
 /// The job of an opening on a drive.
 #[inline(never)]
 fn opened(mounted: &Mounted, user: u8, name: &[u8; 11], moment: [u8; 4]) -> Option<Job>
-    ensures { OnItsDrive mounted.now (λ drive. result ≡ Some (planning.opened drive user name.now moment)) }
+    ensures job { OnItsDrive mounted.now (λ drive. result ≡ Some (planning.opened drive user name.now moment)) }
+    ensures few { IfSome result HasFewRecords }
 {
+    mounted.recall_directory();
     Some(opening(mounted, user, name, moment))
 }
 
 /// The job of a call that changes directory entries alone, as a deletion does.
 #[inline(never)]
 fn changed(kind: JobKind, user: u8, name: &[u8; 11]) -> Option<Job>
-    ensures { result ≡ Some (jobs.job_for kind user name.now) }
+    ensures job { result ≡ Some (jobs.job_for kind user name.now) }
+    ensures few { IfSome result HasFewRecords }
 {
     Some(job_on(kind, user, name))
 }
 
-/// The job of a call that reads so many records.
+/// The job of a call that reads so many records, 16 at most.
 #[inline(never)]
 fn read(user: u8, name: &[u8; 11], first: u32, count: u8) -> Option<Job>
-    ensures { result ≡ Some (jobs.with_records first count (jobs.job_for kinds.Read user name.now)) }
+    requires first { first ≤ LAST_POSITION }
+    requires few { count ≤ 16 }
+    ensures job { result ≡ Some (jobs.with_records first count (jobs.job_for kinds.Read user name.now)) }
+    ensures few { IfSome result HasFewRecords }
 {
     Some(reading_job(user, name, first, count))
 }
@@ -62,7 +69,8 @@ fn read(user: u8, name: &[u8; 11], first: u32, count: u8) -> Option<Job>
 /// The job of a renaming.
 #[inline(never)]
 fn renamed(user: u8, block: &ControlBlock) -> Option<Job>
-    ensures { result ≡ Some (jobs.with_new_name (new_name_of block.now) (jobs.job_for kinds.Rename user block.now.name)) }
+    ensures job { result ≡ Some (jobs.with_new_name (new_name_of block.now) (jobs.job_for kinds.Rename user block.now.name)) }
+    ensures few { IfSome result HasFewRecords }
 {
     Some(renaming_job(user, &block.name, &block.new_name()))
 }
@@ -76,7 +84,8 @@ fn made(
     call: &Call,
     moment: [u8; 4],
 ) -> Option<Job>
-    ensures { OnItsDrive mounted.now (λ drive. result ≡ Some (planning.made drive user block.now call.now moment)) }
+    ensures job { OnItsDrive mounted.now (λ drive. result ≡ Some (planning.made drive user block.now call.now moment)) }
+    ensures few { IfSome result HasFewRecords }
 {
     let label = label_byte(mounted);
     let xfcb = made_xfcb(label, block, call, moment);
@@ -86,16 +95,20 @@ fn made(
 /// The job of a labelling on a drive.
 #[inline(never)]
 fn labelled(mounted: &Mounted, user: u8, block: &ControlBlock, call: &Call) -> Option<Job>
-    ensures { OnItsDrive mounted.now (λ drive. result ≡ Some (planning.labelled drive user block.now call.now)) }
+    ensures job { OnItsDrive mounted.now (λ drive. result ≡ Some (planning.labelled drive user block.now call.now)) }
+    ensures few { IfSome result HasFewRecords }
 {
+    mounted.recall_directory();
     Some(labelling(mounted, user, block, call))
 }
 
 /// The job that makes or changes the XFCB of a file on a drive.
 #[inline(never)]
 fn guarded(mounted: &Mounted, user: u8, block: &ControlBlock, call: &Call) -> Option<Job>
-    ensures { OnItsDrive mounted.now (λ drive. result ≡ Some (planning.guarded drive user block.now call.now)) }
+    ensures job { OnItsDrive mounted.now (λ drive. result ≡ Some (planning.guarded drive user block.now call.now)) }
+    ensures few { IfSome result HasFewRecords }
 {
+    mounted.recall_directory();
     Some(guarding(mounted, user, block, call))
 }
 
@@ -112,7 +125,8 @@ fn written(
 ) -> Option<Job>
     requires few { caller.now.multi ≤ 16 }
     requires first { about.first ≤ LAST_POSITION }
-    ensures { OnItsDrive mounted.now (λ drive. result ≡ planning.written drive (locks.count_until (locks.is_locked_off opens.now caller.now.process about.file) about.first caller.now.multi) name.now bytes.now moment about) }
+    ensures job { OnItsDrive mounted.now (λ drive. result ≡ planning.written drive (locks.count_until (locks.is_locked_off opens.now caller.now.process about.file) about.first caller.now.multi) name.now bytes.now moment about) }
+    ensures few { IfSome result HasFewRecords }
 {
     let count = count_free(opens, caller.process, about.file, about.first, caller.multi);
     let stamp = writing_stamp(mounted, about.has_written, moment);
@@ -131,7 +145,8 @@ fn tested(
     about: About,
 ) -> Option<Job>
     requires { MayTestRecords about.file about.first caller.now.multi }
-    ensures { OnItsDrive mounted.now (λ drive. result ≡ planning.tested drive (locks.count_until (spec.is_tested_off drive opens.now caller.now.process about.file) about.first caller.now.multi) caller.now.multi name.now bytes.now moment about) }
+    ensures job { OnItsDrive mounted.now (λ drive. result ≡ planning.tested drive (locks.count_until (spec.is_tested_off drive opens.now caller.now.process about.file) about.first caller.now.multi) caller.now.multi name.now bytes.now moment about) }
+    ensures few { IfSome result HasFewRecords }
 {
     let count = count_tested(
         mounted,
@@ -162,7 +177,8 @@ pub(crate) fn job_by(
     about: About,
 ) -> Option<Job>
     requires { MayPlanJob about file_call.now.caller.multi block.now file_call.now.call.now.fcb }
-    ensures { planning.IsJobOf mounted.now about (λ drives protected marks searches. entered_at_own_moment file_call.now protected opens.now searches drives marks) result }
+    ensures job { planning.IsJobOf mounted.now about (λ drives protected marks searches. entered_at_own_moment file_call.now protected opens.now searches drives marks) result }
+    ensures few { IfSome result HasFewRecords }
 {
     let FileCall {
         caller,

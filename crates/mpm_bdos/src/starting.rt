@@ -1,9 +1,10 @@
-ghost use Rattle.std.specs.Prelude.{◌≡◌, ◌&&◌, Some, is_some, IsSome, option_and_then, unwrap_or};
+ghost use Rattle.std.specs.Prelude.{◌≡◌, ◌&&◌, Some, is_some, IsSome, IfSome, option_and_then, unwrap_or};
 ghost use Rattle.std.specs.Option.{option_copied};
 ghost use Rattle.mpm_opens.specs.Items.{file_named};
 ghost use Rattle.mpm_opens.specs.Opens.{item_of};
 ghost use Rattle.mpm_bdos.specs.Changes as changes;
 ghost use Rattle.mpm_file_functions.specs.Functions.{function_of};
+ghost use Rattle.mpm_files.specs.Finding.{HasFewRecords};
 ghost use Rattle.mpm_bdos.specs.Serving.{CallsUpon};
 ghost use Rattle.mpm_bdos.specs.Standing.{entered_at_own_moment};
 ghost use Rattle.mpm_bdos.specs.Starting as spec;
@@ -29,9 +30,6 @@ use mpm_refusals::{
     Caller, FileCall, Searches, ask, block_of_call, drive_of_call, item_number, refusal_of,
     word_of_call,
 };
-
-/// The most records of a job.
-const RECORDS: u8 = 16;
 
 /// The first of a call's records, or the last position that a block can have, where it is past that.
 pub(crate) fn first_position(block: &ControlBlock, function: FileFunction) -> u32
@@ -94,18 +92,15 @@ fn about_of(
 
 /// Begins a job that suits its drive. Its work stays where it is, as it takes some 4 KiB.
 fn begin_job(work: &mut Option<Work>, mounted: &Mounted, job: &Job)
+    requires { HasFewRecords job.now }
     ensures { spec.BeginsOn mounted.now (Some job.now) work.new }
 {
-    // No job that suits its drive has more.
-    if job.first > LAST_POSITION || job.count > RECORDS {
-        *work = None;
-        return;
-    }
     *work = Some(plan(mounted, job));
 }
 
 /// Begins a job that suits its drive, if there is one.
 fn begin(work: &mut Option<Work>, mounted: &Mounted, job: &Option<Job>)
+    requires { IfSome job.now HasFewRecords }
     ensures { spec.BeginsOn mounted.now job.now work.new }
 {
     match job {
@@ -337,8 +332,8 @@ impl Bdos {
     ghost use Rattle.mpm_bdos.specs.Starting.{caller_of};
     ghost use Rattle.mpm_bdos.specs.WholeCalls.{StartsService};
 
-    /// A process's call on files and drives enters service: how many turns it takes. No device is asked. (MP/M II Programmer's
-    /// Guide, "BDOS Function Calls".)
+    /// A process's call on files and drives enters service: how many turns it takes. No device is asked. A call that is still in
+    /// service is replaced, and isn't answered. (MP/M II Programmer's Guide, "BDOS Function Calls".)
     pub fn start(&mut self, p: Pid, call: &Call, process: &Process, now: Moment) -> u32
         requires caller { IsCaller (caller_of p process.now) }
         requires file { IsSome (function_of call.now.function) }

@@ -316,16 +316,10 @@ const XFCB: XfcbEntry = XfcbEntry {
 
 /// Its bytes, with those that no field says.
 fn xfcb_bytes(reserved: u8) -> [u8; 32] {
-    let mut bytes = [0; 32];
-    bytes[0] = 17;
-    bytes[1..12].copy_from_slice(b"A       TXT");
-    bytes[12] = 0x80;
-    bytes[13] = 3;
+    let mut bytes =
+        *b"\x11A       TXT\x80\x03\0\0\x04\x04\x04\x04\x04\x04\x04\x04\x05\x05\x05\x05\x06\x06\x06\x06";
     bytes[14] = reserved;
     bytes[15] = reserved;
-    bytes[16..24].copy_from_slice(&[4; 8]);
-    bytes[24..28].copy_from_slice(&[5; 4]);
-    bytes[28..32].copy_from_slice(&[6; 4]);
     bytes
 }
 

@@ -1,5 +1,5 @@
-//! Tests of runs of whose devices a call fails: of the files, or of the drives and the sink, each of their calls in turn up to the last
-//! that they make.
+//! Tests of runs of whose drives or sink a call fails: each of their calls in turn, up to the last that they make. What files and outputs of
+//! the system can fail in is tried of the built program (tests/endings.py).
 #![tactic(auto)]
 
 #[cfg(test)]
@@ -12,8 +12,6 @@ mod order;
 mod placed;
 #[cfg(test)]
 mod play;
-#[cfg(test)]
-mod puts;
 #[cfg(test)]
 mod runs;
 #[cfg(test)]

@@ -1,11 +1,13 @@
 -- Records that are locked: by whom, up to which one of some none is locked by another process, what a lock comes to, and records that
 -- are freed. (MP/M II Programmer's Guide, "Function 42: Lock Record", "Function 43: Unlock Record".)
-use Rattle.std.specs.Prelude.{ℕ, zero, suc, ◌+◌, ◌==◌, not, Bool, false, Option, Some, None, if◌then◌else◌}
+use Rattle.std.specs.Prelude.{ℕ, zero, suc, ◌+◌, ◌==◌, ◌&&◌, not, nat_le, nat_lt, Bool, false, Option, Some, None, if◌then◌else◌}
 use Rattle.mpm_opens.specs.declared.kinds.FileKey.{FileKey}
 use Rattle.mpm_opens.specs.declared.kinds.LockDone.{LockDone}
 use Rattle.mpm_opens.specs.declared.kinds.LockDone.TheVariants as lock
-use Rattle.mpm_opens.specs.Locks.{owner_of}
-use Rattle.mpm_opens.specs.Opens.{OpenFiles, unlocked}
+use Rattle.mpm_opens.specs.declared.kinds.RecordLock.{RecordLock}
+use Rattle.mpm_opens.specs.Kinds.{is_same_file}
+use Rattle.mpm_opens.specs.Locks.{owner_of, locks_without}
+use Rattle.mpm_opens.specs.Opens.{OpenFiles}
 use Rattle.mpm_file_functions.specs.declared.errors.RecordError.{RecordError}
 use Rattle.mpm_file_functions.specs.declared.ends.RecordEnd.{RecordEnd}
 use Rattle.mpm_file_functions.specs.declared.ends.RecordEnd.TheVariants.{Failing, LockedOff, TooManyLocks, NoLockRoom}
@@ -34,7 +36,13 @@ abbrev pub lock_end : Option RecordError → LockDone → Option RecordEnd
 lock_end (Some error) done = Some (Failing error)
 lock_end None done = refused_lock done
 
--- records that are freed
+-- a number is one of so many from one on, and a lock is of such a record of a file
+abbrev pub is_within : ℕ → ℕ → ℕ → Bool
+is_within n count number = nat_le n number && nat_lt number (n + count)
+
+abbrev pub is_lock_within : FileKey → ℕ → ℕ → RecordLock → Bool
+is_lock_within file n count lock = is_within n count lock.number && is_same_file lock.file file
+
+-- records are freed: a process's locks of so many records of a file from one on go, and all else stays
 unfoldable pub unlocking : OpenFiles → ℕ → FileKey → ℕ → ℕ → OpenFiles
-unlocking opens p file n zero = opens
-unlocking opens p file n (suc count) = unlocking (unlocked opens p file n) p file (n + 1) count
+unlocking opens p file n count = record opens { locks = locks_without opens.locks p (is_lock_within file n count) }

@@ -1,11 +1,13 @@
--- Laws of what a process of a segment does, as the parts of a step make it: an instruction where a listed one stands, and its end where
--- none does.
+-- Laws of what the running process does, as the parts of a step make it: of one that has a segment, an instruction where a listed one
+-- stands, and its end where none does.
 use Rattle.std.proofs.Common.{◌≡◌, ◌∙◌, ℕ, true, false, Option, Some, None, is_some, refl, sym, ap}
 use Rattle.std.proofs.lemmas.Bool.{false≢true}
 use Rattle.z80_regs.specs.Outcome.{StepOutcome}
 use Rattle.mpm_procs.specs.Table.{process_in}
 use Rattle.mpm_system.specs.declared.system.System.{System}
 use Rattle.mpm_system.specs.Whole.{silent}
+use Rattle.mpm_residents.specs.Natives.{native_in}
+use Rattle.mpm_machine.specs.Residing.{resided}
 use Rattle.mpm_machine.specs.Step.{illegal, executed, instructed, acted, acted_by, acted_at, at_instruction, instruction_by, running_segment, gate_before, is_no_gate}
 use Rattle.mpm_machine.proofs.WholeLaws.{ran_nothing}
 
@@ -32,4 +34,17 @@ pub instruction_inside : (p seg : ℕ) (system : System) → system.kernel.dispa
     → at_instruction system ≡ is_no_gate (gate_before p seg system)
 unfolding at_instruction
 instruction_inside p seg system running home =
+    ap (λ (r : Option ℕ). instruction_by r (running_segment r system) system) running ∙ ap (λ (s : Option ℕ). instruction_by (Some p) s system) home
+
+-- it has none
+pub acted_outside : (p : ℕ) (system : System) → system.kernel.dispatcher.running ≡ Some p → (process_in system.kernel.dispatcher.procs p).seg ≡ None
+    → acted system ≡ resided (native_in system.residents p) p system
+unfolding acted
+acted_outside p system running home =
+    ap (λ (r : Option ℕ). acted_by r (running_segment r system) system) running ∙ ap (λ (s : Option ℕ). acted_by (Some p) s system) home
+
+pub instruction_outside : (p : ℕ) (system : System) → system.kernel.dispatcher.running ≡ Some p → (process_in system.kernel.dispatcher.procs p).seg ≡ None
+    → at_instruction system ≡ false
+unfolding at_instruction
+instruction_outside p system running home =
     ap (λ (r : Option ℕ). instruction_by r (running_segment r system) system) running ∙ ap (λ (s : Option ℕ). instruction_by (Some p) s system) home

@@ -1,6 +1,6 @@
 -- A file that a process has open in read-only mode stays as it is in each step in which no file call of the process is done but one that
 -- reads, and it gives nothing back; and nothing is opened for the process.
-use Rattle.std.proofs.Common.{◌≡◌, ◌∙◌, inl, inr, ℕ, Bool, true, false, cond, List, [], ◌∷◌, Option, Some, None, refl, ap}
+use Rattle.std.proofs.Common.{◌≡◌, ◌∙◌, inl, inr, ℕ, Bool, true, false, cond, List, [], ◌∷◌, Option, Some, None, refl, sym, ap, subst}
 use Rattle.std.specs.Prelude.{⊤}
 use Rattle.std.specs.List.{range_with_len}
 use Rattle.std.proofs.lemmas.Bool.{true≢false, cases_eq}
@@ -26,11 +26,12 @@ use Rattle.mpm_bdos.proofs.KeptFile.{kept_by_others, reads_place, kept_by_readin
 use Rattle.mpm_system.specs.declared.system.System.{System}
 use Rattle.mpm_system.specs.FileCalling.{call_made}
 use Rattle.mpm_machine.specs.State.{State}
-use Rattle.mpm_machine.specs.Files.{FilesInService, Between, Within, filing_in, left_each, owes, all_left, given_back}
+use Rattle.mpm_machine.specs.Files.{FilesInService, Between, Within, filing_in, owes, given_back}
 use Rattle.mpm_machine.specs.FileCalls.{file_caller, situation_of, outcome_by, outcome_in}
 use Rattle.mpm_machine.specs.DiskStep.{is_done_at_once, disk_served, done_at_once, files_called, files_over, files_served_by, files_served, within_call, entering_call, files_entered_by, files_entered_unless, files_entered}
 use Rattle.mpm_machine.specs.Stepping.{nothing_told, files_begun_by, files_begun, before_disk, told_within, paid_after, ended_after, telling_then, files_paid, files_then, files_rest, stepped}
 use Rattle.mpm_machine.specs.After.{next}
+use Rattle.mpm_machine.proofs.LeftLaws.{left_each, all_left_each}
 
 -- of what stands, all of it together
 pub record IsOpen (q : ℕ) (key : FileKey) (number : ℕ) (filing : Filing) : Type 0 where
@@ -179,8 +180,8 @@ each_stays q key number gone (p ∷ ps) filing stays =
     stays_after q key number filing first (left_each gone ps first) (gone_stays q key number (gone p) p filing (λ same. ap gone same ∙ stays)) (each_stays q key number gone ps first stays)
 
 pub given_stays : (q : ℕ) (key : FileKey) (number : ℕ) (owed : List Bool) (files : FilesInService) → owes owed q ≡ false → StaysIn q key number files (given_back owed files)
-unfolding all_left
-given_stays q key number owed (Between filing) stays = each_stays q key number (owes owed) (range_with_len 0 32) filing stays
+given_stays q key number owed (Between filing) stays =
+    subst (Stays q key number filing) (sym (all_left_each owed filing)) (each_stays q key number (owes owed) (range_with_len 0 32) filing stays)
 given_stays q key number owed (Within s) stays = stays_same q key number s.filing
 
 -- the call that enters

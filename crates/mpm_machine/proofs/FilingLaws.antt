@@ -34,10 +34,11 @@ use Rattle.mpm_base.specs.declared.kind.Kind.{Kind}
 use Rattle.mpm_mount.specs.Directories.{Directory}
 use Rattle.mpm_system.specs.declared.system.System.{System}
 use Rattle.mpm_system.specs.FileCalling.{change_of}
-use Rattle.mpm_machine.specs.Files.{StandsBetween, left_each, owes, all_left}
+use Rattle.mpm_machine.specs.Files.{StandsBetween, owes, all_left}
 use Rattle.mpm_machine.specs.Mounting.{HasNoDrive}
 use Rattle.mpm_machine.specs.Filed.{IsOutcome, left_if}
 use Rattle.mpm_machine.specs.FileCalls.{looked_at, entering, situation_of, outcome_by, outcome_in, told_by, told_of}
+use Rattle.mpm_machine.proofs.LeftLaws.{left_each, all_left_each}
 
 -- a row of a table of numbers
 row_by : {X : Type 0} (P : ℕ → X → Type 0) (row : ℕ × X) (rest : Option (ℕ × X)) (number : ℕ) (x : X) (b : Bool) → (row.0 == number) ≡ b → P row.0 row.1
@@ -337,8 +338,7 @@ entered_as p caller process call system service function looks lives calls is en
 -- and who left
 
 pub leaves_first : (owed : List Bool) (filing : Filing) → left_each (owes owed) (range_with_len 0 (32 - 0)) filing ≡ all_left owed filing
-unfolding all_left
-leaves_first owed filing = refl
+leaves_first owed filing = sym (all_left_each owed filing)
 
 leaves_one : (gone : ℕ → Bool) (p : ℕ) (ps : List ℕ) (filing : Filing) → left_each gone (p ∷ ps) filing ≡ left_each gone ps (left_if (gone p) p filing)
 unfolding left_each

@@ -107,3 +107,4 @@ pub mod PrintedItems
 pub mod TurnedText
 pub mod TextStays
 pub mod StartLaws
+pub mod LeftLaws

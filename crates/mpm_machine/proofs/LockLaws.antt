@@ -1,5 +1,5 @@
 -- After each step no two locks are of one record.
-use Rattle.std.proofs.Common.{ℕ, zero, suc, Bool, true, false, cond, List, [], ◌∷◌, Option, Some, None}
+use Rattle.std.proofs.Common.{ℕ, zero, suc, Bool, true, false, cond, List, [], ◌∷◌, Option, Some, None, sym, subst}
 use Rattle.std.specs.List.{range_with_len}
 use Rattle.mpm_mount.specs.Drives.{Drive}
 use Rattle.mpm_base.proofs.Choices.{either}
@@ -19,11 +19,12 @@ use Rattle.mpm_system.specs.declared.system.System.{System}
 use Rattle.mpm_system.specs.FileCalling.{call_made}
 use Rattle.mpm_machine.specs.State.{State}
 use Rattle.mpm_machine.specs.Mounting.{untouched}
-use Rattle.mpm_machine.specs.Files.{FilesInService, Between, Within, filing_in, left_each, owes, all_left, given_back}
+use Rattle.mpm_machine.specs.Files.{FilesInService, Between, Within, filing_in, owes, all_left, given_back}
 use Rattle.mpm_machine.specs.FileCalls.{file_caller, situation_of, outcome_by, outcome_in}
 use Rattle.mpm_machine.specs.DiskStep.{is_done_at_once, disk_served, done_at_once, files_called, files_over, files_served_by, files_served, within_call, entering_call, files_entered_by, files_entered_unless, files_entered}
 use Rattle.mpm_machine.specs.Stepping.{nothing_told, files_begun_by, files_begun, before_disk, told_within, paid_after, ended_after, telling_then, files_paid, files_then, files_rest, stepped}
 use Rattle.mpm_machine.specs.After.{next, after}
+use Rattle.mpm_machine.proofs.LeftLaws.{left_each, all_left_each}
 
 -- the call that is made in a step
 sound_outcome : (function : Option FileFunction) (other : Option DirectFunction) (filing : Filing) (p : ℕ) (system : System) → AreOpen filing.opens
@@ -85,8 +86,8 @@ sound_each gone [] filing sound = sound
 sound_each gone (p ∷ ps) filing sound = sound_each gone ps (cond (gone p) (without_search (left_by filing p) p) filing) (sound_if_gone (gone p) p filing sound)
 
 sound_behind : (owed : List Bool) (filing : Filing) → AreOpen filing.opens → AreOpen (all_left owed filing).opens
-unfolding all_left
-sound_behind owed filing sound = sound_each (owes owed) (range_with_len 0 32) filing sound
+sound_behind owed filing sound =
+    subst (λ (f : Filing). AreOpen f.opens) (sym (all_left_each owed filing)) (sound_each (owes owed) (range_with_len 0 32) filing sound)
 
 pub sound_given : (owed : List Bool) (files : FilesInService) → AreSound files → AreSound (given_back owed files)
 sound_given owed (Between filing) sound = sound_behind owed filing sound

@@ -15,12 +15,13 @@ use Rattle.mpm_system.specs.Whole.{SystemChange, silent, NoCompletions, NobodyAb
 use Rattle.mpm_system.specs.Coming.{coming, counted}
 use Rattle.mpm_machine.specs.State.{State}
 use Rattle.mpm_machine.specs.Step.{acted}
-use Rattle.mpm_machine.specs.Files.{FilesInService, Between, Within, AreWithin, left_each, owes, all_left, given_back}
+use Rattle.mpm_machine.specs.Files.{FilesInService, Between, Within, AreWithin, owes, all_left, given_back}
 use Rattle.mpm_machine.specs.FileCalls.{file_caller}
 use Rattle.mpm_machine.specs.DiskStep.{disk_served, all_paid, files_over, files_served_by, files_served, files_entered_by, files_entered_unless, files_entered, step_passed}
 use Rattle.mpm_machine.specs.Moving.{is_still}
 use Rattle.mpm_machine.specs.Stepping.{Telling, nothing_told, told_first, files_begun_by, files_begun, before_disk, told_within, paid_after, files_paid, files_then, telling_then, telling_of, step_with, stepped, files_rest}
 use Rattle.mpm_machine.specs.After.{next}
+use Rattle.mpm_machine.proofs.LeftLaws.{left_each, all_left_each}
 use Rattle.mpm_machine.proofs.QuietLaws.{begun_quiet, served_still, served_nobody}
 use Rattle.mpm_machine.proofs.PassingLaws.{IsPaid, paid_passed, paid_already, still_serves, ended_still}
 
@@ -38,9 +39,9 @@ nowhere (suc n) zero = refl
 nowhere (suc n) (suc p) = nowhere n p
 
 pub nobody_leaves : (owed : List Bool) (filing : Filing) → owed ≡ nobody_owes → all_left owed filing ≡ filing
-unfolding all_left
 nobody_leaves owed filing none =
-    ap (λ (slots : List Bool). left_each (owes slots) (range_with_len 0 32) filing) none
+    all_left_each owed filing
+    ∙ ap (λ (slots : List Bool). left_each (owes slots) (range_with_len 0 32) filing) none
     ∙ none_leaves (owes nobody_owes) (range_with_len 0 32) filing (nowhere 32)
 
 -- or where a call is in service

@@ -1,6 +1,6 @@
 -- A call is served by what it took and by who has which segment, and never by the bytes of memory.
-use Rattle.std.proofs.Common.{◌≡◌, ◌∙◌, ℕ, zero, suc, cond, not, ◌+◌, Bool, true, false, List, [], ◌∷◌, ◌++◌, Option, Some, None, ◌&&◌, ◌==◌, nat_le, nat_lt, length, get_or, if◌then◌else◌, inl, inr, refl, sym, ap, subst, arith, ◌||◌}
-use Rattle.std.specs.List.{position_or_len}
+use Rattle.std.proofs.Common.{◌≡◌, ◌∙◌, ℕ, suc, cond, not, ◌+◌, Bool, true, false, List, [], ◌∷◌, ◌++◌, Option, Some, None, ◌&&◌, ◌==◌, nat_le, nat_lt, length, get_or, if◌then◌else◌, inl, inr, refl, sym, ap, subst, arith, ◌||◌}
+use Rattle.std.specs.List.{flat_map, position_or_len, range_with_len}
 use Rattle.std.proofs.lemmas.Bool.{cases_eq, cases_lt}
 use Rattle.std.proofs.Math.ListN.{get_or-eq_default, get_or-map as map_at}
 use Rattle.mpm_base.specs.Lists.{zeros}
@@ -254,10 +254,7 @@ calling_alike p one other d = record {
 
 descriptors_alike : (n : ℕ) (one other : Memory) → SameSegments one other → segment_descriptors n other ≡ segment_descriptors n one
 unfolding segment_descriptors
-descriptors_alike zero one other same = refl
-descriptors_alike (suc n) one other same =
-    ap (λ below. below ++ segment_descriptor other n) (descriptors_alike n one other same)
-    ∙ ap (λ bytes. segment_descriptors n one ++ bytes) (descriptor_alike one other n same)
+descriptors_alike n one other same = λ t. flat_map (λ segment. descriptor_alike one other segment same t) (range_with_len 0 n)
 
 page_alike : (consoles : ℕ) (one other : Memory) → SameSegments one other → system_page consoles other ≡ system_page consoles one
 unfolding system_page

@@ -1,8 +1,7 @@
 -- What stands for files along the disk's step: a turn's work, the step of the disk, the answer of a call that is over, what is paid, and
 -- the entry of the next call.
-use Rattle.std.proofs.Common.{◌≡◌, ◌∙◌, ℕ, suc, ◌+◌, ◌-◌, ◌<◌, ◌==◌, Bool, true, false, if◌then◌else◌, List, Option, Some, None, option_map, refl, sym, ap, subst, arith, [], ◌∷◌}
+use Rattle.std.proofs.Common.{◌≡◌, ◌∙◌, ℕ, suc, ◌+◌, ◌-◌, ◌<◌, ◌==◌, Bool, true, false, if◌then◌else◌, List, Option, Some, None, option_map, refl, sym, ap, subst, arith}
 use Rattle.std.proofs.lemmas.Bool.{false≢true}
-use Rattle.std.specs.List.{range_with_len}
 use Rattle.std.proofs.lemmas.Bool.Decides.{nat_tests}
 use Rattle.mpm_port.specs.Disks.{Disks}
 use Rattle.mpm_procs.specs.Table.{call_of}
@@ -18,11 +17,10 @@ use Rattle.mpm_file_functions.specs.declared.functions.FileFunction.{FileFunctio
 use Rattle.mpm_refusals.specs.Filing.{Filing, Situation}
 use Rattle.mpm_file_functions.specs.Functions.{function_of}
 use Rattle.mpm_bdos.specs.Jobs.{call_turns}
-use Rattle.mpm_bdos.specs.Outcomes.{left_by, without_search}
 use Rattle.mpm_bdos.specs.Serving.{Kept, StandEach, Serves, filing_of}
 use Rattle.mpm_bdos.specs.Turns.{images_of}
 use Rattle.mpm_system.specs.declared.system.System.{System}
-use Rattle.mpm_machine.specs.Files.{FilesInService, Between, Within, one_more, StandsBetween, StandsServed, StandsForFiles, StandsWorkedBy, StandsWorked, given_back, all_left, left_each, owes}
+use Rattle.mpm_machine.specs.Files.{FilesInService, Between, Within, one_more, StandsBetween, StandsServed, StandsForFiles, StandsWorkedBy, StandsWorked, given_back, all_left, left_where}
 use Rattle.mpm_machine.specs.Failing.{is_work}
 use Rattle.mpm_machine.specs.FileCalls.{situation_of}
 use Rattle.mpm_machine.specs.DiskStep.{all_paid, step_passed, within_call, entered_by, entering_call}
@@ -216,19 +214,9 @@ paid_stands system kept kept' disks files stands none rest left = record {
 
 -- who gives back leaves the drives as they are
 
-drives_if : (gone : Bool) (p : ℕ) (filing : Filing) → (if gone then without_search (left_by filing p) p else filing).drives ≡ filing.drives
-unfolding left_by without_search
-drives_if true p filing = refl
-drives_if false p filing = refl
-
-drives_each : (gone : ℕ → Bool) (ps : List ℕ) (filing : Filing) → (left_each gone ps filing).drives ≡ filing.drives
-unfolding left_each
-drives_each gone [] filing = refl
-drives_each gone (p ∷ ps) filing = drives_each gone ps _ ∙ drives_if (gone p) p filing
-
 pub drives_left : (owed : List Bool) (filing : Filing) → (all_left owed filing).drives ≡ filing.drives
-unfolding all_left
-drives_left owed filing = drives_each (owes owed) (range_with_len 0 32) filing
+unfolding all_left left_where
+drives_left owed filing = refl
 
 -- where no call is in service, what stands between two calls stands for files
 pub stands_idle : (disk : DiskService) (kept : Kept) (disks : Disks) (filing : Filing) → disk.served ≡ None → StandsBetween kept disks filing → StandsForFiles disk kept disks (Between filing)

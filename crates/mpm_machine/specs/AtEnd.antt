@@ -67,12 +67,13 @@ pub record AfterTurns (system : System) (kept : Kept) (Syncs : DriveCalls → Dr
 
 -- Where it stopped.
 
--- by the calls of drives: it stopped in a turn of the call in service, and no drive was synced, or after the turns
+-- by the calls of drives: it stopped in a turn of the call in service, and each drive that was owed a sync is owed it still, or after the turns
 abbrev pub StopsSettling : StepFault → List (Option Directory) → Kept → DriveCalls → DriveCalls → System → Type 0
 StopsSettling fault mounted kept old new system =
     (IsSome system.kernel.disk.served × TurnsCall system kept old new) ⊎ AfterTurns system kept (SyncsTo fault mounted) old new
 
--- as that of a state: a drive failed in a turn of the call in service, when nothing of the end was written and no drive was synced
+-- as that of a state: a drive failed in a turn of the call in service, when nothing of the end was written and each drive that was owed
+-- a sync was owed it still
 pub record StopsInTurn (left : Left) (kept : Kept) (old new : DriveCalls) (s : State) (first : List ℕ) : Type 0 where
   pub shown : Shows left.kept left.written s.outputs first
   pub images : HaveImagesOf (FailsWithin (left_of s.files s.system.kernel.disk.served)) left.disks left.mounted

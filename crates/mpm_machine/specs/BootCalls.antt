@@ -11,7 +11,8 @@ use Rattle.mpm_service.specs.Disk.{no_service}
 use Rattle.mpm_drives.specs.declared.error.BootError.{BootError}
 use Rattle.mpm_drives.specs.declared.error.BootError.TheVariants.{OutOfMemory}
 use Rattle.mpm_directories.specs.Places.{in_places}
-use Rattle.mpm_bdos.specs.Serving.{nothing_kept}
+use Rattle.mpm_bdos.specs.Serving.{Kept, nothing_kept}
+use Rattle.mpm_system.specs.declared.system.System.{System}
 use Rattle.mpm_system.specs.Opening.{booted, IsBare, with_placed}
 use Rattle.mpm_machine.specs.declared.machine.Machine.{Machine}
 use Rattle.mpm_machine.specs.Booting.{IsBootedOn, LeavesUnlisted, IsOfProgram}
@@ -30,6 +31,12 @@ pub record MakesBare (file : MachineFile) (events : List Timed) (mounted : List 
   pub bare : IfOk result (λ machine. IsBare machine.value.system)
   pub disk : IfOk result (λ machine. machine.value.system.kernel.disk ≡ no_service file.disk_turn)
   pub bdos : IfOk result (λ machine. machine.value.bdos ≡ nothing_kept (in_places mounted))
+  pub memory : IfErr result (λ error. error ≡ OutOfMemory)
+
+-- one was made of a system and of what is kept of files, or there was no memory for it
+pub record MakesOf (of : System) (kept : Kept) (result : Result (Box Machine Global) BootError) : Type 0 where
+  pub system : IfOk result (λ machine. machine.value.system ≡ of)
+  pub bdos : IfOk result (λ machine. machine.value.bdos ≡ kept)
   pub memory : IfErr result (λ error. error ≡ OutOfMemory)
 
 -- the machine of a program was made, or there was no memory for it

@@ -1,15 +1,17 @@
 -- Files and drives as file calls find them: between two calls that the disk serves, or within one. What stands for them: what is kept
 -- of file calls, the directories in memory, and the images. (MP/M II Programmer's Guide, "BDOS Function Calls"; the service in turns is
 -- this project's own.)
-use Rattle.std.specs.Prelude.{◌≡◌, ⊤, ℕ, suc, ◌+◌, ◌-◌, ◌<◌, Bool, false, List, [], ◌∷◌, Option, Some, None, slice_index_or, if◌then◌else◌}
-use Rattle.std.specs.List.{range_with_len}
+use Rattle.std.specs.Prelude.{◌≡◌, ⊤, ℕ, suc, ◌+◌, ◌-◌, ◌<◌, ◌&&◌, not, Bool, false, List, Option, Some, None, map, filter, nat_lt, slice_index_or, if◌then◌else◌}
+use Rattle.std.specs.List.{enumerate_from}
 use Rattle.mpm_port.specs.Disks.{Disks}
+use Rattle.mpm_opens.specs.declared.kinds.Item.{Item}
+use Rattle.mpm_opens.specs.Items.{has_item}
 use Rattle.mpm_mount.specs.Drives.{Drive}
 use Rattle.mpm_service.specs.Disk.{DiskService, is_last_step}
 use Rattle.mpm_service.specs.declared.service.Served.{Served}
 use Rattle.mpm_refusals.specs.Filing.{Filing, Situation}
 use Rattle.mpm_bdos.specs.Jobs.{call_turns}
-use Rattle.mpm_bdos.specs.Outcomes.{drives_after, left_by, without_search}
+use Rattle.mpm_bdos.specs.Outcomes.{drives_after}
 use Rattle.mpm_bdos.specs.Serving.{Kept, StandEach, Serves, filing_of}
 use Rattle.mpm_bdos.specs.Turns.{images_of}
 
@@ -84,16 +86,27 @@ StandsWorkedBy turn_steps (Some call) kept disks (Within s) = HasWorked turn_ste
 pub record StandsWorked (disk : DiskService) (kept : Kept) (disks : Disks) (files : FilesInService) : Type 0 where
   pub stands : StandsWorkedBy disk.turn_steps disk.served kept disks files
 
--- the processes of slots that ended give back what they had open and marked, and their searches end
-unfoldable pub left_each : (ℕ → Bool) → List ℕ → Filing → Filing
-left_each gone [] filing = filing
-left_each gone (p ∷ ps) filing = left_each gone ps (if gone p then without_search (left_by filing p) p else filing)
+-- a place of an item, unless the item's process is gone; and of each process what is listed, unless it is
+abbrev pub place_unless : (ℕ → Bool) → Option Item → Option Item
+place_unless gone place = if has_item (λ item. gone item.process) place then None else place
 
+abbrev pub each_unless : {X : Type 0} → (ℕ → Bool) → X → List X → List X
+each_unless gone none xs = map (λ e. if gone e.0 then none else e.1) (enumerate_from 0 xs)
+
+-- all that was open, locked, marked and searched for stays, but what those had who are gone
+unfoldable pub left_where : (ℕ → Bool) → Filing → Filing
+left_where gone filing = record filing {
+  opens = record { items = map (place_unless gone) filing.opens.items; locks = filter (λ lock. not (gone lock.owner)) filing.opens.locks };
+  marks = each_unless gone 0 filing.marks;
+  searches = each_unless gone None filing.searches;
+}
+
+-- the processes that ended and owe it give back what they had open and marked, and their searches end
 abbrev pub owes : List Bool → ℕ → Bool
 owes owed p = slice_index_or owed p false
 
 unfoldable pub all_left : List Bool → Filing → Filing
-all_left owed filing = left_each (owes owed) (range_with_len 0 32) filing
+all_left owed filing = left_where (λ p. nat_lt p 32 && owes owed p) filing
 
 -- those who owe it do so where no call is in service
 abbrev pub given_back : List Bool → FilesInService → FilesInService

@@ -1,5 +1,3 @@
-ghost use Rattle.std.specs.Prelude.{◌≡◌, ◌+◌, ◌-◌, ◌<◌, true, min, Some, None};
-ghost use Rattle.mpm_script.specs.declared.line.TheConstants.{GREATEST_STEP};
 ghost use Rattle.mpm_machine.specs.Moving.{MayRunBurst};
 ghost use Rattle.mpm_machine.specs.Quietly.{GoesSilently, RunsBurst};
 ghost use Rattle.mpm_machine.specs.PartCalls.{MayLookAhead, LooksAhead, MayRunAhead, RunsProcess, MayLookAtCall, FindsOwnCall, MayIdle, MayCallAlone, CallsAlone};
@@ -98,16 +96,8 @@ fn run_burst(system: &mut System, ahead: &Ahead, most: u64) -> u64
     requires { MayRunAhead ahead.now most system.old }
     ensures { RunsBurst ahead.now most result system.old system.new }
 {
-    let few = steps_ahead(system, ahead.last, most);
+    let few = most.min(ahead.last.saturating_sub(system.steps));
     run_process(system, ahead.p, ahead.seg, few)
-}
-
-/// How many steps are left up to a last one, at most so many.
-#[inline(always)]
-fn steps_ahead(system: &System, last: u64, most: u64) -> u64
-    ensures { result ≡ min most (last - system.now.steps) }
-{
-    most.min(last.saturating_sub(system.steps))
 }
 
 /// Instructions of a process of a segment, at most so many.

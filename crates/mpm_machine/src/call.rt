@@ -52,7 +52,7 @@ fn conclude<S: Sink>(
     conclude_undone(system, outcome, p, seg, render, sink)
 }
 
-/// As `conclude`, for a call that is done.
+/// As `conclude`, for a call that is done: then its text comes out, its reply is placed, and its record joins the others.
 #[inline(always)]
 fn conclude_done<S: Sink>(
     system: &mut System,
@@ -66,7 +66,10 @@ fn conclude_done<S: Sink>(
     ensures { Makes S.written S.faults (after_echo (call_of system.old.kernel.dispatcher.procs p) p system.old (completing reply.old (call_of system.old.kernel.dispatcher.procs p) p seg system.old)) system.new render.old sink.old render.new sink.new result }
 {
     system.put_echo(p, render, sink)?;
-    complete(system, p, seg, reply, render, sink)
+    system.speak(p, seg, render, sink)?;
+    system.pop(p, seg);
+    fulfil(system, p, seg, reply);
+    Ok(())
 }
 
 /// As `conclude`, for a call that isn't done.
@@ -163,26 +166,6 @@ fn tell_descriptor(system: &System, p: Pid, reply: &mut Reply) -> Outcome
 {
     mpm_xdos::tell_descriptor(&system.kernel, p, reply);
     Outcome::Done
-}
-
-/// The call that a process keeps is done: its text comes out, its reply is placed, and its record joins the others.
-#[inline(always)]
-#[tactic(auto, unfolding(crate::specs::Serving::completing))]
-fn complete<S: Sink>(
-    system: &mut System,
-    p: Pid,
-    seg: Seg,
-    reply: &mut Reply,
-    render: &mut Render,
-    sink: &mut S,
-) -> Result<(), Failed>
-    requires { MayAnswer p system.old }
-    ensures { Makes S.written S.faults (completing reply.old (call_of system.old.kernel.dispatcher.procs p) p seg system.old) system.new render.old sink.old render.new sink.new result }
-{
-    system.speak(p, seg, render, sink)?;
-    system.pop(p, seg);
-    fulfil(system, p, seg, reply);
-    Ok(())
 }
 
 /// The call that a process keeps, whose return address was taken, is fulfilled: where it is a call 151 that got its

@@ -65,7 +65,7 @@ impl Machine {
     ghost use Rattle.mpm_machine.specs.Parts.{IsBetweenSteps};
     ghost use Rattle.mpm_machine.specs.After.{next, after, IsStepOf};
     ghost use Rattle.mpm_machine.specs.Booting.{IsBootedOn, LeavesUnlisted, MayBeginResidents, HasBegunResidents};
-    ghost use Rattle.mpm_machine.specs.BootCalls.{BootsBare, MakesBare, BootsProgram, PutsProgram};
+    ghost use Rattle.mpm_machine.specs.BootCalls.{BootsBare, MakesBare, MakesOf, BootsProgram, PutsProgram};
     ghost use Rattle.mpm_machine.specs.Mounting.{HasNoDrive};
     ghost use Rattle.mpm_machine.specs.Failing.{leaving, does_work, turns_done, working_in};
     ghost use Rattle.mpm_machine.specs.Setup.{set_up};
@@ -174,6 +174,17 @@ impl Machine {
             Ok(system) => system,
             Err(AllocError) => return Err(BootError::OutOfMemory),
         };
+        Machine::boxed(alloc, system, bdos)
+    }
+
+    /// The machine that has this system and keeps this of files.
+    ///
+    /// # Errors
+    /// `BootError::OutOfMemory` alone.
+    #[inline(always)]
+    fn boxed(alloc: Global, system: System, bdos: Bdos) -> Result<Box<Machine>, BootError>
+        ensures { MakesOf system bdos result }
+    {
         let machine = Machine {
             system,
             bdos,

@@ -42,8 +42,8 @@ impl Machine {
         // After a success the text of all outputs is written, those of the call in service among them, and unfinished lines are closed.
         // The machine and the images stand for what the call comes to.
         ensures ok { StandingAt self.old render.old (S.written sink.old) (D.disks drives.old) (λ s first. OnOk result (EndsRun render.old.trace self.new (S.written sink.new) (D.disks drives.new) s first)) }
-        // Where a drive failed within a turn, nothing of the end is written and no drive is synced. Where one failed as it was synced,
-        // all is written but the ends of unfinished lines. Where the sink failed, a first part of what the end adds is written.
+        // Where a drive failed within a turn, nothing of the end is written, and each drive that was owed a sync is owed it still. Where one
+        // failed as it was synced, all is written but the ends of unfinished lines. Where the sink failed, a first part of what the end adds is written.
         ensures stops { StandingAt self.old render.old (S.written sink.old) (D.disks drives.old) (λ s first. IfErr result (λ fault. StopsAtEnd fault (leaving S.written D.disks render.new sink.new drives.new self.new.bdos.mounted) self.old.bdos
             (drive_calls D.unsynced drives.old calls.old) (drive_calls D.unsynced drives.new calls.new) s first)) }
         // A success leaves the system whole.
@@ -55,7 +55,7 @@ impl Machine {
         ensures keeps { KeepsMounted (D.told drives.old) (D.told drives.new) (D.disks drives.old) (D.disks drives.new) self.old.bdos.mounted self.new.bdos.mounted }
         // A success syncs each mounted drive by one call, after the turns that were left.
         ensures synced { OnOk result (AfterTurns self.old.system self.old.bdos (SyncsAll self.new.bdos.mounted) (drive_calls D.unsynced drives.old calls.old) (drive_calls D.unsynced drives.new calls.new)) }
-        // After an error no drive is synced, where it came in a turn. Where it came as drives were synced, those before the one that
+        // Where an error came in a turn, each drive that was owed a sync is owed it still. Where it came as drives were synced, those before the one that
         // failed are. Where it came as lines were closed, all are.
         ensures syncs { IfErr result (λ fault. StopsSettling fault self.new.bdos.mounted self.old.bdos
             (drive_calls D.unsynced drives.old calls.old) (drive_calls D.unsynced drives.new calls.new) self.old.system) }

@@ -1,12 +1,12 @@
 -- A machine file that is read lies within the limits of its keys.
-use Rattle.std.proofs.Common.{◌≡◌, ◌≢◌, ℕ, ◌+◌, ◌<◌, ◌≤◌, ◌⊎◌, Bool, true, false, ◌||◌, ◌&&◌, ◌==◌, nat_le, if◌then◌else◌, suc, List, [], ◌∷◌, length, map, Option, Some, None, refl, subst, arith, lit≤}
-use Rattle.std.specs.Prelude.{codes}
+use Rattle.std.proofs.Common.{◌≡◌, ◌≢◌, ◌∙◌, ℕ, ◌+◌, ◌<◌, ◌≤◌, ◌⊎◌, Bool, true, false, ◌||◌, ◌&&◌, ◌==◌, nat_le, if◌then◌else◌, suc, List, [], ◌∷◌, length, map, Option, Some, None, refl, subst, arith, lit≤}
+use Rattle.std.specs.Prelude.{codes, All}
 use Rattle.std.specs.List.{AllByRecursion}
 use Rattle.std.specs.Option.{option_map_or}
 use Rattle.std.proofs.lemmas.Bool.Decides.{nat_tests}
 use Rattle.std.proofs.lemmas.Option.{same_Some, none-some, cond_some}
-use Rattle.std.proofs.lemmas.List.Elements.{All-from_recursion}
-use Rattle.toml.specs.Data.{Data, Members, get_member, as_table, as_array}
+use Rattle.std.proofs.lemmas.List.Elements.{All-from_recursion, All-nil}
+use Rattle.toml.specs.Data.{Data, Items, Members, get_member, as_table, as_array}
 use Rattle.mpm_base.specs.declared.segment.SegmentSpec.{SegmentSpec}
 use Rattle.mpm_base.specs.declared.kind.Kind.{Kind}
 use Rattle.mpm_machine_file.specs.declared.lists.DriveSpec.{DriveSpec}
@@ -19,7 +19,7 @@ use Rattle.mpm_machine_file.specs.MachineFiles.{machine_keys, ticks_of, machine_
 use Rattle.mpm_script.proofs.Finds.{bind_some}
 use Rattle.mpm_machine_file.proofs.LimitLaws.{IsBetween, between_test, number_at_limits, number_or_limits, text_at_limits, text_if_limits, all_of_each, counted_limits}
 use Rattle.std.specs.List.Sorted.{IsStrictlyIncreasing}
-use Rattle.mpm_machine_file.proofs.OrderLaws.{each_by_letter, length_by_letter, apart_from_differ, differ_from_apart, apart_by_letter, ascend_by_letter, increase_from_ascend}
+use Rattle.mpm_machine_file.proofs.OrderLaws.{each_of_letters, letters_rise, increase_from_rise}
 
 segment_made : (base pages : ℕ) (keys : Bool) (segment : SegmentSpec) → 4 ≤ pages → (if keys && nat_le (base + pages) 192 then Some (record { base = base; pages = pages }) else None) ≡ Some segment → IsListedSegment segment
 segment_made base pages keys segment some e =
@@ -64,7 +64,7 @@ segments_in_limits version table segments e =
 -- what is read of the drives
 pub record AreDrives (drives : List DriveSpec) : Type 0 where
   pub few : length drives ≤ 16
-  pub each : AllByRecursion IsDrive drives
+  pub each : All IsDrive drives
   pub letters : IsStrictlyIncreasing (map (λ drive. drive.letter) drives)
   pub differ : all_differ drives ≡ true
 
@@ -89,30 +89,27 @@ drive_limits value drive e =
     let image = bind_some (text_at (codes "image") table.0) _ drive kind.2 in
     drive_made letter.0 kind.0 image.0 (only_keys drive_keys table.0) drive (letter_limits text.0 letter.0 letter.1) (text_at_limits (codes "image") table.0 image.0 image.1) image.2
 
-drives_made : (drives : List DriveSpec) → length drives ≤ 16 → AllByRecursion IsDrive drives → all_differ drives ≡ true → AreDrives (by_letter drives)
-drives_made drives few each differ =
-    let apart = apart_from_differ drives differ in
-    record {
-      few = rw (length_by_letter drives) few;
-      each = each_by_letter IsDrive drives each;
-      letters = increase_from_ascend (by_letter drives) (ascend_by_letter drives apart);
-      differ = differ_from_apart (by_letter drives) (apart_by_letter drives apart);
-    }
+pub each_is_drive : (items : Items) (drives : List DriveSpec) → all_of drive_of items ≡ Some drives → All IsDrive drives
+each_is_drive items drives e = All-from_recursion IsDrive drives (all_of_each IsDrive drive_of drive_limits items drives e)
 
 drives_limits : (value : Data) (drives : List DriveSpec) → drives_of value ≡ Some drives → AreDrives drives
 unfolding drives_of
 drives_limits value drives e =
     let items = bind_some (as_array value) _ drives e in
     let read = bind_some (all_of drive_of items.0) _ drives items.2 in
-    let few = bind_some (counted 0 16 read.0) _ drives read.2 in
-    let count = counted_limits 0 16 read.0 few.0 few.1 in
-    let made = cond_some (all_differ few.0) (by_letter few.0) drives few.2 in
-    let each : AllByRecursion IsDrive few.0 = subst (AllByRecursion IsDrive) count.0 (all_of_each IsDrive drive_of drive_limits items.0 read.0 read.1) in
-    let size : length few.0 ≤ 16 = rw (← count.0) count.1.1 in
-    subst AreDrives made.1 (drives_made few.0 size each made.0)
+    let few = bind_some (counted 0 16 (by_letter read.0)) _ drives read.2 in
+    let count = counted_limits 0 16 (by_letter read.0) few.0 few.1 in
+    let made = cond_some (all_differ few.0) few.0 drives few.2 in
+    let differ : all_differ (by_letter read.0) ≡ true = rw count.0 made.0 in
+    subst AreDrives (count.0 ∙ made.1) (record {
+      few = count.1.1;
+      each = each_of_letters IsDrive 65 16 read.0 (each_is_drive items.0 read.0 read.1);
+      letters = increase_from_rise 65 (by_letter read.0) (letters_rise 65 16 read.0) differ;
+      differ = differ;
+    })
 
 no_drives : AreDrives []
-no_drives = record { few = omega arith; each = tt; letters = λ k within. absurd (omega arith); differ = refl }
+no_drives = record { few = omega arith; each = All-nil IsDrive; letters = λ k within. absurd (omega arith); differ = refl }
 
 drives_if : (found : Option Data) (drives : List DriveSpec) → option_map_or drives_of found (Some []) ≡ Some drives → AreDrives drives
 drives_if None drives e = subst AreDrives (same_Some [] drives e) no_drives
@@ -174,7 +171,7 @@ machine_limits table file e =
       segments = are_segments.few;
       each_segment = All-from_recursion IsListedSegment segments.0 are_segments.each;
       drives = are_drives.few;
-      each_drive = All-from_recursion IsDrive drives.0 are_drives.each;
+      each_drive = are_drives.each;
       letters = are_drives.letters;
       images = are_drives.differ;
       script = text_if_limits (codes "script") table script.0 script.1;

@@ -1,6 +1,6 @@
 -- The disk drives of a machine file.
-use Rattle.std.specs.Prelude.{ℕ, Bool, true, not, ◌&&◌, ◌||◌, ◌==◌, nat_le, nat_lt, if◌then◌else◌, List, [], ◌∷◌, bytes_eq, codes, Option, Some, None}
-use Rattle.std.specs.List.{list_any}
+use Rattle.std.specs.Prelude.{ℕ, Bool, true, not, ◌&&◌, ◌||◌, ◌==◌, nat_le, if◌then◌else◌, List, [], ◌∷◌, bytes_eq, codes, Option, Some, None}
+use Rattle.std.specs.List.{filter, flat_map, list_any, range_with_len}
 use Rattle.std.specs.Option.{option_map_or}
 use Rattle.toml.specs.Data.{Data, Members, get_member, as_table, as_array}
 use Rattle.mpm_base.specs.declared.kind.Kind.{Kind}
@@ -42,23 +42,17 @@ abbrev pub all_differ : List DriveSpec → Bool
 all_differ [] = true
 all_differ (drive ∷ rest) = not (list_any (does_clash drive) rest) && all_differ rest
 
--- a drive put before the first of a later letter
-abbrev pub with_drive : DriveSpec → List DriveSpec → List DriveSpec
-with_drive drive [] = drive ∷ []
-with_drive drive (first ∷ rest) = if nat_lt drive.letter first.letter then drive ∷ first ∷ rest else first ∷ with_drive drive rest
-
--- the drives in the order of their letters
+-- the drives in the order of their letters: of each letter from A to P in turn those that have it
 abbrev pub by_letter : List DriveSpec → List DriveSpec
-by_letter [] = []
-by_letter (drive ∷ rest) = with_drive drive (by_letter rest)
+by_letter drives = flat_map (λ letter. filter (λ drive. drive.letter == letter) drives) (range_with_len 65 16)
 
--- at most 16 drives, whose letters differ and whose images differ
+-- at most 16 drives in the order of their letters, whose letters differ and whose images differ
 unfoldable pub drives_of : Data → Option (List DriveSpec)
 drives_of value = do
   items ← as_array value
   read ← all_of drive_of items
-  drives ← counted 0 16 read
-  if all_differ drives then Some (by_letter drives) else None
+  drives ← counted 0 16 (by_letter read)
+  if all_differ drives then Some drives else None
 
 -- the drives of a machine file, none where the key is missing
 unfoldable pub drives_in : Members → Option (List DriveSpec)

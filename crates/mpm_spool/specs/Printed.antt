@@ -81,7 +81,8 @@ has_ended Delete = true
 has_ended _ = false
 
 -- what it has printed is a first part of the text of what it has read, as many bytes as it counts, and all of that text where it has come
--- to the end and hasn't left the file unprinted. It asks for a deletion only then, and for a byte's printing only while it has the printer
+-- to the end and hasn't left the file unprinted. It asks for a deletion only then, and for a byte's printing only in a row of `has_printer`:
+-- its table comes to these rows by the answer 0 to function 158, and leaves them by function 159
 pub record PrintsText (s : Spooler) (read printed : List ℕ) : Type 0 where
   pub begins : has_file s.row ≡ true → Begins printed (to_printer (text_of read))
   pub count : has_file s.row ≡ true → length printed < 2 ^ 64 → s.printed ≡ length printed

@@ -41,6 +41,7 @@ left_by x told drives spec (Some d) (Some files) agrees label named stands at =
     let image = images_of x (number_of spec) in
     let here = image_told x (number_of spec) d.kind stands.stands.size in
     record {
+      name = named;
       image = image;
       attached = here;
       agrees = subst (λ (found : Option (List ℕ)). IfSome found (Brings (told spec.image))) here (agrees (number_of spec) spec.image named);

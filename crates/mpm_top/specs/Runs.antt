@@ -31,9 +31,10 @@ pub record Printed : Type 0 where
 abbrev pub printed : {S : Type 0} → (S → List ℕ) → (S → ℕ) → S → Printed
 printed written faults sink = record { text = written sink; faults = faults sink }
 
--- a drive that a machine file lists has an image, which is the one that is known of its name, where one is; and it stands for what is on
--- the drive in the place of its number
+-- a drive that a machine file lists is attached by the name of its image. That image is the one that is known of the name, where one is; and
+-- it stands for what is on the drive in the place of its number
 pub record IsLeft (disks : Disks) (told : Images) (drives : List (Option Drive)) (spec : DriveSpec) : Type 0 where
+  pub name : disks.name_of (number_of spec) ≡ Some spec.image
   pub image : List ℕ
   pub attached : disks.image (number_of spec) ≡ Some image
   pub agrees : Brings (told spec.image) image

@@ -1,7 +1,8 @@
 -- What the kernel tells by copies in common memory: the system data page, and the descriptor of the process that asks. (MP/M II
 -- Programmer's Guide, "Function 154: Return Address of System Data Page" and "Function 156: Return Process Descriptor
 -- Address"; System Guide, "System Data Page".)
-use Rattle.std.specs.Prelude.{ℕ, zero, suc, List, [], ◌∷◌, ◌++◌, length, drop, Option, Some, None}
+use Rattle.std.specs.Prelude.{ℕ, List, ◌∷◌, ◌++◌, length, drop, Option, Some, None}
+use Rattle.std.specs.List.{flat_map, range_with_len}
 use Rattle.z80_regs.specs.Words.{low, high}
 use Rattle.mpm_base.specs.Lists.{zeros}
 use Rattle.mpm_base.specs.Calls.{Answer, answering}
@@ -12,8 +13,7 @@ use Rattle.mpm_xdos.specs.Aborting.{copy_address}
 
 -- the descriptors of the segments below a number
 unfoldable pub segment_descriptors : ℕ → Memory → List ℕ
-segment_descriptors zero memory = []
-segment_descriptors (suc n) memory = segment_descriptors n memory ++ segment_descriptor memory n
+segment_descriptors n memory = flat_map (λ segment. segment_descriptor memory segment) (range_with_len 0 n)
 
 -- some bytes in 240, the others zeros
 abbrev pub with_zeros : List ℕ → List ℕ

@@ -16,4 +16,4 @@ returns c = λ image drives marks stands none.
     c.about_of-about.ensures.value c.block_of_call-block.ensures.block (ap (λ a. a.drive) asked) (ap (λ a. a.owner) asked)
     (c.item_number-number.ensures ∙ (λ i. number_by (c.word.ensures i) (c.block_of_call-block.ensures.block i) c.args.file_call.now.function))
     in
-    begins image d s c.job_by-job.result c.begin.new.work call none (c.job_by-job.ensures image drives c.args.protected.now marks c.args.searches.now about) (c.begin.ensures image (drive_at s) stands)
+    begins image d s c.job_by-job.result c.begin.new.work call none (c.job_by-job.ensures.job image drives c.args.protected.now marks c.args.searches.now about) (c.begin.ensures image (drive_at s) stands)

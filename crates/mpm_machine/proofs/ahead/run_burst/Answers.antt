@@ -14,15 +14,15 @@ run_process-requires c =
     let here = c.args.ahead.now in
     let ahead = c.requires.ahead in
     let lives = runner_lives c.args.system.now.kernel here.p c.requires.whole.sound ahead.on.running in
-    let few : c.steps_ahead-few.result ≤ c.args.most = omega (arith, c.steps_ahead-few.ensures) in
-    let within : c.steps_ahead-few.result ≤ here.last - c.args.system.now.steps = omega (arith, c.steps_ahead-few.ensures) in
+    let few : c.min-few.result ≤ c.args.most = omega (arith, c.min-few.ensures, c.saturating_sub.ensures) in
+    let within : c.min-few.result ≤ here.last - c.args.system.now.steps = omega (arith, c.min-few.ensures, c.saturating_sub.ensures) in
     record {
       lives = lives;
       home = segment_is_home c.args.system.now here.p here.seg c.requires.whole lives ahead.on.home;
       room = omega (arith, c.requires.room, few);
       sound = c.requires.whole.sound;
       short = omega (arith, c.requires.room, few);
-      passing = fewer_can c.steps_ahead-few.result (here.last - c.args.system.now.steps) c.args.system.now.kernel.disk within ahead.passing;
+      passing = fewer_can c.min-few.result (here.last - c.args.system.now.steps) c.args.system.now.kernel.disk within ahead.passing;
     }
 
 pub returns : goal.returns
@@ -35,8 +35,8 @@ returns c =
     let on = ahead.on in
     let lives = runner_lives old.kernel here.p c.requires.whole.sound on.running in
     let moved = c.run_process.ensures.moved in
-    let few : done ≤ c.args.most = omega (arith, c.steps_ahead-few.ensures, c.run_process.ensures.count) in
-    let within : done ≤ here.last - old.steps = omega (arith, c.steps_ahead-few.ensures, c.run_process.ensures.count) in
+    let few : done ≤ c.args.most = omega (arith, c.min-few.ensures, c.saturating_sub.ensures, c.run_process.ensures.count) in
+    let within : done ≤ here.last - old.steps = omega (arith, c.min-few.ensures, c.saturating_sub.ensures, c.run_process.ensures.count) in
     let quiet : Quiet done old = quiet_ahead done here old within ahead in
     let passing : CanPass done old.kernel.disk = fewer_can done (here.last - old.steps) old.kernel.disk within ahead.passing in
     record {

@@ -2,7 +2,8 @@ use Rattle.std.proofs.Common.{◌≡◌, ◌-◌, List, Option}
 use Rattle.std.specs.List.{range_with_len}
 use Rattle.mpm_mount.specs.Drives.{Drive}
 use Rattle.mpm_bdos.specs.Serving.{filing_of}
-use Rattle.mpm_machine.specs.Files.{left_each, owes, all_left}
+use Rattle.mpm_machine.specs.Files.{owes, all_left}
+use Rattle.mpm_machine.proofs.LeftLaws.{left_each}
 use Rattle.mpm_machine.proofs.filing.give_back.Given as goal
 
 abbrev pub invariant-loop-number : goal.invariant-loop-number
